@@ -1,0 +1,52 @@
+//! Which data checksum a packet has.
+
+ghost use Rattle.std.specs.Prelude.{◌≡◌, ◌/◌, ◌≤◌};
+ghost use Rattle.r10_packet.specs.Header.{bits_of, flags_of, checksum_bits};
+
+/// The data checksum behind a packet's body and filler.
+#[derive(Clone, Copy, Debug, PartialEq, Eq)]
+pub enum Check {
+    Nothing,
+    Sum8,
+    Sum16,
+    Sum32,
+}
+
+impl Check {
+    /// The data checksum that a header's flags tell.
+    pub fn of_flags(flags: u8) -> Check
+        ensures { bits_of result ≡ checksum_bits flags }
+    {
+        match flags % 4 {
+            0 => Check::Nothing,
+            1 => Check::Sum8,
+            2 => Check::Sum16,
+            _ => Check::Sum32,
+        }
+    }
+
+    /// The two low bits of the flags that tell it.
+    pub fn flags(self) -> u8
+        ensures { result ≡ flags_of self }
+    {
+        match self {
+            Check::Nothing => 0,
+            Check::Sum8 => 1,
+            Check::Sum16 => 2,
+            Check::Sum32 => 3,
+        }
+    }
+
+    /// How many bytes it has.
+    pub fn width(self) -> usize
+        ensures value { result ≡ bits_of self / 8 }
+        ensures range { result ≤ 4 }
+    {
+        match self {
+            Check::Nothing => 0,
+            Check::Sum8 => 1,
+            Check::Sum16 => 2,
+            Check::Sum32 => 4,
+        }
+    }
+}
