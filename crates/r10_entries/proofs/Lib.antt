@@ -1,0 +1,6 @@
+pub mod Bodies
+pub mod Joined
+pub mod Parts
+pub mod Plain
+pub mod Readings
+pub mod Spelling

@@ -1,0 +1,6 @@
+pub mod Append
+pub mod Form
+pub mod Gaps
+pub mod Padding
+pub mod Reading
+pub mod Vectors
