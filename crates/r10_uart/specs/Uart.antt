@@ -1,0 +1,58 @@
+-- The body of a UART packet: the channel specific data word, then for each message an intra-packet time stamp, an intra-packet data header and the bytes.
+use Rattle.std.specs.Prelude.{◌≡◌, ℕ, ◌+◌, ◌*◌, ◌%◌, ◌^◌, ◌<◌, Bool, not, ◌&&◌, nat_le, Option, Some, List, ◌++◌, length}
+use Rattle.std.specs.List.{flat_map, AllByRecursion, concat}
+use Rattle.r10_count.specs.Bytes.{le_bytes, flag_at, u32_at, bit_of}
+use Rattle.r10_count.specs.Count.{IsCount, stamp}
+use Rattle.r10_entries.specs.Form.{IsEntry}
+use Rattle.r10_entries.specs.Padding.{padded}
+use Rattle.r10_uart.specs.declared.entry.UartEntry.{UartEntry}
+
+-- the word says that stamps are present
+abbrev pub uart_word : List ℕ
+uart_word = le_bytes 4 0x80000000
+
+-- parity error, subchannel and length
+abbrev pub uart_header : UartEntry → ℕ
+uart_header e = flag_at 31 e.parity + 2 ^ 16 * e.sub + length e.bytes
+
+-- a zero byte stands behind an odd number of bytes
+abbrev pub uart_entry : UartEntry → List ℕ
+uart_entry e = stamp e.count ++ le_bytes 4 (uart_header e) ++ padded e.bytes
+
+-- the length of an entry in the body
+abbrev pub entry_size : UartEntry → ℕ
+entry_size e = 12 + length e.bytes + length e.bytes % 2
+
+abbrev pub uart_body : List UartEntry → List ℕ
+uart_body entries = uart_word ++ flat_map uart_entry entries
+
+abbrev pub uart_of : ℕ → Bool → ℕ → List ℕ → UartEntry
+uart_of count parity sub bytes = record { count = count; parity = parity; sub = sub; bytes = bytes }
+
+-- the ranges of the fields
+pub record FitsUart (e : UartEntry) : Type 0 where
+  pub count : IsCount e.count
+  pub sub : e.sub < 2 ^ 14
+  pub bytes : length e.bytes < 2 ^ 16
+
+-- the body that the writer makes of these entries
+abbrev pub IsUart : List UartEntry → List ℕ → Type 0
+IsUart entries body = (0 < length entries) × AllByRecursion FitsUart entries × (body ≡ uart_body entries)
+
+-- the number of bytes that the header behind a stamp tells
+abbrev pub told_bytes : List ℕ → ℕ
+told_bytes front = u32_at front 8 % 2 ^ 16
+
+-- the length of an entry that begins with this stamp and header
+abbrev pub told_size : List ℕ → Option ℕ
+told_size front = Some (12 + told_bytes front + told_bytes front % 2)
+
+-- whoever wrote it: a word and exactly the entries
+abbrev pub IsForeignUart : List ℕ → Type 0
+IsForeignUart body =
+    (word : ℕ) × (entries : List (List ℕ)) × (word < 2 ^ 32)
+    × AllByRecursion (IsEntry 12 told_size) entries × (body ≡ le_bytes 4 word ++ concat entries)
+
+-- there is a word, and it says that the entries have no stamps, which isn't read
+abbrev pub is_opaque : List ℕ → Bool
+is_opaque body = nat_le 4 (length body) && not (bit_of 31 (u32_at body 0))

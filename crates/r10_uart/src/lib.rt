@@ -1,0 +1,12 @@
+//! UART packets: a body is written as exactly the bytes of its messages, and read as exactly the messages that this recorder writes
+//! so, as another recorder's, or as no body.
+#![tactic(auto)]
+
+mod body;
+mod entry;
+
+pub use body::UartBody;
+pub use entry::{UartEntry, channel_word, push_entry};
+
+#[cfg(test)]
+mod tests;
