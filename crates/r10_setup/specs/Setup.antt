@@ -1,0 +1,32 @@
+-- The body of a setup packet: the channel specific word, and the setup text as it is.
+use Rattle.std.specs.Prelude.{◌≡◌, ℕ, ◌≤◌, Bool, ◌&&◌, List, ◌++◌, length, nat_le}
+use Rattle.r10_count.specs.Bytes.{le_bytes, u32_at, bit_of}
+use Rattle.r10_entries.specs.declared.reading.Reading.{Reading}
+use Rattle.r10_entries.specs.declared.reading.Reading.TheVariants.{Strict, Lenient, Neither}
+use Rattle.r10_setup.specs.declared.body.SetupBody.{SetupBody}
+
+-- the word: ASCII text, configuration unchanged, this release
+abbrev pub setup_body : List ℕ → List ℕ
+setup_body text = le_bytes 4 0x0C ++ text
+
+-- with its header and its word such a text fits a packet of 524,288 bytes
+abbrev pub FitsSetup : List ℕ → Type 0
+FitsSetup text = length text ≤ 524_260
+
+-- the writer makes this body of the text
+abbrev pub IsSetup : List ℕ → List ℕ → Type 0
+IsSetup text body = body ≡ setup_body text
+
+-- whoever wrote it: a word, and text
+abbrev pub IsForeignSetup : List ℕ → Type 0
+IsForeignSetup body = 4 ≤ length body
+
+-- a reading that found this text
+abbrev pub IsText : List ℕ → Reading SetupBody → Type 0
+IsText text (Strict setup) = setup.text.now ≡ text
+IsText text Lenient = ⊥
+IsText text Neither = ⊥
+
+-- there is a word, and it says that the text is XML, which isn't read
+abbrev pub is_opaque : List ℕ → Bool
+is_opaque body = nat_le 4 (length body) && bit_of 9 (u32_at body 0)

@@ -1,0 +1,9 @@
+//! Setup packets: a body is written as exactly the bytes of its text, and read as exactly the text
+//! that this recorder writes so, as another recorder's, or as no body.
+#![tactic(auto)]
+
+mod body;
+#[cfg(test)]
+mod tests;
+
+pub use body::SetupBody;
