@@ -1,0 +1,5 @@
+mod Recording
+mod Cases
+pub mod Lone
+pub mod Sentence
+pub mod Says

@@ -1,0 +1,16 @@
+-- What a file costs. The cost covers its packets, however its entries are packed.
+use Rattle.std.specs.Prelude.{ℕ, ◌+◌, List, length}
+use Rattle.std.specs.List.{sum_by}
+use Rattle.r10_body.specs.declared.message.Message.{Message}
+use Rattle.r10_body.specs.declared.message.Message.TheVariants.{Uart, Time}
+use Rattle.r10_body.specs.declared.entry.Entry.{Entry}
+
+abbrev pub message_cost : Message → ℕ
+message_cost (Uart parity sub bytes) = 12 + length bytes
+message_cost (Time civil) = 8
+
+abbrev pub entry_cost : Entry → ℕ
+entry_cost e = 104 + message_cost e.message
+
+abbrev pub file_cost : List ℕ → List Entry → ℕ
+file_cost setup entries = 152 + length setup + sum_by entry_cost entries

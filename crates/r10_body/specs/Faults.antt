@@ -1,0 +1,79 @@
+-- The first fault of a file.
+use Rattle.std.specs.Prelude.{◌≡◌, ℕ, ◌<◌, ◌≤◌, ◌⊎◌, true, false, List, [], ◌++◌, length, take, slice_range, Some, None, bit_and}
+use Rattle.std.specs.List.{AllByRecursion, concat}
+use Rattle.r10_packet.specs.Framing.{framing_fault, header_at, body_at, has_data_checksum}
+use Rattle.r10_packet.specs.Header.{checksum_bits}
+use Rattle.r10_packet.specs.Packet.{filled, least_filler}
+use Rattle.r10_packet.specs.declared.fault.PacketFault.TheVariants as framing
+use Rattle.r10_body.specs.Packets.{Packet, FitsPacket, packet_bytes, file_bytes}
+use Rattle.r10_body.specs.Rules.{KeepsChecksums, KeepsStart, KeepsChannels, KeepsSequence, KeepsCounts, KeepsCounters, EachFollows}
+use Rattle.r10_body.specs.Foreign.{opaque_at, IsForeignBody, IsForeignPacket}
+use Rattle.r10_body.specs.declared.fault.FileFault.{FileFault}
+use Rattle.r10_body.specs.declared.fault.FileFault.TheVariants.{Truncated, Sync, HeaderSum, Length, DataSum, Body, Rule}
+
+-- ---- faults of any file
+
+-- the packet that stands first has this fault of framing, data checksum or body
+abbrev pub HasFault : List ℕ → FileFault → Type 0
+HasFault bytes Truncated = framing_fault bytes ≡ Some framing.Truncated
+HasFault bytes Sync = framing_fault bytes ≡ Some framing.Sync
+HasFault bytes HeaderSum = framing_fault bytes ≡ Some framing.HeaderSum
+HasFault bytes Length = framing_fault bytes ≡ Some framing.Length
+HasFault bytes DataSum = (framing_fault bytes ≡ None) × (opaque_at bytes ≡ false) × (has_data_checksum bytes ≡ false)
+HasFault bytes Body =
+    (framing_fault bytes ≡ None) × (opaque_at bytes ≡ false) × (has_data_checksum bytes ≡ true)
+    × ¬ IsForeignBody (header_at bytes).data_type (body_at bytes)
+HasFault bytes (Rule n) = ⊥
+
+-- a file of any recorder is at fault at an offset: what stands before are packets, and what stands there is none
+abbrev pub IsFaulty : List ℕ → ℕ → FileFault → Type 0
+IsFaulty bytes offset fault =
+    (packets : List (List ℕ)) × (rest : List ℕ) × (bytes ≡ concat packets ++ rest) × (offset ≡ length (concat packets))
+    × AllByRecursion IsForeignPacket packets × ((0 < length rest) ⊎ (length packets ≡ 0)) × HasFault rest fault
+
+-- ---- faults of a file that should be strict
+
+-- the bytes of the packet that stands first
+abbrev pub first_packet : List ℕ → List ℕ
+first_packet bytes = take (header_at bytes).packet_len bytes
+
+-- rule 1: this version and these flags, and not too long
+abbrev pub KeepsHeader : List ℕ → Type 0
+KeepsHeader bytes = let h = header_at bytes in (h.version ≡ 8) × (bit_and h.flags 0xEC ≡ 0) × (h.packet_len ≤ 524288)
+
+-- rule 2: the least filler, of zeros
+abbrev pub KeepsFiller : List ℕ → Type 0
+KeepsFiller bytes =
+    let h = header_at bytes in
+    let bits = checksum_bits h.flags in
+    slice_range bytes 24 h.packet_len ≡ filled bits (body_at bytes) (least_filler bits (body_at bytes))
+
+-- the packet that stands first is this one of the recorder's
+abbrev pub Reads : List ℕ → Packet → Type 0
+Reads bytes p = FitsPacket p × KeepsChecksums p × (first_packet bytes ≡ packet_bytes p)
+
+-- what stands first breaks a rule, behind these packets
+pub data BreaksRule (before : List Packet) (bytes : List ℕ) : ℕ → Type 0 where
+  version : ¬ KeepsHeader bytes → BreaksRule before bytes 1
+  filler : opaque_at bytes ≡ false → ¬ KeepsFiller bytes → BreaksRule before bytes 2
+  body : ¬ ((p : Packet) × Reads bytes p) → BreaksRule before bytes 3
+  start : (p : Packet) → Reads bytes p → ¬ KeepsStart before p → BreaksRule before bytes 4
+  channels : (p : Packet) → Reads bytes p → ¬ KeepsChannels before p → BreaksRule before bytes 5
+  sequence : (p : Packet) → Reads bytes p → ¬ KeepsSequence before p → BreaksRule before bytes 6
+  counts : (p : Packet) → Reads bytes p → ¬ KeepsCounts before p → BreaksRule before bytes 7
+  counters : (p : Packet) → Reads bytes p → ¬ KeepsCounters before p → BreaksRule before bytes 9
+
+-- what is wrong behind these packets, where no fault of framing, data checksum or body comes before a rule, and of rules the least is named
+pub data IsWrongHere (before : List Packet) (rest : List ℕ) : FileFault → Type 0 where
+  packet : {fault : FileFault} → (0 < length rest) ⊎ (length before ≡ 0) → HasFault rest fault → IsWrongHere before rest fault
+  rule : {n : ℕ} → IsForeignPacket (first_packet rest) → BreaksRule before rest n → ((m : ℕ) → BreaksRule before rest m → n ≤ m) → IsWrongHere before rest (Rule n)
+  no_time : length rest ≡ 0 → length before ≡ 1 → IsWrongHere before rest (Rule 4)
+
+-- a file that should be strict is at fault first at an offset: what stands before are packets that follow each other
+pub record IsAtFault (bytes : List ℕ) (offset : ℕ) (fault : FileFault) : Type 0 where
+  pub packets : List Packet
+  pub rest : List ℕ
+  pub bytes_are : bytes ≡ file_bytes packets ++ rest
+  pub offset_is : offset ≡ length (file_bytes packets)
+  pub strict : EachFollows [] packets
+  pub wrong : IsWrongHere packets rest fault

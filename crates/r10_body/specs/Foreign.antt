@@ -1,0 +1,47 @@
+-- Files that any recorder may have written: each packet is framed, checked and counted, and some are passed over as opaque.
+use Rattle.std.specs.Prelude.{◌≡◌, ℕ, ◌<◌, Bool, false, true, not, ◌&&◌, ◌||◌, List, [], ◌∷◌, length, count_by, None, ◌==◌}
+use Rattle.std.specs.List.{AllByRecursion, concat, list_any}
+use Rattle.r10_count.specs.Bytes.{bit_of}
+use Rattle.r10_packet.specs.Framing.{framing_fault, header_at, body_at, has_data_checksum}
+use Rattle.r10_packet.specs.declared.header.Header.{Header}
+use Rattle.r10_setup.specs.Setup as setups
+use Rattle.r10_timebody.specs.Time as times
+use Rattle.r10_uart.specs.Uart as uarts
+
+-- the data types that are read: setup, time and UART
+abbrev pub known_types : List ℕ
+known_types = 0x01 ∷ 0x11 ∷ 0x50 ∷ []
+
+-- the channel specific word of a body selects a form that isn't read; a body without a whole word selects nothing
+abbrev pub selects_other : ℕ → List ℕ → Bool
+selects_other type body =
+    (type == 0x01 && setups.is_opaque body) || (type == 0x11 && times.is_opaque body) || (type == 0x50 && uarts.is_opaque body)
+
+-- a packet with a secondary header or with another intra-packet time than the counter's, of another type, or of a form that isn't read
+abbrev pub is_opaque : Header → List ℕ → Bool
+is_opaque h body =
+    bit_of 7 h.flags || bit_of 6 h.flags || not (list_any (λ type. type == h.data_type) known_types)
+    || selects_other h.data_type body
+
+-- the body is a word and exactly the entries that its type has
+pub record IsForeignBody (type : ℕ) (body : List ℕ) : Type 0 where
+  pub setup : type ≡ 0x01 → setups.IsForeignSetup body
+  pub time : type ≡ 0x11 → times.IsForeignTime body
+  pub uart : type ≡ 0x50 → uarts.IsForeignUart body
+
+-- the packet that stands first in these bytes is opaque
+abbrev pub opaque_at : List ℕ → Bool
+opaque_at bytes = is_opaque (header_at bytes) (body_at bytes)
+
+-- the bytes are one whole packet, opaque or read
+pub record IsForeignPacket (bytes : List ℕ) : Type 0 where
+  pub framed : framing_fault bytes ≡ None
+  pub whole : (header_at bytes).packet_len ≡ length bytes
+  pub checked : opaque_at bytes ≡ false → has_data_checksum bytes ≡ true
+  pub body : opaque_at bytes ≡ false → IsForeignBody (header_at bytes).data_type (body_at bytes)
+
+-- one packet or more, end to end, of which so many are opaque
+abbrev pub IsForeignFile : List ℕ → ℕ → Type 0
+IsForeignFile bytes opaque =
+    (packets : List (List ℕ)) × (bytes ≡ concat packets) × (0 < length packets)
+    × AllByRecursion IsForeignPacket packets × (opaque ≡ count_by opaque_at packets)

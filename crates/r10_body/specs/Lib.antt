@@ -1,0 +1,11 @@
+pub mod Refusals
+pub mod Cost
+pub mod Messages
+pub mod Content
+pub mod Bodies
+pub mod Packets
+pub mod Rules
+pub mod Files
+pub mod Foreign
+pub mod Faults
+pub mod Vectors

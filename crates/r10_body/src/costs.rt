@@ -1,0 +1,16 @@
+//! What an entry costs.
+
+ghost use Rattle.std.specs.Prelude.{◌≡◌};
+ghost use Rattle.r10_body.specs.Cost.{message_cost};
+
+use crate::message::Message;
+
+/// What a message adds to the cost of its entry, in bytes: this recorder's own measure of room.
+pub fn cost(message: &Message) -> u64
+    ensures { result ≡ message_cost message.now }
+{
+    match message {
+        Message::Uart { bytes, .. } => 12 + bytes.as_slice().len() as u64,
+        Message::Time { .. } => 8,
+    }
+}

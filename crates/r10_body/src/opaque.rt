@@ -1,0 +1,38 @@
+//! Packets that are passed over unread.
+
+ghost use Rattle.std.specs.Prelude.{◌≡◌, ◌==◌};
+ghost use Rattle.std.specs.List.{list_any};
+ghost use Rattle.r10_body.specs.Foreign.{known_types, selects_other as word_selects, is_opaque as opaque};
+
+use r10_packet::Header;
+use r10_setup::SetupBody;
+use r10_timebody::TimeBody;
+use r10_uart::UartBody;
+
+/// Whether a packet with this header and body is opaque: it has a secondary header or its
+/// intra-packet time is not the counter's, its data type isn't read here, or its channel specific
+/// word selects a form that isn't read.
+pub fn is_opaque(header: &Header, body: &[u8]) -> bool
+    ensures { result ≡ opaque header.now body.now }
+{
+    header.flags / 0x80 % 2 == 1
+        || header.flags / 0x40 % 2 == 1
+        || !is_known(header.data_type)
+        || selects_other(header.data_type, body)
+}
+
+/// Whether packets of this data type are read.
+fn is_known(data_type: u8) -> bool
+    ensures { result ≡ list_any (λ type. type == data_type) known_types }
+{
+    data_type == 0x01 || data_type == 0x11 || data_type == 0x50
+}
+
+/// Whether the channel specific word of a body of this type selects a form that isn't read.
+fn selects_other(data_type: u8, body: &[u8]) -> bool
+    ensures { result ≡ word_selects data_type body.now }
+{
+    (data_type == 0x01 && SetupBody::is_opaque(body))
+        || (data_type == 0x11 && TimeBody::is_opaque(body))
+        || (data_type == 0x50 && UartBody::is_opaque(body))
+}
