@@ -1,0 +1,9 @@
+use Rattle.std.proofs.Common.{◌∙◌}
+use Rattle.std.proofs.lemmas.Result.{IfOk-weaker}
+use Rattle.r10_mux.proofs.Spelled.{framed_entry}
+use Rattle.r10_mux.proofs.packet.encode_entry.Goals as goal
+
+pub returns : goal.returns
+returns c = IfOk-weaker c.frame.result _ _
+    (λ v framed. framed ∙ framed_entry c.args.entry.now c.args.check c.args.sequence c.flags_of.result c.data_type.result c.deref.result.now c.requires.check c.flags_of.ensures c.data_type.ensures (c.deref.ensures.value ∙ c.in_ok-body.ensures.body))
+    c.frame.ensures.bytes

@@ -1,0 +1,106 @@
+//! The packet of one entry.
+
+ghost use Rattle.std.specs.Prelude.{◌≡◌, ◌+◌, ◌<◌, ◌≤◌, ◌^◌, length, IfOk};
+ghost use Rattle.r10_count.specs.Bytes.{flag_at};
+ghost use Rattle.r10_count.specs.Civil.{IsCivil};
+ghost use Rattle.r10_mux.specs.Packing.{message_type, entry_bytes, setup_bytes, FitsMessage, IsEntry};
+
+use r10_body::{Entry, Message, encode};
+use r10_count::{Civil, Count};
+use r10_packet::{Header, Packet};
+use r10_setup::SetupBody;
+use std::alloc::{AllocError, Global};
+
+/// The data type of a message's packet.
+fn data_type(message: &Message) -> u8
+    ensures { result ≡ message_type message.now }
+{
+    match message {
+        Message::Uart { .. } => 0x50,
+        Message::Time { .. } => 0x11,
+    }
+}
+
+/// The flags of a packet whose first entry may have a gap.
+fn flags_of(gap: bool, check: u8) -> u8
+    requires { check < 4 }
+    ensures { result ≡ flag_at 4 gap + check }
+{
+    if gap { 16 + check } else { check }
+}
+
+/// A civil time is valid.
+fn is_valid(civil: Civil)
+    ensures { IsCivil civil }
+{
+    let _ = civil.parts();
+}
+
+/// A channel's number has 16 bits.
+fn is_channel(channel: u16)
+    ensures { channel < 2 ^ 16 }
+{
+    let _ = channel;
+}
+
+/// What the types of an entry's fields say of it.
+pub(crate) fn in_range(entry: &Entry)
+    ensures { IsEntry entry.now }
+{
+    is_channel(entry.channel);
+    let _ = entry.count.get();
+    match &entry.message {
+        Message::Uart { .. } => {}
+        Message::Time { civil } => is_valid(*civil),
+    }
+}
+
+/// The packet of one entry.
+#[tactic(auto, unfolding(crate::specs::Packing::entry_bytes))]
+pub(crate) fn encode_entry(
+    alloc: Global,
+    entry: &Entry,
+    check: u8,
+    sequence: u8,
+) -> Result<Vec<u8>, AllocError>
+    requires fits { FitsMessage entry.now.message }
+    requires check { check < 4 }
+    ensures { IfOk result (λ v. v.items ≡ entry_bytes check sequence entry.now) }
+{
+    let body = encode(alloc, entry.count, &entry.message)?;
+    let header = Header {
+        channel: entry.channel,
+        packet_len: 0,
+        data_len: 0,
+        version: 8,
+        sequence,
+        flags: flags_of(entry.gap, check),
+        data_type: data_type(&entry.message),
+        counter: entry.count,
+    };
+    Packet::frame(alloc, &header, &body)
+}
+
+/// The setup packet.
+#[tactic(auto, unfolding(crate::specs::Packing::setup_bytes))]
+pub(crate) fn encode_setup(
+    alloc: Global,
+    counter: Count,
+    setup: &[u8],
+) -> Result<Vec<u8>, AllocError>
+    requires { length setup.now ≤ 524_260 }
+    ensures { IfOk result (λ v. v.items ≡ setup_bytes counter setup.now) }
+{
+    let body = SetupBody { text: setup }.encode(alloc)?;
+    let header = Header {
+        channel: 0,
+        packet_len: 0,
+        data_len: 0,
+        version: 8,
+        sequence: 0,
+        flags: 0,
+        data_type: 1,
+        counter,
+    };
+    Packet::frame(alloc, &header, &body)
+}

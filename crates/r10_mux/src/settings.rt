@@ -1,0 +1,63 @@
+//! What a channel is set to, and which entries it takes.
+
+ghost use Rattle.std.specs.Prelude.{◌≡◌, ◌<◌, ◌↔◌, IsTrue};
+ghost use Rattle.std.specs.List.{All};
+ghost use Rattle.r10_mux.specs.Follow.{spec_of as settings_of, is_time_message, Belongs};
+ghost use Rattle.r10_mux.specs.Packing.{check_code as code_of, check_of as flags_of};
+
+use r10_body::{ChannelSpec, Entry, Message};
+
+/// The header flags of a data checksum of so many bits.
+fn check_code(bits: usize) -> u8
+    ensures value { result ≡ code_of bits }
+    ensures range { result < 4 }
+{
+    match bits {
+        8 => 1,
+        16 => 2,
+        32 => 3,
+        _ => 0,
+    }
+}
+
+/// The settings of a channel.
+fn spec_of(channels: &[ChannelSpec], channel: u16) -> Option<ChannelSpec>
+    ensures { result ≡ settings_of channels.now channel }
+{
+    channels.iter().copied().find(|spec| spec.id == channel)
+}
+
+/// The header flags of the data checksum of a channel's packets.
+pub(crate) fn check_of(channels: &[ChannelSpec], channel: u16) -> u8
+    ensures value { result ≡ flags_of channels.now channel }
+    ensures range { result < 4 }
+{
+    match spec_of(channels, channel) {
+        Some(spec) => check_code(spec.check),
+        None => 0,
+    }
+}
+
+fn is_time(message: &Message) -> bool
+    ensures { result ≡ is_time_message message.now }
+{
+    matches!(message, Message::Time { .. })
+}
+
+/// Whether a channel of the settings takes the entry, or it is a time of another.
+fn belongs(channels: &[ChannelSpec], entry: &Entry) -> bool
+    ensures { IsTrue result ↔ Belongs channels.now entry.now }
+{
+    let is_taken = match spec_of(channels, entry.channel) {
+        Some(spec) => spec.check(&entry.message).is_ok(),
+        None => is_time(&entry.message) && !entry.gap,
+    };
+    entry.channel > 0 && is_taken
+}
+
+/// Whether each entry is one that its channel takes, or a time on a channel that isn't in the settings.
+pub fn belong(channels: &[ChannelSpec], entries: &[Entry]) -> bool
+    ensures { IsTrue result ↔ All (Belongs channels.now) entries.now }
+{
+    entries.iter().all(|entry| belongs(channels, entry))
+}
