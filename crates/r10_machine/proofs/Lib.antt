@@ -1,0 +1,11 @@
+pub mod Rules
+pub mod Ranges
+pub mod Places
+pub mod Fails
+pub mod Taking
+pub mod Climbing
+pub mod Newness
+mod Insertion
+mod Order
+mod Runs
+mod Instalments

@@ -1,0 +1,13 @@
+pub mod Names
+pub mod Config
+pub mod Limits
+pub mod Machine
+pub mod Room
+pub mod Replay
+pub mod Checks
+pub mod Calls
+pub mod Step
+pub mod Sound
+pub mod Vectors
+pub mod Cases
+pub mod Soundness
