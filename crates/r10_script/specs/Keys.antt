@@ -1,0 +1,46 @@
+-- What a table of a script has under its keys.
+use Rattle.std.specs.Prelude.{ℕ, ℤ, pos, Bool, false, List, [], ◌∷◌, map, Option, Some, None, is_some, option_and_then, if◌then◌else◌}
+use Rattle.std.specs.Result.{result_ok}
+use Rattle.hex.specs.Hex.{decode_of}
+use Rattle.toml.specs.Data.{Data, Items, no_items, item, Members, get_member, as_integer, as_str, as_bool, as_array}
+
+-- a whole number
+abbrev pub integer_at : Members → List ℕ → Option ℤ
+integer_at table key = option_and_then as_integer (get_member key table)
+
+-- a whole number, 0 where there is no such key
+abbrev pub integer_or_zero_at : Members → List ℕ → Option ℤ
+integer_or_zero_at table key = if is_some (get_member key table) then integer_at table key else Some (pos 0)
+
+-- a text
+abbrev pub text_at : Members → List ℕ → Option (List ℕ)
+text_at table key = option_and_then as_str (get_member key table)
+
+-- the bytes that a text of hex digits stands for
+abbrev pub bytes_at : Members → List ℕ → Option (List ℕ)
+bytes_at table key = option_and_then (λ digits. result_ok (decode_of digits)) (text_at table key)
+
+-- those bytes, none where there is no such key
+abbrev pub bytes_or_none_at : Members → List ℕ → Option (List ℕ)
+bytes_or_none_at table key = if is_some (get_member key table) then bytes_at table key else Some []
+
+-- a truth value, false where there is no such key
+abbrev pub flag_or_false_at : Members → List ℕ → Option Bool
+flag_or_false_at table key = if is_some (get_member key table) then option_and_then as_bool (get_member key table) else Some false
+
+-- the items of an array in a list
+abbrev pub listed : Items → List Data
+listed no_items = []
+listed (item d ds) = d ∷ listed ds
+
+abbrev pub listed_array : Option Items → List Data
+listed_array None = []
+listed_array (Some ds) = listed ds
+
+-- the items of an array, none where there is no such key
+abbrev pub items_at : Members → List ℕ → List Data
+items_at table key = listed_array (option_and_then as_array (get_member key table))
+
+-- the items of an array as whole numbers
+abbrev pub integers_at : Members → List ℕ → List (Option ℤ)
+integers_at table key = map as_integer (items_at table key)

@@ -1,0 +1,5 @@
+pub mod Civil
+pub mod Keys
+pub mod Line
+pub mod Script
+pub mod Steps

@@ -1,0 +1,48 @@
+-- The line that a step prints.
+use Rattle.std.specs.Prelude.{◌≡◌, ℕ, Bool, true, false, List, [], ◌∷◌, ◌++◌, Some, None, codes}
+use Rattle.std.specs.Fmt.{decimal}
+use Rattle.hex.specs.Hex.{encode_lower}
+use Rattle.r10_body.specs.declared.entry.Entry.{Entry}
+use Rattle.r10_body.specs.declared.message.Message.{Message}
+use Rattle.r10_body.specs.declared.message.Message.TheVariants as messages
+use Rattle.r10_machine.specs.declared.reply.Reply.{Reply}
+use Rattle.r10_machine.specs.declared.reply.Reply.TheVariants as replies
+use Rattle.r10_script.specs.Civil.{civil_text}
+
+-- words with a space between each and the next
+abbrev pub spaced : List (List ℕ) → List ℕ
+spaced [] = []
+spaced (word ∷ []) = word
+spaced (word ∷ next ∷ words) = word ++ (32 ∷ spaced (next ∷ words))
+
+-- a truth value
+abbrev pub flag_text : Bool → List ℕ
+flag_text true = codes "1"
+flag_text false = codes "0"
+
+-- bytes in pairs of hex digits of lower case, a dash where there are none
+abbrev pub bytes_text : List ℕ → List ℕ
+bytes_text [] = codes "-"
+bytes_text (b ∷ bs) = encode_lower (b ∷ bs)
+
+abbrev pub message_text : Message → List ℕ
+message_text (messages.Uart parity sub bytes) = spaced (codes "uart" ∷ flag_text parity ∷ decimal sub ∷ bytes_text bytes ∷ [])
+message_text (messages.Time civil) = spaced (codes "time" ∷ civil_text civil ∷ [])
+
+abbrev pub entry_text : Entry → List ℕ
+entry_text e = spaced (codes "entry" ∷ decimal e.channel ∷ decimal e.count ∷ flag_text e.gap ∷ message_text e.message ∷ [])
+
+-- the words for each reply; what a refusal says of itself stands behind its first word
+abbrev pub IsReplyText : Reply → List ℕ → Type 0
+IsReplyText replies.Done text = text ≡ codes "ok"
+IsReplyText (replies.Moved moved) text = text ≡ spaced (codes "moved" ∷ decimal moved ∷ [])
+IsReplyText (replies.Stopped stopped) text = text ≡ spaced (codes "stopped" ∷ decimal stopped.taken ∷ decimal stopped.left ∷ [])
+IsReplyText (replies.Cursor id) text = text ≡ spaced (codes "cursor" ∷ decimal id ∷ [])
+IsReplyText (replies.Advanced queued) text = text ≡ spaced (codes "advanced" ∷ decimal queued ∷ [])
+IsReplyText (replies.Next None) text = text ≡ codes "none"
+IsReplyText (replies.Next (Some entry)) text = text ≡ entry_text entry
+IsReplyText (replies.Refused refusal) text = (said : List ℕ) × (text ≡ spaced (codes "refused" ∷ said ∷ []))
+
+-- the step's number, the reply's words, and a line feed
+abbrev pub IsReplyLine : ℕ → Reply → List ℕ → Type 0
+IsReplyLine number reply line = (text : List ℕ) × IsReplyText reply text × (line ≡ spaced (decimal number ∷ (text ++ 10 ∷ []) ∷ []))

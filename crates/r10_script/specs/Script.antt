@@ -1,0 +1,43 @@
+-- What the whole table of a script asks for.
+use Rattle.std.specs.Prelude.{◌≡◌, ℕ, pos, List, [], ◌∷◌, Some, codes, IsSomeAnd}
+use Rattle.toml.specs.Data.{Data, Members, as_table}
+use Rattle.r10_body.specs.declared.message.Kind.{Kind}
+use Rattle.r10_body.specs.declared.message.Kind.TheVariants as kinds
+use Rattle.r10_body.specs.declared.spec.ChannelSpec.{ChannelSpec}
+use Rattle.r10_machine.specs.Config.{Config}
+use Rattle.r10_machine.specs.declared.event.Event.{Event}
+use Rattle.r10_script.specs.Keys.{integer_at, text_at, items_at}
+use Rattle.r10_script.specs.Steps.{IsStep}
+
+-- each of the items is a table, and asks for what stands at its place
+abbrev pub EachAsks : {A : Type 0} → (Members → A → Type 0) → List Data → List A → Type 0
+EachAsks Asks [] [] = Unit {0}
+EachAsks Asks (d ∷ ds) (x ∷ xs) = IsSomeAnd (as_table d) (λ table. Asks table x) × EachAsks Asks ds xs
+EachAsks Asks _ _ = ⊥
+
+abbrev pub kind_word : Kind → List ℕ
+kind_word kinds.Uart = codes "uart"
+
+-- only a discrete channel has a number of bits
+abbrev pub IsChannelTable : Members → ChannelSpec → Type 0
+IsChannelTable table spec =
+    (integer_at table (codes "id") ≡ Some (pos spec.id))
+    × (text_at table (codes "kind") ≡ Some (kind_word spec.kind))
+    × (integer_at table (codes "capacity") ≡ Some (pos spec.capacity))
+    × (integer_at table (codes "check") ≡ Some (pos spec.check))
+    × (integer_at table (codes "bytes") ≡ Some (pos spec.bytes))
+    × (integer_at table (codes "number") ≡ Some (pos spec.number))
+    × (spec.bits ≡ 0)
+
+abbrev pub AreSettings : Members → Config → Type 0
+AreSettings table s =
+    (integer_at table (codes "blocks") ≡ Some (pos s.blocks))
+    × (integer_at table (codes "directory") ≡ Some (pos s.directory))
+    × (text_at table (codes "volume") ≡ Some s.volume)
+    × (integer_at table (codes "nodes") ≡ Some (pos s.nodes))
+    × (integer_at table (codes "time") ≡ Some (pos s.time))
+    × (integer_at table (codes "event") ≡ Some (pos s.event))
+    × EachAsks IsChannelTable (items_at table (codes "channel")) s.channels
+
+abbrev pub AreSteps : Members → List Event → Type 0
+AreSteps table events = EachAsks IsStep (items_at table (codes "step")) events

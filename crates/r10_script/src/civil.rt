@@ -1,0 +1,59 @@
+//! Civil times as text.
+
+ghost use Rattle.std.specs.Prelude.{◌≡◌, ◌<◌, ◌∷◌, ◌++◌, ℕ, List, IfSome, IfNone};
+ghost use Rattle.r10_script.specs.Civil.{two_digits, civil_text, HasText};
+
+use r10_count::Parts;
+
+/// The parts that a text of the form `YYYY-MM-DD hh:mm:ss.cc` spells. Whether there is such a time is not asked.
+pub fn parts_of(text: &[u8]) -> Option<Parts>
+    ensures found { IfSome result (λ parts. text.now ≡ civil_text parts) }
+    ensures none { IfNone result ((parts : Parts) → HasText parts → text.now ≡ civil_text parts → ⊥) }
+{
+    let (century, rest) = split_pair(text)?;
+    let (year, rest) = split_pair(rest)?;
+    let (month, rest) = split_marked(b'-', rest)?;
+    let (day, rest) = split_marked(b'-', rest)?;
+    let (hour, rest) = split_marked(b' ', rest)?;
+    let (minute, rest) = split_marked(b':', rest)?;
+    let (second, rest) = split_marked(b':', rest)?;
+    let (centi, rest) = split_marked(b'.', rest)?;
+    if !rest.is_empty() {
+        return None;
+    }
+    Some(Parts {
+        year: century * 100 + year,
+        month,
+        day,
+        hour,
+        minute,
+        second,
+        centi,
+    })
+}
+
+/// The number of two decimal digits at the front, and the bytes behind it.
+fn split_pair(bytes: &[u8]) -> Option<(u16, &[u8])>
+    ensures found { IfSome result (λ x. bytes.now ≡ two_digits x.0 ++ x.1.now) }
+    ensures range { IfSome result (λ x. x.0 < 100) }
+    ensures none { IfNone result ((n : ℕ) (rest : List ℕ) → n < 100 → bytes.now ≡ two_digits n ++ rest → ⊥) }
+{
+    match bytes {
+        [tens @ b'0'..=b'9', ones @ b'0'..=b'9', rest @ ..] => {
+            Some((u16::from(tens - b'0') * 10 + u16::from(ones - b'0'), rest))
+        }
+        _ => None,
+    }
+}
+
+/// The number of two decimal digits behind a mark at the front, and the bytes behind it.
+fn split_marked(mark: u8, bytes: &[u8]) -> Option<(u16, &[u8])>
+    ensures found { IfSome result (λ x. bytes.now ≡ mark ∷ two_digits x.0 ++ x.1.now) }
+    ensures range { IfSome result (λ x. x.0 < 100) }
+    ensures none { IfNone result ((n : ℕ) (rest : List ℕ) → n < 100 → bytes.now ≡ mark ∷ two_digits n ++ rest → ⊥) }
+{
+    match bytes {
+        [first, rest @ ..] if *first == mark => split_pair(rest),
+        _ => None,
+    }
+}

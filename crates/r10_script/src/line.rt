@@ -1,0 +1,101 @@
+//! The line that a step prints.
+
+ghost use Rattle.std.specs.Prelude.{◌≡◌, ◌∷◌, [], ℕ, List, codes, string_bytes, IfOk};
+ghost use Rattle.r10_script.specs.Civil.{civil_text as civil_digits};
+ghost use Rattle.r10_script.specs.Line.{IsReplyLine, IsReplyText, entry_text as entry_words, message_text as message_words, bytes_text, flag_text as flag_digit, spaced};
+
+use r10_body::{Entry, Message, Refusal};
+use r10_count::Civil;
+use r10_machine::Reply;
+use std::alloc::{AllocError, Global};
+
+/// The line of the reply to the step of this number, with its line feed.
+pub fn reply_line(alloc: Global, number: usize, reply: &Reply) -> Result<String, AllocError>
+    ensures { IfOk result (λ line. IsReplyLine number reply.now (string_bytes line)) }
+{
+    let text = reply_text(alloc, reply)?;
+    format!(in alloc; "{number} {text}\n")
+}
+
+fn reply_text(alloc: Global, reply: &Reply) -> Result<String, AllocError>
+    ensures { IfOk result (λ text. IsReplyText reply.now (string_bytes text)) }
+{
+    match reply {
+        Reply::Done => String::from_str(alloc, "ok"),
+        Reply::Moved(moved) => format!(in alloc; "moved {moved}"),
+        Reply::Stopped(stopped) => {
+            let (taken, left) = (stopped.taken, stopped.left);
+            format!(in alloc; "stopped {taken} {left}")
+        }
+        Reply::Cursor(id) => format!(in alloc; "cursor {id}"),
+        Reply::Advanced(queued) => format!(in alloc; "advanced {queued}"),
+        Reply::Next(None) => String::from_str(alloc, "none"),
+        Reply::Next(Some(entry)) => entry_text(alloc, entry),
+        Reply::Refused(refusal) => refusal_text(alloc, refusal),
+    }
+}
+
+fn refusal_text(alloc: Global, refusal: &Refusal) -> Result<String, AllocError>
+    ensures { IfOk result (λ text. (said : List ℕ) × (string_bytes text ≡ spaced (codes "refused" ∷ said ∷ []))) }
+{
+    let said = refusal.to_string(alloc)?;
+    format!(in alloc; "refused {said}")
+}
+
+/// An entry: its channel, its count, whether it has a gap, and its message.
+fn entry_text(alloc: Global, entry: &Entry) -> Result<String, AllocError>
+    ensures { IfOk result (λ text. string_bytes text ≡ entry_words entry.now) }
+{
+    let (channel, count) = (entry.channel, entry.count.get());
+    let gap = flag_text(entry.gap);
+    let message = message_text(alloc, &entry.message)?;
+    format!(in alloc; "entry {channel} {count} {gap} {message}")
+}
+
+fn message_text(alloc: Global, message: &Message) -> Result<String, AllocError>
+    ensures { IfOk result (λ text. string_bytes text ≡ message_words message.now) }
+{
+    match message {
+        Message::Uart { parity, sub, bytes } => {
+            let parity = flag_text(*parity);
+            let bytes = hex_text(alloc, bytes.as_slice())?;
+            format!(in alloc; "uart {parity} {sub} {bytes}")
+        }
+        Message::Time { civil } => {
+            let text = civil_text(alloc, *civil)?;
+            format!(in alloc; "time {text}")
+        }
+    }
+}
+
+fn flag_text(flag: bool) -> &'static str
+    ensures { result.now ≡ flag_digit flag }
+{
+    if flag { "1" } else { "0" }
+}
+
+/// The bytes in hex digits, `-` where there are none.
+fn hex_text(alloc: Global, bytes: &[u8]) -> Result<String, AllocError>
+    ensures { IfOk result (λ text. string_bytes text ≡ bytes_text bytes.now) }
+{
+    if bytes.is_empty() {
+        String::from_str(alloc, "-")
+    } else {
+        hex::encode(alloc, bytes)
+    }
+}
+
+/// A civil time in the form `YYYY-MM-DD hh:mm:ss.cc`.
+#[tactic(auto, using(crate::proofs::Digits::decimal_pair))]
+fn civil_text(alloc: Global, civil: Civil) -> Result<String, AllocError>
+    ensures { IfOk result (λ text. string_bytes text ≡ civil_digits civil) }
+{
+    let parts = civil.parts();
+    let (century, year) = (parts.year / 100, parts.year % 100);
+    let (month, day) = (parts.month, parts.day);
+    let (hour, minute) = (parts.hour, parts.minute);
+    let (second, centi) = (parts.second, parts.centi);
+    format!(in alloc;
+        "{century:02}{year:02}-{month:02}-{day:02} {hour:02}:{minute:02}:{second:02}.{centi:02}"
+    )
+}

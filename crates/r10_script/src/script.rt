@@ -1,0 +1,82 @@
+//! Scripts.
+
+ghost use Rattle.std.specs.Prelude.{◌≡◌, Some, IfOk, IsUtf8};
+ghost use Rattle.toml.specs.Data.{Members};
+ghost use Rattle.toml.specs.Parse.{parse_document};
+ghost use Rattle.toml.specs.View.{table_view};
+ghost use Rattle.r10_script.specs.Script.{AreSettings, AreSteps};
+
+use crate::fault::{Place, ScriptFault, Wrong};
+use crate::settings::settings_of;
+use crate::step::event_of;
+use crate::table::Fields;
+use r10_body::ChannelSpec;
+use r10_machine::{Event, Settings};
+use std::alloc::{AllocError, Global};
+
+/// What a script asks for: a recorder of these settings, and these events in turn.
+#[derive(Debug, Drop)]
+pub struct Script {
+    pub settings: Settings,
+    pub events: Vec<Event>,
+}
+
+/// The script that the text spells, in UTF-8: the settings, the channels and the steps under their keys.
+pub fn read_script(alloc: Global, text: &[u8]) -> Result<Script, ScriptFault>
+    ensures text { IfOk result (λ _. IsUtf8 text.now) }
+    ensures script { IfOk result (λ script. (table : Members) × (parse_document text.now ≡ Some table) × AreSettings table script.settings × AreSteps table script.events.items) }
+{
+    let table = match toml::table_from_slice(alloc, text) {
+        Ok(table) => table,
+        Err(error) => return Err(toml_fault(alloc, text, &error)),
+    };
+    let top = Fields::new(&table, Place::Top);
+    top.only(
+        alloc,
+        &[
+            "blocks",
+            "directory",
+            "volume",
+            "nodes",
+            "time",
+            "event",
+            "channel",
+            "step",
+        ],
+    )?;
+    let settings = settings_of(alloc, top)?;
+    let events = events_of(alloc, settings.channels(), top)?;
+    Ok(Script { settings, events })
+}
+
+fn events_of(
+    alloc: Global,
+    channels: &[ChannelSpec],
+    top: Fields<'_>,
+) -> Result<Vec<Event>, ScriptFault>
+    ensures { IfOk result (λ events. AreSteps (table_view top.entry.table.now) events.items) }
+{
+    let mut events = Vec::new(alloc);
+    let mut number = 0usize;
+    for value in top.tables("step")? {
+        number = number.saturating_add(1);
+        let fields = Fields::of_value(value, "step", Place::Step(number))?;
+        events.push(event_of(alloc, channels, fields)?)?;
+    }
+    Ok(events)
+}
+
+fn toml_fault(alloc: Global, text: &[u8], error: &toml::de::Error) -> ScriptFault {
+    let Some(span) = error.span() else {
+        return ScriptFault::OutOfMemory(AllocError);
+    };
+    let before = text.iter().take(span.start);
+    let line = before.filter(|byte| **byte == b'\n').count();
+    match String::from_str(alloc, error.message()) {
+        Ok(message) => ScriptFault::Wrong {
+            place: Place::Line(line.saturating_add(1)),
+            wrong: Wrong::Toml { message },
+        },
+        Err(error) => ScriptFault::OutOfMemory(error),
+    }
+}
