@@ -6,3 +6,4 @@ pub mod Entries
 pub mod Follows
 pub mod Packed
 pub mod Begin
+pub mod Costs
