@@ -10,7 +10,8 @@ ghost use Rattle.r10_machine.specs.Calls.{all_waiting};
 ghost use Rattle.r10_machine.specs.Machine.{Lane, Machine, fresh, lane_in, waiting_entries};
 ghost use Rattle.r10_machine.specs.Sound.{IsSound};
 ghost use Rattle.r10_machine.specs.Replay.{Ordered, between, wanted};
-ghost use Rattle.r10_machine.specs.Step.{Run};
+ghost use Rattle.r10_machine.specs.Limits.{IsConfig};
+ghost use Rattle.r10_machine.specs.Step.{Run, Step};
 ghost use Rattle.r10_machine.specs.declared.event.Event.{Event};
 ghost use Rattle.r10_machine.specs.declared.reply.Reply.{Reply};
 
@@ -47,4 +48,16 @@ pub fn a_stop_takes_the_first()
 /// A new recorder without files is sound.
 pub fn a_new_recorder_is_sound()
     ensures { (s : Config) (failures : ℕ) → IsSound s (fresh s.channels [] failures) }
+{}
+
+/// A step from a sound state leads to a sound state.
+pub fn a_step_stays_sound()
+    ensures { (s : Config) (old : Machine) (event : Event) (reply : Reply) (new : Machine) →
+        IsConfig s → IsSound s old → Step s old event reply new → IsSound s new }
+{}
+
+/// And so does a run.
+pub fn a_run_stays_sound()
+    ensures { (s : Config) (old : Machine) (events : List Event) (replies : List Reply) (new : Machine) →
+        IsConfig s → IsSound s old → Run s old events replies new → IsSound s new }
 {}

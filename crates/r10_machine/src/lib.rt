@@ -21,8 +21,8 @@ pub use event::Event;
 pub use fault::SettingsFault;
 pub use files::{check_begin, check_cursor};
 pub use laws::{
-    a_new_recorder_is_sound, a_stop_takes_the_first, instalments_join, order_is_unique,
-    order_keeps_each, runs_join,
+    a_new_recorder_is_sound, a_run_stays_sound, a_step_stays_sound, a_stop_takes_the_first,
+    instalments_join, order_is_unique, order_keeps_each, runs_join,
 };
 pub use modes::{check_idle, check_mounted, check_recording, check_unmounted};
 pub use names::{is_name, is_name_byte, is_volume};
