@@ -1,4 +1,5 @@
 pub mod Bodies
+pub mod Fixed
 pub mod Joined
 pub mod Parts
 pub mod Plain

@@ -1,0 +1,25 @@
+-- ARINC 429 bodies written out.
+use Rattle.std.specs.Prelude.{◌≡◌, ℕ, true, false, List, [], ◌∷◌, ◌++◌, refl}
+use Rattle.r10_a429.specs.declared.entry.ArincEntry.{ArincEntry}
+use Rattle.r10_a429.specs.Arinc.{arinc_body}
+
+-- a word on the high speed bus 1
+abbrev pub word_at : ℕ → ArincEntry
+word_at count = record { count = count; bus = 1; format = false; parity = false; high = true; word = 0x12345678 }
+
+-- at 5000, 5100 and 5300: gaps of 0, 100 and 200
+pub three_words-body : arinc_body 5000 (word_at 5000 ∷ word_at 5100 ∷ word_at 5300 ∷ [])
+    ≡ (3 ∷ 0 ∷ 0 ∷ 0 ∷ [])
+    ++ (0x00 ∷ 0x00 ∷ 0x20 ∷ 0x01 ∷ 0x78 ∷ 0x56 ∷ 0x34 ∷ 0x12 ∷ [])
+    ++ (0x64 ∷ 0x00 ∷ 0x20 ∷ 0x01 ∷ 0x78 ∷ 0x56 ∷ 0x34 ∷ 0x12 ∷ [])
+    ++ (0xC8 ∷ 0x00 ∷ 0x20 ∷ 0x01 ∷ 0x78 ∷ 0x56 ∷ 0x34 ∷ 0x12 ∷ [])
+three_words-body = refl
+
+-- a format and a parity error on the last bus, a tenth of a second after a word without any
+abbrev pub two_buses : List ArincEntry
+two_buses = record { count = 5000; bus = 0; format = false; parity = false; high = false; word = 0 }
+    ∷ record { count = 1005000; bus = 255; format = true; parity = true; high = false; word = 0xFFFFFFFF } ∷ []
+
+pub two_buses-body : arinc_body 5000 two_buses
+    ≡ 2 ∷ 0 ∷ 0 ∷ 0 ∷ 0 ∷ 0 ∷ 0 ∷ 0 ∷ 0 ∷ 0 ∷ 0 ∷ 0 ∷ 0x40 ∷ 0x42 ∷ 0xCF ∷ 0xFF ∷ 0xFF ∷ 0xFF ∷ 0xFF ∷ 0xFF ∷ []
+two_buses-body = refl

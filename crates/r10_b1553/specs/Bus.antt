@@ -1,0 +1,65 @@
+-- The body of a MIL-STD-1553 packet: the channel specific data word, then for each message an intra-packet time stamp, the block status word, the gap times word, the length word, and the message's 16-bit words.
+use Rattle.std.specs.Prelude.{◌≡◌, ℕ, ◌+◌, ◌*◌, ◌%◌, ◌^◌, ◌<◌, ◌≤◌, ◌==◌, cond, Option, Some, None, List, ◌++◌, length, bit_and}
+use Rattle.std.specs.List.{flat_map, AllByRecursion, concat}
+use Rattle.r10_count.specs.Bytes.{le_bytes, u16_at}
+use Rattle.r10_count.specs.Count.{IsCount, stamp}
+use Rattle.r10_entries.specs.Form.{IsEntry}
+use Rattle.r10_b1553.specs.declared.entry.BusEntry.{BusEntry}
+
+-- the word has the number of messages
+abbrev pub bus_word : ℕ → List ℕ
+bus_word count = le_bytes 4 count
+
+-- 16-bit words, the low byte of each first
+abbrev pub words_bytes : List ℕ → List ℕ
+words_bytes words = flat_map (le_bytes 2) words
+
+-- the length is that of the words in bytes
+abbrev pub bus_entry : BusEntry → List ℕ
+bus_entry e = stamp e.count ++ le_bytes 2 e.status ++ le_bytes 2 e.gap ++ le_bytes 2 (2 * length e.words) ++ words_bytes e.words
+
+-- the length of an entry in the body
+abbrev pub entry_size : BusEntry → ℕ
+entry_size e = 14 + 2 * length e.words
+
+abbrev pub bus_body : List BusEntry → List ℕ
+bus_body entries = bus_word (length entries) ++ flat_map bus_entry entries
+
+abbrev pub bus_of : ℕ → ℕ → ℕ → List ℕ → BusEntry
+bus_of count status gap words = record { count = count; status = status; gap = gap; words = words }
+
+-- the bits of the block status that have a name: bus B (13), message error, RT to RT, format error, response timeout (12 to 9), word count error, sync type error and invalid word (5 to 3)
+abbrev pub named_bits : ℕ
+named_bits = 0x3E38
+
+-- the ranges of the fields; two commands, two statuses and 32 data words are 36 words
+pub record FitsBus (e : BusEntry) : Type 0 where
+  pub count : IsCount e.count
+  pub status : bit_and e.status named_bits ≡ e.status
+  pub gap : e.gap < 2 ^ 16
+  pub few : length e.words ≤ 36
+  pub words : AllByRecursion (λ w. w < 2 ^ 16) e.words
+
+-- the messages of one packet: there is one, and there are no more than the word's 24 bits count
+pub record FitsBusBody (entries : List BusEntry) : Type 0 where
+  pub some : 0 < length entries
+  pub counted : length entries < 2 ^ 24
+  pub fields : AllByRecursion FitsBus entries
+
+-- the body that the writer makes of these entries
+abbrev pub IsBus : List BusEntry → List ℕ → Type 0
+IsBus entries body = FitsBusBody entries × (body ≡ bus_body entries)
+
+-- the number of bytes that the length word tells
+abbrev pub told_bytes : List ℕ → ℕ
+told_bytes front = u16_at front 12
+
+-- the length of an entry that begins so; none begins with an odd number of bytes
+abbrev pub told_size : List ℕ → Option ℕ
+told_size front = cond (told_bytes front % 2 == 0) (Some (14 + told_bytes front)) None
+
+-- whoever wrote it: a word, and exactly as many entries as it tells
+abbrev pub IsForeignBus : List ℕ → Type 0
+IsForeignBus body =
+    (word : ℕ) × (entries : List (List ℕ)) × (word < 2 ^ 32) × (word % 2 ^ 24 ≡ length entries)
+    × AllByRecursion (IsEntry 14 told_size) entries × (body ≡ le_bytes 4 word ++ concat entries)

@@ -1,0 +1,13 @@
+//! MIL-STD-1553 packets: a body is written as exactly the bytes of its bus messages, and read as exactly the messages that this
+//! recorder writes so, as another recorder's, or as no body.
+#![tactic(auto)]
+
+mod body;
+mod entry;
+mod words;
+
+pub use body::BusBody;
+pub use entry::{BusEntry, channel_word, push_entry};
+
+#[cfg(test)]
+mod tests;

@@ -1,0 +1,3 @@
+pub mod Discrete
+pub mod Entry
+pub mod Vectors

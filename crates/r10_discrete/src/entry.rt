@@ -1,0 +1,92 @@
+//! States of discretes as entries of a body.
+
+ghost use Rattle.std.specs.Prelude.{◌↔◌, IsTrue};
+ghost use Rattle.r10_discrete.specs.Discrete.{FitsDiscrete};
+
+use r10_count::{Count, split_u32};
+use r10_entries::{BodyEntry, append_all};
+use std::alloc::{AllocError, Global};
+
+/// The states of a channel's discretes with their time.
+#[derive(Clone, Copy, Debug, PartialEq, Eq)]
+pub struct DiscreteEntry {
+    /// The count at which they came, in units of 100 ns.
+    pub count: Count,
+    /// A bit for each discrete, from bit 0 on.
+    pub states: u32,
+}
+
+impl DiscreteEntry {
+    /// Whether no state has a bit beyond so many discretes.
+    pub fn check(&self, bits: u8) -> bool
+        ensures { IsTrue result ↔ FitsDiscrete bits self.now }
+    {
+        let _ = self.count.get();
+        let states = self.states;
+        bits >= 32 || states >> bits == 0
+    }
+}
+
+impl BodyEntry for DiscreteEntry {
+    ghost use Rattle.r10_discrete.specs.Entry.{discrete_form};
+
+    ghost form = { discrete_form };
+
+    fn front() -> usize {
+        12
+    }
+
+    fn told(front: &[u8]) -> Option<usize> {
+        let _ = front;
+        Some(12)
+    }
+
+    fn word(setting: u32, count: usize) -> u32 {
+        let _ = count;
+        8 * (setting % 32)
+    }
+
+    fn agrees(word: u32, count: usize) -> bool {
+        let _ = (word, count);
+        true
+    }
+
+    fn count(&self) -> u64 {
+        self.count.get()
+    }
+
+    fn opens(&self, counter: u64) -> bool {
+        let _ = counter;
+        true
+    }
+
+    fn suits(&self, setting: u32) -> bool {
+        0 < setting && setting < 32 && self.states >> setting == 0
+    }
+
+    fn size(&self, before: u64) -> usize {
+        let _ = before;
+        12
+    }
+
+    fn encode_into(&self, before: u64, out: &mut Vec<u8>) -> Result<(), AllocError> {
+        let _ = before;
+        let stamp = self.count.stamp();
+        let states = self.states.to_le_bytes();
+        append_all(out, &[&stamp, &states])
+    }
+
+    fn read(alloc: Global, before: u64, bytes: &[u8]) -> Result<Option<DiscreteEntry>, AllocError> {
+        let _ = (alloc, before);
+        let Some((count, rest)) = Count::of_stamp(bytes) else {
+            return Ok(None);
+        };
+        let Some((states, rest)) = split_u32(rest) else {
+            return Ok(None);
+        };
+        if !rest.is_empty() {
+            return Ok(None);
+        }
+        Ok(Some(DiscreteEntry { count, states }))
+    }
+}

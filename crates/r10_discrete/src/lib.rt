@@ -1,0 +1,12 @@
+//! Discrete packets: a body is written as exactly the bytes of its states, and read as exactly the states that this recorder writes
+//! so, as another recorder's, or as no body.
+#![tactic(auto)]
+
+mod body;
+mod entry;
+
+pub use body::DiscreteBody;
+pub use entry::DiscreteEntry;
+
+#[cfg(test)]
+mod tests;

@@ -1,0 +1,45 @@
+-- An entry's header and its fields.
+use Rattle.std.proofs.Common.{◌≡◌, ℕ, zero, suc, ◌+◌, ◌*◌, ◌/◌, ◌%◌, ◌^◌, ◌<◌, List, [], ◌∷◌, ◌++◌, length, take, replicate, nat_eq, refl, sym, ap, ◌∙◌, arith}
+use Rattle.std.proofs.lemmas.List.{append-nil}
+use Rattle.r10_count.specs.Bytes.{le_bytes, flag_at}
+use Rattle.r10_count.specs.Count.{stamp, IsCount}
+use Rattle.r10_entries.specs.Padding.{padded}
+use Rattle.r10_message.specs.Message.{FitsMessage, message_header, message_entry, message_of}
+use Rattle.r10_message.specs.declared.entry.MessageEntry.{MessageEntry}
+
+high_bit : (q : ℕ) → q < 2 → flag_at 31 (nat_eq q 1) ≡ 2147483648 * q
+high_bit zero lt = refl
+high_bit (suc zero) lt = refl
+high_bit (suc (suc n)) lt = absurd (omega arith)
+
+next_bit : (q : ℕ) → q < 2 → flag_at 30 (nat_eq q 1) ≡ 1073741824 * q
+next_bit zero lt = refl
+next_bit (suc zero) lt = refl
+next_bit (suc (suc n)) lt = absurd (omega arith)
+
+-- the entry that a header and bytes make
+abbrev pub entry_of : ℕ → ℕ → List ℕ → MessageEntry
+entry_of count header text = message_of count (nat_eq (header / 2147483648) 1) (nat_eq (header / 1073741824 % 2) 1) (header / 65536 % 16384) text
+
+-- a header is made of its fields
+header_is : (header : ℕ) → header < 2 ^ 32
+    → flag_at 31 (nat_eq (header / 2147483648) 1) + flag_at 30 (nat_eq (header / 1073741824 % 2) 1) + 65536 * (header / 65536 % 16384) + header % 65536 ≡ header
+header_is header lt = omega (arith, high_bit (header / 2147483648) (omega arith), next_bit (header / 1073741824 % 2) (omega arith))
+
+pub entry_read : (bytes rest behind text : List ℕ) (count header : ℕ) → IsCount count → header < 2 ^ 32
+    → bytes ≡ stamp count ++ rest → rest ≡ le_bytes 4 header ++ behind → behind ≡ padded text → length text ≡ header % 65536
+    → FitsMessage (entry_of count header text) × (bytes ≡ message_entry (entry_of count header text))
+entry_read bytes rest behind text count header lc lt e1 e2 e3 n =
+    let is : message_header (entry_of count header text) ≡ header = omega (arith, n, header_is header lt) in (
+      record { count = lc; sub = omega arith; bytes = omega (arith, n) },
+      e1 ∙ ap (λ t. stamp count ++ t) (e2 ∙ ap (λ t. le_bytes 4 header ++ t) e3) ∙ ap (λ h. stamp count ++ le_bytes 4 h ++ padded text) (sym is),
+    )
+
+zeros : (k : ℕ) → k < 2 → take {A = ℕ} k (0 ∷ []) ≡ replicate k 0
+zeros zero lt = refl
+zeros (suc zero) lt = refl
+zeros (suc (suc k)) lt = absurd (omega arith)
+
+-- the four parts that are written
+pub four_parts : (count header : ℕ) (text : List ℕ) → stamp count ++ (le_bytes 4 header ++ (text ++ (take {A = ℕ} (length text % 2) (0 ∷ []) ++ []))) ≡ stamp count ++ le_bytes 4 header ++ padded text
+four_parts count header text = ap (λ t. stamp count ++ (le_bytes 4 header ++ (text ++ t))) (append-nil (take {A = ℕ} (length text % 2) (0 ∷ [])) ∙ zeros (length text % 2) (omega arith))

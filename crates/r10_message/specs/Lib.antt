@@ -1,0 +1,3 @@
+pub mod Message
+pub mod Entry
+pub mod Vectors

@@ -1,0 +1,64 @@
+-- The body of a message data packet: the channel specific data word, then for each message an intra-packet time stamp, an intra-packet data header and the bytes.
+use Rattle.std.specs.Prelude.{◌≡◌, ℕ, ◌+◌, ◌*◌, ◌/◌, ◌%◌, ◌^◌, ◌<◌, ◌==◌, Bool, not, ◌&&◌, nat_le, Option, Some, List, ◌++◌, length}
+use Rattle.std.specs.List.{flat_map, AllByRecursion, concat}
+use Rattle.r10_count.specs.Bytes.{le_bytes, flag_at, u32_at}
+use Rattle.r10_count.specs.Count.{IsCount, stamp}
+use Rattle.r10_entries.specs.Form.{IsEntry}
+use Rattle.r10_entries.specs.Padding.{padded}
+use Rattle.r10_message.specs.declared.entry.MessageEntry.{MessageEntry}
+
+-- the word has the number of messages, and says that each of them is whole
+abbrev pub message_word : ℕ → List ℕ
+message_word count = le_bytes 4 count
+
+-- data error, format error, subchannel and length
+abbrev pub message_header : MessageEntry → ℕ
+message_header e = flag_at 31 e.data_error + flag_at 30 e.format + 2 ^ 16 * e.sub + length e.bytes
+
+-- a zero byte stands behind an odd number of bytes
+abbrev pub message_entry : MessageEntry → List ℕ
+message_entry e = stamp e.count ++ le_bytes 4 (message_header e) ++ padded e.bytes
+
+-- the length of an entry in the body
+abbrev pub entry_size : MessageEntry → ℕ
+entry_size e = 12 + length e.bytes + length e.bytes % 2
+
+abbrev pub message_body : List MessageEntry → List ℕ
+message_body entries = message_word (length entries) ++ flat_map message_entry entries
+
+abbrev pub message_of : ℕ → Bool → Bool → ℕ → List ℕ → MessageEntry
+message_of count data_error format sub bytes = record { count = count; data_error = data_error; format = format; sub = sub; bytes = bytes }
+
+-- the ranges of the fields
+pub record FitsMessage (e : MessageEntry) : Type 0 where
+  pub count : IsCount e.count
+  pub sub : e.sub < 2 ^ 14
+  pub bytes : length e.bytes < 2 ^ 16
+
+-- the messages of one packet: there is one, and there are no more than the word's 16 bits count
+pub record FitsMessageBody (entries : List MessageEntry) : Type 0 where
+  pub some : 0 < length entries
+  pub counted : length entries < 2 ^ 16
+  pub fields : AllByRecursion FitsMessage entries
+
+-- the body that the writer makes of these entries
+abbrev pub IsMessage : List MessageEntry → List ℕ → Type 0
+IsMessage entries body = FitsMessageBody entries × (body ≡ message_body entries)
+
+-- the number of bytes that the header behind a stamp tells
+abbrev pub told_bytes : List ℕ → ℕ
+told_bytes front = u32_at front 8 % 2 ^ 16
+
+-- the length of an entry that begins with this stamp and header
+abbrev pub told_size : List ℕ → Option ℕ
+told_size front = Some (12 + told_bytes front + told_bytes front % 2)
+
+-- whoever wrote it: a word, and exactly as many entries as it tells
+abbrev pub IsForeignMessage : List ℕ → Type 0
+IsForeignMessage body =
+    (word : ℕ) × (entries : List (List ℕ)) × (word < 2 ^ 32) × (word % 2 ^ 16 ≡ length entries)
+    × AllByRecursion (IsEntry 12 told_size) entries × (body ≡ le_bytes 4 word ++ concat entries)
+
+-- there is a word, and it says that the entries are segments of messages, which aren't read
+abbrev pub is_opaque : List ℕ → Bool
+is_opaque body = nat_le 4 (length body) && not (u32_at body 0 / 2 ^ 16 % 4 == 0)

@@ -1,0 +1,37 @@
+-- Message bodies written out.
+use Rattle.std.specs.Prelude.{◌≡◌, true, false, List, [], ◌∷◌, refl}
+use Rattle.r10_message.specs.declared.entry.MessageEntry.{MessageEntry}
+use Rattle.r10_message.specs.Message.{message_body, message_entry, message_of, is_opaque}
+
+-- ABC at 1000 and an empty message at 1010
+abbrev pub two_messages : List MessageEntry
+two_messages = message_of 1000 false false 0 (0x41 ∷ 0x42 ∷ 0x43 ∷ []) ∷ message_of 1010 false false 0 [] ∷ []
+
+pub two_messages-body : message_body two_messages ≡ 2 ∷ 0 ∷ 0 ∷ 0 ∷ 0xE8 ∷ 0x03 ∷ 0 ∷ 0 ∷ 0 ∷ 0 ∷ 0 ∷ 0 ∷ 3 ∷ 0 ∷ 0 ∷ 0 ∷ 0x41 ∷ 0x42 ∷ 0x43 ∷ 0 ∷ 0xF2 ∷ 0x03 ∷ 0 ∷ 0 ∷ 0 ∷ 0 ∷ 0 ∷ 0 ∷ 0 ∷ 0 ∷ 0 ∷ 0 ∷ []
+two_messages-body = refl
+
+-- a data error on the last subchannel at the last count
+pub greatest-entry : message_entry (message_of 281474976710655 true false 16383 (0x5A ∷ 0xA5 ∷ []))
+    ≡ 0xFF ∷ 0xFF ∷ 0xFF ∷ 0xFF ∷ 0xFF ∷ 0xFF ∷ 0 ∷ 0 ∷ 2 ∷ 0 ∷ 0xFF ∷ 0xBF ∷ 0x5A ∷ 0xA5 ∷ []
+greatest-entry = refl
+
+-- a format error on subchannel 1
+pub format_error-entry : message_entry (message_of 1 false true 1 (0x5A ∷ []))
+    ≡ 1 ∷ 0 ∷ 0 ∷ 0 ∷ 0 ∷ 0 ∷ 0 ∷ 0 ∷ 1 ∷ 0 ∷ 1 ∷ 0x40 ∷ 0x5A ∷ 0 ∷ []
+format_error-entry = refl
+
+-- both errors and no bytes
+pub both_errors-entry : message_entry (message_of 0 true true 0 []) ≡ 0 ∷ 0 ∷ 0 ∷ 0 ∷ 0 ∷ 0 ∷ 0 ∷ 0 ∷ 0 ∷ 0 ∷ 0 ∷ 0xC0 ∷ []
+both_errors-entry = refl
+
+pub whole_messages : is_opaque (2 ∷ 0 ∷ 0xFC ∷ 0xFF ∷ []) ≡ false
+whole_messages = refl
+
+pub first_segments : is_opaque (2 ∷ 0 ∷ 1 ∷ 0 ∷ 1 ∷ []) ≡ true
+first_segments = refl
+
+pub last_segments : is_opaque (2 ∷ 0 ∷ 2 ∷ 0 ∷ []) ≡ true
+last_segments = refl
+
+pub no-word : is_opaque (2 ∷ 0 ∷ 1 ∷ []) ≡ false
+no-word = refl

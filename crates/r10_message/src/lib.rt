@@ -1,0 +1,12 @@
+//! Message data packets: a body is written as exactly the bytes of its messages, and read as exactly the messages that this recorder
+//! writes so, as another recorder's, or as no body.
+#![tactic(auto)]
+
+mod body;
+mod entry;
+
+pub use body::MessageBody;
+pub use entry::{MessageEntry, channel_word, push_entry};
+
+#[cfg(test)]
+mod tests;
