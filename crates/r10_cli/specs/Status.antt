@@ -1,0 +1,21 @@
+-- The exit status of a command.
+use Rattle.std.specs.Prelude.{◌≡◌, ◌⊎◌, ℕ}
+use Rattle.r10_script.specs.declared.fault.ScriptFault.TheVariants as scripts
+use Rattle.r10_cli.specs.declared.fault.Fault.{Fault}
+use Rattle.r10_cli.specs.declared.fault.Fault.TheVariants as faults
+
+-- 2 where the words or the script are wrong, 3 where memory, the reader or the writer failed
+abbrev pub status_of : Fault → ℕ
+status_of faults.NotText = 2
+status_of (faults.Usage said) = 2
+status_of (faults.Script (scripts.Wrong place wrong)) = 2
+status_of (faults.Script (scripts.OutOfMemory error)) = 3
+status_of (faults.Memory error) = 3
+status_of (faults.Read error) = 3
+status_of faults.Endless = 3
+status_of (faults.Write error) = 3
+status_of (faults.Format refusal) = 3
+
+-- 0 where the command did its work
+abbrev pub IsStatus : ℕ → Type 0
+IsStatus status = (status ≡ 0) ⊎ (status ≡ 2) ⊎ (status ≡ 3)

@@ -1,0 +1,65 @@
+//! Why a command gives up.
+
+ghost use Rattle.std.specs.Prelude.{◌≡◌};
+ghost use Rattle.r10_cli.specs.Status.{status_of, IsStatus};
+
+use r10_body::Refusal;
+use r10_script::ScriptFault;
+use std::alloc::AllocError;
+use std::io;
+use std::io::ErrorKind;
+use thiserror::Error;
+
+/// Why a command gives up.
+#[derive(Debug, Drop, Error)]
+pub enum Fault {
+    /// A growth was refused.
+    #[error("out of memory")]
+    Memory(#[from(alloc)] AllocError),
+    /// The reader failed.
+    #[error("cannot read: {0}")]
+    Read(io::Error),
+    /// The reader was called as often as a command may, and had not ended.
+    #[error("cannot read: the input does not end")]
+    Endless,
+    /// The writer failed.
+    #[error("cannot write: {0}")]
+    Write(io::Error),
+    /// The medium in memory could not be formatted.
+    #[error("cannot format the medium: {0}")]
+    Format(Refusal),
+    /// A word of the command line is not UTF-8.
+    #[error("an argument is not UTF-8")]
+    NotText,
+    /// The words of the command line are wrong.
+    #[error("{0}")]
+    Usage(String),
+    /// The script is wrong.
+    #[error("{0}")]
+    Script(ScriptFault),
+}
+
+impl Fault {
+    /// Why the words of the command line can't be had.
+    pub fn of_words(error: io::Error) -> Fault {
+        match error.kind() {
+            ErrorKind::InvalidData => Fault::NotText,
+            ErrorKind::OutOfMemory => Fault::Memory(AllocError),
+            _ => Fault::Read(error),
+        }
+    }
+
+    /// The exit status: 2 for wrong words or a wrong script, 3 for want of memory and for what can't be read or written.
+    pub fn status(&self) -> u8
+        ensures value { result ≡ status_of self.now }
+        ensures range { IsStatus result }
+    {
+        match self {
+            Fault::NotText | Fault::Usage(_) => 2,
+            Fault::Script(ScriptFault::Wrong { .. }) => 2,
+            Fault::Script(ScriptFault::OutOfMemory(_)) => 3,
+            Fault::Memory(_) | Fault::Read(_) | Fault::Endless => 3,
+            Fault::Write(_) | Fault::Format(_) => 3,
+        }
+    }
+}

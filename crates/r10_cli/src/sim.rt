@@ -1,0 +1,103 @@
+//! The command `sim`: runs the steps of a script.
+
+ghost use Rattle.std.specs.Prelude.{◌≡◌, ◌<◌, ◌+◌, ◌^◌, ℕ, [], length, IfOk, OnOk};
+ghost use Rattle.r10_machine.specs.Machine.{Machine, fresh};
+ghost use Rattle.r10_world.specs.Files.{IsFormatted};
+ghost use Rattle.r10_cli.specs.Lines.{WritesLines, RunsAndWrites, IsReady};
+
+use crate::fault::Fault;
+use crate::input::read_whole;
+use r10_body::Refusal;
+use r10_machine::{Event, Reply, Settings};
+use r10_medium::{BlockMedium, Memory};
+use r10_script::{Script, read_script, reply_line};
+use r10_world::World;
+use std::alloc::{AllocError, Global};
+use std::io::{BufWriter, Read, Write};
+
+/// Reads a script, runs its steps on a fresh medium in memory, and writes the line of each reply.
+pub fn sim<R: Read, W: Write>(alloc: Global, reader: &mut R, writer: &mut W) -> Result<(), Fault> {
+    let text = read_whole(alloc, reader)?;
+    let script = match read_script(alloc, text.as_slice()) {
+        Ok(script) => script,
+        Err(fault) => return Err(Fault::Script(fault)),
+    };
+    let Ok(mut writer) = BufWriter::new(alloc, writer) else {
+        return Err(Fault::Memory(AllocError));
+    };
+    run_script(alloc, script, &mut writer)?;
+    writer.flush().map_err(Fault::Write)
+}
+
+/// Runs the steps of a script on a fresh medium, and gives the medium back.
+pub fn run_script<W: Write>(alloc: Global, script: Script, writer: &mut W) -> Result<Memory, Fault>
+    ensures { OnOk result ((failures : ℕ) × (end : Machine) × RunsAndWrites script.settings (fresh script.settings.channels [] failures) script.events.items end (W.contents writer.old) (W.contents writer.new)) }
+{
+    let Script { settings, events } = script;
+    let medium = Memory::new(alloc, settings.blocks())?;
+    let mut world = fresh_world(alloc, settings, medium)?;
+    run_steps(alloc, &mut world, events.as_slice(), writer)?;
+    Ok(world.into_medium())
+}
+
+/// A recorder of these settings, over the medium that it formats.
+fn fresh_world<M: BlockMedium + Drop>(
+    alloc: Global,
+    settings: Settings,
+    mut medium: M,
+) -> Result<World<M>, Fault>
+    requires { length (M.disk medium).blocks ≡ settings.blocks }
+    ensures config { IfOk result (λ w. w.config ≡ settings) }
+    ensures machine { IfOk result (λ w. w.machine ≡ fresh settings.channels [] (M.disk w.medium).failures) }
+    ensures formatted { IfOk result (λ w. IsFormatted (M.disk w.medium).blocks) }
+{
+    match r10_world::format(&mut medium, &settings) {
+        Ok(()) => (),
+        Err(Refusal::OutOfMemory) => return Err(Fault::Memory(AllocError)),
+        Err(refusal) => return Err(Fault::Format(refusal)),
+    }
+    match World::new(alloc, settings, medium) {
+        Ok(world) => Ok(world),
+        Err(_) => Err(Fault::Memory(AllocError)),
+    }
+}
+
+/// Runs the steps and writes the line of each reply, numbered from 1. A run that ends early goes on behind its last step.
+fn run_steps<M: BlockMedium, W: Write>(
+    alloc: Global,
+    world: &mut World<M>,
+    events: &[Event],
+    writer: &mut W,
+) -> Result<(), Fault>
+    ensures { OnOk result (IsReady world.old.machine (M.disk world.old.medium).blocks
+        → RunsAndWrites world.old.config world.old.machine events.now world.new.machine (W.contents writer.old) (W.contents writer.new)) }
+{
+    let mut replies = Vec::new(alloc);
+    let mut done = 0;
+    while done < events.len() {
+        replies.clear();
+        let count = r10_world::run(world, &events[done..], &mut replies)?;
+        write_lines(alloc, done, replies.as_slice(), writer)?;
+        done += count;
+    }
+    Ok(())
+}
+
+/// Writes the lines of the replies to the steps behind the first `done` ones.
+fn write_lines<W: Write>(
+    alloc: Global,
+    done: usize,
+    replies: &[Reply],
+    writer: &mut W,
+) -> Result<(), Fault>
+    requires { done + length replies.now < 2 ^ 64 }
+    ensures { OnOk result (WritesLines (W.contents writer.old) (W.contents writer.new) done replies.now) }
+{
+    let mut number = done;
+    for reply in replies {
+        number += 1;
+        let line = reply_line(alloc, number, reply)?;
+        writer.write_all(line.as_bytes()).map_err(Fault::Write)?;
+    }
+    Ok(())
+}
