@@ -1,0 +1,16 @@
+mod Belonging
+mod BytesOnMedium
+mod Checks
+mod ControlSteps
+mod CursorSteps
+mod FileBlocks
+mod Fitting
+mod Fronts
+mod LaneSteps
+mod Places
+mod PumpSteps
+mod ReplaySteps
+mod RunSteps
+mod Listing
+mod StartSteps
+mod StopSteps

@@ -1,0 +1,9 @@
+pub mod Blocks
+pub mod Copies
+pub mod Cursors
+pub mod Files
+pub mod Inside
+pub mod Kept
+pub mod Lanes
+pub mod Notes
+pub mod State

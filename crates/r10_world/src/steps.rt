@@ -1,0 +1,115 @@
+//! Steps and runs of a recorder.
+
+ghost use Rattle.std.specs.Prelude.{◌≡◌, ◌<◌, ◌≤◌, ◌+◌, Ok, Err, IfOk, OnErr, length, take, drop, vec_len};
+ghost use Rattle.r10_machine.specs.Step.{Run, Step};
+ghost use Rattle.r10_machine.specs.declared.reply.Mode.TheVariants as modes;
+ghost use Rattle.r10_machine.specs.declared.reply.Reply.TheVariants as replies;
+ghost use Rattle.r10_world.specs.Copies.{IsCopy};
+ghost use Rattle.r10_world.specs.Files.{IsFormatted};
+
+use crate::world::World;
+use r10_body::{Message, Refusal};
+use r10_machine::{Event, Reply, runs_join};
+use r10_medium::BlockMedium;
+use std::alloc::{AllocError, Global};
+
+/// What a call answered.
+fn done(answer: Result<(), Refusal>) -> Reply
+    ensures { result ≡ elim answer [ Ok u ↦ replies.Done | Err r ↦ replies.Refused r ] }
+{
+    match answer {
+        Ok(()) => Reply::Done,
+        Err(refusal) => Reply::Refused(refusal),
+    }
+}
+
+/// A copy of the message that is offered, if the event is an offer.
+fn message_of(alloc: Global, event: &Event) -> Result<Option<Message>, AllocError>
+    ensures { IfOk result (λ copy. IsCopy event.now copy) }
+{
+    match event {
+        Event::Offer { message, .. } => Ok(Some(message.copied(alloc)?)),
+        _ => Ok(None),
+    }
+}
+
+impl<M: BlockMedium> World<M> {
+    /// One event. An offer takes the copy of its message.
+    fn step(&mut self, event: &Event, copy: Option<Message>) -> Reply
+        requires { IsCopy event.now copy }
+        ensures step { (self.old.machine.mode ≡ modes.Unmounted → IsFormatted (M.disk self.old.medium).blocks) → Step self.old.config self.old.machine event.now result self.new.machine }
+        ensures config { self.new.config ≡ self.old.config }
+        ensures formatted { (self.old.machine.mode ≡ modes.Unmounted → IsFormatted (M.disk self.old.medium).blocks)
+            → self.new.machine.mode ≡ modes.Unmounted → IsFormatted (M.disk self.new.medium).blocks }
+    {
+        match event {
+            Event::Mount => done(self.mount()),
+            Event::Tick { count, parts } => done(self.tick(*count, *parts)),
+            Event::Start { name, setup } => done(self.start(name, setup)),
+            Event::Offer { channel, count, .. } => match copy {
+                Some(message) => done(self.offer(*channel, *count, message)),
+                None => Reply::Refused(Refusal::OutOfMemory),
+            },
+            Event::Pump { channel, most } => match self.pump(*channel, *most) {
+                Ok(moved) => Reply::Moved(moved),
+                Err(refusal) => Reply::Refused(refusal),
+            },
+            Event::Stop => match self.stop() {
+                Ok(stopped) => Reply::Stopped(stopped),
+                Err(refusal) => Reply::Refused(refusal),
+            },
+            Event::Cursor {
+                file,
+                channels,
+                from,
+                to,
+            } => match self.cursor(*file, channels, *from, *to) {
+                Ok(id) => Reply::Cursor(id),
+                Err(refusal) => Reply::Refused(refusal),
+            },
+            Event::Advance { id } => match self.advance(*id) {
+                Ok(queued) => Reply::Advanced(queued),
+                Err(refusal) => Reply::Refused(refusal),
+            },
+            Event::Next { id } => match self.next(*id) {
+                Ok(given) => Reply::Next(given),
+                Err(refusal) => Reply::Refused(refusal),
+            },
+            Event::Close { id } => done(self.close(*id)),
+        }
+    }
+}
+
+/// Does events in order, until one can't be told or taken for want of memory, and adds their replies. It answers how
+/// many events it did; it fails only where it did none though there are some.
+pub fn run<M: BlockMedium>(
+    world: &mut World<M>,
+    events: &[Event],
+    replies: &mut Vec<Reply>,
+) -> Result<usize, AllocError>
+    ensures run { IfOk result (λ n. (world.old.machine.mode ≡ modes.Unmounted → IsFormatted (M.disk world.old.medium).blocks)
+        → Run world.old.config world.old.machine (take n events.now) (drop (vec_len replies.old) replies.new.items) world.new.machine) }
+    // where it isn't mounted yet, it may go on so
+    ensures formatted { (world.old.machine.mode ≡ modes.Unmounted → IsFormatted (M.disk world.old.medium).blocks)
+        → world.new.machine.mode ≡ modes.Unmounted → IsFormatted (M.disk world.new.medium).blocks }
+    ensures config { world.new.config ≡ world.old.config }
+    ensures within { IfOk result (λ n. n ≤ length events.now) }
+    ensures some { IfOk result (λ n. 0 < length events.now → 0 < n) }
+    ensures count { IfOk result (λ n. vec_len replies.new ≡ vec_len replies.old + n) }
+    ensures earlier { take (vec_len replies.old) replies.new.items ≡ replies.old.items }
+    ensures world_kept { OnErr result (world.new ≡ world.old) }
+    ensures replies_kept { OnErr result (replies.new.items ≡ replies.old.items) }
+{
+    runs_join();
+    let alloc = world.alloc;
+    for (i, event) in events.iter().enumerate() {
+        let copy = message_of(alloc, event);
+        let place = replies.reserve(1);
+        let (Ok(copy), Ok(())) = (copy, place) else {
+            return if i == 0 { Err(AllocError) } else { Ok(i) };
+        };
+        let reply = world.step(event, copy);
+        replies.push_reserved(reply);
+    }
+    Ok(events.len())
+}
