@@ -97,6 +97,7 @@ pub fn run<M: BlockMedium>(
     ensures some { IfOk result (λ n. 0 < length events.now → 0 < n) }
     ensures count { IfOk result (λ n. vec_len replies.new ≡ vec_len replies.old + n) }
     ensures earlier { take (vec_len replies.old) replies.new.items ≡ replies.old.items }
+    ensures err { OnErr result (0 < length events.now) }
     ensures world_kept { OnErr result (world.new ≡ world.old) }
     ensures replies_kept { OnErr result (replies.new.items ≡ replies.old.items) }
 {
