@@ -253,13 +253,13 @@ fn one_message_has_these_bytes(rt: HostRuntime) -> Result<(), Fail> {
         bytes: Items::of(b"ABC".to_vec(alloc)?),
     };
     assert_eq!(rt;
-        encode(alloc, count, &uart)?.as_slice(),
+        encode(alloc, 0, count, &uart)?.as_slice(),
         UART_BODY.as_slice()
     );
     let civil = leap_day().ok_or("no such day")?;
     let time = Message::Time { civil };
     assert_eq!(rt;
-        encode(alloc, count, &time)?.as_slice(),
+        encode(alloc, 0, count, &time)?.as_slice(),
         TIME_BODY.as_slice()
     );
     Ok(())
@@ -306,7 +306,7 @@ fn bodies_of_others_say_nothing(rt: HostRuntime) -> Result<(), Fail> {
     assert!(rt; decode(alloc, 0x50, count, &UART_BODY[..19])? == Reading::Neither);
     assert!(rt; decode(alloc, 0x01, count, b"\x0B\0\0\0ABCD")? == Reading::Lenient);
     assert!(rt; decode(alloc, 0x01, count, b"\x0C\0\0")? == Reading::Neither);
-    assert!(rt; decode(alloc, 0x19, count, &UART_BODY)? == Reading::Lenient);
+    assert!(rt; decode(alloc, 0x03, count, &UART_BODY)? == Reading::Lenient);
     Ok(())
 }
 
