@@ -157,47 +157,53 @@ impl Message {
     pub fn copied(&self, alloc: Global) -> Result<Message, AllocError>
         ensures { IfOk result (λ copy. copy ≡ self.now) }
     {
-        match self {
-            Message::Uart { parity, sub, bytes } => Ok(Message::Uart {
-                parity: *parity,
-                sub: *sub,
-                bytes: bytes.copied(alloc)?,
-            }),
-            Message::Bus1553 { status, gap, words } => Ok(Message::Bus1553 {
-                status: *status,
-                gap: *gap,
-                words: words.copied(alloc)?,
-            }),
+        Ok(match *self {
+            Message::Uart {
+                parity,
+                sub,
+                ref bytes,
+            } => {
+                let bytes = bytes.copied(alloc)?;
+                Message::Uart { parity, sub, bytes }
+            }
+            Message::Bus1553 {
+                status,
+                gap,
+                ref words,
+            } => {
+                let words = words.copied(alloc)?;
+                Message::Bus1553 { status, gap, words }
+            }
             Message::Arinc {
                 bus,
                 format,
                 parity,
                 high,
                 word,
-            } => Ok(Message::Arinc {
-                bus: *bus,
-                format: *format,
-                parity: *parity,
-                high: *high,
-                word: *word,
-            }),
-            Message::Discrete { states } => Ok(Message::Discrete { states: *states }),
+            } => Message::Arinc {
+                bus,
+                format,
+                parity,
+                high,
+                word,
+            },
+            Message::Discrete { states } => Message::Discrete { states },
             Message::Message {
                 data_error,
                 format,
                 sub,
-                bytes,
-            } => Ok(Message::Message {
-                data_error: *data_error,
-                format: *format,
-                sub: *sub,
-                bytes: bytes.copied(alloc)?,
-            }),
-            Message::Time { civil } => Ok(Message::Time { civil: *civil }),
-            Message::Event { number, count } => Ok(Message::Event {
-                number: *number,
-                count: *count,
-            }),
-        }
+                ref bytes,
+            } => {
+                let bytes = bytes.copied(alloc)?;
+                Message::Message {
+                    data_error,
+                    format,
+                    sub,
+                    bytes,
+                }
+            }
+            Message::Time { civil } => Message::Time { civil },
+            Message::Event { number, count } => Message::Event { number, count },
+        })
     }
 }
