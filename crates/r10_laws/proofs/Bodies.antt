@@ -1,5 +1,5 @@
 -- Bodies that are read back in one way only.
-use Rattle.std.proofs.Common.{◌≡◌, ℕ, ◌+◌, ◌*◌, ◌/◌, ◌%◌, ◌^◌, ◌<◌, Bool, true, false, List, [], ◌++◌, length, drop, take, refl, sym, ap, ◌∙◌, arith, append_assoc}
+use Rattle.std.proofs.Common.{◌≡◌, ℕ, ◌+◌, ◌*◌, ◌/◌, ◌%◌, ◌^◌, ◌<◌, Bool, true, false, List, [], ◌++◌, length, drop, take, refl, sym, ap, subst, ◌∙◌, arith, append_assoc}
 use Rattle.std.specs.List.{AllByRecursion}
 use Rattle.r10_count.specs.Bytes.{le_bytes, flag_at}
 use Rattle.r10_count.specs.Count.{stamp}
@@ -10,7 +10,13 @@ use Rattle.r10_entries.specs.Padding.{padding}
 use Rattle.r10_uart.specs.Uart.{FitsUart, uart_entry, uart_header, uart_body}
 use Rattle.r10_uart.specs.declared.entry.UartEntry.{UartEntry}
 use Rattle.r10_timebody.specs.Time.{two_digits, digits_word, time_body}
-use Rattle.r10_body.specs.Content.{Content, setup, time, uart, type_of, body_of, FitsContent}
+use Rattle.r10_event.proofs.Events.{one_event_body}
+use Rattle.r10_b1553.proofs.Bodies.{one_bus_body}
+use Rattle.r10_a429.proofs.Bodies.{one_arinc_body}
+use Rattle.r10_a429.specs.Arinc.{arinc_body, FitsPacket as FitsArincBody}
+use Rattle.r10_discrete.proofs.Bodies.{one_discrete_body}
+use Rattle.r10_message.proofs.Bodies.{one_message_body}
+use Rattle.r10_body.specs.Content.{Content, setup, time, event, uart, bus, arinc, discrete, message, type_of, body_of, FitsContent}
 use Rattle.r10_laws.proofs.Lists.{same_front, IsOneWay, one_list}
 use Rattle.r10_laws.proofs.CivilParts.{in_range, day_below}
 
@@ -81,14 +87,19 @@ one_time_body p q fp fq same =
 
 -- ---- contents
 
--- contents of one type with one body are one
-pub one_content : (m n : ℕ) (c d : Content) → FitsContent m c → FitsContent n d → type_of c ≡ type_of d → body_of m c ≡ body_of n d → c ≡ d
-one_content m n (setup s) (setup t) f g k e = ap (λ x. setup x) (ap (drop 4) e)
-one_content m n (time p) (time q) f g k e = ap (λ x. time x) (one_time_body p q f g e)
-one_content m n (uart es) (uart fs) f g k e = ap (λ x. uart x) (one_uart_body es fs f.1 g.1 e)
-one_content m n (setup s) (time q) f g k e = absurd (omega arith)
-one_content m n (setup s) (uart fs) f g k e = absurd (omega arith)
-one_content m n (time p) (setup t) f g k e = absurd (omega arith)
-one_content m n (time p) (uart fs) f g k e = absurd (omega arith)
-one_content m n (uart es) (setup t) f g k e = absurd (omega arith)
-one_content m n (uart es) (time q) f g k e = absurd (omega arith)
+-- contents of one type with one body, in packets of one counter, are one
+pub one_content : (m n : ℕ) (c d : Content) → m ≡ n → FitsContent m c → FitsContent n d → type_of c ≡ type_of d → body_of m c ≡ body_of n d → c ≡ d
+one_content m n (setup s) (setup t) counters f g k e = ap (λ x. setup x) (ap (drop 4) e)
+one_content m n (time p) (time q) counters f g k e = ap (λ x. time x) (one_time_body p q f g e)
+one_content m n (event p) (event q) counters f g k e = ap (λ x. event x) (one_event_body p q f g e)
+one_content m n (uart es) (uart fs) counters f g k e = ap (λ x. uart x) (one_uart_body es fs f.1 g.1 e)
+one_content m n (bus es) (bus fs) counters f g k e = ap (λ x. bus x) (one_bus_body es fs f.fields g.fields e)
+one_content m n (arinc es) (arinc fs) counters f g k e =
+    let fits : FitsArincBody m fs = subst (λ counter. FitsArincBody counter fs) (sym counters) g in
+    let same : arinc_body m es ≡ arinc_body m fs = subst (λ counter. arinc_body m es ≡ arinc_body counter fs) (sym counters) e in
+    ap (λ x. arinc x) (one_arinc_body m es fs f fits same)
+one_content m n (discrete bits es) (discrete others fs) counters f g k e =
+    let same = one_discrete_body bits others es fs f g e in
+    ap (λ x. discrete x es) same.0 ∙ ap (λ x. discrete others x) same.1
+one_content m n (message es) (message fs) counters f g k e = ap (λ x. message x) (one_message_body es fs f.fields g.fields e)
+one_content m n c d counters f g k e = absurd (omega arith)

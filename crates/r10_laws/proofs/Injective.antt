@@ -49,7 +49,7 @@ one_packet p q x y fp fq same =
     let spread_p : packet_rest p ++ x ≡ packet_body p ++ (behind_p ++ (sum_p ++ x)) = append_assoc (packet_body p ++ behind_p) sum_p x ∙ append_assoc (packet_body p) behind_p (sum_p ++ x) in
     let spread_q : packet_rest q ++ y ≡ packet_body q ++ (behind_q ++ (sum_q ++ y)) = append_assoc (packet_body q ++ behind_q) sum_q y ∙ append_assoc (packet_body q) behind_q (sum_q ++ y) in
     let bodies : packet_body p ≡ packet_body q = same_front (packet_body p) (packet_body q) (behind_p ++ (sum_p ++ x)) (behind_q ++ (sum_q ++ y)) (ap (λ (h : Header). h.data_len) headers) (sym spread_p ∙ rests ∙ spread_q) in
-    let contents : p.content ≡ q.content = one_content p.counter q.counter p.content q.content fp.content fq.content (ap (λ (h : Header). h.data_type) headers) bodies in
+    let contents : p.content ≡ q.content = one_content p.counter q.counter p.content q.content counters fp.content fq.content (ap (λ (h : Header). h.data_type) headers) bodies in
     same_packet p q (ap (λ (h : Header). h.channel) headers) (ap (λ (h : Header). h.sequence) headers) flags.0 flags.1 counters contents
 
 packet_some : (p : Packet) → 0 < length (packet_bytes p)

@@ -1,20 +1,26 @@
 -- How long a file is: no longer than its cost.
-use Rattle.std.proofs.Common.{◌≡◌, ℕ, ◌+◌, ◌*◌, ◌%◌, ◌<◌, ◌≤◌, Bool, true, false, ◌==◌, List, [], ◌∷◌, ◌++◌, length, map, take, ap, arith}
-use Rattle.std.specs.List.{flat_map, sum_by}
+use Rattle.std.proofs.Common.{◌≡◌, ℕ, ◌+◌, ◌*◌, ◌<◌, ◌≤◌, Bool, true, false, ◌==◌, List, [], ◌∷◌, ◌++◌, length, map, take, ap, arith}
+use Rattle.std.specs.List.{sum_by}
 use Rattle.std.proofs.lemmas.Bool.{false_from_ne_true}
-use Rattle.std.proofs.lemmas.List.{length-append, length-replicate}
+use Rattle.std.proofs.lemmas.List.{length-append}
 use Rattle.std.proofs.lemmas.List.Sums.{sum_by-append, sum_by-cons}
-use Rattle.r10_entries.specs.Padding.{padding}
 use Rattle.r10_packet.proofs.Lengths.{checksum_width}
-use Rattle.r10_uart.specs.Uart.{uart_entry}
-use Rattle.r10_uart.specs.declared.entry.UartEntry.{UartEntry}
+use Rattle.r10_uart.specs.Uart.{entry_size as uart_size}
+use Rattle.r10_uart.proofs.Bodies.{body-length as uart_length}
+use Rattle.r10_b1553.specs.Bus.{entry_size as bus_size}
+use Rattle.r10_b1553.proofs.Bodies.{body-length as bus_length}
+use Rattle.r10_a429.proofs.Bodies.{body-length as arinc_length}
+use Rattle.r10_discrete.proofs.Bodies.{body-length as discrete_length}
+use Rattle.r10_message.specs.Message.{entry_size as message_size}
+use Rattle.r10_message.proofs.Bodies.{body-length as message_length}
 use Rattle.r10_body.proofs.Lone.{packet-length}
-use Rattle.r10_body.specs.Content.{Content, setup, time, uart, type_of, body_of, FitsContent, timed, messages_of}
-use Rattle.r10_body.specs.Cost.{entry_cost, file_cost}
+use Rattle.r10_body.specs.Content.{Content, setup, time, event, uart, bus, arinc, discrete, message, type_of, body_of, FitsContent, timed, messages_of}
+use Rattle.r10_body.specs.Cost.{message_cost, entry_cost, file_cost}
 use Rattle.r10_body.specs.Files.{FileSays}
 use Rattle.r10_body.specs.Packets.{Packet, FitsPacket, packet_body, packet_bytes, packet_entries, with_gaps, file_bytes, file_entries}
 use Rattle.r10_body.specs.Rules.{MayFollow, EachFollows, is_setup}
 use Rattle.r10_body.specs.declared.entry.Entry.{Entry}
+use Rattle.r10_body.specs.declared.entry.Timed.{Timed}
 use Rattle.r10_body.specs.declared.message.Message.TheVariants as messages
 use Rattle.r10_laws.proofs.Sentences.{rest_length}
 use Rattle.r10_laws.proofs.Sums.{same_sum}
@@ -23,21 +29,26 @@ use Rattle.r10_laws.proofs.Sums.{same_sum}
 pub packet_short : (p : Packet) → length (packet_bytes p) ≤ length (packet_body p) + 31
 packet_short p = omega (arith, packet-length p, rest_length p, checksum_width p.check)
 
--- ---- the entries of a UART packet
+-- ---- entries
 
-entry_len : (e : UartEntry) → length (uart_entry e) ≤ 13 + length e.bytes
-entry_len e = omega (arith, length-append e.bytes (padding (length e.bytes)), length-replicate {A = ℕ} (length e.bytes % 2) 0)
+-- a message costs as much as the bytes of its entry, but for one of filler
+abbrev IsPaid : {E : Type 0} → (E → ℕ) → (E → Timed) → E → Type 0
+IsPaid size said e = size e ≤ 1 + message_cost (said e).message
 
-uart_long : (es : List UartEntry) (channel : ℕ) (gap : Bool)
-    → length (flat_map uart_entry es) + 103 * length es ≤ sum_by entry_cost (with_gaps channel gap (map (λ e. timed e.count (messages.Uart e.parity e.sub e.bytes)) es))
-uart_long [] channel gap = omega arith
-uart_long (e ∷ es) channel gap =
-    let one : Entry = record { channel = channel; count = e.count; message = messages.Uart e.parity e.sub e.bytes; gap = gap } in
-    let rest : List Entry = with_gaps channel false (map (λ e. timed e.count (messages.Uart e.parity e.sub e.bytes)) es) in
-    let more : length (flat_map uart_entry es) + 103 * length es ≤ sum_by entry_cost rest = uart_long es channel false in
+entries_paid : {E : Type 0} (size : E → ℕ) (said : E → Timed) (paid : (e : E) → IsPaid size said e) (es : List E) (channel : ℕ) (gap : Bool)
+    → sum_by size es + 103 * length es ≤ sum_by entry_cost (with_gaps channel gap (map said es))
+entries_paid size said paid [] channel gap = omega arith
+entries_paid size said paid (e ∷ es) channel gap =
+    let one : Entry = record { channel = channel; count = (said e).count; message = (said e).message; gap = gap } in
+    let rest : List Entry = with_gaps channel false (map said es) in
+    let more : sum_by size es + 103 * length es ≤ sum_by entry_cost rest = entries_paid size said paid es channel false in
     let sum : sum_by entry_cost (one ∷ rest) ≡ entry_cost one + sum_by entry_cost rest = sum_by-cons entry_cost one rest in
-    let both : length (uart_entry e ++ flat_map uart_entry es) ≡ length (uart_entry e) + length (flat_map uart_entry es) = length-append (uart_entry e) (flat_map uart_entry es) in
-    omega (arith, entry_len e)
+    let sizes : sum_by size (e ∷ es) ≡ size e + sum_by size es = sum_by-cons size e es in
+    omega (arith, paid e)
+
+same_sizes : {E : Type 0} (n : ℕ) (es : List E) → sum_by (λ e. n) es ≡ n * length es
+same_sizes n [] = omega arith
+same_sizes n (e ∷ es) = omega (arith, same_sizes n es, sum_by-cons (λ e. n) e es)
 
 -- ---- packets
 
@@ -45,7 +56,17 @@ content_covered : (c : Content) (counter channel : ℕ) (gap : Bool) → type_of
     → length (body_of counter c) + 31 ≤ sum_by entry_cost (with_gaps channel gap (messages_of counter c))
 content_covered (setup text) counter channel gap other fits = absurd (let no : true ≡ false = other in cc)
 content_covered (time civil) counter channel gap other fits = omega arith
-content_covered (uart es) counter channel gap other fits = omega (arith, uart_long es channel gap, fits.0)
+content_covered (event e) counter channel gap other fits = omega arith
+content_covered (uart es) counter channel gap other fits =
+    omega (arith, uart_length es, entries_paid uart_size (λ e. timed e.count (messages.Uart e.parity e.sub e.bytes)) (λ e. omega arith) es channel gap, fits.0)
+content_covered (bus es) counter channel gap other fits =
+    omega (arith, bus_length es, entries_paid bus_size (λ e. timed e.count (messages.Bus1553 e.status e.gap e.words)) (λ e. omega arith) es channel gap, fits.some)
+content_covered (arinc es) counter channel gap other fits =
+    omega (arith, arinc_length counter es, same_sizes 8 es, entries_paid (λ e. 8) (λ e. timed e.count (messages.Arinc e.bus e.format e.parity e.high e.word)) (λ e. omega arith) es channel gap, fits.some)
+content_covered (discrete bits es) counter channel gap other fits =
+    omega (arith, discrete_length bits es, same_sizes 12 es, entries_paid (λ e. 12) (λ e. timed e.count (messages.Discrete e.states)) (λ e. omega arith) es channel gap, fits.some)
+content_covered (message es) counter channel gap other fits =
+    omega (arith, message_length es, entries_paid message_size (λ e. timed e.count (messages.Message e.data_error e.format e.sub e.bytes)) (λ e. omega arith) es channel gap, fits.some)
 
 data_covered : (p : Packet) → FitsPacket p → is_setup p ≡ false → length (packet_bytes p) ≤ sum_by entry_cost (packet_entries p)
 data_covered p fits other = omega (arith, packet_short p, content_covered p.content p.counter p.channel p.flagged other fits.content)

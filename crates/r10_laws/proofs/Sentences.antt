@@ -6,7 +6,7 @@ use Rattle.r10_packet.specs.Header.{FitsHeader, header_bytes, checksum_bits}
 use Rattle.r10_packet.specs.Packet.{IsPacket, filled, least_filler}
 use Rattle.r10_packet.proofs.Lengths.{least_length}
 use Rattle.r10_body.proofs.Lone.{packet-length}
-use Rattle.r10_body.specs.Content.{Content, setup, time, uart, type_of}
+use Rattle.r10_body.specs.Content.{Content, setup, time, event, uart, bus, arinc, discrete, message, type_of}
 use Rattle.r10_body.specs.Packets.{Packet, FitsPacket, packet_body, packet_rest, packet_bytes, header_of}
 
 -- the overflow flag doesn't touch the checksum's width
@@ -34,7 +34,12 @@ flags_fit false check h = omega arith
 type_fits : (c : Content) → type_of c < 2 ^ 8
 type_fits (setup text) = omega arith
 type_fits (time civil) = omega arith
+type_fits (event e) = omega arith
 type_fits (uart entries) = omega arith
+type_fits (bus entries) = omega arith
+type_fits (arinc entries) = omega arith
+type_fits (discrete bits entries) = omega arith
+type_fits (message entries) = omega arith
 
 pub header_fits : (p : Packet) → FitsPacket p → FitsHeader (header_of p)
 header_fits p fits = record {
