@@ -9,7 +9,7 @@ use Rattle.r10_body.specs.declared.spec.ChannelSpec.{ChannelSpec}
 use Rattle.r10_laws.specs.Channels.{next_sequence}
 use Rattle.r10_laws.proofs.Channels.{sequence_same, sequence_other}
 use Rattle.r10_laws.proofs.Rules.{bytes_more}
-use Rattle.r10_mux.specs.Packing.{entry_bytes, entry_packet, check_of, next_packet, added, next_of, IsNumbered, IsEntry}
+use Rattle.r10_mux.specs.Packing.{entry_bytes, entry_packet, check_of, discretes_of, next_packet, added, next_of, IsNumbered, IsEntry}
 use Rattle.r10_mux.specs.declared.sequence.Sequence.{Sequence}
 
 pub added_more : (channels : List ChannelSpec) (packets : List Packet) (es : List Entry) (e : Entry)
@@ -56,13 +56,13 @@ spelled_none channels packets numbers numbered = record {
 
 spelled_one : (channels : List ChannelSpec) (packets : List Packet) (es : List Entry) (e : Entry) (bytes piece : List ℕ) (old new : List Sequence) (number : ℕ) → Spelled channels packets es bytes old
     → number ≡ next_of e.channel old → ((other : ℕ) → next_of other new ≡ cond (e.channel == other) ((number + 1) % 256) (next_of other old))
-    → piece ≡ entry_bytes (check_of channels e.channel) number e → Spelled channels packets (es ++ e ∷ []) (bytes ++ piece) new
+    → piece ≡ entry_bytes (discretes_of channels e.channel) (check_of channels e.channel) number e → Spelled channels packets (es ++ e ∷ []) (bytes ++ piece) new
 unfolding entry_bytes
 spelled_one channels packets es e bytes piece old new number so taken next spelled =
     let p : Packet = next_packet channels (packets ++ added channels packets es) e in
     let more : added channels packets (es ++ e ∷ []) ≡ added channels packets es ++ p ∷ [] = added_more channels packets es e in
     let is : number ≡ next_sequence e.channel (packets ++ added channels packets es) = taken ∙ so.numbered e.channel in
-    let last : piece ≡ packet_bytes p = spelled ∙ ap (λ (n : ℕ). packet_bytes (entry_packet (check_of channels e.channel) n e)) is in
+    let last : piece ≡ packet_bytes p = spelled ∙ ap (λ (n : ℕ). packet_bytes (entry_packet (discretes_of channels e.channel) (check_of channels e.channel) n e)) is in
     let behind : (packets ++ added channels packets es) ++ p ∷ [] ≡ packets ++ added channels packets (es ++ e ∷ []) = append_assoc packets (added channels packets es) (p ∷ []) ∙ ap (λ (ps : List Packet). packets ++ ps) (sym more) in
     record {
       bytes_are = ap (λ (b : List ℕ). b ++ piece) so.bytes_are ∙ ap (λ (b : List ℕ). file_bytes (added channels packets es) ++ b) last
@@ -73,7 +73,7 @@ spelled_one channels packets es e bytes piece old new number so taken next spell
 pub spelled_more : (channels : List ChannelSpec) (packets : List Packet) (entries : List Entry) (i : ℕ) (e : Entry) (bytes piece : List ℕ) (old new : List Sequence) (number : ℕ)
     → i < length entries → e ≡ get_or entries i e → Spelled channels packets (take i entries) bytes old
     → number ≡ next_of e.channel old → ((other : ℕ) → next_of other new ≡ cond (e.channel == other) ((number + 1) % 256) (next_of other old))
-    → piece ≡ entry_bytes (check_of channels e.channel) number e → Spelled channels packets (take (i + 1) entries) (bytes ++ piece) new
+    → piece ≡ entry_bytes (discretes_of channels e.channel) (check_of channels e.channel) number e → Spelled channels packets (take (i + 1) entries) (bytes ++ piece) new
 spelled_more channels packets entries i e bytes piece old new number lt is so taken next spelled =
     subst (λ (es : List Entry). Spelled channels packets es (bytes ++ piece) new) (sym (next_taken entries i e lt is)) (spelled_one channels packets (take i entries) e bytes piece old new number so taken next spelled)
 

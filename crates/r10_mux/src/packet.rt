@@ -1,6 +1,7 @@
 //! The packet of one entry.
 
 ghost use Rattle.std.specs.Prelude.{◌≡◌, ◌+◌, ◌<◌, ◌≤◌, ◌^◌, length, IfOk};
+ghost use Rattle.std.specs.List.{AllByRecursion};
 ghost use Rattle.r10_count.specs.Bytes.{flag_at};
 ghost use Rattle.r10_count.specs.Civil.{IsCivil};
 ghost use Rattle.r10_mux.specs.Packing.{message_type, entry_bytes, setup_bytes, FitsMessage, IsEntry};
@@ -17,7 +18,12 @@ fn data_type(message: &Message) -> u8
 {
     match message {
         Message::Uart { .. } => 0x50,
+        Message::Bus1553 { .. } => 0x19,
+        Message::Arinc { .. } => 0x38,
+        Message::Discrete { .. } => 0x29,
+        Message::Message { .. } => 0x30,
         Message::Time { .. } => 0x11,
+        Message::Event { .. } => 0x02,
     }
 }
 
@@ -36,38 +42,60 @@ fn is_valid(civil: Civil)
     let _ = civil.parts();
 }
 
-/// A channel's number has 16 bits.
-fn is_channel(channel: u16)
-    ensures { channel < 2 ^ 16 }
+/// The numbers of channels, gaps and events have 16 bits.
+fn has_16_bits(number: u16)
+    ensures { number < 2 ^ 16 }
 {
-    let _ = channel;
+    let _ = number;
+}
+
+/// Words have 16 bits each.
+fn are_words(words: &[u16])
+    ensures { AllByRecursion (λ w. w < 2 ^ 16) words.now }
+{
+    let _ = words.len();
+}
+
+/// The number of a bus has 8 bits, and its word 32.
+fn is_bus_word(bus: u8, word: u32)
+    ensures bus { bus < 2 ^ 8 }
+    ensures word { word < 2 ^ 32 }
+{
+    let _ = (bus, word);
 }
 
 /// What the types of an entry's fields say of it.
 pub(crate) fn in_range(entry: &Entry)
     ensures { IsEntry entry.now }
 {
-    is_channel(entry.channel);
+    has_16_bits(entry.channel);
     let _ = entry.count.get();
     match &entry.message {
-        Message::Uart { .. } => {}
+        Message::Bus1553 { gap, words, .. } => {
+            has_16_bits(*gap);
+            are_words(words.as_slice());
+        }
+        Message::Arinc { bus, word, .. } => is_bus_word(*bus, *word),
         Message::Time { civil } => is_valid(*civil),
+        Message::Event { count, .. } => has_16_bits(*count),
+        Message::Uart { .. } | Message::Discrete { .. } | Message::Message { .. } => {}
     }
 }
 
-/// The packet of one entry.
+/// The packet of one entry, on a channel of so many discretes.
 #[tactic(auto, unfolding(crate::specs::Packing::entry_bytes))]
 pub(crate) fn encode_entry(
     alloc: Global,
     entry: &Entry,
+    bits: usize,
     check: u8,
     sequence: u8,
 ) -> Result<Vec<u8>, AllocError>
-    requires fits { FitsMessage entry.now.message }
+    requires fits { FitsMessage bits entry.now.message }
     requires check { check < 4 }
-    ensures { IfOk result (λ v. v.items ≡ entry_bytes check sequence entry.now) }
+    ensures { IfOk result (λ v. v.items ≡ entry_bytes bits check sequence entry.now) }
 {
-    let body = encode(alloc, entry.count, &entry.message)?;
+    let body = encode(alloc, bits, entry.count, &entry.message)?;
     let header = Header {
         channel: entry.channel,
         packet_len: 0,

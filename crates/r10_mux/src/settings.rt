@@ -3,7 +3,7 @@
 ghost use Rattle.std.specs.Prelude.{◌≡◌, ◌<◌, ◌↔◌, IsTrue};
 ghost use Rattle.std.specs.List.{All};
 ghost use Rattle.r10_mux.specs.Follow.{spec_of as settings_of, is_time_message, Belongs};
-ghost use Rattle.r10_mux.specs.Packing.{check_code as code_of, check_of as flags_of};
+ghost use Rattle.r10_mux.specs.Packing.{check_code as code_of, check_of as flags_of, discretes_of as told_discretes};
 
 use r10_body::{ChannelSpec, Entry, Message};
 
@@ -36,6 +36,13 @@ pub(crate) fn check_of(channels: &[ChannelSpec], channel: u16) -> u8
         Some(spec) => check_code(spec.check),
         None => 0,
     }
+}
+
+/// How many discretes a channel has.
+pub(crate) fn discretes_of(channels: &[ChannelSpec], channel: u16) -> usize
+    ensures { result ≡ told_discretes channels.now channel }
+{
+    spec_of(channels, channel).map_or(0, |spec| spec.bits)
 }
 
 fn is_time(message: &Message) -> bool

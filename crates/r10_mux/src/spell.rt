@@ -8,7 +8,7 @@ ghost use Rattle.r10_mux.specs.Packing.{IsEntry, IsNumbered, added};
 
 use crate::packet::{encode_entry, in_range};
 use crate::sequence::{Sequence, take_number};
-use crate::settings::check_of;
+use crate::settings::{check_of, discretes_of};
 use r10_body::{ChannelSpec, Entry};
 use std::alloc::{AllocError, Global};
 
@@ -29,7 +29,9 @@ pub(crate) fn spell(
     for entry in entries {
         in_range(entry);
         let sequence = take_number(&mut numbers, entry.channel)?;
-        let packet = encode_entry(alloc, entry, check_of(channels, entry.channel), sequence)?;
+        let bits = discretes_of(channels, entry.channel);
+        let check = check_of(channels, entry.channel);
+        let packet = encode_entry(alloc, entry, bits, check, sequence)?;
         bytes.extend_from_slice(&packet)?;
     }
     Ok((bytes, numbers))

@@ -120,6 +120,72 @@ fn the_first_recording(rt: HostRuntime) -> Result<(), Fail> {
     Ok(())
 }
 
+/// The words 0821 and ABCD on bus B at 2000, on channel 7.
+const BUS_PACKET: [u8; 48] = [
+    0x25, 0xEB, 0x07, 0x00, 0x30, 0x00, 0x00, 0x00, 0x16, 0x00, 0x00, 0x00, 0x08, 0x00, 0x00, 0x19,
+    0xD0, 0x07, 0x00, 0x00, 0x00, 0x00, 0x4A, 0x0C, 0x01, 0x00, 0x00, 0x00, 0xD0, 0x07, 0x00, 0x00,
+    0x00, 0x00, 0x00, 0x00, 0x00, 0x20, 0x00, 0x00, 0x04, 0x00, 0x21, 0x08, 0xCD, 0xAB, 0x00, 0x00,
+];
+
+#[test]
+fn a_bus_message_has_this_packet(rt: HostRuntime) -> Result<(), Fail> {
+    let alloc = rt.alloc();
+    let (Some(civil), Some(start), Some(count)) = (leap_day(), Count::of(1000), Count::of(2000))
+    else {
+        assert!(rt; false);
+        return Ok(());
+    };
+    let mut mux = begun(alloc, start, civil)?;
+    let words = vec![in alloc; 0x0821, 0xABCD]?;
+    let entries = [Entry {
+        channel: 7,
+        count,
+        message: Message::Bus1553 {
+            status: 0x2000,
+            gap: 0,
+            words: Items::of(words),
+        },
+        gap: false,
+    }];
+    let channels = [ChannelSpec {
+        kind: Kind::Bus1553,
+        ..channel(7, 0, 524_288)
+    }];
+    assert!(rt; appended(&mut mux, alloc, &entries, &channels)?);
+    assert_eq!(rt; mux.bytes().get(68..), Some(BUS_PACKET.as_slice()));
+    Ok(())
+}
+
+/// A packet of states tells how many discretes its channel has.
+#[test]
+fn states_of_eight_discretes(rt: HostRuntime) -> Result<(), Fail> {
+    let alloc = rt.alloc();
+    let (Some(civil), Some(start), Some(count)) = (leap_day(), Count::of(1000), Count::of(3000))
+    else {
+        assert!(rt; false);
+        return Ok(());
+    };
+    let mut mux = begun(alloc, start, civil)?;
+    let entries = [Entry {
+        channel: 8,
+        count,
+        message: Message::Discrete { states: 0x81 },
+        gap: false,
+    }];
+    let channels = [ChannelSpec {
+        kind: Kind::Discrete,
+        bits: 8,
+        ..channel(8, 0, 524_288)
+    }];
+    assert!(rt; appended(&mut mux, alloc, &entries, &channels)?);
+    let body = [
+        0x40, 0x00, 0x00, 0x00, 0xB8, 0x0B, 0x00, 0x00, 0x00, 0x00, 0x00, 0x00, 0x81, 0x00, 0x00,
+        0x00,
+    ];
+    assert_eq!(rt; mux.bytes().get(92..), Some(body.as_slice()));
+    Ok(())
+}
+
 /// The flags, the sums of the header and what stands behind the body ABC at 1000, by channel.
 #[test]
 fn data_checksums_and_gaps(rt: HostRuntime) -> Result<(), Fail> {
