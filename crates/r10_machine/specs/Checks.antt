@@ -111,7 +111,7 @@ advance_checks generation (Some c) = (c.generation == generation, Stale) ∷ (le
 -- a message that a channel takes
 abbrev pub message_checks : ChannelSpec → Message → List Check
 message_checks spec message =
-    (is_kind spec.kind message, WrongKind) ∷ (is_in_range message, BadMessage) ∷ (fits_channel spec message, TooLong) ∷ []
+    (is_kind spec.kind message, WrongKind) ∷ (is_in_range spec.bits message, BadMessage) ∷ (fits_channel spec message, TooLong) ∷ []
 
 abbrev pub is_full : Lane → Bool
 is_full lane = not (nat_lt (length lane.waiting) lane.spec.capacity)

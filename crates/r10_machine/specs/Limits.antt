@@ -36,7 +36,7 @@ has_number c = is_within 1 65535 c.number
 
 -- only a discrete channel is asked for its number of bits
 abbrev pub has_bits : ChannelSpec → Bool
-has_bits c = elim c.kind [ kinds.Uart ↦ true ]
+has_bits c = elim c.kind [ kinds.Discrete ↦ is_within 1 31 c.bits | _ ↦ true ]
 
 abbrev pub channel_ids : List ChannelSpec → List ℕ
 channel_ids channels = map (λ c. c.id) channels

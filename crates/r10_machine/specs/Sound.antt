@@ -6,7 +6,7 @@ use Rattle.r10_count.specs.Civil.{IsCivil}
 use Rattle.r10_count.specs.Checks.{first_broken}
 use Rattle.r10_body.specs.Files.{on_channel}
 use Rattle.r10_body.specs.declared.entry.Entry.{Entry}
-use Rattle.r10_body.specs.declared.message.Message.TheVariants.{Uart, Time}
+use Rattle.r10_body.specs.declared.message.Message.TheVariants.{Time}
 use Rattle.r10_body.specs.declared.spec.ChannelSpec.{ChannelSpec}
 use Rattle.r10_machine.specs.declared.reply.Mode.{Mode}
 use Rattle.r10_machine.specs.declared.reply.Mode.TheVariants as modes
@@ -52,7 +52,7 @@ spec_of s channel = find (λ (c : ChannelSpec). c.id == channel) s.channels
 abbrev pub IsEntry : Config → Entry → Type 0
 IsEntry s e = IsCount e.count × elim e.message [
   | Time civil ↦ (e.channel ≡ s.time) × IsCivil civil × (e.gap ≡ false)
-  | Uart parity sub bytes ↦ IsSomeAnd (spec_of s e.channel) (λ spec. first_broken (message_checks spec e.message) ≡ None)
+  | _ ↦ IsSomeAnd (spec_of s e.channel) (λ spec. first_broken (message_checks spec e.message) ≡ None)
 ]
 
 -- a file of this recorder: its first entry is a time and is shown, it fits into its area, and shows all once it is closed

@@ -39,7 +39,8 @@ fn has_bits(channel: &ChannelSpec) -> bool
     ensures { result ≡ has_bits channel.now }
 {
     match channel.kind {
-        Kind::Uart => true,
+        Kind::Discrete => 1 <= channel.bits && channel.bits <= 31,
+        Kind::Uart | Kind::Bus1553 | Kind::Arinc | Kind::Message => true,
     }
 }
 

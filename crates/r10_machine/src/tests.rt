@@ -164,6 +164,30 @@ fn the_first_fault_of_channels(rt: HostRuntime) -> Result<(), Fail> {
             },
             SettingsFault::Number(6),
         ),
+        (
+            ChannelSpec {
+                kind: Kind::Discrete,
+                bits: 31,
+                ..channel(5)
+            },
+            ChannelSpec {
+                kind: Kind::Discrete,
+                bits: 32,
+                ..channel(6)
+            },
+            SettingsFault::Bits(6),
+        ),
+        (
+            ChannelSpec {
+                kind: Kind::Message,
+                ..channel(5)
+            },
+            ChannelSpec {
+                kind: Kind::Discrete,
+                ..channel(6)
+            },
+            SettingsFault::Bits(6),
+        ),
     ] {
         let mut channels = Vec::new(alloc);
         channels.push(first)?;
