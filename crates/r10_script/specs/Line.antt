@@ -1,6 +1,8 @@
 -- The line that a step prints.
 use Rattle.std.specs.Prelude.{◌≡◌, ℕ, Bool, true, false, List, [], ◌∷◌, ◌++◌, Some, None, codes}
 use Rattle.std.specs.Fmt.{decimal}
+use Rattle.std.specs.Int.{w16, w32, to_be_bytes}
+use Rattle.std.specs.List.{flat_map}
 use Rattle.hex.specs.Hex.{encode_lower}
 use Rattle.r10_body.specs.declared.entry.Entry.{Entry}
 use Rattle.r10_body.specs.declared.message.Message.{Message}
@@ -25,9 +27,24 @@ abbrev pub bytes_text : List ℕ → List ℕ
 bytes_text [] = codes "-"
 bytes_text (b ∷ bs) = encode_lower (b ∷ bs)
 
+-- words of four hex digits each, a dash where there are none
+abbrev pub words_text : List ℕ → List ℕ
+words_text words = bytes_text (flat_map (to_be_bytes w16) words)
+
+-- a number of 32 bits in eight hex digits
+abbrev pub long_text : ℕ → List ℕ
+long_text n = encode_lower (to_be_bytes w32 n)
+
 abbrev pub message_text : Message → List ℕ
 message_text (messages.Uart parity sub bytes) = spaced (codes "uart" ∷ flag_text parity ∷ decimal sub ∷ bytes_text bytes ∷ [])
+message_text (messages.Bus1553 status gap words) = spaced (codes "1553" ∷ decimal status ∷ decimal gap ∷ words_text words ∷ [])
+message_text (messages.Arinc bus format parity high word) =
+    spaced (codes "arinc" ∷ decimal bus ∷ flag_text format ∷ flag_text parity ∷ flag_text high ∷ long_text word ∷ [])
+message_text (messages.Discrete states) = spaced (codes "discrete" ∷ long_text states ∷ [])
+message_text (messages.Message data_error format sub bytes) =
+    spaced (codes "message" ∷ flag_text data_error ∷ flag_text format ∷ decimal sub ∷ bytes_text bytes ∷ [])
 message_text (messages.Time civil) = spaced (codes "time" ∷ civil_text civil ∷ [])
+message_text (messages.Event number count) = spaced (codes "event" ∷ decimal number ∷ decimal count ∷ [])
 
 abbrev pub entry_text : Entry → List ℕ
 entry_text e = spaced (codes "entry" ∷ decimal e.channel ∷ decimal e.count ∷ flag_text e.gap ∷ message_text e.message ∷ [])

@@ -17,6 +17,10 @@ EachAsks Asks _ _ = ⊥
 
 abbrev pub kind_word : Kind → List ℕ
 kind_word kinds.Uart = codes "uart"
+kind_word kinds.Bus1553 = codes "1553"
+kind_word kinds.Arinc = codes "arinc"
+kind_word kinds.Discrete = codes "discrete"
+kind_word kinds.Message = codes "message"
 
 -- only a discrete channel has a number of bits
 abbrev pub IsChannelTable : Members → ChannelSpec → Type 0

@@ -8,13 +8,13 @@ use Rattle.r10_machine.specs.declared.event.Event.TheVariants as events
 use Rattle.r10_script.specs.Civil.{civil_text}
 use Rattle.r10_script.specs.Keys.{integer_at, integer_or_zero_at, integers_at, text_at, bytes_at, bytes_or_none_at, flag_or_false_at}
 
--- the keys of a message; no step gives a time entry
+-- the keys of a message; no step gives one of another kind yet, and none ever a time or an event
 abbrev pub IsMessage : Members → Message → Type 0
 IsMessage table (messages.Uart parity sub bytes) =
     (flag_or_false_at table (codes "parity") ≡ Some parity)
     × (integer_or_zero_at table (codes "sub") ≡ Some (pos sub))
     × (bytes_or_none_at table (codes "bytes") ≡ Some bytes)
-IsMessage table (messages.Time civil) = ⊥
+IsMessage table m = ⊥
 
 -- the keys of each event behind the word that names it
 abbrev pub IsStep : Members → Event → Type 0

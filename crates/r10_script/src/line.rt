@@ -2,7 +2,7 @@
 
 ghost use Rattle.std.specs.Prelude.{◌≡◌, ◌∷◌, [], ℕ, List, codes, string_bytes, IfOk};
 ghost use Rattle.r10_script.specs.Civil.{civil_text as civil_digits};
-ghost use Rattle.r10_script.specs.Line.{IsReplyLine, IsReplyText, entry_text as entry_words, message_text as message_words, bytes_text, flag_text as flag_digit, spaced};
+ghost use Rattle.r10_script.specs.Line.{IsReplyLine, IsReplyText, entry_text as entry_words, message_text as message_words, bytes_text, flag_text as flag_digit, long_text as eight_digits, spaced, words_text as words_digits};
 
 use r10_body::{Entry, Message, Refusal};
 use r10_count::Civil;
@@ -61,10 +61,40 @@ fn message_text(alloc: Global, message: &Message) -> Result<String, AllocError>
             let bytes = hex_text(alloc, bytes.as_slice())?;
             format!(in alloc; "uart {parity} {sub} {bytes}")
         }
+        Message::Bus1553 { status, gap, words } => {
+            let words = words_text(alloc, words.as_slice())?;
+            format!(in alloc; "1553 {status} {gap} {words}")
+        }
+        Message::Arinc {
+            bus,
+            format,
+            parity,
+            high,
+            word,
+        } => {
+            let (format, parity, high) = (flag_text(*format), flag_text(*parity), flag_text(*high));
+            let data = long_text(alloc, *word)?;
+            format!(in alloc; "arinc {bus} {format} {parity} {high} {data}")
+        }
+        Message::Discrete { states } => {
+            let states = long_text(alloc, *states)?;
+            format!(in alloc; "discrete {states}")
+        }
+        Message::Message {
+            data_error,
+            format,
+            sub,
+            bytes,
+        } => {
+            let (data, format) = (flag_text(*data_error), flag_text(*format));
+            let bytes = hex_text(alloc, bytes.as_slice())?;
+            format!(in alloc; "message {data} {format} {sub} {bytes}")
+        }
         Message::Time { civil } => {
             let text = civil_text(alloc, *civil)?;
             format!(in alloc; "time {text}")
         }
+        Message::Event { number, count } => format!(in alloc; "event {number} {count}"),
     }
 }
 
@@ -83,6 +113,24 @@ fn hex_text(alloc: Global, bytes: &[u8]) -> Result<String, AllocError>
     } else {
         hex::encode(alloc, bytes)
     }
+}
+
+/// The words in four hex digits each, `-` where there are none.
+fn words_text(alloc: Global, words: &[u16]) -> Result<String, AllocError>
+    ensures { IfOk result (λ text. string_bytes text ≡ words_digits words.now) }
+{
+    let mut bytes = Vec::new(alloc);
+    for word in words {
+        bytes.extend_from_slice(&word.to_be_bytes())?;
+    }
+    hex_text(alloc, &bytes)
+}
+
+/// A number in eight hex digits.
+fn long_text(alloc: Global, number: u32) -> Result<String, AllocError>
+    ensures { IfOk result (λ text. string_bytes text ≡ eight_digits number) }
+{
+    hex::encode(alloc, &number.to_be_bytes())
 }
 
 /// A civil time in the form `YYYY-MM-DD hh:mm:ss.cc`.

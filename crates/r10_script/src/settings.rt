@@ -45,15 +45,10 @@ fn channel_of(alloc: Global, fields: Fields<'_>) -> Result<ChannelSpec, ScriptFa
     ensures { IfOk result (λ spec. IsChannelTable (table_view fields.entry.table.now) spec) }
 {
     let kind = kind_of(alloc, fields)?;
-    let bits = match kind {
-        Kind::Uart => {
-            fields.only(
-                alloc,
-                &["id", "kind", "capacity", "check", "bytes", "number"],
-            )?;
-            0
-        }
-    };
+    fields.only(
+        alloc,
+        &["id", "kind", "capacity", "check", "bytes", "number"],
+    )?;
     Ok(ChannelSpec {
         id: fields.short("id")?,
         kind,
@@ -61,8 +56,21 @@ fn channel_of(alloc: Global, fields: Fields<'_>) -> Result<ChannelSpec, ScriptFa
         check: fields.size("check")?,
         bytes: fields.size("bytes")?,
         number: fields.size("number")?,
-        bits,
+        bits: 0,
     })
+}
+
+/// The word that names a kind.
+pub fn word_of(kind: Kind) -> &'static str
+    ensures { result.now ≡ kind_word kind }
+{
+    match kind {
+        Kind::Uart => "uart",
+        Kind::Bus1553 => "1553",
+        Kind::Arinc => "arinc",
+        Kind::Discrete => "discrete",
+        Kind::Message => "message",
+    }
 }
 
 /// The kind that the key `kind` names.

@@ -8,7 +8,7 @@ ghost use Rattle.r10_script.specs.Steps.{IsMessage, IsStep};
 
 use crate::civil::parts_of;
 use crate::fault::{ScriptFault, Wrong};
-use crate::settings::kind_of;
+use crate::settings::{kind_of, word_of};
 use crate::table::Fields;
 use r10_body::{ChannelSpec, Kind, Message};
 use r10_count::{Items, Parts};
@@ -135,6 +135,7 @@ fn message_of(alloc: Global, kind: Kind, fields: Fields<'_>) -> Result<Message, 
             let bytes = Items::of(fields.bytes_or_none(alloc, "bytes")?);
             Ok(Message::Uart { parity, sub, bytes })
         }
+        other => Err(fields.unknown_word(alloc, "kind", word_of(other), "uart")),
     }
 }
 

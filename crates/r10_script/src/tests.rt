@@ -535,6 +535,58 @@ fn entries_are_printed(rt: HostRuntime) -> Result<(), Fail> {
             "12 entry 5 1010 1 uart 1 16383 41ab0f\n",
         ),
         (
+            Message::Bus1553 {
+                status: 0x2000,
+                gap: 7,
+                words: Items::of([0x0821, 0xABCD].to_vec(alloc)?),
+            },
+            false,
+            "12 entry 5 1010 0 1553 8192 7 0821abcd\n",
+        ),
+        (
+            Message::Bus1553 {
+                status: 0,
+                gap: 0,
+                words: Items::of(Vec::new(alloc)),
+            },
+            false,
+            "12 entry 5 1010 0 1553 0 0 -\n",
+        ),
+        (
+            Message::Arinc {
+                bus: 1,
+                format: false,
+                parity: true,
+                high: false,
+                word: 0x0034_567F,
+            },
+            false,
+            "12 entry 5 1010 0 arinc 1 0 1 0 0034567f\n",
+        ),
+        (
+            Message::Discrete { states: 0x81 },
+            false,
+            "12 entry 5 1010 0 discrete 00000081\n",
+        ),
+        (
+            Message::Message {
+                data_error: true,
+                format: false,
+                sub: 2,
+                bytes: Items::of([0x0A].to_vec(alloc)?),
+            },
+            false,
+            "12 entry 5 1010 0 message 1 0 2 0a\n",
+        ),
+        (
+            Message::Event {
+                number: 3,
+                count: 1,
+            },
+            false,
+            "12 entry 5 1010 0 event 3 1\n",
+        ),
+        (
             Message::Time { civil },
             false,
             "12 entry 5 1010 0 time 0007-02-09 02:04:06.08\n",
