@@ -1,7 +1,5 @@
 -- What waits in a lane: refused offers, one more at the end, and without the first.
-use Rattle.std.proofs.Common.{◌≡◌, ℕ, ◌≤◌, true, List, [], ◌∷◌, ◌++◌, Option, Some, None, Err, is_none, if◌then◌else◌, drop, slice_get, refl, sym, ap, subst, arith}
-use Rattle.std.specs.Prelude.{IfSome}
-use Rattle.std.specs.List.{AllByRecursion}
+use Rattle.std.proofs.Common.{◌≡◌, ℕ, ◌≤◌, true, List, [], ◌∷◌, ◌++◌, Option, Some, None, Err, is_none, if◌then◌else◌, drop, sym, ap, subst, arith}
 use Rattle.std.proofs.lemmas.Bool.{leb-true}
 use Rattle.r10_count.specs.Checks.{first_broken}
 use Rattle.r10_body.specs.declared.entry.Sample.{Sample}
@@ -15,7 +13,7 @@ use Rattle.r10_machine.specs.Calls.{overflowed}
 use Rattle.r10_machine.specs.Sound.{Climbs, count_or_0}
 use Rattle.r10_machine.proofs.Rules.{rules_stop}
 use Rattle.r10_machine.proofs.Steady.{parts_pass, checks_pass}
-use Rattle.r10_machine.proofs.Growing.{all_drop, all_joined}
+use Rattle.r10_machine.proofs.Growing.{all_joined}
 use Rattle.r10_machine.proofs.Climbing.{climbs_push, map-joined}
 use Rattle.r10_lane.specs.Lanes.{Offers, IsTaken, Waits, counts_of}
 

@@ -1,5 +1,5 @@
 -- What is taken joins over calls.
-use Rattle.std.proofs.Common.{◌≡◌, ℕ, ◌≤◌, List, [], ◌++◌, Some, refl, sym, ap, ◌∙◌, append_assoc, arith}
+use Rattle.std.proofs.Common.{◌≡◌, ◌≤◌, List, [], ◌++◌, Some, refl, sym, ap, ◌∙◌, append_assoc, arith}
 use Rattle.r10_body.specs.declared.entry.Sample.{Sample}
 use Rattle.r10_machine.specs.Machine.{Lane}
 use Rattle.r10_lane.specs.Lanes.{Took, reached}

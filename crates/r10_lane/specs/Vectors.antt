@@ -1,5 +1,5 @@
 -- A lane of two messages, offer by offer.
-use Rattle.std.specs.Prelude.{◌≡◌, ℕ, Bool, true, false, List, [], ◌∷◌, Option, Some, None, Ok, Err, refl}
+use Rattle.std.specs.Prelude.{◌≡◌, ℕ, Bool, true, false, List, [], ◌∷◌, Option, Some, Ok, Err, refl}
 use Rattle.std.proofs.Common.{lit≤}
 use Rattle.r10_body.specs.declared.entry.Sample.{Sample}
 use Rattle.r10_body.specs.declared.message.Kind.TheVariants as kinds
@@ -8,7 +8,7 @@ use Rattle.r10_body.specs.declared.message.Message.TheVariants.{Uart}
 use Rattle.r10_body.specs.declared.refusal.Refusal.TheVariants.{CountBack, Overflow, BadMessage}
 use Rattle.r10_body.specs.declared.spec.ChannelSpec.{ChannelSpec}
 use Rattle.r10_machine.specs.Machine.{Lane, fresh_lane}
-use Rattle.r10_lane.specs.Lanes.{Offers, Took, reached, offer_refusal, after_refusal}
+use Rattle.r10_lane.specs.Lanes.{Offers, Took, reached, after_refusal}
 
 abbrev channel : ChannelSpec
 channel = record { id = 5; kind = kinds.Uart; capacity = 2; check = 0; bytes = 524288; number = 65535; bits = 0 }

@@ -1,5 +1,3 @@
-use Rattle.std.proofs.Common.{rules}
-use Rattle.std.proofs.Common.{◌≡◌}
 use Rattle.r10_machine.specs.Sound.{count_or_0}
 use Rattle.r10_lane.proofs.Waiting.{waits_less}
 use Rattle.r10_lane.proofs.ring_lane.RingLaneLaneOut.take.Goals as goal
