@@ -8,7 +8,7 @@ use Rattle.r10_body.specs.declared.message.Message.TheVariants.{Uart}
 use Rattle.r10_body.specs.declared.refusal.Refusal.TheVariants.{CountBack, Overflow, BadMessage}
 use Rattle.r10_body.specs.declared.spec.ChannelSpec.{ChannelSpec}
 use Rattle.r10_machine.specs.Machine.{Lane, fresh_lane}
-use Rattle.r10_lane.specs.Lanes.{Offers, Took, reached, after_refusal}
+use Rattle.r10_lane.specs.Lanes.{Offers, Took, Waits, reached, after_refusal}
 
 abbrev channel : ChannelSpec
 channel = record { id = 5; kind = kinds.Uart; capacity = 2; check = 0; bytes = 524288; number = 65535; bits = 0 }
@@ -30,6 +30,10 @@ second = sample 1002 0x42 false
 
 abbrev full : Lane
 full = lane (first ∷ second ∷ []) (Some 1002) 0 0
+
+-- both are messages of the channel, and their counts rise to the last accepted
+both_wait : Waits channel 1002 (first ∷ second ∷ [])
+both_wait = record { taken = (refl, (refl, tt)); climbs = (lit≤ tt, (lit≤ tt, lit≤ tt)) }
 
 -- two are accepted, the third is lost
 one_waits : Offers (fresh_lane channel) 1001 (text 0x41) (Ok tt) (lane (first ∷ []) (Some 1001) 0 0)

@@ -55,15 +55,18 @@ pub trait LaneOut {
         ensures shown { (first : One) → shows self.old first → shows self.new first }
         ensures quiet { IfSome (quiet self.old) (λ waiting. result ≡ length waiting) };
 
+    /// What was taken by one call and then by another was taken by both, in this order.
     ghost joins: { (a b c : Self) (xs ys : List One) → took a xs b → took b ys c → took a (xs ++ ys) c };
 
     ghost took_none: { (a b c : Self) (xs : List One) → took a xs b → took b [] c → took a xs c };
 
+    /// From a lane that stays as it is nothing was taken.
     ghost stays: { (a : Self) → took a [] a };
 
     ghost keeps_spec: { (a b : Self) (xs : List One) → took a xs b → spec_of b ≡ spec_of a };
 
     ghost rises: { (a b : Self) (xs : List One) → took a xs b → reached a ≤ reached b };
 
+    /// What is taken from a quiet lane is the front of what waits, and the rest waits on.
     ghost stays_quiet: { (a b : Self) (xs waiting : List One) → took a xs b → quiet a ≡ Some waiting → (rest : List One) × (quiet b ≡ Some rest) × (waiting ≡ xs ++ rest) };
 }

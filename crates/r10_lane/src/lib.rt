@@ -1,5 +1,5 @@
-//! The lanes of channels: an offer is refused by the first rule that it breaks and by nothing
-//! else, and what is taken from a lane is the front of what it accepted, in order and whole.
+//! The lanes of channels: an offer is refused by the first rule that it breaks and by nothing else,
+//! and what is taken from a lane is the front of what it accepted, in order.
 #![tactic(auto)]
 
 mod lane_out;

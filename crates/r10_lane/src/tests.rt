@@ -77,6 +77,7 @@ fn a_full_lane_loses_messages_and_marks_the_gap(rt: HostRuntime) -> Result<(), F
         offer(&rt, alloc, &mut lane, 1003, b'C')?,
         Err(Refusal::Overflow)
     );
+    assert_eq!(rt; Refusal::Overflow.number(), 12);
     assert_eq!(rt; lane.lost(), 1);
     let first = Some(sample(&rt, alloc, 1001, b'A', false)?);
     assert_eq!(rt; next(&mut lane), (2, Some(1001), first));
