@@ -9,3 +9,4 @@ pub mod Lanes
 pub mod Notes
 pub mod Saying
 pub mod State
+pub mod Vectors
