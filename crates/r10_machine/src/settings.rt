@@ -112,8 +112,9 @@ impl Settings {
         self.event
     }
 
-    /// The channels, 1 to 64.
+    /// The channels, 1 to 64. With the other settings they are within the limits.
     pub fn channels(&self) -> &[ChannelSpec]
+        ensures limits { IsConfig self.now }
         ensures value { result.now ≡ self.now.channels }
         ensures count { (1 ≤ length result.now) × (length result.now ≤ 64) }
         ensures each { AllByRecursion IsChannel result.now }

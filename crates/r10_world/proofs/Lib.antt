@@ -5,6 +5,7 @@ mod ControlSteps
 mod CursorSteps
 mod FileBlocks
 mod Fitting
+mod Following
 mod Fronts
 mod LaneSteps
 mod Places
@@ -12,5 +13,8 @@ mod PumpSteps
 mod ReplaySteps
 mod RunSteps
 mod Listing
+mod Rewritten
+mod Showing
+mod Shown
 mod StartSteps
 mod StopSteps

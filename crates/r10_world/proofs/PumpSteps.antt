@@ -1,14 +1,18 @@
 -- Steps of the machine from what pumping a lane answers.
-use Rattle.std.proofs.Common.{◌≡◌, ℕ, zero, suc, ◌<◌, Bool, true, false, ◌==◌, List, [], ◌∷◌, ◌++◌, length, take, find, set, get_or, Option, Some, None, Result, Ok, Err, refl, sym, ap, ◌∙◌, subst, arith, IsSomeAnd}
+use Rattle.std.proofs.Common.{◌≡◌, ℕ, zero, suc, ◌<◌, Bool, true, false, ◌==◌, List, [], ◌∷◌, ◌++◌, ◌≤◌, length, take, find, set, get_or, Option, Some, None, Result, Ok, Err, refl, sym, ap, ◌∙◌, subst, arith, IsSomeAnd}
 use Rattle.std.proofs.lemmas.Bool.{eqb-true}
 use Rattle.std.proofs.lemmas.List.{set-get_or}
+use Rattle.std.specs.Prelude.{IsSome}
 use Rattle.std.specs.List.{AllByRecursion}
+use denote.Enum.Bare.{sameb}
+use Rattle.r10_machine.specs.contracts.reply.Mode.{the_type}
 use Rattle.r10_count.specs.Checks.{first_broken}
 use Rattle.r10_body.specs.declared.entry.Entry.{Entry}
 use Rattle.r10_body.specs.declared.refusal.Refusal.{Refusal}
 use Rattle.r10_body.specs.declared.refusal.Refusal.TheVariants.{NoSuchChannel, MediumFull, OutOfMemory}
 use Rattle.r10_body.specs.declared.spec.ChannelSpec.{ChannelSpec}
 use Rattle.r10_dirblock.specs.declared.block.DirBlock.{DirBlock}
+use Rattle.r10_dirblock.specs.declared.entry.Entry.{Entry as Listed}
 use Rattle.r10_medium.specs.Disk.{Image}
 use Rattle.r10_machine.specs.declared.event.Event.TheVariants as event
 use Rattle.r10_machine.specs.declared.reply.Mode.{Mode}
@@ -18,16 +22,18 @@ use Rattle.r10_machine.specs.Calls.{without}
 use Rattle.r10_machine.specs.Checks.{recording_checks, channel_checks}
 use Rattle.r10_machine.specs.Config.{Config}
 use Rattle.r10_machine.specs.Machine.{Tick, File, Lane, Cursor, is_channel, change_first, waiting_entries, with_entries}
-use Rattle.r10_machine.specs.Room.{area, blocks_of, cost_of}
+use Rattle.r10_machine.specs.Room.{area, cost_of}
 use Rattle.r10_machine.specs.Step.{Step, GivesUp, Answers, has_room}
 use Rattle.r10_mux.specs.Follow.{spec_of}
-use Rattle.r10_world.specs.Files.{machine_of, Stands}
+use Rattle.r10_world.specs.Files.{machine_of, ListsAll, Stands}
 use Rattle.r10_world.specs.Inside.{Agrees}
-use Rattle.r10_world.specs.Kept.{Kept}
+use Rattle.r10_world.specs.Kept.{Grows, Kept}
 use Rattle.r10_world.specs.Lanes.{specs_of}
-use Rattle.r10_world.specs.Notes.{PumpsLane, LacksFirst, first_fits}
+use Rattle.r10_world.specs.Notes.{LacksFirst, Notes, PumpsLane, first_fits}
+use Rattle.r10_world.specs.Saying.{Lists}
 use Rattle.r10_world.proofs.Checks.{broken_then}
 use Rattle.r10_world.proofs.Places.{IsAt}
+use Rattle.r10_world.proofs.Shown.{shows_more}
 
 -- ---- the settings of a lane that was found
 
@@ -60,7 +66,7 @@ known channels lanes channel i lane same some at here =
 moved : (s : Config) (tick : Option Tick) (lanes : List Lane) (image : Image) (k l : Kept) (cursors : List (Option Cursor)) (failures channel most i n : ℕ) (lane after : Lane)
     → IsAt (is_channel channel) lanes i lane → lane ≡ get_or lanes i lane → PumpsLane s lane most k (Ok n) after l
     → Step s (machine_of Recording tick lanes image (Some k) cursors failures) (event.Pump channel most) (reply.Moved n) (machine_of Recording tick (set lanes i after) image (Some l) cursors failures)
-moved s tick lanes image k l cursors failures channel most i n lane after at here (count, some, dropped, file, created, is_open) =
+moved s tick lanes image k l cursors failures channel most i n lane after at here (count, some, dropped, file, created, grows, is_open) =
     let found : find (is_channel channel) lanes ≡ Some lane = at.found ∙ ap (λ (x : Lane). Some x) (sym here) in
     let changed : set lanes i after ≡ change_first (is_channel channel) (without n) lanes = ap (set lanes i) (dropped ∙ ap (without n) here) ∙ sym (at.changed (without n)) in (
       omega arith,
@@ -108,34 +114,48 @@ no_channel s mode tick lanes image file cursors failures channel most fine none 
 
 -- ---- what ties the fields together afterwards
 
-pub stands_more : (image : Image) (d : DirBlock) (k l : Kept) (entries : List Entry) → l.file ≡ with_entries entries k.file → Stands image d (Some k) → Stands image d (Some l)
-stands_more image d k l entries same stands =
-    let e = stands.lists.0 in
-    let old = stands.lists.2 in
-    record {
-      reads = stands.reads;
-      root = stands.root;
-      lists = (
-        e,
-        stands.lists.1,
-        record {
-          name = old.name ∙ sym (ap (λ (f : File). f.name) same);
-          first_block = old.first_block ∙ sym (ap (λ (f : File). f.first_block) same);
-          block_count = old.block_count ∙ ap blocks_of (sym (ap (λ (f : File). f.size) same));
-          size = old.size ∙ sym (ap (λ (f : File). f.size) same);
-          closed = old.closed ∙ sym (ap (λ (f : File). f.closed) same);
-        },
-      );
-    }
+pub lists_more : (listed : List Listed) (k l : Kept) (entries : List Entry) → l.file ≡ with_entries entries k.file → ListsAll listed (Some k) → ListsAll listed (Some l)
+lists_more listed k l entries same (e, one, lists) = (e, one, subst (λ (f : File). Lists f e) (sym same) (record { name = lists.name; first_block = lists.first_block; block_count = lists.block_count; size = lists.size; closed = lists.closed }))
 
-stands_some : (image : Image) (d : Option DirBlock) (k l : Kept) (entries : List Entry) → l.file ≡ with_entries entries k.file → IsSomeAnd d (λ d. Stands image d (Some k)) → IsSomeAnd d (λ d. Stands image d (Some l))
-stands_some image None k l entries same stands = stands
-stands_some image (Some d) k l entries same stands = stands_more image d k l entries same stands
+pub stands_more : (image : Image) (d : DirBlock) (k l : Kept) (entries : List Entry) → l.file ≡ with_entries entries k.file → Grows k l → k.file.shown ≤ length k.file.entries → k.file.size ≤ length k.bytes
+    → Stands image d (Some k) → Stands image d (Some l)
+stands_more image d k l entries same grows shown size stands = record {
+  reads = stands.reads;
+  root = stands.root;
+  lists = lists_more d.entries k l entries same stands.lists;
+  shows = shows_more image k l entries same grows shown size stands.shows;
+}
+
+pub stands_some : (image : Image) (d : Option DirBlock) (k l : Kept) (entries : List Entry) → l.file ≡ with_entries entries k.file → Grows k l → k.file.shown ≤ length k.file.entries → k.file.size ≤ length k.bytes
+    → IsSomeAnd d (λ d. Stands image d (Some k)) → IsSomeAnd d (λ d. Stands image d (Some l))
+stands_some image None k l entries same grows shown size stands = stands
+stands_some image (Some d) k l entries same grows shown size stands = stands_more image d k l entries same grows shown size stands
 
 pub pumped_agrees : (s : Config) (mode : Mode) (image : Image) (d : Option DirBlock) (k l : Kept) (lane after : Lane) (most : ℕ) (result : Result ℕ Refusal)
     → first_broken (recording_checks mode) ≡ None → Agrees mode s image d (Some k) → PumpsLane s lane most k result after l → Agrees mode s image d (Some l)
-pumped_agrees s Recording image d k l lane after most (Ok n) fine (is_open, stands) (count, some, dropped, file, created, opened) = (opened, stands_some image d k l (take n (waiting_entries lane)) file stands)
+pumped_agrees s Recording image d k l lane after most (Ok n) fine (is_open, stands) (count, some, dropped, file, created, grows, opened) = (opened, stands_some image d k l (take n (waiting_entries lane)) file grows is_open.shown is_open.size stands)
 pumped_agrees s Recording image d k l lane after most (Err r) fine agrees (lacks, same, kept) = subst (λ (x : Kept). Agrees Recording s image d (Some x)) (sym kept) agrees
 pumped_agrees s Unmounted image d k l lane after most result fine agrees pumps = absurd (cc)
 pumped_agrees s Idle image d k l lane after most result fine agrees pumps = absurd (cc)
 pumped_agrees s Failed image d k l lane after most result fine agrees pumps = absurd (cc)
+
+pub noted_agrees : (s : Config) (mode : Mode) (image : Image) (d : Option DirBlock) (file later : Option Kept) (e : Entry) → true ≡ sameb the_type mode Recording → Agrees mode s image d file → Notes s file e (Ok tt) later → Agrees mode s image d later
+noted_agrees s Recording image d None later e is agrees notes = absurd agrees.0
+noted_agrees s Recording image d (Some k) None e is agrees notes = absurd notes.1
+noted_agrees s Recording image d (Some k) (Some l) e is (is_open, stands) (room, (file, created, grows, opened)) = (opened, stands_some image d k l (e ∷ []) file grows is_open.shown is_open.size stands)
+noted_agrees s Idle image d file later e is agrees notes = absurd (cc)
+noted_agrees s Unmounted image d file later e is agrees notes = absurd (cc)
+noted_agrees s Failed image d file later e is agrees notes = absurd (cc)
+
+pub refused_agrees : (s : Config) (mode : Mode) (image : Image) (d : Option DirBlock) (file later : Option Kept) (e : Entry) (r : Refusal) → true ≡ sameb the_type mode Recording → Agrees mode s image d file → Notes s file e (Err r) later → Agrees mode s image d later
+refused_agrees s Recording image d None later e r is agrees notes = absurd agrees.0
+refused_agrees s Recording image d (Some k) later e r is agrees (lacks, kept) = subst (λ (x : Option Kept). Agrees Recording s image d x) (sym kept) agrees
+refused_agrees s Idle image d file later e r is agrees notes = absurd (cc)
+refused_agrees s Unmounted image d file later e r is agrees notes = absurd (cc)
+refused_agrees s Failed image d file later e r is agrees notes = absurd (cc)
+
+-- a file that is recorded is there still
+pub still_there : (s : Config) (file later : Option Kept) (e : Entry) → Notes s file e (Ok tt) later → IsSome file → IsSome later
+still_there s None later e notes there = absurd (cc)
+still_there s (Some k) None e notes there = absurd notes.1
+still_there s (Some k) (Some l) e notes there = refl

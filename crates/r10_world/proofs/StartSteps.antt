@@ -25,10 +25,11 @@ use Rattle.r10_machine.specs.Checks.{idle_checks, begin_checks, file_checks, is_
 use Rattle.r10_machine.specs.Config.{Config}
 use Rattle.r10_machine.specs.Machine.{Tick, File, Lane, Cursor}
 use Rattle.r10_machine.specs.Step.{Step, GivesUp, Rose}
-use Rattle.r10_world.specs.Files.{machine_of, kept_files, listed, listed_files, Lists, ListsAll, Stands}
+use Rattle.r10_world.specs.Files.{machine_of, kept_files, listed, listed_files, ListsAll, Stands}
 use Rattle.r10_world.specs.Inside.{Agrees}
 use Rattle.r10_world.specs.Kept.{Kept, IsFileName}
 use Rattle.r10_world.specs.Notes.{Begins, Lacks}
+use Rattle.r10_world.specs.Saying.{Lists}
 use Rattle.r10_world.proofs.Checks.{broken_then}
 use Rattle.r10_world.proofs.ControlSteps.{lanes_kept}
 
@@ -154,7 +155,7 @@ listed_none later d k reads none = ap (λ (r : Result DirBlock DirFault). listin
 not_closed : (b : Bool) (x y : ℕ) → b ≡ false → (if b then x else y) ≡ y
 not_closed b x y is = rw is refl
 
-listed_open : (k : Kept) (e : Entry) → Lists k e → k.file.closed ≡ false → listed k e ≡ k.file
+listed_open : (k : Kept) (e : Entry) → Lists k.file e → k.file.closed ≡ false → listed k e ≡ k.file
 listed_open k e lists closed =
     ap (λ (b : Bool). record k.file { closed = b; size = e.size; shown = if b then length k.file.entries else k.file.shown }) lists.closed
     ∙ ap (λ (n : ℕ). record k.file { size = n; shown = if k.file.closed then length k.file.entries else k.file.shown }) lists.size

@@ -21,13 +21,14 @@ use Rattle.r10_machine.specs.Config.{Config}
 use Rattle.r10_machine.specs.Machine.{Tick, File, Lane, Cursor, with_entries}
 use Rattle.r10_machine.specs.Room.{area, cost_of}
 use Rattle.r10_machine.specs.Step.{Step, Rose, LanesAfter, shown_part}
-use Rattle.r10_world.specs.Files.{machine_of, listed, listed_files, Lists, ListsAll, Stands}
+use Rattle.r10_world.specs.Files.{machine_of, listed, listed_files, ListsAll, Stands}
 use Rattle.r10_world.specs.Inside.{Agrees, IsOpen}
 use Rattle.r10_world.specs.Kept.{Kept, closed_kept}
 use Rattle.r10_world.specs.Notes.{TakesWaiting}
+use Rattle.r10_world.specs.Saying.{Lists}
 use Rattle.r10_world.proofs.ControlSteps.{lanes_kept}
 use Rattle.r10_world.proofs.Fitting.{fitting_within}
-use Rattle.r10_world.proofs.PumpSteps.{stands_more}
+use Rattle.r10_world.proofs.PumpSteps.{lists_more}
 use Rattle.r10_world.proofs.StartSteps.{listing, listed_begun}
 
 pub recording_stands : (mode : Mode) (s : Config) (image : Image) (d : Option DirBlock) (k : Kept) → first_broken (recording_checks mode) ≡ None → Agrees mode s image d (Some k) → IsOpen s k × IsSomeAnd d (λ d. Stands image d (Some k))
@@ -45,7 +46,7 @@ last_taken entries more whole n is count =
     ap (λ (k : ℕ). drop k whole) before ∙ ap (drop (length entries)) is ∙ drop-append_seam entries more
 
 pub taken_are : (s : Config) (lanes : List Lane) (k l : Kept) (n : ℕ) → TakesWaiting s lanes k (Ok n) l → drop (length l.file.entries - n) l.file.entries ≡ take n (all_waiting lanes)
-taken_are s lanes k l n (count, file, is_open) =
+taken_are s lanes k l n (count, file, grows, is_open) =
     let within : n ≤ length (all_waiting lanes) = omega (arith, count, fitting_within (area s k.file) (cost_of k.file) (all_waiting lanes)) in
     last_taken k.file.entries (take n (all_waiting lanes)) l.file.entries n (ap (λ (f : File). f.entries) file) (omega (arith, within, length-take n (all_waiting lanes)))
 
@@ -54,7 +55,7 @@ taken_are s lanes k l n (count, file, is_open) =
 stops : (s : Config) (tick : Option Tick) (lanes : List Lane) (image later : Image) (k l : Kept) (cursors : List (Option Cursor)) (now taken left : ℕ) (after : List Lane)
     → TakesWaiting s lanes k (Ok taken) l → after ≡ lanes_without (take taken (all_waiting lanes)) lanes → left ≡ waiting_count after
     → Stops s (machine_of Recording tick lanes image (Some k) cursors now) (record { taken = taken; left = left }) (machine_of Idle tick after later (Some (closed_kept l)) cursors now)
-stops s tick lanes image later k l cursors now taken left after (count, file, is_open) without held =
+stops s tick lanes image later k l cursors now taken left after (count, file, grows, is_open) without held =
     (record { within = omega (arith, count); stops = λ lt. absurd (omega (arith, count)) }, held, rw (without, file) refl)
 
 pub stop_done : (s : Config) (mode : Mode) (tick : Option Tick) (lanes : List Lane) (image later : Image) (k l : Kept) (cursors : List (Option Cursor)) (before now taken left : ℕ) (after : List Lane)
@@ -76,12 +77,12 @@ stop_lacks s Failed tick lanes image k cursors failures fine = absurd (cc)
 
 -- ---- failed
 
-listed_whole : (k : Kept) (e : Entry) → Lists (closed_kept k) e → listed k e ≡ (closed_kept k).file
+listed_whole : (k : Kept) (e : Entry) → Lists (closed_kept k).file e → listed k e ≡ (closed_kept k).file
 listed_whole k e lists =
     ap (λ (b : Bool). record k.file { closed = b; size = e.size; shown = if b then length k.file.entries else k.file.shown }) lists.closed
     ∙ ap (λ (n : ℕ). record k.file { closed = true; size = n; shown = length k.file.entries }) lists.size
 
-listed_closed : (later : Image) (d : DirBlock) (k : Kept) → read_block (block_at later 1) ≡ Ok d → ListsAll d.entries (Some (closed_kept k)) → listed_files later k ≡ (closed_kept k).file ∷ []
+pub listed_closed : (later : Image) (d : DirBlock) (k : Kept) → read_block (block_at later 1) ≡ Ok d → ListsAll d.entries (Some (closed_kept k)) → listed_files later k ≡ (closed_kept k).file ∷ []
 listed_closed later d k reads (e, entries, lists) =
     ap (λ (r : Result DirBlock DirFault). listing r k) reads ∙ ap (map (listed k)) entries ∙ ap (λ (f : File). f ∷ []) (listed_whole k e lists)
 
@@ -90,8 +91,7 @@ pub either_listed : (s : Config) (image later : Image) (d more : DirBlock) (k l 
     → (block_at later 1 ≡ block_at image 1) ⊎ (read_block (block_at later 1) ≡ Ok more) → ListsAll more.entries (Some (closed_kept l))
     → (listed_files later l ≡ l.file ∷ []) ⊎ (listed_files later l ≡ (closed_kept l).file ∷ [])
 either_listed s image later d more k l entries file is_open stands (inl same) lists =
-    let still = stands_more image d k l entries file stands in
-    inl (listed_begun later d l (ap read_block same ∙ still.reads) still.lists is_open.closed)
+    inl (listed_begun later d l (ap read_block same ∙ stands.reads) (lists_more d.entries k l entries file stands.lists) is_open.closed)
 either_listed s image later d more k l entries file is_open stands (inr reads) lists = inr (listed_closed later more l reads lists)
 
 kept_beside : (e : Event) (entries : List Spoken) (lanes : List Lane) → LanesAfter e lanes (lanes_without entries lanes) lanes
@@ -105,7 +105,7 @@ fails_here : (s : Config) (tick : Option Tick) (lanes : List Lane) (image later 
     → TakesWaiting s lanes k (Ok taken) l → before ≤ now → Rose before now → k.file.shown ≤ length k.file.entries
     → (listed_files later l ≡ l.file ∷ []) ⊎ (listed_files later l ≡ (closed_kept l).file ∷ [])
     → Step s (machine_of Recording tick lanes image (Some k) cursors before) event.Stop (reply.Refused Medium) (machine_of Failed tick lanes later (Some l) cursors now)
-fails_here s tick lanes image later k l cursors before now taken (count, file, is_open) more rose shown (inl old) =
+fails_here s tick lanes image later k l cursors before now taken (count, file, grows, is_open) more rose shown (inl old) =
     let same : map shown_part (listed_files later l) ≡ shown_part k.file ∷ [] = ap (map shown_part) old ∙ ap (λ (f : File). f ∷ []) (same_shown k.file l.file (take taken (all_waiting lanes)) file shown) in (
       more,
       (refl, refl, rose, record { end = machine_of Recording tick lanes image (Some k) cursors now; either = inl refl; files = same; lanes = lanes_kept event.Stop lanes; rest = refl }),

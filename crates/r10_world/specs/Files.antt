@@ -1,16 +1,18 @@
 -- The files of a recorder that keeps one file in memory, as its medium's directory block reads.
-use Rattle.std.specs.Prelude.{◌≡◌, ℕ, List, [], ◌∷◌, length, map, Option, Some, None, Ok, Err, if◌then◌else◌}
+use Rattle.std.specs.Prelude.{◌≡◌, ◌+◌, ◌≤◌, ℕ, List, [], ◌∷◌, length, map, take, Option, Some, None, Ok, Err, if◌then◌else◌}
 use Rattle.r10_dirblock.specs.Block.{read_block, is_closed}
-use Rattle.r10_dirblock.specs.Texts.{padded, stripped}
+use Rattle.r10_dirblock.specs.Texts.{padded}
 use Rattle.r10_dirblock.specs.declared.block.DirBlock.{DirBlock}
 use Rattle.r10_dirblock.specs.declared.entry.Entry.{Entry}
+use Rattle.r10_body.specs.Files.{FileSays}
 use Rattle.r10_medium.specs.Disk.{Image, block_at}
 use Rattle.r10_machine.specs.declared.reply.Mode.{Mode}
 use Rattle.r10_machine.specs.declared.reply.Mode.TheVariants.{Failed}
 use Rattle.r10_machine.specs.Config.{Config}
-use Rattle.r10_machine.specs.Machine.{Machine, Tick, Lane, File, Cursor}
+use Rattle.r10_machine.specs.Machine.{Machine, Tick, Lane, File, Cursor, shown_entries}
 use Rattle.r10_machine.specs.Room.{blocks_of}
 use Rattle.r10_world.specs.Kept.{Kept}
+use Rattle.r10_world.specs.Saying.{bytes_from, IsRoot, Lists}
 
 -- the file as a directory entry lists it: closed, it shows all its entries
 abbrev pub listed : Kept → Entry → File
@@ -46,33 +48,31 @@ machine_of mode tick lanes image file cursors failures = record {
   failures = failures;
 }
 
--- a directory entry lists the file
-pub record Lists (k : Kept) (e : Entry) : Type 0 where
-  pub name : stripped e.name ≡ k.file.name
-  pub first_block : e.first_block ≡ k.file.first_block
-  pub block_count : e.block_count ≡ blocks_of k.file.size
-  pub size : e.size ≡ k.file.size
-  pub closed : is_closed e ≡ k.file.closed
-
 -- the directory of a medium that is formatted: properly dismounted, and without files
 abbrev pub new_directory : Config → DirBlock
 new_directory s = record { shutdown = 255; volume = padded 32 s.volume; forward = 1; reverse = 1; entries = [] }
 
--- a directory of one block
-pub record IsRoot (d : DirBlock) : Type 0 where
-  pub forward : d.forward ≡ 1
-  pub reverse_link : d.reverse ≡ 1
-
 -- it lists these files
 abbrev pub ListsAll : List Entry → Option Kept → Type 0
 ListsAll entries None = entries ≡ []
-ListsAll entries (Some k) = (e : Entry) × (entries ≡ e ∷ []) × Lists k e
+ListsAll entries (Some k) = (e : Entry) × (entries ≡ e ∷ []) × Lists k.file e
 
--- the medium has this directory block, which lists the file
+-- the medium has the first bytes of a file that is kept, and they say the entries that it shows
+pub record Shows (image : Image) (k : Kept) : Type 0 where
+  pub inside : k.file.first_block + blocks_of k.file.size ≤ length image
+  pub bytes : bytes_from image k.file.first_block k.file.size ≡ take k.file.size k.bytes
+  pub says : FileSays (take k.file.size k.bytes) k.file.setup (shown_entries k.file) k.file.closed
+
+abbrev pub ShowsAll : Image → Option Kept → Type 0
+ShowsAll image None = Unit {0}
+ShowsAll image (Some k) = Shows image k
+
+-- the medium has this directory block, which lists the file, and the file's first bytes
 pub record Stands (image : Image) (d : DirBlock) (k : Option Kept) : Type 0 where
   pub reads : read_block (block_at image 1) ≡ Ok d
   pub root : IsRoot d
   pub lists : ListsAll d.entries k
+  pub shows : ShowsAll image k
 
 -- the medium has a directory without files
 abbrev pub IsFormatted : Image → Type 0

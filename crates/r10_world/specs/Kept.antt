@@ -1,5 +1,5 @@
 -- A file that is kept in memory while it is recorded.
-use Rattle.std.specs.Prelude.{◌≤◌, ℕ, true, false, List, [], ◌∷◌, length}
+use Rattle.std.specs.Prelude.{◌≡◌, ◌≤◌, ◌++◌, ℕ, true, false, List, [], ◌∷◌, length}
 use Rattle.r10_count.specs.declared.civil.Parts.{Parts}
 use Rattle.r10_dirblock.specs.Texts.{IsStripped}
 use Rattle.r10_body.specs.declared.entry.Entry.{Entry}
@@ -10,6 +10,10 @@ pub record Kept : Type 0 where
   pub file : File
   pub created : Parts
   pub bytes : List ℕ
+
+-- a file has kept its bytes, and may have more behind them
+abbrev pub Grows : Kept → Kept → Type 0
+Grows old new = (more : List ℕ) × (new.bytes ≡ old.bytes ++ more)
 
 -- a file of a first entry, which the medium is to show
 abbrev pub begun : List ℕ → List ℕ → ℕ → Entry → ℕ → File

@@ -9,7 +9,7 @@ use Rattle.r10_machine.specs.Machine.{File, Lane, Tick, with_entries, waiting_en
 use Rattle.r10_machine.specs.Calls.{without, all_waiting, empty_file, time_entry}
 use Rattle.r10_machine.specs.Room.{area, cost_of, fits, room_for}
 use Rattle.r10_world.specs.Inside.{IsOpen}
-use Rattle.r10_world.specs.Kept.{Kept, begun}
+use Rattle.r10_world.specs.Kept.{Kept, Grows, begun}
 
 -- the entry has no room, or no memory was there for it
 abbrev pub Lacks : Config → File → Entry → Refusal → Type 0
@@ -21,7 +21,7 @@ Lacks s f e r = ⊥
 abbrev pub Notes : Config → Option Kept → Entry → Result (Unit {0}) Refusal → Option Kept → Type 0
 Notes s None e result new = Unit {0}
 Notes s (Some k) e result new = MatchResult result
-    (λ _. (fits s k.file e ≡ true) × IsSomeAnd new (λ l. (l.file ≡ with_entries (e ∷ []) k.file) × (l.created ≡ k.created) × IsOpen s l))
+    (λ _. (fits s k.file e ≡ true) × IsSomeAnd new (λ l. (l.file ≡ with_entries (e ∷ []) k.file) × (l.created ≡ k.created) × Grows k l × IsOpen s l))
     (λ r. Lacks s k.file e r × (new ≡ Some k))
 
 -- the first of these entries has room behind what costs so much, or there is none
@@ -40,7 +40,7 @@ abbrev pub PumpsLane : Config → Lane → ℕ → Kept → Result ℕ Refusal �
 PumpsLane s lane most k result after l =
     let asked : List Entry = take most (waiting_entries lane) in
     MatchResult result
-    (λ n. (n ≡ room_for s k.file asked) × (0 < length asked → 0 < n) × (after ≡ without n lane) × (l.file ≡ with_entries (take n (waiting_entries lane)) k.file) × (l.created ≡ k.created) × IsOpen s l)
+    (λ n. (n ≡ room_for s k.file asked) × (0 < length asked → 0 < n) × (after ≡ without n lane) × (l.file ≡ with_entries (take n (waiting_entries lane)) k.file) × (l.created ≡ k.created) × Grows k l × IsOpen s l)
     (λ r. LacksFirst s k asked r × (after ≡ lane) × (l ≡ k))
 
 -- there is a new file with the time of a tick, or no room or no memory for it
@@ -56,5 +56,5 @@ Begins s name setup tick result =
 abbrev pub TakesWaiting : Config → List Lane → Kept → Result ℕ Refusal → Kept → Type 0
 TakesWaiting s lanes k result l =
     MatchResult result
-    (λ n. (n ≡ room_for s k.file (all_waiting lanes)) × (l.file ≡ with_entries (take n (all_waiting lanes)) k.file) × IsOpen s l)
+    (λ n. (n ≡ room_for s k.file (all_waiting lanes)) × (l.file ≡ with_entries (take n (all_waiting lanes)) k.file) × Grows k l × IsOpen s l)
     (λ r. (r ≡ OutOfMemory) × (l ≡ k))

@@ -11,6 +11,7 @@ mod formatting;
 mod lane;
 mod lanes;
 mod multiplex;
+mod recorder;
 mod recording;
 mod replay;
 mod steps;

@@ -1,12 +1,17 @@
 //! Steps and runs of a recorder.
 
 ghost use Rattle.std.specs.Prelude.{◌≡◌, ◌<◌, ◌≤◌, ◌+◌, Ok, Err, IfOk, OnErr, length, take, drop, vec_len};
-ghost use Rattle.r10_machine.specs.Step.{Run, Step};
+ghost use Rattle.r10_machine.specs.Limits.{IsConfig};
+ghost use Rattle.r10_machine.specs.Sound.{IsSound};
+ghost use Rattle.r10_machine.specs.Step.{Run};
 ghost use Rattle.r10_machine.specs.declared.reply.Mode.TheVariants as modes;
 ghost use Rattle.r10_machine.specs.declared.reply.Reply.TheVariants as replies;
 ghost use Rattle.r10_world.specs.Copies.{IsCopy};
 ghost use Rattle.r10_world.specs.Files.{IsFormatted};
+ghost use Rattle.r10_world.specs.Going.{Goes};
+ghost use Rattle.r10_world.specs.Saying.{MediumSays};
 
+use crate::recorder::Recorder;
 use crate::world::World;
 use r10_body::{Message, Refusal};
 use r10_machine::{Event, Reply, runs_join};
@@ -33,14 +38,16 @@ fn message_of(alloc: Global, event: &Event) -> Result<Option<Message>, AllocErro
     }
 }
 
-impl<M: BlockMedium> World<M> {
+impl<M: BlockMedium> Recorder<M> {
     /// One event. An offer takes the copy of its message.
-    fn step(&mut self, event: &Event, copy: Option<Message>) -> Reply
-        requires { IsCopy event.now copy }
-        ensures step { (self.old.machine.mode ≡ modes.Unmounted → IsFormatted (M.disk self.old.medium).blocks) → Step self.old.config self.old.machine event.now result self.new.machine }
+    pub(crate) fn step(&mut self, event: &Event, copy: Option<Message>) -> Reply
+        requires copy { IsCopy event.now copy }
+        requires limits { IsConfig self.old.config }
+        requires sound { IsSound self.old.config self.old.machine }
+        ensures goes { Goes self.old.config (M.disk self.old.medium).blocks self.old.machine event.now result self.new.machine }
         ensures config { self.new.config ≡ self.old.config }
-        ensures formatted { (self.old.machine.mode ≡ modes.Unmounted → IsFormatted (M.disk self.old.medium).blocks)
-            → self.new.machine.mode ≡ modes.Unmounted → IsFormatted (M.disk self.new.medium).blocks }
+        ensures unmounted { self.new.machine.mode ≡ modes.Unmounted → (M.disk self.new.medium).blocks ≡ (M.disk self.old.medium).blocks }
+        ensures says { MediumSays (M.disk self.old.medium).blocks self.old.machine.files → MediumSays (M.disk self.new.medium).blocks self.new.machine.files }
     {
         match event {
             Event::Mount => done(self.mount()),
@@ -92,6 +99,8 @@ pub fn run<M: BlockMedium>(
     // where it isn't mounted yet, it may go on so
     ensures formatted { (world.old.machine.mode ≡ modes.Unmounted → IsFormatted (M.disk world.old.medium).blocks)
         → world.new.machine.mode ≡ modes.Unmounted → IsFormatted (M.disk world.new.medium).blocks }
+    // the medium says the machine's files, if it did before
+    ensures says { MediumSays (M.disk world.old.medium).blocks world.old.machine.files → MediumSays (M.disk world.new.medium).blocks world.new.machine.files }
     ensures config { world.new.config ≡ world.old.config }
     ensures within { IfOk result (λ n. n ≤ length events.now) }
     ensures some { IfOk result (λ n. 0 < length events.now → 0 < n) }
@@ -102,7 +111,7 @@ pub fn run<M: BlockMedium>(
     ensures replies_kept { OnErr result (replies.new.items ≡ replies.old.items) }
 {
     runs_join();
-    let alloc = world.alloc;
+    let alloc = world.recorder.alloc;
     for (i, event) in events.iter().enumerate() {
         let copy = message_of(alloc, event);
         let place = replies.reserve(1);

@@ -11,4 +11,4 @@ returns-in-Ok-clause-formatted g c =
     let old = (g.M.BlockMedium.disk c.args.medium.now).blocks in
     let new = (g.M.BlockMedium.disk c.publish.new.medium).blocks in
     let here : block_at new 1 ≡ c.encode.result = ap (λ (i : Image). block_at i 1) c.in-Ok.ensures.written ∙ get_or-set_same old 1 c.encode.result [] (omega (arith, c.requires, c.blocks-blocks.ensures.value, c.blocks-blocks.ensures.range.0)) in
-    (_, record { reads = ap read_block here ∙ c.encode.ensures.again (subst (λ (es : List Entry). All (λ e. has_room e ≡ true) es) (sym c.new.ensures) (All-nil (λ (e : Entry). has_room e ≡ true))); root = record { forward = refl; reverse_link = refl }; lists = c.new.ensures })
+    (_, record { reads = ap read_block here ∙ c.encode.ensures.again (subst (λ (es : List Entry). All (λ e. has_room e ≡ true) es) (sym c.new.ensures) (All-nil (λ (e : Entry). has_room e ≡ true))); root = record { forward = refl; reverse_link = refl }; lists = c.new.ensures; shows = tt })

@@ -25,6 +25,7 @@ loop-i-preserved g c =
           here c.index-events-i.is within longer (so_far.run formatted)
           (subst (λ (s : Config). Step s mid.machine event reply new.machine) so_far.config (c.step-reply.ensures.step (so_far.formatted formatted)));
       formatted = λ formatted. c.step-reply.ensures.formatted (so_far.formatted formatted);
+      says = λ said. c.step-reply.ensures.says (so_far.says said);
       config = c.step-reply.ensures.config ∙ so_far.config;
       earlier = take_one_more n xs ys reply within longer ∙ so_far.earlier;
       count = omega (arith, so_far.count, c.push_reserved.ensures.len, c.reserve-place.ensures.len);

@@ -1,20 +1,15 @@
-use Rattle.std.proofs.Common.{◌<◌, ◌∙◌, List, [], Option, refl, ap, subst, arith}
-use Rattle.std.specs.Prelude.{IsSome}
-use Rattle.std.specs.List.{AllByRecursion}
-use Rattle.r10_body.specs.declared.spec.ChannelSpec.{ChannelSpec}
-use Rattle.r10_machine.specs.Machine.{Cursor, cursor_at}
-use Rattle.r10_world.specs.Lanes.{specs_of}
-use Rattle.r10_world.proofs.LaneSteps.{specs_fresh, above_0, no_cursor}
+use Rattle.std.proofs.Common.{sym, subst}
+use Rattle.r10_machine.specs.Config.{Config}
+use Rattle.r10_machine.specs.Limits.{IsConfig}
+use Rattle.r10_machine.specs.Sound.{IsSound}
 use Rattle.r10_world.proofs.world.World.new.Goals as goal
 
 pub invariant_of-result : goal.invariant_of-result
-invariant_of-result g c = record {
-  lanes = ap specs_of c.in-Ok.ensures ∙ specs_fresh c.channels.result.now ∙ c.channels.ensures.value;
-  blocks = c.requires;
-  reserved = omega (arith, c.directory-directory.ensures.value, c.directory-directory.ensures.range.0);
-  room = omega (arith, c.blocks-blocks.ensures.value, c.blocks-blocks.ensures.range.0);
-  some = subst (AllByRecursion (λ (s : ChannelSpec). 0 < s.id)) c.channels.ensures.value (above_0 c.channels.result.now c.channels.ensures.each);
-  readers = λ id is. absurd (let none : IsSome (cursor_at [] id) = subst (λ (cs : List (Option Cursor)). IsSome (cursor_at cs id)) c.new.ensures.empty is in no_cursor id none);
-  ticked = λ is. absurd (cc);
-  agrees = refl;
-}
+invariant_of-result g c =
+    let made = c.in_ok-recorder.ensures in
+    let s = c.args.settings in
+    record {
+      limits = subst IsConfig (sym made.config) c.channels-channels.ensures.limits;
+      sound = subst (λ (x : Config). IsSound x c.in_ok-recorder.recorder.machine) (sym made.config)
+          (subst (IsSound s) (sym made.machine) (c.a_new_recorder_is_sound.ensures s (g.M.BlockMedium.disk c.args.medium).failures));
+    }

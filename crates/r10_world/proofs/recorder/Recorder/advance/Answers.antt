@@ -5,7 +5,7 @@ use Rattle.r10_machine.specs.declared.reply.Reply.TheVariants as reply
 use Rattle.r10_world.specs.Files.{machine_of}
 use Rattle.r10_world.specs.State.{State}
 use Rattle.r10_world.proofs.ReplaySteps.{advance_step, is_there}
-use Rattle.r10_world.proofs.world.World.advance.Goals as goal
+use Rattle.r10_world.proofs.recorder.Recorder.advance.Goals as goal
 
 pub returns-clause-step : goal.returns-clause-step
 returns-clause-step g c =

@@ -1,0 +1,51 @@
+-- What waits in a lane: refused offers, one more at the end, and without the first.
+use Rattle.std.proofs.Common.{◌≡◌, ℕ, ◌≤◌, true, List, [], ◌∷◌, ◌++◌, Option, Some, None, Err, is_none, if◌then◌else◌, drop, sym, ap, subst, arith}
+use Rattle.std.proofs.lemmas.Bool.{leb-true}
+use Rattle.r10_count.specs.Checks.{first_broken}
+use Rattle.r10_body.specs.declared.entry.Sample.{Sample}
+use Rattle.r10_body.specs.declared.message.Message.{Message}
+use Rattle.r10_body.specs.declared.refusal.Refusal.{Refusal}
+use Rattle.r10_body.specs.declared.refusal.Refusal.TheVariants.{CountRange, CountBack}
+use Rattle.r10_body.specs.declared.spec.ChannelSpec.{ChannelSpec}
+use Rattle.r10_machine.specs.Machine.{Lane}
+use Rattle.r10_machine.specs.Checks.{offer_checks, room_checks, taking_checks, message_checks, count_checks, in_48_bits, is_not_before}
+use Rattle.r10_machine.specs.Calls.{overflowed}
+use Rattle.r10_machine.specs.Sound.{Climbs, count_or_0}
+use Rattle.r10_machine.proofs.Rules.{rules_stop}
+use Rattle.r10_machine.proofs.Steady.{parts_pass, checks_pass}
+use Rattle.r10_machine.proofs.Growing.{all_joined}
+use Rattle.r10_machine.proofs.Climbing.{climbs_push, map-joined}
+use Rattle.r10_lane.specs.Lanes.{Offers, IsTaken, Waits, counts_of}
+
+-- ---- offers
+
+pub refused_before_room : (lane : Lane) (count : ℕ) (message : Message) (r : Refusal) → first_broken (offer_checks (Some lane) count message) ≡ Some r → Offers lane count message (Err r) lane
+refused_before_room lane count message r e = (
+  rules_stop (offer_checks (Some lane) count message) (room_checks (Some lane)) r e,
+  ap (λ (first : Option Refusal). if is_none first then overflowed lane else lane) (sym e),
+)
+
+not_before : (last : Option ℕ) (count : ℕ) → is_not_before last count ≡ true → count_or_0 last ≤ count
+not_before None count fine = omega arith
+not_before (Some n) count fine = leb-true n count fine
+
+-- a message that passes its checks may go behind what waits
+pub waits_more : (spec : ChannelSpec) (last : Option ℕ) (waiting : List Sample) (x : Sample) → Waits spec (count_or_0 last) waiting → first_broken (taking_checks spec last x.count x.message) ≡ None → Waits spec x.count (waiting ++ x ∷ [])
+waits_more spec last waiting x waits fine =
+    let parts = parts_pass (message_checks spec x.message) (count_checks last x.count) fine in
+    let range = checks_pass (in_48_bits x.count).0 CountRange ((is_not_before last x.count, CountBack) ∷ []) parts.1 in
+    let order = checks_pass (is_not_before last x.count) CountBack [] range.1 in
+    record {
+      taken = all_joined (IsTaken spec) waiting (x ∷ []) waits.taken (parts.0, tt);
+      climbs = subst (λ (ns : List ℕ). Climbs 0 ns x.count) (sym (map-joined (λ (y : Sample). y.count) waiting (x ∷ []))) (climbs_push 0 (counts_of waiting) (count_or_0 last) x.count (not_before last x.count order.0) waits.climbs);
+    }
+
+-- ---- without the first
+
+raised : (low lower : ℕ) (ns : List ℕ) (high : ℕ) → lower ≤ low → Climbs low ns high → Climbs lower ns high
+raised low lower [] high less climbs = omega (arith, less, climbs)
+raised low lower (n ∷ ns) high less (first, climbs) = (omega (arith, less, first), climbs)
+
+pub waits_less : (spec : ChannelSpec) (last : ℕ) (waiting : List Sample) → Waits spec last waiting → Waits spec last (drop 1 waiting)
+waits_less spec last [] waits = waits
+waits_less spec last (x ∷ xs) waits = record { taken = waits.taken.1; climbs = raised x.count 0 (counts_of xs) last (omega arith) waits.climbs.1 }

@@ -1,0 +1,12 @@
+use Rattle.std.proofs.Common.{rules}
+use Rattle.r10_lane.proofs.Waiting.{refused_before_room, waits_more}
+use Rattle.r10_lane.proofs.ring_lane.RingLane.offer.Goals as goal
+
+pub returns-in-Err-clause-offers : goal.returns-in-Err-clause-offers
+returns-in-Err-clause-offers c = let v = c.self.view_is in refused_before_room c.args.self.now c.args.count c.args.message _ (search rules)
+
+pub invariant_of-self : goal.invariant_of-self
+invariant_of-self c =
+    let s = c.self.inside in
+    let fine = c.in-Ok.ensures in
+    rw c.in-Ok-try_push_back.ensures.ok (record { room = c.self.invariant.room; waits = waits_more s.spec s.last s.waiting.items _ c.self.invariant.waits (rw (fine.0) (fine.1)) })

@@ -1,0 +1,58 @@
+-- What a lane answers to an offer, and what is taken from it.
+use Rattle.std.specs.Prelude.{◌≡◌, ℕ, ◌≤◌, List, [], ◌∷◌, ◌++◌, map, Option, Some, None, Result, MatchResult, is_none, if◌then◌else◌}
+use Rattle.std.specs.List.{AllByRecursion}
+use Rattle.r10_count.specs.Checks.{first_broken}
+use Rattle.r10_body.specs.Messages.{channel_refusal}
+use Rattle.r10_body.specs.declared.entry.Sample.{Sample}
+use Rattle.r10_body.specs.declared.message.Message.{Message}
+use Rattle.r10_body.specs.declared.refusal.Refusal.{Refusal}
+use Rattle.r10_body.specs.declared.spec.ChannelSpec.{ChannelSpec}
+use Rattle.r10_machine.specs.Machine.{Lane}
+use Rattle.r10_machine.specs.Checks.{offer_checks, room_checks}
+use Rattle.r10_machine.specs.Calls.{accepted, overflowed}
+use Rattle.r10_machine.specs.Sound.{Climbs, count_or_0}
+
+-- ---- offers
+
+-- why a lane refuses an offer: the first rule that is broken, of the message, its count and the room
+abbrev pub offer_refusal : Lane → ℕ → Message → Option Refusal
+offer_refusal lane count message = first_broken (offer_checks (Some lane) count message ++ room_checks (Some lane))
+
+-- the lane after an offer that was refused: counted as lost where nothing but the room was lacking, else as it was
+abbrev pub after_refusal : Lane → ℕ → Message → Lane
+after_refusal lane count message = if is_none (first_broken (offer_checks (Some lane) count message)) then overflowed lane else lane
+
+-- what an offer answers and leaves
+abbrev pub Offers : Lane → ℕ → Message → Result (Unit {0}) Refusal → Lane → Type 0
+Offers old count message result new = MatchResult result
+    (λ _. (offer_refusal old count message ≡ None) × (new ≡ accepted count message old))
+    (λ r. (offer_refusal old count message ≡ Some r) × (new ≡ after_refusal old count message))
+
+-- ---- what waits
+
+-- a message that the channel takes
+abbrev pub IsTaken : ChannelSpec → Sample → Type 0
+IsTaken spec x = channel_refusal spec x.message ≡ None
+
+abbrev pub counts_of : List Sample → List ℕ
+counts_of xs = map (λ x. x.count) xs
+
+-- what may wait in a lane: messages that the channel takes, whose counts don't fall up to the last accepted one
+pub record Waits (spec : ChannelSpec) (last : ℕ) (waiting : List Sample) : Type 0 where
+  pub taken : AllByRecursion (IsTaken spec) waiting
+  pub climbs : Climbs 0 (counts_of waiting) last
+
+-- the count of the first sample, or this one
+abbrev pub first_count : List Sample → ℕ → ℕ
+first_count [] n = n
+first_count (x ∷ xs) n = x.count
+
+-- the count that a lane has reached: of the first sample that waits, else of the last that was accepted
+abbrev pub reached : Lane → ℕ
+reached lane = first_count lane.waiting (count_or_0 lane.last)
+
+-- these samples left the front of what waits, and nothing else is changed
+pub record Took (old : Lane) (samples : List Sample) (new : Lane) : Type 0 where
+  pub front : old.waiting ≡ samples ++ new.waiting
+  pub others : new ≡ record old { waiting = new.waiting }
+  pub rises : reached old ≤ reached new

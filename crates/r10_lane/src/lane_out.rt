@@ -1,0 +1,72 @@
+//! The end of a lane from which samples are taken.
+
+ghost use Rattle.std.specs.Prelude.{◌≡◌, ◌≤◌, ◌++◌, ℕ, List, [], ◌∷◌, length, slice_get, Option, Some, None, IfSome, MatchOption, option_copied};
+ghost use Rattle.std.specs.Borrow.{sem};
+ghost use Rattle.std.specs.Io.BufRead.{Rests};
+ghost use Rattle.r10_body.specs.Messages.{channel_refusal};
+ghost use Rattle.r10_body.specs.declared.entry.Sample.{Sample as One};
+ghost use Rattle.r10_body.specs.declared.spec.ChannelSpec.{ChannelSpec as Spec};
+
+use r10_body::{ChannelSpec, Sample};
+
+/// The end of a lane from which samples are taken, the first accepted first.
+///
+/// - None of the calls takes memory. Each of them leaves in the lane what it doesn't give.
+/// - A sample that is given passes its channel's check, and its count isn't below that of the
+///   one given before it.
+/// - A lane is quiet where nobody else holds its sending end. Then all that waits is known, and
+///   each call gives the first of it, or `None` exactly where nothing waits.
+pub trait LaneOut {
+    /// What the channel is set to.
+    ghost spec_of: { Self → Spec };
+
+    /// `took old samples new`: these samples were taken from the front of `old`, and `new` is left.
+    ghost took: { Self → List One → Self → Type 0 };
+
+    /// The next `take` gives this sample.
+    ghost shows: { Self → One → Type 0 };
+
+    /// The count that the lane has reached: no sample given is above it, none to come below it.
+    ghost reached: { Self → ℕ };
+
+    /// All that waits, where the lane is quiet.
+    ghost quiet: { Self → Option (List One) };
+
+    /// What the channel is set to.
+    fn spec(&self) -> ChannelSpec
+        ensures { result ≡ spec_of self.now };
+
+    /// The first sample, which stays. A `take` right after this gives the same one.
+    fn front(&mut self) -> Option<&Sample>
+        ensures* after { sem 𝓛 (Rests Self.row self.entry (λ new. took self.old [] new × IfSome result (λ first. shows new first.now))) }
+        ensures quiet { IfSome (quiet self.old) (λ waiting. option_copied result ≡ slice_get waiting 0) };
+
+    /// Takes the first sample.
+    fn take(&mut self) -> Option<Sample>
+        ensures took { MatchOption result (took self.old [] self.new) (λ first. took self.old (first ∷ []) self.new) }
+        ensures passes { IfSome result (λ first. channel_refusal (spec_of self.old) first.message ≡ None) }
+        ensures climbs { IfSome result (λ first. (reached self.old ≤ first.count) × (first.count ≤ reached self.new)) }
+        ensures shown { (first : One) → shows self.old first → result ≡ Some first }
+        ensures quiet { IfSome (quiet self.old) (λ waiting. result ≡ slice_get waiting 0) };
+
+    /// How many samples wait.
+    fn held(&mut self) -> usize
+        ensures took { took self.old [] self.new }
+        ensures shown { (first : One) → shows self.old first → shows self.new first }
+        ensures quiet { IfSome (quiet self.old) (λ waiting. result ≡ length waiting) };
+
+    /// What was taken by one call and then by another was taken by both, in this order.
+    ghost joins: { (a b c : Self) (xs ys : List One) → took a xs b → took b ys c → took a (xs ++ ys) c };
+
+    ghost took_none: { (a b c : Self) (xs : List One) → took a xs b → took b [] c → took a xs c };
+
+    /// From a lane that stays as it is nothing was taken.
+    ghost stays: { (a : Self) → took a [] a };
+
+    ghost keeps_spec: { (a b : Self) (xs : List One) → took a xs b → spec_of b ≡ spec_of a };
+
+    ghost rises: { (a b : Self) (xs : List One) → took a xs b → reached a ≤ reached b };
+
+    /// What is taken from a quiet lane is the front of what waits, and the rest waits on.
+    ghost stays_quiet: { (a b : Self) (xs waiting : List One) → took a xs b → quiet a ≡ Some waiting → (rest : List One) × (quiet b ≡ Some rest) × (waiting ≡ xs ++ rest) };
+}

@@ -1,0 +1,144 @@
+//! A lane of one thread.
+
+ghost use Rattle.std.specs.Prelude.{◌≡◌, ◌≤◌, IfOk};
+ghost use Rattle.r10_machine.specs.Machine.{fresh_lane};
+ghost use Rattle.r10_lane.specs.Lanes.{Offers, reached};
+
+use crate::lane_out::LaneOut;
+use circular_buffer::HeapCircularBuffer;
+use r10_body::{ChannelSpec, Message, Refusal, Sample};
+use r10_count::Count;
+use r10_machine::check_offer;
+use std::alloc::{AllocError, Global};
+use std::marker::Model;
+
+/// A lane of one thread, with room for as many samples as its channel's capacity.
+#[derive(Debug, Drop)]
+pub struct RingLane {
+    spec: ChannelSpec,
+    waiting: HeapCircularBuffer<Sample, Global>,
+    last: Option<Count>,
+    missed: u64,
+    lost: u64,
+}
+
+impl Model for RingLane {
+    ghost use Rattle.std.specs.Prelude.{◌≡◌};
+    ghost use Rattle.r10_machine.specs.Machine.{Lane};
+    ghost use Rattle.r10_machine.specs.Sound.{count_or_0};
+    ghost use Rattle.r10_lane.specs.Lanes.{Waits};
+
+    ghost Value = { Lane };
+
+    ghost view = { λ l. record {
+      spec = l.spec;
+      waiting = l.waiting.items;
+      last = l.last;
+      missed = l.missed;
+      lost = l.lost;
+      erased = 0;
+    } };
+
+    ghost invariant = { λ l. record {
+      room : l.waiting.capacity ≡ l.spec.capacity;
+      waits : Waits l.spec (count_or_0 l.last) l.waiting.items;
+    } };
+}
+
+impl RingLane {
+    /// A lane of which nothing has come yet. This takes all the memory that the lane ever takes.
+    pub fn new(alloc: Global, spec: ChannelSpec) -> Result<RingLane, AllocError>
+        ensures { IfOk result (λ lane. lane ≡ fresh_lane spec) }
+    {
+        Ok(RingLane {
+            spec,
+            waiting: HeapCircularBuffer::with_capacity(alloc, spec.capacity)?,
+            last: None,
+            missed: 0,
+            lost: 0,
+        })
+    }
+
+    /// Takes a message in at the end, with a gap mark where some were lost since the last one. Else
+    /// says why not, by the first of these that applies: WrongKind, BadMessage, TooLong, CountBack,
+    /// or Overflow where as many wait as the capacity. An overflow counts the message as lost; every
+    /// other refusal leaves the lane as it was.
+    pub fn offer(&mut self, count: Count, message: Message) -> Result<(), Refusal>
+        ensures offers { Offers self.old count message result self.new }
+        ensures climbs { reached self.old ≤ reached self.new }
+    {
+        let count = match check_offer(&self.spec, self.last, count.get(), &message) {
+            Ok(count) => count,
+            Err(refusal) => return Err(refusal),
+        };
+        let gap = self.missed > 0;
+        let sample = Sample {
+            count,
+            message,
+            gap,
+        };
+        match self.waiting.try_push_back(sample) {
+            Ok(()) => {
+                self.last = Some(count);
+                self.missed = 0;
+                Ok(())
+            }
+            Err(_) => {
+                self.missed = self.missed.saturating_add(1);
+                self.lost = self.lost.saturating_add(1);
+                Err(Refusal::Overflow)
+            }
+        }
+    }
+
+    /// How many messages were refused for want of room, up to `u64::MAX`, where it stays.
+    pub fn lost(&self) -> u64
+        ensures { result ≡ self.now.lost }
+    {
+        self.lost
+    }
+}
+
+impl LaneOut for RingLane {
+    ghost use Rattle.std.specs.Prelude.{◌≡◌, Some, slice_get};
+    ghost use Rattle.r10_lane.specs.Lanes.{Took, reached};
+    ghost use Rattle.r10_lane.specs.Laws.{took_joins, took_nothing, took_stays, took_keeps_spec, took_rises, took_stays_quiet};
+
+    ghost spec_of = { λ lane. lane.spec };
+
+    ghost took = { Took };
+
+    ghost shows = { λ lane first. slice_get lane.waiting 0 ≡ Some first };
+
+    ghost reached = { reached };
+
+    ghost quiet = { λ lane. Some lane.waiting };
+
+    fn spec(&self) -> ChannelSpec {
+        self.spec
+    }
+
+    fn front(&mut self) -> Option<&Sample> {
+        self.waiting.front()
+    }
+
+    fn take(&mut self) -> Option<Sample> {
+        self.waiting.pop_front()
+    }
+
+    fn held(&mut self) -> usize {
+        self.waiting.len()
+    }
+
+    ghost joins = { took_joins };
+
+    ghost took_none = { took_nothing };
+
+    ghost stays = { took_stays };
+
+    ghost keeps_spec = { took_keeps_spec };
+
+    ghost rises = { took_rises };
+
+    ghost stays_quiet = { took_stays_quiet };
+}
