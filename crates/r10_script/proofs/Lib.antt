@@ -1,3 +1,4 @@
 pub mod Digits
 pub mod Items
 pub mod Asks
+pub mod Known

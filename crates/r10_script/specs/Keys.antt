@@ -1,8 +1,11 @@
 -- What a table of a script has under its keys.
-use Rattle.std.specs.Prelude.{ℕ, ℤ, pos, Bool, false, List, [], ◌∷◌, map, Option, Some, None, is_some, option_and_then, if◌then◌else◌}
+use Rattle.std.specs.Prelude.{◌≡◌, ℕ, ℤ, pos, Bool, true, false, List, [], ◌∷◌, map, Option, Some, None, is_some, option_and_then, if◌then◌else◌}
+use Rattle.std.specs.Int.{w16, to_be_bytes}
+use Rattle.std.specs.List.{All, flat_map, list_any}
+use Rattle.std.specs.Str.{bytes_eq}
 use Rattle.std.specs.Result.{result_ok}
 use Rattle.hex.specs.Hex.{decode_of}
-use Rattle.toml.specs.Data.{Data, Items, no_items, item, Members, get_member, as_integer, as_str, as_bool, as_array}
+use Rattle.toml.specs.Data.{Data, Items, no_items, item, Members, no_members, member, get_member, as_integer, as_str, as_bool, as_array}
 
 -- a whole number
 abbrev pub integer_at : Members → List ℕ → Option ℤ
@@ -44,3 +47,16 @@ items_at table key = listed_array (option_and_then as_array (get_member key tabl
 -- the items of an array as whole numbers
 abbrev pub integers_at : Members → List ℕ → List (Option ℤ)
 integers_at table key = map as_integer (items_at table key)
+
+-- 16-bit words, the high byte of each first
+abbrev pub words_bytes : List ℕ → List ℕ
+words_bytes words = flat_map (to_be_bytes w16) words
+
+-- the keys of a table
+abbrev pub keys_of : Members → List (List ℕ)
+keys_of no_members = []
+keys_of (member key d rest) = key ∷ keys_of rest
+
+-- the table has no key but these
+abbrev pub HasOnly : List (List ℕ) → Members → Type 0
+HasOnly known table = All (λ key. list_any (λ word. bytes_eq word key) known ≡ true) (keys_of table)

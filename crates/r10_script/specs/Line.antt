@@ -2,7 +2,6 @@
 use Rattle.std.specs.Prelude.{◌≡◌, ℕ, Bool, true, false, List, [], ◌∷◌, ◌++◌, Some, None, codes}
 use Rattle.std.specs.Fmt.{decimal}
 use Rattle.std.specs.Int.{w16, w32, to_be_bytes}
-use Rattle.std.specs.List.{flat_map}
 use Rattle.hex.specs.Hex.{encode_lower}
 use Rattle.r10_body.specs.declared.entry.Entry.{Entry}
 use Rattle.r10_body.specs.declared.message.Message.{Message}
@@ -10,6 +9,7 @@ use Rattle.r10_body.specs.declared.message.Message.TheVariants as messages
 use Rattle.r10_machine.specs.declared.reply.Reply.{Reply}
 use Rattle.r10_machine.specs.declared.reply.Reply.TheVariants as replies
 use Rattle.r10_script.specs.Civil.{civil_text}
+use Rattle.r10_script.specs.Keys.{words_bytes}
 
 -- words with a space between each and the next
 abbrev pub spaced : List (List ℕ) → List ℕ
@@ -27,9 +27,13 @@ abbrev pub bytes_text : List ℕ → List ℕ
 bytes_text [] = codes "-"
 bytes_text (b ∷ bs) = encode_lower (b ∷ bs)
 
+-- a word of 16 bits in four hex digits
+abbrev pub word_text : ℕ → List ℕ
+word_text n = encode_lower (to_be_bytes w16 n)
+
 -- words of four hex digits each, a dash where there are none
 abbrev pub words_text : List ℕ → List ℕ
-words_text words = bytes_text (flat_map (to_be_bytes w16) words)
+words_text words = bytes_text (words_bytes words)
 
 -- a number of 32 bits in eight hex digits
 abbrev pub long_text : ℕ → List ℕ
@@ -37,7 +41,7 @@ long_text n = encode_lower (to_be_bytes w32 n)
 
 abbrev pub message_text : Message → List ℕ
 message_text (messages.Uart parity sub bytes) = spaced (codes "uart" ∷ flag_text parity ∷ decimal sub ∷ bytes_text bytes ∷ [])
-message_text (messages.Bus1553 status gap words) = spaced (codes "1553" ∷ decimal status ∷ decimal gap ∷ words_text words ∷ [])
+message_text (messages.Bus1553 status gap words) = spaced (codes "1553" ∷ word_text status ∷ word_text gap ∷ words_text words ∷ [])
 message_text (messages.Arinc bus format parity high word) =
     spaced (codes "arinc" ∷ decimal bus ∷ flag_text format ∷ flag_text parity ∷ flag_text high ∷ long_text word ∷ [])
 message_text (messages.Discrete states) = spaced (codes "discrete" ∷ long_text states ∷ [])

@@ -6,7 +6,8 @@ use Rattle.r10_body.specs.declared.message.Kind.TheVariants as kinds
 use Rattle.r10_body.specs.declared.spec.ChannelSpec.{ChannelSpec}
 use Rattle.r10_machine.specs.Config.{Config}
 use Rattle.r10_machine.specs.declared.event.Event.{Event}
-use Rattle.r10_script.specs.Keys.{integer_at, text_at, items_at}
+use Rattle.r10_script.specs.Keys.{integer_at, text_at, items_at, HasOnly}
+use Rattle.r10_script.specs.Kinds.{kind_word, channel_keys}
 use Rattle.r10_script.specs.Steps.{IsStep}
 
 -- each of the items is a table, and asks for what stands at its place
@@ -15,14 +16,11 @@ EachAsks Asks [] [] = Unit {0}
 EachAsks Asks (d ∷ ds) (x ∷ xs) = IsSomeAnd (as_table d) (λ table. Asks table x) × EachAsks Asks ds xs
 EachAsks Asks _ _ = ⊥
 
-abbrev pub kind_word : Kind → List ℕ
-kind_word kinds.Uart = codes "uart"
-kind_word kinds.Bus1553 = codes "1553"
-kind_word kinds.Arinc = codes "arinc"
-kind_word kinds.Discrete = codes "discrete"
-kind_word kinds.Message = codes "message"
+-- a discrete channel tells its number of bits, and any other has none
+abbrev pub IsBits : Kind → Members → ℕ → Type 0
+IsBits kinds.Discrete table bits = integer_at table (codes "bits") ≡ Some (pos bits)
+IsBits kind table bits = bits ≡ 0
 
--- only a discrete channel has a number of bits
 abbrev pub IsChannelTable : Members → ChannelSpec → Type 0
 IsChannelTable table spec =
     (integer_at table (codes "id") ≡ Some (pos spec.id))
@@ -31,7 +29,8 @@ IsChannelTable table spec =
     × (integer_at table (codes "check") ≡ Some (pos spec.check))
     × (integer_at table (codes "bytes") ≡ Some (pos spec.bytes))
     × (integer_at table (codes "number") ≡ Some (pos spec.number))
-    × (spec.bits ≡ 0)
+    × IsBits spec.kind table spec.bits
+    × HasOnly (channel_keys spec.kind) table
 
 abbrev pub AreSettings : Members → Config → Type 0
 AreSettings table s =
@@ -43,5 +42,9 @@ AreSettings table s =
     × (integer_at table (codes "event") ≡ Some (pos s.event))
     × EachAsks IsChannelTable (items_at table (codes "channel")) s.channels
 
-abbrev pub AreSteps : Members → List Event → Type 0
-AreSteps table events = EachAsks IsStep (items_at table (codes "step")) events
+abbrev pub AreSteps : List ChannelSpec → Members → List Event → Type 0
+AreSteps channels table events = EachAsks (IsStep channels) (items_at table (codes "step")) events
+
+-- the keys above the tables, and those of the tables
+abbrev pub script_keys : List (List ℕ)
+script_keys = codes "blocks" ∷ codes "directory" ∷ codes "volume" ∷ codes "nodes" ∷ codes "time" ∷ codes "event" ∷ codes "channel" ∷ codes "step" ∷ []

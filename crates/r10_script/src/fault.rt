@@ -64,6 +64,11 @@ pub enum Wrong {
     Hex {
         key: &'static str,
     },
+    /// A text that is not four hex digits for each word.
+    #[error("`{key}` must be four hex digits for each word")]
+    Words {
+        key: &'static str,
+    },
     /// A civil time in another form.
     #[error("`{key}` must have the form \"YYYY-MM-DD hh:mm:ss.cc\"")]
     Civil {

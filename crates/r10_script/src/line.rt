@@ -2,7 +2,7 @@
 
 ghost use Rattle.std.specs.Prelude.{◌≡◌, ◌∷◌, [], ℕ, List, codes, string_bytes, IfOk};
 ghost use Rattle.r10_script.specs.Civil.{civil_text as civil_digits};
-ghost use Rattle.r10_script.specs.Line.{IsReplyLine, IsReplyText, entry_text as entry_words, message_text as message_words, bytes_text, flag_text as flag_digit, long_text as eight_digits, spaced, words_text as words_digits};
+ghost use Rattle.r10_script.specs.Line.{IsReplyLine, IsReplyText, entry_text as entry_words, message_text as message_words, bytes_text, flag_text as flag_digit, long_text as eight_digits, word_text as four_digits, spaced, words_text as words_digits};
 
 use r10_body::{Entry, Message, Refusal};
 use r10_count::Civil;
@@ -62,6 +62,7 @@ fn message_text(alloc: Global, message: &Message) -> Result<String, AllocError>
             format!(in alloc; "uart {parity} {sub} {bytes}")
         }
         Message::Bus1553 { status, gap, words } => {
+            let (status, gap) = (word_text(alloc, *status)?, word_text(alloc, *gap)?);
             let words = words_text(alloc, words.as_slice())?;
             format!(in alloc; "1553 {status} {gap} {words}")
         }
@@ -124,6 +125,13 @@ fn words_text(alloc: Global, words: &[u16]) -> Result<String, AllocError>
         bytes.extend_from_slice(&word.to_be_bytes())?;
     }
     hex_text(alloc, &bytes)
+}
+
+/// A word in four hex digits.
+fn word_text(alloc: Global, word: u16) -> Result<String, AllocError>
+    ensures { IfOk result (λ text. string_bytes text ≡ four_digits word) }
+{
+    hex::encode(alloc, &word.to_be_bytes())
 }
 
 /// A number in eight hex digits.

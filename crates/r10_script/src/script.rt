@@ -4,7 +4,8 @@ ghost use Rattle.std.specs.Prelude.{◌≡◌, Some, IfOk, IsUtf8};
 ghost use Rattle.toml.specs.Data.{Members};
 ghost use Rattle.toml.specs.Parse.{parse_document};
 ghost use Rattle.toml.specs.View.{table_view};
-ghost use Rattle.r10_script.specs.Script.{AreSettings, AreSteps};
+ghost use Rattle.r10_script.specs.Keys.{HasOnly};
+ghost use Rattle.r10_script.specs.Script.{AreSettings, AreSteps, script_keys};
 
 use crate::fault::{Place, ScriptFault, Wrong};
 use crate::settings::settings_of;
@@ -24,7 +25,7 @@ pub struct Script {
 /// The script that the text spells, in UTF-8: the settings, the channels and the steps under their keys.
 pub fn read_script(alloc: Global, text: &[u8]) -> Result<Script, ScriptFault>
     ensures text { IfOk result (λ _. IsUtf8 text.now) }
-    ensures script { IfOk result (λ script. (table : Members) × (parse_document text.now ≡ Some table) × AreSettings table script.settings × AreSteps table script.events.items) }
+    ensures script { IfOk result (λ script. (table : Members) × (parse_document text.now ≡ Some table) × HasOnly script_keys table × AreSettings table script.settings × AreSteps script.settings.channels table script.events.items) }
 {
     let table = match toml::table_from_slice(alloc, text) {
         Ok(table) => table,
@@ -54,7 +55,7 @@ fn events_of(
     channels: &[ChannelSpec],
     top: Fields<'_>,
 ) -> Result<Vec<Event>, ScriptFault>
-    ensures { IfOk result (λ events. AreSteps (table_view top.entry.table.now) events.items) }
+    ensures { IfOk result (λ events. AreSteps channels.now (table_view top.entry.table.now) events.items) }
 {
     let mut events = Vec::new(alloc);
     let mut number = 0usize;

@@ -2,14 +2,17 @@
 
 ghost use Rattle.std.specs.Prelude.{◌≡◌, Some, codes, IfOk};
 ghost use Rattle.toml.specs.View.{table_view};
-ghost use Rattle.r10_script.specs.Keys.{items_at, text_at};
-ghost use Rattle.r10_script.specs.Script.{AreSettings, EachAsks, IsChannelTable, kind_word};
+ghost use Rattle.r10_script.specs.Keys.{items_at, text_at, HasOnly};
+ghost use Rattle.r10_script.specs.Kinds.{channel_keys, kind_word};
+ghost use Rattle.r10_script.specs.Script.{AreSettings, EachAsks, IsBits, IsChannelTable};
 
 use crate::fault::{Limit, Place, ScriptFault, Wrong};
 use crate::table::Fields;
 use r10_body::{ChannelSpec, Kind};
 use r10_machine::Settings;
 use std::alloc::Global;
+
+const KINDS: &str = "uart, 1553, arinc, discrete, message";
 
 /// The settings that the keys of a script spell.
 pub fn settings_of(alloc: Global, top: Fields<'_>) -> Result<Settings, ScriptFault>
@@ -45,10 +48,7 @@ fn channel_of(alloc: Global, fields: Fields<'_>) -> Result<ChannelSpec, ScriptFa
     ensures { IfOk result (λ spec. IsChannelTable (table_view fields.entry.table.now) spec) }
 {
     let kind = kind_of(alloc, fields)?;
-    fields.only(
-        alloc,
-        &["id", "kind", "capacity", "check", "bytes", "number"],
-    )?;
+    let bits = bits_of(alloc, kind, fields)?;
     Ok(ChannelSpec {
         id: fields.short("id")?,
         kind,
@@ -56,20 +56,29 @@ fn channel_of(alloc: Global, fields: Fields<'_>) -> Result<ChannelSpec, ScriptFa
         check: fields.size("check")?,
         bytes: fields.size("bytes")?,
         number: fields.size("number")?,
-        bits: 0,
+        bits,
     })
 }
 
-/// The word that names a kind.
-pub fn word_of(kind: Kind) -> &'static str
-    ensures { result.now ≡ kind_word kind }
+/// The number of bits of a discrete channel, 0 of any other. A key that the table of such a channel does not have is refused.
+fn bits_of(alloc: Global, kind: Kind, fields: Fields<'_>) -> Result<usize, ScriptFault>
+    ensures { IfOk result (λ bits. IsBits kind (table_view fields.entry.table.now) bits × HasOnly (channel_keys kind) (table_view fields.entry.table.now)) }
 {
     match kind {
-        Kind::Uart => "uart",
-        Kind::Bus1553 => "1553",
-        Kind::Arinc => "arinc",
-        Kind::Discrete => "discrete",
-        Kind::Message => "message",
+        Kind::Discrete => {
+            fields.only(
+                alloc,
+                &["id", "kind", "capacity", "check", "bytes", "number", "bits"],
+            )?;
+            fields.size("bits")
+        }
+        Kind::Uart | Kind::Bus1553 | Kind::Arinc | Kind::Message => {
+            fields.only(
+                alloc,
+                &["id", "kind", "capacity", "check", "bytes", "number"],
+            )?;
+            Ok(0)
+        }
     }
 }
 
@@ -79,6 +88,10 @@ pub fn kind_of(alloc: Global, fields: Fields<'_>) -> Result<Kind, ScriptFault>
 {
     match fields.text("kind")? {
         "uart" => Ok(Kind::Uart),
-        word => Err(fields.unknown_word(alloc, "kind", word, "uart")),
+        "1553" => Ok(Kind::Bus1553),
+        "arinc" => Ok(Kind::Arinc),
+        "discrete" => Ok(Kind::Discrete),
+        "message" => Ok(Kind::Message),
+        word => Err(fields.unknown_word(alloc, "kind", word, KINDS)),
     }
 }

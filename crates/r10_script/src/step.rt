@@ -1,14 +1,18 @@
 //! The steps of a script.
 
-ghost use Rattle.std.specs.Prelude.{◌≡◌, pos, Some, codes, IfOk};
+ghost use Rattle.std.specs.Prelude.{◌≡◌, ◌==◌, pos, Some, codes, IfOk, List, [], ◌∷◌};
+ghost use Rattle.std.specs.List.{find};
 ghost use Rattle.toml.specs.View.{table_view};
+ghost use Rattle.r10_body.specs.declared.message.Kind.TheVariants as kinds;
+ghost use Rattle.r10_body.specs.declared.spec.ChannelSpec.{ChannelSpec as Spec};
 ghost use Rattle.r10_script.specs.Civil.{civil_text};
-ghost use Rattle.r10_script.specs.Keys.{integer_at, text_at};
-ghost use Rattle.r10_script.specs.Steps.{IsMessage, IsStep};
+ghost use Rattle.r10_script.specs.Keys.{integer_at, text_at, HasOnly};
+ghost use Rattle.r10_script.specs.Kinds.{kind_word};
+ghost use Rattle.r10_script.specs.Steps.{IsOfKind, IsStep, offered_word};
 
 use crate::civil::parts_of;
 use crate::fault::{ScriptFault, Wrong};
-use crate::settings::{kind_of, word_of};
+use crate::settings::kind_of;
 use crate::table::Fields;
 use r10_body::{ChannelSpec, Kind, Message};
 use r10_count::{Items, Parts};
@@ -23,7 +27,7 @@ pub fn event_of(
     channels: &[ChannelSpec],
     fields: Fields<'_>,
 ) -> Result<Event, ScriptFault>
-    ensures { IfOk result (λ event. IsStep (table_view fields.entry.table.now) event) }
+    ensures { IfOk result (λ event. IsStep channels.now (table_view fields.entry.table.now) event) }
 {
     match fields.text("do")? {
         "mount" => {
@@ -56,7 +60,7 @@ pub fn event_of(
 }
 
 fn tick_of(alloc: Global, fields: Fields<'_>) -> Result<Event, ScriptFault>
-    ensures { IfOk result (λ event. text_at (table_view fields.entry.table.now) (codes "do") ≡ Some (codes "tick") → IsStep (table_view fields.entry.table.now) event) }
+    ensures { IfOk result (λ event. (channels : List Spec) → text_at (table_view fields.entry.table.now) (codes "do") ≡ Some (codes "tick") → IsStep channels (table_view fields.entry.table.now) event) }
 {
     fields.only(alloc, &["do", "count", "civil"])?;
     let count = fields.count("count")?;
@@ -75,7 +79,7 @@ fn civil_of(fields: Fields<'_>) -> Result<Parts, ScriptFault>
 }
 
 fn start_of(alloc: Global, fields: Fields<'_>) -> Result<Event, ScriptFault>
-    ensures { IfOk result (λ event. text_at (table_view fields.entry.table.now) (codes "do") ≡ Some (codes "start") → IsStep (table_view fields.entry.table.now) event) }
+    ensures { IfOk result (λ event. (channels : List Spec) → text_at (table_view fields.entry.table.now) (codes "do") ≡ Some (codes "start") → IsStep channels (table_view fields.entry.table.now) event) }
 {
     fields.only(alloc, &["do", "name", "setup"])?;
     let name = Vec::from_slice(alloc, fields.text("name")?.as_bytes())?;
@@ -91,7 +95,7 @@ fn offer_of(
     channels: &[ChannelSpec],
     fields: Fields<'_>,
 ) -> Result<Event, ScriptFault>
-    ensures { IfOk result (λ event. text_at (table_view fields.entry.table.now) (codes "do") ≡ Some (codes "offer") → IsStep (table_view fields.entry.table.now) event) }
+    ensures { IfOk result (λ event. text_at (table_view fields.entry.table.now) (codes "do") ≡ Some (codes "offer") → IsStep channels.now (table_view fields.entry.table.now) event) }
 {
     let channel = fields.short("channel")?;
     let count = fields.count("count")?;
@@ -110,37 +114,116 @@ fn offered_kind(
     channels: &[ChannelSpec],
     channel: u16,
     fields: Fields<'_>,
-) -> Result<Kind, ScriptFault> {
+) -> Result<Kind, ScriptFault>
+    ensures { IfOk result (λ kind. offered_word channels.now channel (table_view fields.entry.table.now) ≡ Some (kind_word kind)) }
+{
     if fields.has("kind") {
         return kind_of(alloc, fields);
     }
-    match channels.iter().find(|spec| spec.id == channel) {
+    match spec_of(channels, channel) {
         Some(spec) => Ok(spec.kind),
         None => Err(fields.fault(Wrong::Missing { key: "kind" })),
     }
 }
 
+/// The settings of a channel.
+fn spec_of(channels: &[ChannelSpec], channel: u16) -> Option<ChannelSpec>
+    ensures { result ≡ find (λ spec. spec.id == channel) channels.now }
+{
+    channels.iter().copied().find(|spec| spec.id == channel)
+}
+
 /// A message of this kind: a key that is absent is false, 0 or empty.
 fn message_of(alloc: Global, kind: Kind, fields: Fields<'_>) -> Result<Message, ScriptFault>
-    ensures { IfOk result (λ message. IsMessage (table_view fields.entry.table.now) message) }
+    ensures { IfOk result (λ message. IsOfKind kind (table_view fields.entry.table.now) message) }
 {
     match kind {
-        Kind::Uart => {
-            fields.only(
-                alloc,
-                &["do", "channel", "count", "kind", "parity", "sub", "bytes"],
-            )?;
-            let parity = fields.truth_or_false("parity")?;
-            let sub = fields.short_or_zero("sub")?;
-            let bytes = Items::of(fields.bytes_or_none(alloc, "bytes")?);
-            Ok(Message::Uart { parity, sub, bytes })
-        }
-        other => Err(fields.unknown_word(alloc, "kind", word_of(other), "uart")),
+        Kind::Uart => uart_of(alloc, fields),
+        Kind::Bus1553 => bus_of(alloc, fields),
+        Kind::Arinc => arinc_of(alloc, fields),
+        Kind::Discrete => discrete_of(alloc, fields),
+        Kind::Message => bytes_of(alloc, fields),
     }
 }
 
+fn uart_of(alloc: Global, fields: Fields<'_>) -> Result<Message, ScriptFault>
+    ensures { IfOk result (λ message. IsOfKind kinds.Uart (table_view fields.entry.table.now) message) }
+{
+    fields.only(
+        alloc,
+        &["do", "channel", "count", "kind", "parity", "sub", "bytes"],
+    )?;
+    let parity = fields.truth_or_false("parity")?;
+    let sub = fields.short_or_zero("sub")?;
+    let bytes = Items::of(fields.bytes_or_none(alloc, "bytes")?);
+    Ok(Message::Uart { parity, sub, bytes })
+}
+
+/// A message of a MIL-STD-1553 bus.
+fn bus_of(alloc: Global, fields: Fields<'_>) -> Result<Message, ScriptFault>
+    ensures { IfOk result (λ message. IsOfKind kinds.Bus1553 (table_view fields.entry.table.now) message) }
+{
+    fields.only(
+        alloc,
+        &["do", "channel", "count", "kind", "status", "gap", "words"],
+    )?;
+    let status = fields.short_or_zero("status")?;
+    let gap = fields.short_or_zero("gap")?;
+    let words = Items::of(fields.words_or_none(alloc, "words")?);
+    Ok(Message::Bus1553 { status, gap, words })
+}
+
+/// A word of an ARINC 429 bus.
+fn arinc_of(alloc: Global, fields: Fields<'_>) -> Result<Message, ScriptFault>
+    ensures { IfOk result (λ message. IsOfKind kinds.Arinc (table_view fields.entry.table.now) message) }
+{
+    fields.only(
+        alloc,
+        &[
+            "do", "channel", "count", "kind", "bus", "format", "parity", "high", "data",
+        ],
+    )?;
+    Ok(Message::Arinc {
+        bus: fields.byte_or_zero("bus")?,
+        format: fields.truth_or_false("format")?,
+        parity: fields.truth_or_false("parity")?,
+        high: fields.truth_or_false("high")?,
+        word: fields.long_or_zero("data")?,
+    })
+}
+
+fn discrete_of(alloc: Global, fields: Fields<'_>) -> Result<Message, ScriptFault>
+    ensures { IfOk result (λ message. IsOfKind kinds.Discrete (table_view fields.entry.table.now) message) }
+{
+    fields.only(alloc, &["do", "channel", "count", "kind", "states"])?;
+    let states = fields.long_or_zero("states")?;
+    Ok(Message::Discrete { states })
+}
+
+/// A message of a message channel.
+fn bytes_of(alloc: Global, fields: Fields<'_>) -> Result<Message, ScriptFault>
+    ensures { IfOk result (λ message. IsOfKind kinds.Message (table_view fields.entry.table.now) message) }
+{
+    fields.only(
+        alloc,
+        &[
+            "do", "channel", "count", "kind", "data", "format", "sub", "bytes",
+        ],
+    )?;
+    let data_error = fields.truth_or_false("data")?;
+    let format = fields.truth_or_false("format")?;
+    let sub = fields.short_or_zero("sub")?;
+    let bytes = Items::of(fields.bytes_or_none(alloc, "bytes")?);
+    Ok(Message::Message {
+        data_error,
+        format,
+        sub,
+        bytes,
+    })
+}
+
 fn pump_of(alloc: Global, fields: Fields<'_>) -> Result<Event, ScriptFault>
-    ensures { IfOk result (λ event. text_at (table_view fields.entry.table.now) (codes "do") ≡ Some (codes "pump") → IsStep (table_view fields.entry.table.now) event) }
+    ensures { IfOk result (λ event. (channels : List Spec) → text_at (table_view fields.entry.table.now) (codes "do") ≡ Some (codes "pump") → IsStep channels (table_view fields.entry.table.now) event) }
 {
     fields.only(alloc, &["do", "channel", "k"])?;
     let channel = fields.short("channel")?;
@@ -149,7 +232,7 @@ fn pump_of(alloc: Global, fields: Fields<'_>) -> Result<Event, ScriptFault>
 }
 
 fn cursor_of(alloc: Global, fields: Fields<'_>) -> Result<Event, ScriptFault>
-    ensures { IfOk result (λ event. text_at (table_view fields.entry.table.now) (codes "do") ≡ Some (codes "cursor") → IsStep (table_view fields.entry.table.now) event) }
+    ensures { IfOk result (λ event. (channels : List Spec) → text_at (table_view fields.entry.table.now) (codes "do") ≡ Some (codes "cursor") → IsStep channels (table_view fields.entry.table.now) event) }
 {
     fields.only(alloc, &["do", "file", "channels", "from", "to"])?;
     let file = fields.size("file")?;
@@ -166,7 +249,7 @@ fn cursor_of(alloc: Global, fields: Fields<'_>) -> Result<Event, ScriptFault>
 
 /// The number of a cursor, the one key of a step.
 fn id_of(alloc: Global, fields: Fields<'_>) -> Result<usize, ScriptFault>
-    ensures { IfOk result (λ id. integer_at (table_view fields.entry.table.now) (codes "id") ≡ Some (pos id)) }
+    ensures { IfOk result (λ id. (integer_at (table_view fields.entry.table.now) (codes "id") ≡ Some (pos id)) × HasOnly (codes "do" ∷ codes "id" ∷ []) (table_view fields.entry.table.now)) }
 {
     fields.only(alloc, &["do", "id"])?;
     fields.size("id")

@@ -1,9 +1,12 @@
 //! The keys of one table of a script.
 
-ghost use Rattle.std.specs.Prelude.{◌≡◌, pos, Some, None, is_some, map, option_map, IfOk, IfErr};
+ghost use Rattle.std.specs.Prelude.{◌≡◌, pos, Some, None, is_some, map, option_map, IfOk, IfErr, IfSome, IfNone, string_bytes, true};
+ghost use Rattle.std.specs.BTreeMap.{keys};
+ghost use Rattle.std.specs.List.{All, list_any};
+ghost use Rattle.std.specs.Str.{bytes_eq};
 ghost use Rattle.toml.specs.Data.{get_member, as_table};
 ghost use Rattle.toml.specs.View.{view, table_view};
-ghost use Rattle.r10_script.specs.Keys.{integer_at, integer_or_zero_at, integers_at, text_at, bytes_at, bytes_or_none_at, flag_or_false_at, items_at};
+ghost use Rattle.r10_script.specs.Keys.{integer_at, integer_or_zero_at, integers_at, text_at, bytes_at, bytes_or_none_at, flag_or_false_at, items_at, words_bytes, HasOnly};
 
 use crate::fault::{Place, ScriptFault, Wrong};
 use std::alloc::{AllocError, Global};
@@ -62,14 +65,16 @@ impl<'a> Fields<'a> {
     }
 
     /// Refuses a key that is not one of these.
-    pub fn only(&self, alloc: Global, known: &[&str]) -> Result<(), ScriptFault> {
-        for key in self.table.keys() {
-            if !known.iter().any(|word| *word == key.as_str()) {
+    pub fn only(&self, alloc: Global, known: &[&str]) -> Result<(), ScriptFault>
+        ensures { IfOk result (λ _. HasOnly (map (λ word. word.now) known.now) (table_view self.now.table.now)) }
+    {
+        match unknown_key(self.table, known) {
+            Some(key) => {
                 let key = String::from_str(alloc, key.as_str())?;
-                return Err(self.fault(Wrong::Unknown { key }));
+                Err(self.fault(Wrong::Unknown { key }))
             }
+            None => Ok(()),
         }
-        Ok(())
     }
 
     fn value(&self, key: &'static str) -> Result<&'a Value, ScriptFault>
@@ -132,14 +137,47 @@ impl<'a> Fields<'a> {
         }
     }
 
+    /// A whole number, 0 where the key is absent.
+    fn integer_or_zero(&self, key: &'static str) -> Result<i64, ScriptFault>
+        ensures { IfOk result (λ z. integer_or_zero_at (table_view self.now.table.now) key.now ≡ Some z) }
+    {
+        if self.has(key) {
+            self.integer(key)
+        } else {
+            Ok(0)
+        }
+    }
+
+    /// A field of 8 bits, 0 where the key is absent.
+    pub fn byte_or_zero(&self, key: &'static str) -> Result<u8, ScriptFault>
+        ensures { IfOk result (λ n. integer_or_zero_at (table_view self.now.table.now) key.now ≡ Some (pos n)) }
+    {
+        match u8::try_from(self.integer_or_zero(key)?) {
+            Ok(number) => Ok(number),
+            Err(_) => Err(self.fault(Wrong::Range { key, most: 255 })),
+        }
+    }
+
     /// A field of 16 bits, 0 where the key is absent.
     pub fn short_or_zero(&self, key: &'static str) -> Result<u16, ScriptFault>
         ensures { IfOk result (λ n. integer_or_zero_at (table_view self.now.table.now) key.now ≡ Some (pos n)) }
     {
-        if self.has(key) {
-            self.short(key)
-        } else {
-            Ok(0)
+        match u16::try_from(self.integer_or_zero(key)?) {
+            Ok(number) => Ok(number),
+            Err(_) => Err(self.fault(Wrong::Range { key, most: 65_535 })),
+        }
+    }
+
+    /// A field of 32 bits, 0 where the key is absent.
+    pub fn long_or_zero(&self, key: &'static str) -> Result<u32, ScriptFault>
+        ensures { IfOk result (λ n. integer_or_zero_at (table_view self.now.table.now) key.now ≡ Some (pos n)) }
+    {
+        match u32::try_from(self.integer_or_zero(key)?) {
+            Ok(number) => Ok(number),
+            Err(_) => Err(self.fault(Wrong::Range {
+                key,
+                most: 4_294_967_295,
+            })),
         }
     }
 
@@ -194,15 +232,27 @@ impl<'a> Fields<'a> {
         }
     }
 
-    /// The bytes that a text of hex digits stands for.
-    pub fn bytes(&self, alloc: Global, key: &'static str) -> Result<Vec<u8>, ScriptFault>
+    /// The bytes that a text of hex digits stands for. Of another text this is said.
+    fn decoded(
+        &self,
+        alloc: Global,
+        key: &'static str,
+        wrong: Wrong,
+    ) -> Result<Vec<u8>, ScriptFault>
         ensures { IfOk result (λ v. bytes_at (table_view self.now.table.now) key.now ≡ Some v.items) }
     {
         match hex::decode(alloc, self.text(key)?) {
             Ok(bytes) => Ok(bytes),
             Err(hex::FromHexError::OutOfMemory) => Err(ScriptFault::OutOfMemory(AllocError)),
-            Err(_) => Err(self.fault(Wrong::Hex { key })),
+            Err(_) => Err(self.fault(wrong)),
         }
+    }
+
+    /// The bytes that a text of hex digits stands for.
+    pub fn bytes(&self, alloc: Global, key: &'static str) -> Result<Vec<u8>, ScriptFault>
+        ensures { IfOk result (λ v. bytes_at (table_view self.now.table.now) key.now ≡ Some v.items) }
+    {
+        self.decoded(alloc, key, Wrong::Hex { key })
     }
 
     /// The bytes that a text of hex digits stands for, none where the key is absent.
@@ -213,6 +263,20 @@ impl<'a> Fields<'a> {
             self.bytes(alloc, key)
         } else {
             Ok(Vec::new(alloc))
+        }
+    }
+
+    /// The 16-bit words that a text of four hex digits each stands for, none where the key is absent.
+    pub fn words_or_none(&self, alloc: Global, key: &'static str) -> Result<Vec<u16>, ScriptFault>
+        ensures { IfOk result (λ v. bytes_or_none_at (table_view self.now.table.now) key.now ≡ Some (words_bytes v.items)) }
+    {
+        if !self.has(key) {
+            return Ok(Vec::new(alloc));
+        }
+        let bytes = self.decoded(alloc, key, Wrong::Words { key })?;
+        match words_of(alloc, &bytes)? {
+            Some(words) => Ok(words),
+            None => Err(self.fault(Wrong::Words { key })),
         }
     }
 
@@ -239,5 +303,36 @@ impl<'a> Fields<'a> {
             Ok(word) => self.fault(Wrong::Word { key, word, known }),
             Err(error) => ScriptFault::OutOfMemory(error),
         }
+    }
+}
+
+/// Whether a key is one of these.
+fn is_among(known: &[&str], key: &str) -> bool
+    ensures { result ≡ list_any (λ word. bytes_eq word.now key.now) known.now }
+{
+    known.iter().any(|word| *word == key)
+}
+
+/// The first key of the table that is not one of these.
+fn unknown_key<'a>(table: &'a Table, known: &[&str]) -> Option<&'a String>
+    ensures { IfNone result (All (λ key. list_any (λ word. bytes_eq word.now (string_bytes key)) known.now ≡ true) (keys table.now)) }
+{
+    table.keys().find(|key| !is_among(known, key.as_str()))
+}
+
+/// The words that these bytes are, the high byte of each first, or none where their number is odd.
+fn words_of(alloc: Global, bytes: &[u8]) -> Result<Option<Vec<u16>>, AllocError>
+    ensures { IfOk result (λ found. IfSome found (λ words. bytes.now ≡ words_bytes words.items)) }
+{
+    let mut words = Vec::new(alloc);
+    let mut rest = bytes;
+    while let [high, low, after @ ..] = rest {
+        words.push(u16::from_be_bytes([*high, *low]))?;
+        rest = after;
+    }
+    if rest.is_empty() {
+        Ok(Some(words))
+    } else {
+        Ok(None)
     }
 }

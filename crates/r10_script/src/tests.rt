@@ -160,6 +160,213 @@ fn offers_are_read(rt: HostRuntime) -> Result<(), Fail> {
     Ok(())
 }
 
+/// A channel table of a kind, with more keys.
+fn channel_text(alloc: Global, kind: &str, more: &str) -> Result<String, AllocError> {
+    format!(in alloc;
+        "{SETTINGS}[[channel]]\nid = 7\nkind = \"{kind}\"\ncapacity = 8\ncheck = 0\nbytes = 524288\nnumber = 65535\n{more}\n"
+    )
+}
+
+/// Only a discrete channel has a number of bits.
+#[test]
+fn channels_of_each_kind_are_read(rt: HostRuntime) -> Result<(), Fail> {
+    let alloc = rt.alloc();
+    let cases = [
+        ("uart", "", Kind::Uart, 0),
+        ("1553", "", Kind::Bus1553, 0),
+        ("arinc", "", Kind::Arinc, 0),
+        ("discrete", "bits = 8", Kind::Discrete, 8),
+        ("message", "", Kind::Message, 0),
+    ];
+    for (word, more, kind, bits) in cases {
+        let text = channel_text(alloc, word, more)?;
+        let script = read_script(alloc, text.as_bytes())?;
+        let channels = script.settings.channels();
+        assert_eq!(rt; channels.len(), 1);
+        assert_eq!(rt; (channels[0].kind, channels[0].bits), (kind, bits));
+        if bits == 0 {
+            let text = channel_text(alloc, word, "bits = 8")?;
+            let said = fault_of(alloc, text.as_str())?;
+            assert_eq!(rt; said.as_str(), "channel table 1: unknown key \"bits\"");
+        }
+    }
+    let text = channel_text(alloc, "discrete", "bits = 32")?;
+    let said = fault_of(alloc, text.as_str())?;
+    assert_eq!(rt;
+        said.as_str(),
+        "settings: channel 7: `bits` must be from 1 to 31"
+    );
+    Ok(())
+}
+
+/// The message of an offer on a channel of this kind, whose step names no kind, or else names it and another channel.
+fn offered(
+    alloc: Global,
+    kind: &str,
+    names: bool,
+    keys: &str,
+) -> Result<Option<Message>, ScriptFault> {
+    let more = if kind == "discrete" { "bits = 8" } else { "" };
+    let mut text = channel_text(alloc, kind, more)?;
+    text.push_str("[[step]]\ndo = \"offer\"\ncount = 2000\n")?;
+    if names {
+        let other = format!(in alloc; "channel = 8\nkind = \"{kind}\"\n")?;
+        text.push_str(other.as_str())?;
+    } else {
+        text.push_str("channel = 7\n")?;
+    }
+    text.push_str(keys)?;
+    let mut script = read_script(alloc, text.as_bytes())?;
+    match script.events.pop() {
+        Some(Event::Offer { message, .. }) => Ok(Some(message)),
+        _ => Ok(None),
+    }
+}
+
+/// Each key of each kind, and what a key that is absent stands for.
+#[test]
+fn messages_of_each_kind_are_read(rt: HostRuntime) -> Result<(), Fail> {
+    let alloc = rt.alloc();
+    let cases = [
+        (
+            "uart",
+            "parity = true\nsub = 16383\nbytes = \"414243\"",
+            Message::Uart {
+                parity: true,
+                sub: 16_383,
+                bytes: Items::of([0x41, 0x42, 0x43].to_vec(alloc)?),
+            },
+        ),
+        (
+            "uart",
+            "",
+            Message::Uart {
+                parity: false,
+                sub: 0,
+                bytes: Items::of(Vec::new(alloc)),
+            },
+        ),
+        (
+            "1553",
+            "status = 8192\ngap = 7\nwords = \"0821ABCD\"",
+            Message::Bus1553 {
+                status: 0x2000,
+                gap: 7,
+                words: Items::of([0x0821, 0xABCD].to_vec(alloc)?),
+            },
+        ),
+        (
+            "1553",
+            "",
+            Message::Bus1553 {
+                status: 0,
+                gap: 0,
+                words: Items::of(Vec::new(alloc)),
+            },
+        ),
+        (
+            "arinc",
+            "bus = 1\nformat = true\nparity = false\nhigh = true\ndata = 305419896",
+            Message::Arinc {
+                bus: 1,
+                format: true,
+                parity: false,
+                high: true,
+                word: 0x1234_5678,
+            },
+        ),
+        (
+            "arinc",
+            "bus = 255\nparity = true\ndata = 0xFFFFFFFF",
+            Message::Arinc {
+                bus: 255,
+                format: false,
+                parity: true,
+                high: false,
+                word: 0xFFFF_FFFF,
+            },
+        ),
+        (
+            "arinc",
+            "",
+            Message::Arinc {
+                bus: 0,
+                format: false,
+                parity: false,
+                high: false,
+                word: 0,
+            },
+        ),
+        (
+            "discrete",
+            "states = 129",
+            Message::Discrete { states: 0x81 },
+        ),
+        ("discrete", "", Message::Discrete { states: 0 }),
+        (
+            "message",
+            "data = true\nformat = true\nsub = 16383\nbytes = \"0a0B\"",
+            Message::Message {
+                data_error: true,
+                format: true,
+                sub: 16_383,
+                bytes: Items::of([0x0A, 0x0B].to_vec(alloc)?),
+            },
+        ),
+        (
+            "message",
+            "data = true",
+            Message::Message {
+                data_error: true,
+                format: false,
+                sub: 0,
+                bytes: Items::of(Vec::new(alloc)),
+            },
+        ),
+        (
+            "message",
+            "",
+            Message::Message {
+                data_error: false,
+                format: false,
+                sub: 0,
+                bytes: Items::of(Vec::new(alloc)),
+            },
+        ),
+    ];
+    for (kind, keys, wanted) in &cases {
+        for names in [false, true] {
+            match &offered(alloc, kind, names, keys)? {
+                Some(message) => assert_eq!(rt; message, wanted, "at {keys}"),
+                None => assert!(rt; false, "at {keys}"),
+            }
+        }
+    }
+    Ok(())
+}
+
+/// The step names another kind than its channel's.
+#[test]
+fn a_step_may_name_another_kind(rt: HostRuntime) -> Result<(), Fail> {
+    let alloc = rt.alloc();
+    let offer = event_of(
+        alloc,
+        "do = \"offer\"\nchannel = 5\nkind = \"discrete\"\ncount = 1\nstates = 129",
+    )?;
+    match offer {
+        Some(
+            Event::Offer {
+                message: Message::Discrete { states },
+                ..
+            },
+        ) => {
+            assert_eq!(rt; states, 129);
+        }
+        _ => assert!(rt; false),
+    }
+    Ok(())
+}
+
 /// Texts that are no script, each with what is said of it.
 #[test]
 fn bad_texts(rt: HostRuntime) -> Result<(), Fail> {
@@ -194,12 +401,16 @@ fn bad_texts(rt: HostRuntime) -> Result<(), Fail> {
         ),
         ("[[channel]]\nid = 5", "channel table 1: `kind` is missing"),
         (
-            "[[channel]]\nkind = \"1553\"",
-            "channel table 1: unknown `kind` \"1553\", it must be one of: uart",
+            "[[channel]]\nkind = \"time\"",
+            "channel table 1: unknown `kind` \"time\", it must be one of: uart, 1553, arinc, discrete, message",
         ),
         (
-            "[[channel]]\nkind = \"uart\"\nbits = 8",
-            "channel table 1: unknown key \"bits\"",
+            "[[channel]]\nkind = \"discrete\"\nid = 5",
+            "channel table 1: `bits` is missing",
+        ),
+        (
+            "[[channel]]\nkind = \"discrete\"\nbits = -1",
+            "channel table 1: `bits` must be from 0 to 18446744073709551615",
         ),
         ("[[feed]]\nchannel = 5", "settings: unknown key \"feed\""),
     ];
@@ -266,8 +477,8 @@ fn bad_steps(rt: HostRuntime) -> Result<(), Fail> {
             "`kind` is missing",
         ),
         (
-            "do = \"offer\"\nchannel = 5\nkind = \"arinc\"\ncount = 1",
-            "unknown `kind` \"arinc\", it must be one of: uart",
+            "do = \"offer\"\nchannel = 5\nkind = \"event\"\ncount = 1",
+            "unknown `kind` \"event\", it must be one of: uart, 1553, arinc, discrete, message",
         ),
         (
             "do = \"offer\"\nchannel = 5\ncount = 1\nwords = \"\"",
@@ -289,6 +500,70 @@ fn bad_steps(rt: HostRuntime) -> Result<(), Fail> {
     for (step, wanted) in cases {
         let wanted = format!(in alloc; "step 1: {wanted}")?;
         assert_eq!(rt; step_fault(alloc, step)?, wanted);
+    }
+    Ok(())
+}
+
+/// Offered messages of each kind that are none, each with what is said of it.
+#[test]
+fn bad_messages(rt: HostRuntime) -> Result<(), Fail> {
+    let alloc = rt.alloc();
+    let cases = [
+        (
+            "1553",
+            "words = \"082\"",
+            "`words` must be four hex digits for each word",
+        ),
+        (
+            "1553",
+            "words = \"082108\"",
+            "`words` must be four hex digits for each word",
+        ),
+        (
+            "1553",
+            "words = \"082G\"",
+            "`words` must be four hex digits for each word",
+        ),
+        ("1553", "words = [2081]", "`words` must be a text"),
+        ("1553", "status = 65536", "`status` must be from 0 to 65535"),
+        ("1553", "gap = -1", "`gap` must be from 0 to 65535"),
+        ("1553", "bytes = \"\"", "unknown key \"bytes\""),
+        ("arinc", "bus = 256", "`bus` must be from 0 to 255"),
+        (
+            "arinc",
+            "data = 4294967296",
+            "`data` must be from 0 to 4294967295",
+        ),
+        ("arinc", "data = true", "`data` must be a whole number"),
+        ("arinc", "high = 1", "`high` must be true or false"),
+        ("arinc", "sub = 0", "unknown key \"sub\""),
+        (
+            "discrete",
+            "states = 4294967296",
+            "`states` must be from 0 to 4294967295",
+        ),
+        (
+            "discrete",
+            "states = \"81\"",
+            "`states` must be a whole number",
+        ),
+        ("discrete", "bits = 8", "unknown key \"bits\""),
+        ("message", "data = 1", "`data` must be true or false"),
+        ("message", "sub = 65536", "`sub` must be from 0 to 65535"),
+        (
+            "message",
+            "bytes = \"4\"",
+            "`bytes` must be an even number of hex digits",
+        ),
+        ("message", "parity = false", "unknown key \"parity\""),
+        ("uart", "states = 0", "unknown key \"states\""),
+    ];
+    for (kind, key, said) in cases {
+        let step = format!(in alloc;
+            "do = \"offer\"\nchannel = 5\nkind = \"{kind}\"\ncount = 1\n{key}"
+        )?;
+        let wanted = format!(in alloc; "step 1: {said}")?;
+        assert_eq!(rt; step_fault(alloc, step.as_str())?, wanted, "at {key}");
     }
     Ok(())
 }
@@ -541,7 +816,7 @@ fn entries_are_printed(rt: HostRuntime) -> Result<(), Fail> {
                 words: Items::of([0x0821, 0xABCD].to_vec(alloc)?),
             },
             false,
-            "12 entry 5 1010 0 1553 8192 7 0821abcd\n",
+            "12 entry 5 1010 0 1553 2000 0007 0821abcd\n",
         ),
         (
             Message::Bus1553 {
@@ -550,7 +825,7 @@ fn entries_are_printed(rt: HostRuntime) -> Result<(), Fail> {
                 words: Items::of(Vec::new(alloc)),
             },
             false,
-            "12 entry 5 1010 0 1553 0 0 -\n",
+            "12 entry 5 1010 0 1553 0000 0000 -\n",
         ),
         (
             Message::Arinc {

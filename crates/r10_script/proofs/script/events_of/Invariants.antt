@@ -6,4 +6,4 @@ use Rattle.r10_script.proofs.script.events_of.Given as goal
 
 -- the events so far are those of the tables so far
 abbrev pub invariant-loop-value : goal.invariant-loop-value
-invariant-loop-value l = EachAsks IsStep (map view (take l.value-index l.value-items)) l.events.items
+invariant-loop-value l = EachAsks (IsStep l.fn.channels) (map view (take l.value-index l.value-items)) l.events.items
