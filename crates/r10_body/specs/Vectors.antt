@@ -9,7 +9,7 @@ use Rattle.r10_body.specs.Bodies.{content_of}
 use Rattle.r10_body.specs.Content.{body_of, setup, time, uart, arinc}
 use Rattle.r10_body.specs.Packets.{Packet, packet_bytes, file_bytes, file_entries}
 use Rattle.r10_body.specs.Cost.{message_cost, file_cost}
-use Rattle.r10_body.specs.Messages.{alone_len, channel_refusal}
+use Rattle.r10_body.specs.Messages.{alone_len, channel_refusal, is_in_range}
 use Rattle.r10_body.specs.Foreign.{opaque_at, is_opaque, IsForeignPacket}
 use Rattle.r10_body.specs.Faults.{HasFault, IsFaulty}
 use Rattle.r10_body.specs.declared.fault.FileFault.TheVariants.{Truncated, HeaderSum}
@@ -133,6 +133,9 @@ channel_of kind bits = record { id = 7; kind = kind; capacity = 2; check = 0; by
 pub bus-taken : channel_refusal (channel_of kinds.Bus1553 0) bus_message ≡ None
 bus-taken = refl
 
+pub bus-longest : channel_refusal (channel_of kinds.Bus1553 0) (messages.Bus1553 0x3E38 0 (replicate 36 0)) ≡ None
+bus-longest = refl
+
 -- 37 words, and a bit of the block status that has no name; the status is judged first
 pub bus-too-long : channel_refusal (channel_of kinds.Bus1553 0) (messages.Bus1553 0 0 (replicate 37 0)) ≡ Some TooLong
 bus-too-long = refl
@@ -153,6 +156,21 @@ last-state = refl
 
 pub state-beyond : channel_refusal (channel_of kinds.Discrete 8) (messages.Discrete 0x100) ≡ Some BadMessage
 state-beyond = refl
+
+pub no-discretes : channel_refusal (channel_of kinds.Discrete 0) (messages.Discrete 0) ≡ Some BadMessage
+no-discretes = refl
+
+pub arinc-taken : channel_refusal (channel_of kinds.Arinc 0) (messages.Arinc 255 true true true 0xFFFFFFFF) ≡ None
+arinc-taken = refl
+
+pub message-taken : channel_refusal (channel_of kinds.Message 0) (messages.Message true true 16383 []) ≡ None
+message-taken = refl
+
+pub message-sub-too-large : channel_refusal (channel_of kinds.Message 0) (messages.Message false false 16384 []) ≡ Some BadMessage
+message-sub-too-large = refl
+
+pub event-ranges : map (is_in_range 0) (messages.Event 4095 65535 ∷ messages.Event 4096 0 ∷ []) ≡ true ∷ false ∷ []
+event-ranges = refl
 
 -- ---- a file
 
@@ -212,6 +230,22 @@ pub bus-alone : alone_len 0 bus_message ≡ length (packet_bytes bus_packet)
 unfolding packet_bytes header_bytes
 bus-alone = refl
 
+pub arinc-alone : alone_len 0 (messages.Arinc 1 false false true 0) ≡ length (packet_bytes (record bus_packet { content = arinc (arinc_word 2000 ∷ []) }))
+unfolding packet_bytes header_bytes
+arinc-alone = refl
+
+pub discrete-alone : alone_len 0 (messages.Discrete 0x81) ≡ length (packet_bytes (record bus_packet { content = content_of 8 2000 (messages.Discrete 0x81) }))
+unfolding packet_bytes header_bytes
+discrete-alone = refl
+
+pub message-alone : alone_len 0 (messages.Message true false 1 (0x41 ∷ [])) ≡ length (packet_bytes (record bus_packet { content = content_of 0 2000 (messages.Message true false 1 (0x41 ∷ [])) }))
+unfolding packet_bytes header_bytes
+message-alone = refl
+
+pub event-alone : alone_len 0 (messages.Event 3 1) ≡ length (packet_bytes (record bus_packet { content = content_of 0 2000 (messages.Event 3 1) }))
+unfolding packet_bytes header_bytes
+event-alone = refl
+
 -- ---- packets of other recorders
 
 -- one with a secondary header
@@ -243,3 +277,15 @@ three-bytes = refl
 
 pub day-of-year : is_opaque (record { channel = 1; packet_len = 36; data_len = 12; version = 8; sequence = 0; flags = 0; data_type = 0x11; counter = 0 }) (replicate 12 0) ≡ true
 day-of-year = refl
+
+-- segments of messages, and events with data headers, are opaque
+pub segments : is_opaque (record { channel = 1; packet_len = 28; data_len = 4; version = 8; sequence = 0; flags = 0; data_type = 0x30; counter = 0 }) (1 ∷ 0 ∷ 1 ∷ 0 ∷ []) ≡ true
+segments = refl
+
+pub with-data-headers : is_opaque (record { channel = 1; packet_len = 28; data_len = 4; version = 8; sequence = 0; flags = 0; data_type = 0x02; counter = 0 }) (1 ∷ 0 ∷ 0 ∷ 0x80 ∷ []) ≡ true
+with-data-headers = refl
+
+-- a bus packet of this recorder is one of any recorder
+pub bus-read : opaque_at (packet_bytes bus_packet) ≡ false
+unfolding packet_bytes header_bytes
+bus-read = refl
