@@ -1,0 +1,6 @@
+pub mod Chain
+pub mod Bad
+pub mod Steps
+pub mod Stands
+pub mod Mount
+pub mod Names
