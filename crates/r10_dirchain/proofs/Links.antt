@@ -15,12 +15,8 @@ use Rattle.r10_dirchain.specs.declared.chain.ChainBlock.{ChainBlock}
 use Rattle.r10_dirchain.specs.declared.read.ChainError.{ChainError}
 use Rattle.r10_dirchain.specs.declared.read.ChainError.TheVariants.{BadDirectory, Medium, OutOfMemory}
 use Rattle.r10_dirchain.specs.Chain.{Link, link, Linked, Holds, IsDirectory}
-use Rattle.r10_dirchain.specs.Bad.{Leads, IsTaken, IsTakeError, IsBad, IsChainError}
-use Rattle.r10_dirchain.proofs.Laws.{same_block}
-
--- no two blocks have the same number
-abbrev pub AreApart : List ChainBlock → Type 0
-AreApart chain = AllPairs (λ (a b : ChainBlock). a.number ≢ b.number) chain
+use Rattle.r10_dirchain.specs.Bad.{Leads, IsTaken, IsTakeError, IsBad, IsChainError, AreApart, numbers}
+use Rattle.r10_dirchain.proofs.Directories.{same_block}
 
 leads_more : (back n : ℕ) (ls : List Link) (last next : ℕ) (l : Link) → Leads back n ls last next
     → l.number ≡ next → l.back ≡ last → l.forward ≢ next → Leads back n (ls ++ l ∷ []) next l.forward
@@ -117,9 +113,6 @@ distinct_cons : (n : ℕ) (ns : List ℕ) → AllByRecursion (λ (m : ℕ). eqb 
 unfolding IsDistinct
 distinct_cons n ns none others = (none, others)
 
-abbrev pub numbers : List ChainBlock → List ℕ
-numbers chain = map (λ (b : ChainBlock). b.number) chain
-
 -- as many blocks as the medium has are all of them
 pub all_passed : (image : Image) (passed : List ChainBlock) (d : ChainBlock) (n : ℕ) → All (Holds image) passed → AreApart passed → length passed ≡ length image → n < length image
     → Contains (numbers passed) n
@@ -149,16 +142,17 @@ all_passed image passed d n holds apart all within = elim (missing n (numbers pa
 
 -- ---- a block was looked at behind these
 module _ (image : Image) (chain : List ChainBlock) (back n : ℕ) (holds : All (Holds image) chain) (leads : Leads 1 1 (map link chain) back n) where
-  pub bad_of : (e : ChainError) → IsTakeError image back n e → IsChainError image e
-  bad_of (BadDirectory m) bad = subst (IsBad image) (sym bad.0) (record { passed = chain; last = back; holds = holds; leads = leads; cannot = inl bad.1 })
-  bad_of Medium bad = tt
-  bad_of OutOfMemory bad = tt
+  pub bad_of : AreApart chain → (e : ChainError) → IsTakeError image back n e → IsChainError image e
+  bad_of apart (BadDirectory m) bad = subst (IsBad image) (sym bad.0) (record { passed = chain; last = back; holds = holds; apart = apart; leads = leads; cannot = inl bad.1 })
+  bad_of apart Medium bad = tt
+  bad_of apart OutOfMemory bad = tt
 
   pub bad_at_end : (d : ChainBlock) → AreApart chain → length chain ≡ length image → IsBad image n
   bad_at_end d apart all = record {
     passed = chain;
     last = back;
     holds = holds;
+    apart = apart;
     leads = leads;
     cannot = elim (cases_lt n (length image)) [
       | inl within ↦ inr (all_passed image chain d n holds apart all within)

@@ -11,7 +11,7 @@ use Rattle.r10_dirchain.specs.Stands.{SameButIn, Put, PutTwo, Turned, Turns, Has
 use Rattle.r10_dirblock.specs.declared.entry.Entry.{Entry}
 use Rattle.r10_dirblock.specs.declared.block.DirBlock.{DirBlock}
 use Rattle.r10_dirchain.specs.Steps.{formatted, replaced, emptied, with_shutdown, extended, last_place, last_block, next_number, next_block, last_is_full, filled, added, spare}
-use Rattle.r10_dirchain.proofs.Laws.{still_directory, turned_in, turned_alone, put_behind, leading_to, some_block}
+use Rattle.r10_dirchain.proofs.Directories.{still_directory, turned_in, turned_alone, put_behind, leading_to, some_block}
 
 pub on_ok : {T E : Type 0} (result : Result T E) (P Q : Type 0) → (P → Q) → OnOk result P → OnOk result Q
 on_ok (Ok x) P Q gives holds = gives holds

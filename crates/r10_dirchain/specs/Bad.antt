@@ -1,6 +1,6 @@
 -- Which block of a chain can't be taken.
 use Rattle.std.specs.Prelude.{◌≡◌, ◌≢◌, ◌⊎◌, ℕ, ◌<◌, ◌≤◌, List, [], ◌∷◌, map, length, Err, Contains}
-use Rattle.std.specs.List.{All}
+use Rattle.std.specs.List.{All, AllPairs}
 use Rattle.r10_medium.specs.Disk.{Image, block_at}
 use Rattle.r10_dirblock.specs.declared.block.DirBlock.{DirBlock}
 use Rattle.r10_dirblock.specs.declared.read.DirFault.{DirFault}
@@ -28,13 +28,21 @@ abbrev pub Leads : ℕ → ℕ → List Link → ℕ → ℕ → Type 0
 Leads back n [] last next = (back ≡ last) × (n ≡ next)
 Leads back n (l ∷ more) last next = (l.number ≡ n) × (l.back ≡ back) × (l.forward ≢ n) × Leads n l.forward more last next
 
--- The chain from block 1 passes some blocks, reaches block n and can't take it: it is unfit, or one of those.
+-- no two blocks have the same number
+abbrev pub AreApart : List ChainBlock → Type 0
+AreApart chain = AllPairs (λ (a b : ChainBlock). a.number ≢ b.number) chain
+
+abbrev pub numbers : List ChainBlock → List ℕ
+numbers chain = map (λ (b : ChainBlock). b.number) chain
+
+-- The chain from block 1 passes some blocks, none of them twice, reaches block n and can't take it: it is unfit, or one of those.
 pub record IsBad (image : Image) (n : ℕ) : Type 0 where
   pub passed : List ChainBlock
   pub last : ℕ
   pub holds : All (Holds image) passed
+  pub apart : AreApart passed
   pub leads : Leads 1 1 (map link passed) last n
-  pub cannot : IsUnfit image last n ⊎ Contains (map (λ (b : ChainBlock). b.number) passed) n
+  pub cannot : IsUnfit image last n ⊎ Contains (numbers passed) n
 
 -- what an error says of the block that was looked at, and of the whole chain
 abbrev pub IsTakeError : Image → ℕ → ℕ → ChainError → Type 0

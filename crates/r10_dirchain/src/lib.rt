@@ -5,11 +5,16 @@
 mod chain;
 mod check;
 mod formatting;
+mod laws;
 mod put;
 mod read;
 mod steps;
 
 pub use chain::{ChainBlock, Directory, Listed};
 pub use formatting::{FormatError, format};
+pub use laws::{file_lists, one_directory, usable_directories};
 pub use read::{ChainError, read_chain};
 pub use steps::AddError;
+
+#[cfg(test)]
+mod tests;

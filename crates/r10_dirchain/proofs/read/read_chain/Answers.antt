@@ -2,16 +2,18 @@ use Rattle.std.proofs.Common.{◌≡◌, ℕ, map, ◌+◌, ◌++◌, ◌∷◌,
 use Rattle.r10_medium.specs.Disk.{Image}
 use Rattle.r10_medium.proofs.Stops.{unchanged_twice}
 use Rattle.r10_dirchain.specs.declared.chain.ChainBlock.{ChainBlock}
+use Rattle.r10_dirchain.specs.declared.read.ChainError.TheVariants.{BadDirectory}
 use Rattle.r10_dirchain.specs.Chain.{link, Holds, IsDirectory, blank_block}
 use Rattle.std.specs.List.{All}
-use Rattle.r10_dirchain.specs.Bad.{IsTaken, IsTakeError, Leads}
-use Rattle.r10_dirchain.proofs.Links.{AreApart, bad_of, bad_at_end, holds_more, apart_more, goes_on, ends_here}
+use Rattle.r10_dirchain.specs.Bad.{IsTaken, IsTakeError, Leads, AreApart}
+use Rattle.r10_dirchain.proofs.Links.{bad_of, bad_at_end, holds_more, apart_more, goes_on, ends_here}
+use Rattle.r10_dirchain.proofs.Unique.{one_directory, no_fault}
 use Rattle.r10_dirchain.proofs.read.read_chain.Goals as goal
 
 pub returns-in-Err-clause-bad : goal.returns-in-Err-clause-bad
 returns-in-Err-clause-bad g c =
     let image = (g.M.BlockMedium.disk c.args.medium.now).blocks in
-    bad_of image c.loop.chain.items c.loop.back c.loop.number c.loop.invariant.holds c.loop.invariant.leads c.in-Err.error
+    bad_of image c.loop.chain.items c.loop.back c.loop.number c.loop.invariant.holds c.loop.invariant.leads c.loop.invariant.apart c.in-Err.error
     (subst (λ (i : Image). IsTakeError i c.loop.back c.loop.number c.in-Err.error) c.loop.invariant.same.reads c.in-Err.ensures.bad)
 
 pub returns-then-next-number-clause-read : goal.returns-then-next-number-clause-read
@@ -45,3 +47,25 @@ pub returns-clause-bad : goal.returns-clause-bad
 returns-clause-bad g c =
     bad_at_end (g.M.BlockMedium.disk c.args.medium.now).blocks c.loop.chain.items c.loop.back c.loop.number c.loop.invariant.holds c.loop.invariant.leads blank_block c.loop.invariant.apart
     (omega (arith, c.loop.invariant.size, c.loop-test.false, c.loop.auto.counter-end, c.blocks-end.ensures))
+
+pub returns-in-Err-clause-only : goal.returns-in-Err-clause-only
+returns-in-Err-clause-only g c =
+    let image = (g.M.BlockMedium.disk c.args.medium.now).blocks in
+    no_fault image c.in-Err.error
+    (bad_of image c.loop.chain.items c.loop.back c.loop.number c.loop.invariant.holds c.loop.invariant.leads c.loop.invariant.apart c.in-Err.error
+    (subst (λ (i : Image). IsTakeError i c.loop.back c.loop.number c.in-Err.error) c.loop.invariant.same.reads c.in-Err.ensures.bad))
+
+pub returns-then-next-number-clause-only : goal.returns-then-next-number-clause-only
+returns-then-next-number-clause-only g c = λ chain is.
+    let image = (g.M.BlockMedium.disk c.args.medium.now).blocks in
+    let taken : IsTaken image c.loop.back c.loop.number c.in-Ok.block =
+    subst (λ (i : Image). IsTaken i c.loop.back c.loop.number c.in-Ok.block) c.loop.invariant.same.reads c.in-Ok.ensures.taken in
+    let pushed : c.push.new.self.items ≡ c.loop.chain.items ++ (record { number = c.loop.number; block = c.in-Ok.block }) ∷ [] = search rules in
+    pushed ∙ one_directory image (c.loop.chain.items ++ (record { number = c.loop.number; block = c.in-Ok.block }) ∷ []) chain
+    (ends_here image c.loop.chain.items c.loop.back c.loop.number c.loop.invariant.holds c.loop.invariant.leads c.in-Ok.block taken c.if-next-number.true) is
+
+pub returns-clause-only : goal.returns-clause-only
+returns-clause-only g c =
+    no_fault (g.M.BlockMedium.disk c.args.medium.now).blocks (BadDirectory c.loop.number)
+    (bad_at_end (g.M.BlockMedium.disk c.args.medium.now).blocks c.loop.chain.items c.loop.back c.loop.number c.loop.invariant.holds c.loop.invariant.leads blank_block c.loop.invariant.apart
+    (omega (arith, c.loop.invariant.size, c.loop-test.false, c.loop.auto.counter-end, c.blocks-end.ensures)))

@@ -2,8 +2,7 @@ use Rattle.std.proofs.Common.{◌≡◌, ◌≤◌, map, length}
 use Rattle.std.specs.List.{All}
 use Rattle.r10_medium.specs.Disk.{Unchanged}
 use Rattle.r10_dirchain.specs.Chain.{link, Holds}
-use Rattle.r10_dirchain.specs.Bad.{Leads}
-use Rattle.r10_dirchain.proofs.Links.{AreApart}
+use Rattle.r10_dirchain.specs.Bad.{Leads, AreApart}
 use Rattle.r10_dirchain.proofs.read.read_chain.Given as goal
 
 abbrev pub invariant-loop : goal.invariant-loop

@@ -1,6 +1,6 @@
 use Rattle.std.proofs.Common.{◌≡◌, ap, ◌∙◌}
 use Rattle.r10_dirchain.specs.Steps.{next_block}
-use Rattle.r10_dirchain.proofs.Laws.{leading_to}
+use Rattle.r10_dirchain.proofs.Directories.{leading_to}
 use Rattle.r10_dirchain.proofs.Turning.{extended_by}
 use Rattle.r10_dirchain.proofs.chain.Directory.add_block.Goals as goal
 

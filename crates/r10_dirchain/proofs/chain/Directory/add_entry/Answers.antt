@@ -1,4 +1,4 @@
-use Rattle.r10_dirchain.proofs.Laws.{rooms_more}
+use Rattle.r10_dirchain.proofs.Directories.{rooms_more}
 use Rattle.r10_dirchain.proofs.chain.Directory.add_entry.Goals as goal
 
 pub rewrite-requires-clause-rooms : goal.rewrite-requires-clause-rooms

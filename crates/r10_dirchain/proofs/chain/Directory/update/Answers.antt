@@ -1,4 +1,4 @@
-use Rattle.r10_dirchain.proofs.Laws.{rooms_last}
+use Rattle.r10_dirchain.proofs.Directories.{rooms_last}
 use Rattle.r10_dirchain.proofs.chain.Directory.update.Goals as goal
 
 pub rewrite-requires-clause-rooms : goal.rewrite-requires-clause-rooms

@@ -1,0 +1,5 @@
+use Rattle.r10_dirchain.proofs.Usable.{has_next}
+use Rattle.r10_dirchain.proofs.laws.usable_directories.Goals as goal
+
+pub returns : goal.returns
+returns c = record { has_next = has_next }
