@@ -12,7 +12,7 @@ use Rattle.r10_dirblock.specs.Block.{read_block, has_room, HasRooms, IsBlock}
 use Rattle.r10_dirblock.proofs.Found.{only}
 use Rattle.r10_dirchain.specs.declared.chain.ChainBlock.{ChainBlock}
 use Rattle.r10_dirchain.specs.Chain.{Link, link, Linked, Holds, IsDirectory, blank_block, at}
-use Rattle.r10_dirchain.specs.Stands.{SameButIn, Put, PutTwo, Turned}
+use Rattle.r10_dirchain.specs.OnMedium.{SameButIn, Put, PutTwo, Turned}
 use Rattle.r10_dirchain.specs.Steps.{last_place, last_block}
 
 same_ok : (x y : DirBlock) (r : Result DirBlock DirFault) → r ≡ Ok x → r ≡ Ok y → x ≡ y

@@ -29,10 +29,10 @@ pub files-with_shutdown : (shutdown : ℕ) (chain : List ChainBlock) → files (
 files-with_shutdown shutdown [] = refl
 files-with_shutdown shutdown (x ∷ chain) = refl
 
-files-filled : (entry : Entry) (chain : List ChainBlock) → 0 < length chain → files (filled entry chain) ≡ files chain ++ entry ∷ []
+pub files-filled : (entry : Entry) (chain : List ChainBlock) → 0 < length chain → files (filled entry chain) ≡ files chain ++ entry ∷ []
 files-filled entry chain some = files-set_more chain (last_place chain) _ entry (omega (arith, some)) refl
 
-files-extended : (entry : Entry) (chain : List ChainBlock) → 0 < length chain → files (extended entry chain) ≡ files chain ++ entry ∷ []
+pub files-extended : (entry : Entry) (chain : List ChainBlock) → 0 < length chain → files (extended entry chain) ≡ files chain ++ entry ∷ []
 files-extended entry chain some =
     let linking : ChainBlock = record { number = (last_block chain).number; block = record (last_block chain).block { forward = next_number chain } } in
     flat_map-append (λ (b : ChainBlock). b.block.entries) (set chain (last_place chain) linking) (next_block entry chain ∷ [])

@@ -6,3 +6,6 @@ pub mod Rules
 pub mod FileLists
 pub mod Usable
 pub mod Unique
+pub mod KeptEntries
+pub mod Standing
+pub mod Staying

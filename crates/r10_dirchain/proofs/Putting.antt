@@ -5,7 +5,7 @@ use Rattle.r10_medium.specs.Disk.{Disk, Image, MayLeave}
 use Rattle.r10_medium.specs.Stop.{Settled, Leaves, ComesBy, Moves, SameBut}
 use Rattle.r10_medium.proofs.Stops.{joined, weakened, settled_now}
 use Rattle.r10_dirchain.specs.declared.chain.ChainBlock.{ChainBlock}
-use Rattle.r10_dirchain.specs.Stands.{Put, PutTwo}
+use Rattle.r10_dirchain.specs.OnMedium.{Put, PutTwo}
 use Rattle.r10_dirchain.proofs.Directories.{still_holds}
 use Rattle.r10_dirchain.proofs.Turning.{on_ok}
 

@@ -7,7 +7,7 @@ use Rattle.r10_medium.specs.Stop.{Settled, Leaves, ComesBy, SameBut}
 use Rattle.r10_medium.proofs.Stops.{weakened}
 use Rattle.r10_dirchain.specs.declared.chain.ChainBlock.{ChainBlock}
 use Rattle.r10_dirchain.specs.Chain.{IsDirectory, at}
-use Rattle.r10_dirchain.specs.Stands.{SameButIn, Put, PutTwo, Turned, Turns, HasNext}
+use Rattle.r10_dirchain.specs.OnMedium.{SameButIn, Put, PutTwo, Turned, Turns, HasNext}
 use Rattle.r10_dirblock.specs.declared.entry.Entry.{Entry}
 use Rattle.r10_dirblock.specs.declared.block.DirBlock.{DirBlock}
 use Rattle.r10_dirchain.specs.Steps.{formatted, replaced, emptied, with_shutdown, extended, last_place, last_block, next_number, next_block, last_is_full, filled, added, spare}

@@ -5,7 +5,7 @@ use Rattle.r10_count.specs.Checks.{first_broken}
 use Rattle.r10_medium.specs.Disk.{Image}
 use Rattle.r10_dirchain.specs.declared.chain.ChainBlock.{ChainBlock}
 use Rattle.r10_dirchain.specs.Chain.{at}
-use Rattle.r10_dirchain.specs.Stands.{HasNext}
+use Rattle.r10_dirchain.specs.OnMedium.{HasNext}
 use Rattle.r10_dirchain.specs.Mount.{listed, place_rules, full_rules, stand_rules, closed_rules, mount_rules}
 
 -- the first rule of those that hold, and the others

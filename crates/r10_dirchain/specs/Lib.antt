@@ -1,7 +1,7 @@
 pub mod Chain
 pub mod Bad
 pub mod Steps
-pub mod Stands
+pub mod OnMedium
 pub mod Mount
 pub mod Checked
 pub mod Names

@@ -1,6 +1,6 @@
 -- What a recorder needs of a directory to take it into use, in order, and the block at fault where it isn't so.
 use Rattle.std.specs.Prelude.{ℕ, ◌+◌, ◌-◌, ◌/◌, Bool, ◌&&◌, List, [], ◌∷◌, ◌++◌, length, map, take, nat_lt, nat_le, ◌==◌}
-use Rattle.std.specs.List.{flat_map}
+use Rattle.std.specs.List.{flat_map, sum_by}
 use Rattle.r10_dirblock.specs.Block.{is_closed}
 use Rattle.r10_dirblock.specs.declared.entry.Entry.{Entry}
 use Rattle.r10_dirchain.specs.declared.chain.ChainBlock.{ChainBlock}
@@ -32,6 +32,10 @@ stands blocks n e = e.first_block == n && nat_lt 0 e.size && e.block_count == (e
 abbrev pub stand_rules : ℕ → ℕ → List Listed → List (Bool × ℕ)
 stand_rules blocks n [] = []
 stand_rules blocks n (f ∷ files) = (stands blocks n f.entry, f.number) ∷ stand_rules blocks (n + f.entry.block_count) files
+
+-- the blocks of files that stand back to back
+abbrev pub blocks_in : List Entry → ℕ
+blocks_in entries = sum_by (λ (e : Entry). e.block_count) entries
 
 -- 4. every file but the last is closed
 abbrev pub closed_rule : Listed → Bool × ℕ

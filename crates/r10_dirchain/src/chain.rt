@@ -41,7 +41,7 @@ impl Directory {
     pub fn blocks(&self) -> &[ChainBlock]
         ensures { result.now ≡ self.now }
     {
-        &self.chain
+        self.chain.as_slice()
     }
 
     /// The entries of all files, in order.

@@ -6,7 +6,7 @@ ghost use Rattle.r10_medium.specs.Disk.{MayLeave, Rose};
 ghost use Rattle.r10_medium.specs.Stop.{Settled, Leaves};
 ghost use Rattle.r10_dirchain.specs.Mount.{mount_rules};
 ghost use Rattle.r10_dirchain.specs.Names.{is_name_byte, is_volume};
-ghost use Rattle.r10_dirchain.specs.Stands.{Turned};
+ghost use Rattle.r10_dirchain.specs.OnMedium.{Turned};
 ghost use Rattle.r10_dirchain.specs.Steps.{formatted};
 
 use crate::ChainBlock;

@@ -12,7 +12,7 @@ mod steps;
 
 pub use chain::{ChainBlock, Directory, Listed};
 pub use formatting::{FormatError, format};
-pub use laws::{file_lists, one_directory, usable_directories};
+pub use laws::{file_lists, kept_entries, one_directory, usable_directories};
 pub use read::{ChainError, read_chain};
 pub use steps::AddError;
 

@@ -3,7 +3,7 @@ ghost use Rattle.std.specs.Prelude.{◌≡◌, ◌≢◌, ◌⊎◌, ◌<◌, le
 ghost use Rattle.r10_medium.specs.Disk.{MayLeave, Counts};
 ghost use Rattle.r10_medium.specs.Stop.{Settled, Leaves, ComesBy, Moves, SameBut};
 ghost use Rattle.r10_dirblock.specs.Block.{HasRooms};
-ghost use Rattle.r10_dirchain.specs.Stands.{Put, PutTwo};
+ghost use Rattle.r10_dirchain.specs.OnMedium.{Put, PutTwo};
 
 use crate::ChainBlock;
 use r10_dirblock::encode;

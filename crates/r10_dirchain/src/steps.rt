@@ -5,7 +5,7 @@ ghost use Rattle.r10_medium.specs.Stop.{Settled, Leaves};
 ghost use Rattle.r10_dirblock.specs.Block.{HasRooms, has_room};
 ghost use Rattle.r10_dirchain.specs.declared.chain.ChainBlock.{ChainBlock};
 ghost use Rattle.r10_dirchain.specs.Chain.{IsDirectory, files, at};
-ghost use Rattle.r10_dirchain.specs.Stands.{HasNext, Turns};
+ghost use Rattle.r10_dirchain.specs.OnMedium.{HasNext, Turns};
 ghost use Rattle.r10_dirchain.specs.Steps.{added, emptied, extended, filled, last_block, last_is_full, last_listing, last_place, lists_none, next_block, next_number, replaced, spare, updated, with_shutdown};
 
 use crate::put::{put_block, put_linked};

@@ -1,5 +1,5 @@
 ghost use Rattle.r10_dirchain.specs.Chain.{IsDirectory};
-ghost use Rattle.r10_dirchain.specs.Stands.{HasNext};
+ghost use Rattle.r10_dirchain.specs.OnMedium.{HasNext};
 
 use crate::{
     AddError, ChainError, Directory, FormatError, file_lists, format, read_chain,
