@@ -97,6 +97,8 @@ impl Directory {
         ensures done { OnOk result (self.new ≡ added entry self.old) }
         ensures kept { OnErr result (self.new ≡ self.old) }
         ensures turns { Turns self.old (added entry self.old) (spare self.old) ((last_block self.old).number ∷ spare self.old) (M.disk medium.old) (M.disk medium.new) result }
+        // Memory is asked for a new block alone.
+        ensures memory { IsErrOf result AddError.OutOfMemory → last_is_full self.old ≡ true }
         ensures untouched { IsErrOf result AddError.OutOfMemory → medium.new ≡ medium.old }
         ensures no_fewer { (M.disk medium.old).failures ≤ (M.disk medium.new).failures }
         ensures cause { IsErrOf result AddError.Medium → Rose (M.disk medium.old).failures (M.disk medium.new).failures }
