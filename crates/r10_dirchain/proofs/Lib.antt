@@ -1,0 +1,11 @@
+pub mod Directories
+pub mod Turning
+pub mod Putting
+pub mod Links
+pub mod Rules
+pub mod FileLists
+pub mod Usable
+pub mod Unique
+pub mod KeptEntries
+pub mod Standing
+pub mod Staying

@@ -1,0 +1,11 @@
+use Rattle.std.proofs.Common.{◌≡◌, ℕ, length, None, subst, arith}
+use Rattle.r10_count.specs.Checks.{first_broken}
+use Rattle.r10_dirchain.specs.Mount.{mount_rules}
+use Rattle.r10_dirchain.proofs.Usable.{has_next}
+use Rattle.r10_dirchain.proofs.tests.take.Goals as goal
+
+pub add-requires-clause-next : goal.add-requires-clause-next
+add-requires-clause-next g c =
+    let blocks = (g.M.BlockMedium.disk c.read_chain.new.medium).blocks in
+    has_next 2 blocks c.in-Ok.directory (subst (λ (n : ℕ). first_broken (mount_rules 2 n c.in-Ok.directory) ≡ None) c.blocks-blocks.ensures c.in-Ok-check.ensures.usable)
+    (omega (arith, c.if-blocks-lt4.false, c.blocks-blocks.ensures))

@@ -1,0 +1,8 @@
+pub mod Chain
+pub mod Bad
+pub mod Steps
+pub mod OnMedium
+pub mod Mount
+pub mod Checked
+pub mod Names
+pub mod Vectors

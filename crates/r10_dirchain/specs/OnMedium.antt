@@ -1,0 +1,44 @@
+-- What a step of the directory does to the medium, and what a stop leaves of it.
+use Rattle.std.specs.Prelude.{◌≡◌, ◌≢◌, ◌⊎◌, ℕ, ◌+◌, ◌<◌, List, [], ◌∷◌, length, Result, OnOk}
+use Rattle.std.specs.List.{All}
+use Rattle.r10_medium.specs.Disk.{Disk, Image, block_at}
+use Rattle.r10_medium.specs.Stop.{Settled, Leaves, ComesBy, SameBut}
+use Rattle.r10_dirchain.specs.declared.chain.ChainBlock.{ChainBlock}
+use Rattle.r10_dirchain.specs.Chain.{IsDirectory, Holds, at}
+
+-- the same but in blocks of these numbers
+pub record SameButIn (numbers : List ℕ) (old new : Image) : Type 0 where
+  pub size : length new ≡ length old
+  pub others : (k : ℕ) → All (λ n. k ≢ n) numbers → block_at new k ≡ block_at old k
+
+-- this directory block was put at its number, and nothing else was changed
+pub record Put (old : Image) (b : ChainBlock) (new : Image) : Type 0 where
+  pub others : SameBut b.number old new
+  pub holds : Holds new b
+
+-- these two blocks were put at their numbers, and nothing else was changed
+pub record PutTwo (old : Image) (next linking : ChainBlock) (new : Image) : Type 0 where
+  pub others : SameButIn (linking.number ∷ next.number ∷ []) old new
+  pub next_holds : Holds new next
+  pub linking_holds : Holds new linking
+
+-- the directory is this chain now, and only blocks of these numbers are others
+pub record Turned (chain : List ChainBlock) (numbers : List ℕ) (old new : Image) : Type 0 where
+  pub directory : IsDirectory new chain
+  pub others : SameButIn numbers old new
+
+-- A step from one chain to another, which may write some blocks that nothing links to, and then changes the directory at once.
+pub record Turns {T E : Type 0} (chain made : List ChainBlock) (unlinked changed : List ℕ) (old new : Disk) (result : Result T E) : Type 0 where
+  -- a stop at any moment leaves what it could leave before, but in those blocks, or what was read with the new directory
+  pub moments : Leaves (λ image. ComesBy (SameButIn unlinked) old image ⊎ Turned made changed old.blocks image) old new
+  -- so where a stop could leave the old directory alone, it leaves the old or the new one
+  pub either : Settled (λ image. IsDirectory image chain) old → Leaves (λ image. IsDirectory image chain ⊎ IsDirectory image made) old new
+  -- what is read has the old directory or the new one
+  pub reads : Turned chain unlinked old.blocks new.blocks ⊎ Turned made changed old.blocks new.blocks
+  -- after an Ok a stop leaves what was read with the new directory
+  pub settled : OnOk result (Settled (Turned made changed old.blocks) new)
+
+-- the directory's blocks are those from 1 on, and the next one is in the medium
+pub record HasNext (image : Image) (chain : List ChainBlock) : Type 0 where
+  pub in_order : (i : ℕ) → i < length chain → (at chain i).number ≡ i + 1
+  pub within : length chain + 1 < length image

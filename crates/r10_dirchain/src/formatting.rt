@@ -1,0 +1,90 @@
+// Formatting a medium.
+ghost use Rattle.std.specs.Prelude.{◌≡◌, ◌⊎◌, ◌≤◌, ◌+◌, ◌↔◌, [], ◌∷◌, None, false, length, OnOk, IsErrOf};
+ghost use Rattle.std.specs.List.{list_all};
+ghost use Rattle.r10_count.specs.Checks.{first_broken};
+ghost use Rattle.r10_medium.specs.Disk.{MayLeave, Rose};
+ghost use Rattle.r10_medium.specs.Stop.{Settled, Leaves};
+ghost use Rattle.r10_dirchain.specs.Mount.{mount_rules};
+ghost use Rattle.r10_dirchain.specs.Names.{is_name_byte, is_volume};
+ghost use Rattle.r10_dirchain.specs.OnMedium.{Turned};
+ghost use Rattle.r10_dirchain.specs.Steps.{formatted};
+
+use crate::ChainBlock;
+use crate::put::put_block;
+use r10_dirblock::{DirBlock, Entries, pad};
+use r10_medium::BlockMedium;
+
+/// Why a medium was not formatted.
+#[derive(Clone, Copy, Debug, PartialEq, Eq, Drop)]
+pub enum FormatError {
+    /// The volume's name is not 1 to 32 letters, digits, `.`, `_` or `-`.
+    BadName,
+    /// A call of the medium failed.
+    Medium,
+}
+
+/// Writes the directory of a medium without files, for so many reserved directory blocks from block
+/// 1 on: block 1 alone, properly dismounted (IRIG 106-17, chapter 10). It is sure at `Ok`.
+pub fn format<M: BlockMedium>(
+    medium: &mut M,
+    directory: usize,
+    volume: &[u8],
+) -> Result<(), FormatError>
+    requires some { 1 ≤ directory }
+    requires reserved { directory ≤ 64 }
+    requires room { directory + 2 ≤ length (M.disk medium.old).blocks }
+    requires blocks { length (M.disk medium.old).blocks ≤ 16_777_216 }
+
+    ensures settled { OnOk result (Settled (Turned (formatted volume.now) (1 ∷ []) (M.disk medium.old).blocks) (M.disk medium.new)) }
+    // A recorder with these reserved blocks can take it into use.
+    ensures usable { first_broken (mount_rules directory (length (M.disk medium.old).blocks) (formatted volume.now)) ≡ None }
+    ensures moments { Leaves (λ image. MayLeave (M.disk medium.old) image ⊎ Turned (formatted volume.now) (1 ∷ []) (M.disk medium.old).blocks image)
+        (M.disk medium.old) (M.disk medium.new) }
+
+    ensures named { IsErrOf result FormatError.BadName ↔ (is_volume volume.now ≡ false) }
+    ensures untouched { IsErrOf result FormatError.BadName → medium.new ≡ medium.old }
+    ensures no_fewer { (M.disk medium.old).failures ≤ (M.disk medium.new).failures }
+    ensures cause { IsErrOf result FormatError.Medium → Rose (M.disk medium.old).failures (M.disk medium.new).failures }
+{
+    if !is_volume(volume) {
+        return Err(FormatError::BadName);
+    }
+    match put_block(medium, &empty_directory(volume)) {
+        Ok(()) => Ok(()),
+        Err(_) => Err(FormatError::Medium),
+    }
+}
+
+fn empty_directory(volume: &[u8]) -> ChainBlock
+    requires { length volume.now ≤ 32 }
+    ensures { result ∷ [] ≡ formatted volume.now }
+{
+    ChainBlock {
+        number: 1,
+        block: DirBlock {
+            shutdown: 0xFF,
+            volume: pad(volume),
+            forward: 1,
+            reverse: 1,
+            entries: Entries::new(),
+        },
+    }
+}
+
+fn is_volume(name: &[u8]) -> bool
+    ensures { result ≡ is_volume name.now }
+{
+    1 <= name.len() && name.len() <= 32 && has_name_bytes(name)
+}
+
+fn has_name_bytes(name: &[u8]) -> bool
+    ensures { result ≡ list_all is_name_byte name.now }
+{
+    name.iter().all(|byte| is_name_byte(*byte))
+}
+
+fn is_name_byte(byte: u8) -> bool
+    ensures { result ≡ is_name_byte byte }
+{
+    matches!(byte, b'0'..=b'9' | b'A'..=b'Z' | b'a'..=b'z' | b'.' | b'_' | b'-')
+}

@@ -1,0 +1,20 @@
+//! The directory on a medium: each call changes the list of files by its one step, and a stop at
+//! any moment leaves the list from before or the one that the call makes.
+#![tactic(auto)]
+
+mod chain;
+mod check;
+mod formatting;
+mod laws;
+mod put;
+mod read;
+mod steps;
+
+pub use chain::{ChainBlock, Directory, Listed};
+pub use formatting::{FormatError, format};
+pub use laws::{file_lists, kept_entries, one_directory, usable_directories};
+pub use read::{ChainError, read_chain};
+pub use steps::AddError;
+
+#[cfg(test)]
+mod tests;

@@ -1,0 +1,256 @@
+// The steps of the directory. Each changes one block that the chain has.
+ghost use Rattle.std.specs.Prelude.{◌≡◌, ◌⊎◌, ◌≤◌, ◌<◌, ◌+◌, ◌-◌, [], ◌∷◌, List, length, true, false, IsTrue, ◌↔◌, OnOk, OnErr, IsErrOf};
+ghost use Rattle.r10_medium.specs.Disk.{Counts, Rose};
+ghost use Rattle.r10_medium.specs.Stop.{Settled, Leaves};
+ghost use Rattle.r10_dirblock.specs.Block.{HasRooms, has_room};
+ghost use Rattle.r10_dirchain.specs.declared.chain.ChainBlock.{ChainBlock};
+ghost use Rattle.r10_dirchain.specs.Chain.{IsDirectory, files, at};
+ghost use Rattle.r10_dirchain.specs.OnMedium.{HasNext, Turns};
+ghost use Rattle.r10_dirchain.specs.Steps.{added, emptied, extended, filled, last_block, last_is_full, last_listing, last_place, lists_none, next_block, next_number, replaced, spare, updated, with_shutdown};
+
+use crate::put::{put_block, put_linked};
+use crate::{ChainBlock, Directory};
+use r10_dirblock::{DirBlock, Entries, Entry};
+use r10_medium::{BlockMedium, MediumFault};
+
+/// Why a file was not added.
+#[derive(Clone, Copy, Debug, PartialEq, Eq, Drop)]
+pub enum AddError {
+    /// A call of the medium failed.
+    Medium,
+    /// The memory for a block was refused.
+    OutOfMemory,
+}
+
+impl Directory {
+    /// Writes the shutdown byte: 0xFF for properly dismounted, 0x00 for not. This makes sure what is
+    /// read, also where a stop could have left either of two directories.
+    pub fn set_shutdown<M: BlockMedium>(
+        &mut self,
+        medium: &mut M,
+        shutdown: u8,
+    ) -> Result<(), MediumFault>
+        requires { IsDirectory (M.disk medium.old).blocks self.old }
+        ensures done { OnOk result (self.new ≡ with_shutdown shutdown self.old) }
+        ensures kept { OnErr result (self.new ≡ self.old) }
+        ensures turns { Turns self.old (with_shutdown shutdown self.old) [] ((at self.old 0).number ∷ []) (M.disk medium.old) (M.disk medium.new) result }
+        // After a failed call a stop may leave either of two directories: it leaves one of them, or the new one.
+        ensures either { (one other : List ChainBlock) → Settled (λ image. IsDirectory image one ⊎ IsDirectory image other) (M.disk medium.old)
+            → Leaves (λ image. (IsDirectory image one ⊎ IsDirectory image other) ⊎ IsDirectory image (with_shutdown shutdown self.old)) (M.disk medium.old) (M.disk medium.new) }
+        ensures counts { Counts (M.disk medium.old) (M.disk medium.new) result }
+    {
+        let mut block = self.block(0);
+        block.shutdown = shutdown;
+        self.rewrite(medium, 0, block)
+    }
+
+    /// Lists no files: writes block 1 once, without entries and with a forward link to itself.
+    pub fn erase<M: BlockMedium>(&mut self, medium: &mut M) -> Result<(), MediumFault>
+        requires { IsDirectory (M.disk medium.old).blocks self.old }
+        ensures done { OnOk result (self.new ≡ emptied self.old) }
+        ensures kept { OnErr result (self.new ≡ self.old) }
+        ensures turns { Turns self.old (emptied self.old) [] (1 ∷ []) (M.disk medium.old) (M.disk medium.new) result }
+        ensures counts { Counts (M.disk medium.old) (M.disk medium.new) result }
+    {
+        let mut block = self.block(0);
+        block.forward = 1;
+        block.reverse = 1;
+        block.entries = Entries::new();
+        let first = ChainBlock { number: 1, block };
+        if let Err(fault) = put_block(medium, &first) {
+            return Err(fault);
+        }
+        self.chain.truncate(1);
+        self.chain[0] = first;
+        Ok(())
+    }
+
+    /// Writes the last file's entry again.
+    pub fn update<M: BlockMedium>(
+        &mut self,
+        medium: &mut M,
+        entry: Entry,
+    ) -> Result<(), MediumFault>
+        requires stands { IsDirectory (M.disk medium.old).blocks self.old }
+        requires some { 0 < length (files self.old) }
+        requires room { has_room entry ≡ true }
+        ensures done { OnOk result (self.new ≡ updated entry self.old) }
+        ensures kept { OnErr result (self.new ≡ self.old) }
+        ensures turns { Turns self.old (updated entry self.old) [] ((at self.old (last_listing self.old)).number ∷ []) (M.disk medium.old) (M.disk medium.new) result }
+        ensures counts { Counts (M.disk medium.old) (M.disk medium.new) result }
+    {
+        let i = self.last_listing();
+        let mut block = self.block(i);
+        block.entries.pop();
+        block.entries.push(entry);
+        self.rewrite(medium, i, block)
+    }
+
+    /// Lists one file more: in the last block, or in a new block where that is full. A new block is
+    /// written and made sure before the block that links to it.
+    ///
+    /// Memory is asked for before the medium is touched.
+    pub fn add<M: BlockMedium>(&mut self, medium: &mut M, entry: Entry) -> Result<(), AddError>
+        requires stands { IsDirectory (M.disk medium.old).blocks self.old }
+        requires next { HasNext (M.disk medium.old).blocks self.old }
+        requires room { has_room entry ≡ true }
+        ensures done { OnOk result (self.new ≡ added entry self.old) }
+        ensures kept { OnErr result (self.new ≡ self.old) }
+        ensures turns { Turns self.old (added entry self.old) (spare self.old) ((last_block self.old).number ∷ spare self.old) (M.disk medium.old) (M.disk medium.new) result }
+        // Memory is asked for a new block alone.
+        ensures memory { IsErrOf result AddError.OutOfMemory → last_is_full self.old ≡ true }
+        ensures untouched { IsErrOf result AddError.OutOfMemory → medium.new ≡ medium.old }
+        ensures no_fewer { (M.disk medium.old).failures ≤ (M.disk medium.new).failures }
+        ensures cause { IsErrOf result AddError.Medium → Rose (M.disk medium.old).failures (M.disk medium.new).failures }
+    {
+        if self.last_is_full() {
+            return self.add_block(medium, entry);
+        }
+        match self.add_entry(medium, entry) {
+            Ok(()) => Ok(()),
+            Err(_) => Err(AddError::Medium),
+        }
+    }
+
+    // Writes a new last entry into the last block.
+    fn add_entry<M: BlockMedium>(&mut self, medium: &mut M, entry: Entry) -> Result<(), MediumFault>
+        requires stands { IsDirectory (M.disk medium.old).blocks self.old }
+        requires place { last_is_full self.old ≡ false }
+        requires room { has_room entry ≡ true }
+        ensures done { OnOk result (self.new ≡ filled entry self.old) }
+        ensures kept { OnErr result (self.new ≡ self.old) }
+        ensures turns { Turns self.old (filled entry self.old) [] ((last_block self.old).number ∷ []) (M.disk medium.old) (M.disk medium.new) result }
+        ensures counts { Counts (M.disk medium.old) (M.disk medium.new) result }
+    {
+        let last = self.last();
+        let mut block = self.block(last);
+        block.entries.push(entry);
+        self.rewrite(medium, last, block)
+    }
+
+    // Writes a new last block, and then the block that links to it.
+    fn add_block<M: BlockMedium>(&mut self, medium: &mut M, entry: Entry) -> Result<(), AddError>
+        requires stands { IsDirectory (M.disk medium.old).blocks self.old }
+        requires next { HasNext (M.disk medium.old).blocks self.old }
+        requires room { has_room entry ≡ true }
+        ensures done { OnOk result (self.new ≡ extended entry self.old) }
+        ensures kept { OnErr result (self.new ≡ self.old) }
+        ensures turns { Turns self.old (extended entry self.old) (next_number self.old ∷ []) ((last_block self.old).number ∷ next_number self.old ∷ []) (M.disk medium.old) (M.disk medium.new) result }
+        ensures untouched { IsErrOf result AddError.OutOfMemory → medium.new ≡ medium.old }
+        ensures no_fewer { (M.disk medium.old).failures ≤ (M.disk medium.new).failures }
+        ensures cause { IsErrOf result AddError.Medium → Rose (M.disk medium.old).failures (M.disk medium.new).failures }
+    {
+        if self.chain.reserve(1).is_err() {
+            return Err(AddError::OutOfMemory);
+        }
+        let next = self.next_block(entry);
+        let linking = self.linking(next.number);
+        if let Err(_fault) = put_linked(medium, &next, &linking) {
+            return Err(AddError::Medium);
+        }
+        let last = self.chain.len() - 1;
+        self.chain[last] = linking;
+        self.chain.push_reserved(next);
+        Ok(())
+    }
+
+    // The last block with a forward link to this block.
+    fn linking(&self, number: u64) -> ChainBlock
+        requires { 0 < length self.now }
+        ensures { result ≡ record (last_block self.now) { block = record (last_block self.now).block { forward = number } } }
+    {
+        let last = self.last();
+        let mut block = self.block(last);
+        block.forward = number;
+        ChainBlock {
+            number: self.number(last),
+            block,
+        }
+    }
+
+    // A block behind the last one, which lists one file.
+    fn next_block(&self, entry: Entry) -> ChainBlock
+        requires { 0 < length self.now }
+        ensures { result ≡ next_block entry self.now }
+    {
+        let last = self.last();
+        let number = self.chain.len() as u64 + 1;
+        let mut entries = Entries::new();
+        entries.push(entry);
+        ChainBlock {
+            number,
+            block: DirBlock {
+                shutdown: 0xFF,
+                volume: self.chain[last].block.volume,
+                forward: number,
+                reverse: self.number(last),
+                entries,
+            },
+        }
+    }
+
+    // Whether the last block has no place for one entry more.
+    fn last_is_full(&self) -> bool
+        requires { 0 < length self.now }
+        ensures { result ≡ last_is_full self.now }
+    {
+        self.chain[self.last()].block.entries.is_full()
+    }
+
+    // The place of the last block.
+    fn last(&self) -> usize
+        requires { 0 < length self.now }
+        ensures place { result ≡ last_place self.now }
+        ensures within { result < length self.now }
+    {
+        self.chain.len() - 1
+    }
+
+    // The place of the last block that lists a file.
+    fn last_listing(&self) -> usize
+        requires { 0 < length (files self.now) }
+        ensures within { result < length self.now }
+        ensures place { result ≡ last_listing self.now }
+        ensures lists { 0 < length (at self.now result).block.entries }
+    {
+        let mut end = self.chain.len();
+        while end > 0 && lists_none(&self.chain[end - 1]) {
+            end -= 1;
+        }
+        end - 1
+    }
+
+    // Writes block `i` of the chain with another content and the same links.
+    fn rewrite<M: BlockMedium>(
+        &mut self,
+        medium: &mut M,
+        i: usize,
+        block: DirBlock,
+    ) -> Result<(), MediumFault>
+        requires stands { IsDirectory (M.disk medium.old).blocks self.old }
+        requires within { i < length self.old }
+        requires forward { block.forward ≡ (at self.old i).block.forward }
+        requires back { block.reverse ≡ (at self.old i).block.reverse }
+        requires rooms { HasRooms block }
+        ensures done { OnOk result (self.new ≡ replaced self.old i block) }
+        ensures kept { OnErr result (self.new ≡ self.old) }
+        ensures turns { Turns self.old (replaced self.old i block) [] ((at self.old i).number ∷ []) (M.disk medium.old) (M.disk medium.new) result }
+        ensures counts { Counts (M.disk medium.old) (M.disk medium.new) result }
+    {
+        let link = ChainBlock {
+            number: self.number(i),
+            block,
+        };
+        if let Err(fault) = put_block(medium, &link) {
+            return Err(fault);
+        }
+        self.chain[i] = link;
+        Ok(())
+    }
+}
+
+fn lists_none(link: &ChainBlock) -> bool
+    ensures { result ≡ lists_none link.now }
+{
+    link.block.entries.len() == 0
+}
