@@ -1,0 +1,6 @@
+pub mod Lists
+pub mod Messages
+pub mod Holding
+pub mod Reading
+pub mod Closing
+pub mod Steps
