@@ -1,11 +1,11 @@
 -- Each rule of a file: a packet that keeps it and one that breaks it, behind the first recording's packets.
-use Rattle.std.specs.Prelude.{ℕ, true, false, [], ◌∷◌, refl}
+use Rattle.std.specs.Prelude.{ℕ, true, false, [], ◌∷◌, ◌++◌, refl}
 use Rattle.std.proofs.Common.{lit<, lit≤, arith, sym, ◌≤◌}
 use Rattle.r10_uart.specs.declared.entry.UartEntry.{UartEntry}
-use Rattle.r10_body.specs.Content.{uart}
+use Rattle.r10_body.specs.Content.{event, uart}
 use Rattle.r10_packet.specs.Header.{header_bytes}
 use Rattle.r10_body.specs.Packets.{Packet, packet_bytes, file_bytes}
-use Rattle.r10_body.specs.Rules.{KeepsChecksums, KeepsStart, KeepsChannels, KeepsSequence, KeepsCounts, KeepsCounters}
+use Rattle.r10_body.specs.Rules.{KeepsChecksums, KeepsStart, KeepsChannels, KeepsSequence, KeepsCounts, KeepsCounters, KeepsEvents}
 use Rattle.r10_body.specs.Faults.{IsAtFault, KeepsHeader, KeepsFiller, Reads, BreaksRule, first_packet, rule, no_time}
 use Rattle.r10_body.specs.Faults as faults
 use Rattle.r10_body.specs.Foreign.{IsForeignPacket}
@@ -20,9 +20,16 @@ text_at count = record { count = count; parity = false; sub = 0; bytes = [] }
 abbrev pub next_packet : ℕ → ℕ → ℕ → Packet
 next_packet sequence first last = record uart_packet { sequence = sequence; counter = first; content = uart (text_at first ∷ text_at last ∷ []) }
 
--- rule 3: no data checksum on a time packet
+-- an event on channel 2
+abbrev pub event_packet : ℕ → ℕ → ℕ → Packet
+event_packet sequence number occurrence = record { channel = 2; sequence = sequence; flagged = false; check = 0; counter = 1010; content = event (record { count = 1010; number = number; occurrence = occurrence }) }
+
+-- rule 3: no data checksum on a time packet or an event
 pub time-with-checksum : KeepsChecksums (record time_packet { check = 1 }) → ⊥
 time-with-checksum keeps = omega (arith, keeps refl)
+
+pub event-with-checksum : KeepsChecksums (record (event_packet 0 3 0) { check = 1 }) → ⊥
+event-with-checksum keeps = omega (arith, keeps refl)
 
 -- rule 4: one setup packet, and a time packet second
 pub second-setup : KeepsStart recording setup_packet → ⊥
@@ -46,6 +53,9 @@ another-type (place, one-type, flags) = omega (arith, (one-type (lit< tt)).1.0 r
 
 pub flagged-time : KeepsChannels (setup_packet ∷ []) (record time_packet { flagged = true }) → ⊥
 flagged-time (place, one-type, flags) = no (sym (flags refl))
+
+pub flagged-event : KeepsChannels recording (record (event_packet 0 3 0) { flagged = true }) → ⊥
+flagged-event (place, one-type, flags) = no (sym (flags refl))
 
 -- rule 6: sequence numbers
 pub numbered : KeepsSequence recording (next_packet 1 1010 1010)
@@ -71,6 +81,19 @@ other-counter ((first, end), rise, near) = omega (arith, first)
 pub setup-counter : KeepsCounters (record setup_packet { counter = 999 } ∷ []) time_packet → ⊥
 setup-counter first = omega (arith, (first refl).0)
 
+-- rule 10: how many events of its number came before
+pub first-event : KeepsEvents recording (event_packet 0 3 0)
+first-event = refl
+
+pub not-first-event : KeepsEvents recording (event_packet 0 3 1) → ⊥
+not-first-event keeps = omega (arith, keeps)
+
+pub second-event : KeepsEvents (recording ++ event_packet 0 3 0 ∷ []) (event_packet 1 3 1)
+second-event = refl
+
+pub other-event : KeepsEvents (recording ++ event_packet 0 3 0 ∷ []) (event_packet 1 4 0)
+other-event = refl
+
 -- a file that ends behind its setup packet
 pub no-time-at-all : IsAtFault (file_bytes (setup_packet ∷ [])) 32 (Rule 4)
 unfolding packet_bytes header_bytes
@@ -83,7 +106,7 @@ time-reads = (time-second.fits, time-second.checksums, refl)
 
 pub time-is : IsForeignPacket (first_packet (packet_bytes time_packet))
 unfolding packet_bytes header_bytes
-time-is = record { framed = refl; whole = refl; checked = λ _. refl; body = λ _. record { setup = λ e. absurd (omega (arith, e)); time = λ _. refl; uart = λ e. absurd (omega (arith, e)) } }
+time-is = record { framed = refl; whole = refl; checked = λ _. refl; body = λ _. record { setup = λ e. absurd (omega (arith, e)); event = λ e. absurd (omega (arith, e)); time = λ _. refl; bus = λ e. absurd (omega (arith, e)); discrete = λ e. absurd (omega (arith, e)); message = λ e. absurd (omega (arith, e)); arinc = λ e. absurd (omega (arith, e)); uart = λ e. absurd (omega (arith, e)) } }
 
 pub time-header : KeepsHeader (packet_bytes time_packet)
 unfolding packet_bytes header_bytes
@@ -102,6 +125,7 @@ least-four m (faults.channels p reads breaks) = lit≤ tt
 least-four m (faults.sequence p reads breaks) = lit≤ tt
 least-four m (faults.counts p reads breaks) = lit≤ tt
 least-four m (faults.counters p reads breaks) = lit≤ tt
+least-four m (faults.events p reads breaks) = lit≤ tt
 
 pub begins-with-time : IsAtFault (packet_bytes time_packet) 0 (Rule 4)
 begins-with-time = record { packets = []; rest = packet_bytes time_packet; bytes_are = refl; offset_is = refl; strict = tt; wrong = rule time-is (faults.start time_packet time-reads no-setup) least-four }

@@ -1,5 +1,6 @@
 mod Recording
 mod Cases
 pub mod Lone
+mod Discretes
 pub mod Sentence
 pub mod Says

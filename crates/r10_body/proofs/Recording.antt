@@ -18,6 +18,7 @@ setup-first = record {
   sequence = refl;
   counts = (tt, tt, tt);
   counters = λ e. tt;
+  events = tt;
 }
 
 pub time-second : MayFollow (setup_packet ∷ []) time_packet
@@ -29,6 +30,7 @@ time-second = record {
   sequence = refl;
   counts = ((refl, tt), (lit≤ tt, tt), (lit≤ tt, tt));
   counters = λ _. (refl, tt);
+  events = tt;
 }
 
 pub uart-third : MayFollow (setup_packet ∷ time_packet ∷ []) uart_packet
@@ -47,6 +49,7 @@ uart-third = record {
   sequence = refl;
   counts = ((refl, tt), (lit≤ tt, (lit≤ tt, tt)), (lit≤ tt, (lit≤ tt, tt)));
   counters = λ e. absurd (omega arith);
+  events = tt;
 }
 
 pub recording-says : FileSays (file_bytes recording) (0x41 ∷ 0x42 ∷ 0x43 ∷ 0x44 ∷ []) recorded false

@@ -6,7 +6,7 @@ use Rattle.r10_packet.specs.Header.{checksum_bits}
 use Rattle.r10_packet.specs.Packet.{filled, least_filler}
 use Rattle.r10_packet.specs.declared.fault.PacketFault.TheVariants as framing
 use Rattle.r10_body.specs.Packets.{Packet, FitsPacket, packet_bytes, file_bytes}
-use Rattle.r10_body.specs.Rules.{KeepsChecksums, KeepsStart, KeepsChannels, KeepsSequence, KeepsCounts, KeepsCounters, EachFollows}
+use Rattle.r10_body.specs.Rules.{KeepsChecksums, KeepsStart, KeepsChannels, KeepsSequence, KeepsCounts, KeepsCounters, KeepsEvents, EachFollows}
 use Rattle.r10_body.specs.Foreign.{opaque_at, IsForeignBody, IsForeignPacket}
 use Rattle.r10_body.specs.declared.fault.FileFault.{FileFault}
 use Rattle.r10_body.specs.declared.fault.FileFault.TheVariants.{Truncated, Sync, HeaderSum, Length, DataSum, Body, Rule}
@@ -62,6 +62,7 @@ pub data BreaksRule (before : List Packet) (bytes : List ℕ) : ℕ → Type 0 w
   sequence : (p : Packet) → Reads bytes p → ¬ KeepsSequence before p → BreaksRule before bytes 6
   counts : (p : Packet) → Reads bytes p → ¬ KeepsCounts before p → BreaksRule before bytes 7
   counters : (p : Packet) → Reads bytes p → ¬ KeepsCounters before p → BreaksRule before bytes 9
+  events : (p : Packet) → Reads bytes p → ¬ KeepsEvents before p → BreaksRule before bytes 10
 
 -- what is wrong behind these packets, where no fault of framing, data checksum or body comes before a rule, and of rules the least is named
 pub data IsWrongHere (before : List Packet) (rest : List ℕ) : FileFault → Type 0 where

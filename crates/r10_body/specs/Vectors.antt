@@ -1,18 +1,26 @@
--- The first recording written out: setup, time and two UART messages; what they cost; and packets of other recorders.
-use Rattle.std.specs.Prelude.{◌≡◌, ℕ, ◌+◌, ◌*◌, true, false, List, [], ◌∷◌, ◌++◌, length, refl, replicate, take, drop}
+-- The first recording written out: setup, time and two UART messages; packets of the other kinds; what messages cost; and packets of other recorders.
+use Rattle.std.specs.Prelude.{◌≡◌, ℕ, ◌+◌, ◌*◌, true, false, List, [], ◌∷◌, ◌++◌, length, map, refl, replicate, take, drop, Some, None}
 use Rattle.std.proofs.Common.{inr}
 use Rattle.r10_packet.specs.Header.{header_bytes}
 use Rattle.r10_count.specs.declared.civil.Parts.{Parts}
 use Rattle.r10_uart.specs.declared.entry.UartEntry.{UartEntry}
-use Rattle.r10_body.specs.Content.{setup, time, uart}
+use Rattle.r10_a429.specs.declared.entry.ArincEntry.{ArincEntry}
+use Rattle.r10_body.specs.Bodies.{content_of}
+use Rattle.r10_body.specs.Content.{body_of, setup, time, uart, arinc}
 use Rattle.r10_body.specs.Packets.{Packet, packet_bytes, file_bytes, file_entries}
-use Rattle.r10_body.specs.Cost.{file_cost}
-use Rattle.r10_body.specs.Messages.{alone_len}
+use Rattle.r10_body.specs.Cost.{message_cost, file_cost}
+use Rattle.r10_body.specs.Messages.{alone_len, channel_refusal}
 use Rattle.r10_body.specs.Foreign.{opaque_at, is_opaque, IsForeignPacket}
 use Rattle.r10_body.specs.Faults.{HasFault, IsFaulty}
 use Rattle.r10_body.specs.declared.fault.FileFault.TheVariants.{Truncated, HeaderSum}
 use Rattle.r10_body.specs.declared.entry.Entry.{Entry}
+use Rattle.r10_body.specs.declared.message.Kind.{Kind}
+use Rattle.r10_body.specs.declared.message.Kind.TheVariants as kinds
+use Rattle.r10_body.specs.declared.message.Message.{Message}
+use Rattle.r10_body.specs.declared.message.Message.TheVariants as messages
 use Rattle.r10_body.specs.declared.message.Message.TheVariants.{Uart, Time}
+use Rattle.r10_body.specs.declared.refusal.Refusal.TheVariants.{WrongKind, BadMessage, TooLong}
+use Rattle.r10_body.specs.declared.spec.ChannelSpec.{ChannelSpec}
 
 -- ---- packets
 
@@ -74,6 +82,78 @@ pub uart-32-bytes : packet_bytes (record uart_packet { check = 3 }) ≡
 unfolding packet_bytes header_bytes
 uart-32-bytes = refl
 
+-- ---- packets of the other kinds
+
+-- on bus B, a command and a data word at 2000
+abbrev pub bus_message : Message
+bus_message = messages.Bus1553 0x2000 0 (0x0821 ∷ 0xABCD ∷ [])
+
+abbrev pub bus_packet : Packet
+bus_packet = record { channel = 7; sequence = 0; flagged = false; check = 0; counter = 2000; content = content_of 0 2000 bus_message }
+
+pub bus-bytes : packet_bytes bus_packet ≡
+    (0x25 ∷ 0xEB ∷ 0x07 ∷ 0x00 ∷ 0x30 ∷ 0x00 ∷ 0x00 ∷ 0x00 ∷ 0x16 ∷ 0x00 ∷ 0x00 ∷ 0x00 ∷ 0x08 ∷ 0x00 ∷ 0x00 ∷ 0x19 ∷ 0xD0 ∷ 0x07 ∷ 0x00 ∷ 0x00 ∷ 0x00 ∷ 0x00 ∷ 0x4A ∷ 0x0C ∷ [])
+    ++ (0x01 ∷ 0x00 ∷ 0x00 ∷ 0x00 ∷ [])
+    ++ (0xD0 ∷ 0x07 ∷ 0x00 ∷ 0x00 ∷ 0x00 ∷ 0x00 ∷ 0x00 ∷ 0x00 ∷ 0x00 ∷ 0x20 ∷ 0x00 ∷ 0x00 ∷ 0x04 ∷ 0x00 ∷ 0x21 ∷ 0x08 ∷ 0xCD ∷ 0xAB ∷ [])
+    ++ (0x00 ∷ 0x00 ∷ [])
+unfolding packet_bytes header_bytes
+bus-bytes = refl
+
+-- three words of the high speed bus 1, at 5000, 5100 and 5300
+abbrev pub arinc_word : ℕ → ArincEntry
+arinc_word count = record { count = count; bus = 1; format = false; parity = false; high = true; word = 0x12345678 }
+
+pub arinc-body : body_of 5000 (arinc (arinc_word 5000 ∷ arinc_word 5100 ∷ arinc_word 5300 ∷ [])) ≡
+    (0x03 ∷ 0x00 ∷ 0x00 ∷ 0x00 ∷ [])
+    ++ (0x00 ∷ 0x00 ∷ 0x20 ∷ 0x01 ∷ 0x78 ∷ 0x56 ∷ 0x34 ∷ 0x12 ∷ [])
+    ++ (0x64 ∷ 0x00 ∷ 0x20 ∷ 0x01 ∷ 0x78 ∷ 0x56 ∷ 0x34 ∷ 0x12 ∷ [])
+    ++ (0xC8 ∷ 0x00 ∷ 0x20 ∷ 0x01 ∷ 0x78 ∷ 0x56 ∷ 0x34 ∷ 0x12 ∷ [])
+arinc-body = refl
+
+-- the first and the last of eight discretes at 3000
+pub discrete-body : body_of 3000 (content_of 8 3000 (messages.Discrete 0x81)) ≡
+    0x40 ∷ 0x00 ∷ 0x00 ∷ 0x00 ∷ 0xB8 ∷ 0x0B ∷ 0x00 ∷ 0x00 ∷ 0x00 ∷ 0x00 ∷ 0x00 ∷ 0x00 ∷ 0x81 ∷ 0x00 ∷ 0x00 ∷ 0x00 ∷ []
+discrete-body = refl
+
+-- the second event of number 3 at 1000
+pub event-body : body_of 1000 (content_of 0 1000 (messages.Event 3 1)) ≡
+    0x01 ∷ 0x00 ∷ 0x00 ∷ 0x00 ∷ 0xE8 ∷ 0x03 ∷ 0x00 ∷ 0x00 ∷ 0x00 ∷ 0x00 ∷ 0x00 ∷ 0x00 ∷ 0x03 ∷ 0x10 ∷ 0x00 ∷ 0x10 ∷ []
+event-body = refl
+
+-- ABC with a data error on subchannel 1 of a message channel
+pub message-body : body_of 1000 (content_of 0 1000 (messages.Message true false 1 (0x41 ∷ 0x42 ∷ 0x43 ∷ []))) ≡
+    0x01 ∷ 0x00 ∷ 0x00 ∷ 0x00 ∷ 0xE8 ∷ 0x03 ∷ 0x00 ∷ 0x00 ∷ 0x00 ∷ 0x00 ∷ 0x00 ∷ 0x00 ∷ 0x03 ∷ 0x00 ∷ 0x01 ∷ 0x80 ∷ 0x41 ∷ 0x42 ∷ 0x43 ∷ 0x00 ∷ []
+message-body = refl
+
+-- ---- what channels take
+
+abbrev pub channel_of : Kind → ℕ → ChannelSpec
+channel_of kind bits = record { id = 7; kind = kind; capacity = 2; check = 0; bytes = 524288; number = 65535; bits = bits }
+
+pub bus-taken : channel_refusal (channel_of kinds.Bus1553 0) bus_message ≡ None
+bus-taken = refl
+
+-- 37 words, and a bit of the block status that has no name; the status is judged first
+pub bus-too-long : channel_refusal (channel_of kinds.Bus1553 0) (messages.Bus1553 0 0 (replicate 37 0)) ≡ Some TooLong
+bus-too-long = refl
+
+pub bus-bad-status : channel_refusal (channel_of kinds.Bus1553 0) (messages.Bus1553 0x4000 0 (replicate 37 0)) ≡ Some BadMessage
+bus-bad-status = refl
+
+-- another kind's message, whatever is wrong with it besides
+pub bus-on-uart : channel_refusal (channel_of kinds.Uart 0) (messages.Bus1553 0x4000 0 (replicate 37 0)) ≡ Some WrongKind
+bus-on-uart = refl
+
+pub event-on-message : channel_refusal (channel_of kinds.Message 0) (messages.Event 3 0) ≡ Some WrongKind
+event-on-message = refl
+
+-- the eighth of eight discretes, and a ninth
+pub last-state : channel_refusal (channel_of kinds.Discrete 8) (messages.Discrete 0x80) ≡ None
+last-state = refl
+
+pub state-beyond : channel_refusal (channel_of kinds.Discrete 8) (messages.Discrete 0x100) ≡ Some BadMessage
+state-beyond = refl
+
 -- ---- a file
 
 abbrev pub recording : List Packet
@@ -122,6 +202,15 @@ alone = refl
 pub alone-8 : alone_len 8 (Uart false 0 (0x41 ∷ 0x42 ∷ 0x43 ∷ [])) ≡ length (packet_bytes (record uart_packet { check = 1; content = uart (take 1 two_messages) }))
 unfolding packet_bytes header_bytes
 alone-8 = refl
+
+-- two words of a bus, a word of an ARINC bus, states, and an event
+pub kinds-costs : map message_cost (bus_message ∷ messages.Arinc 1 false false true 0 ∷ messages.Discrete 0x81 ∷ messages.Message true false 1 (0x41 ∷ []) ∷ Time leap_day ∷ messages.Event 3 1 ∷ []) ≡
+    18 ∷ 8 ∷ 12 ∷ 13 ∷ 8 ∷ 12 ∷ []
+kinds-costs = refl
+
+pub bus-alone : alone_len 0 bus_message ≡ length (packet_bytes bus_packet)
+unfolding packet_bytes header_bytes
+bus-alone = refl
 
 -- ---- packets of other recorders
 

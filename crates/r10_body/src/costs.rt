@@ -10,7 +10,11 @@ pub fn cost(message: &Message) -> u64
     ensures { result ≡ message_cost message.now }
 {
     match message {
-        Message::Uart { bytes, .. } => 12 + bytes.as_slice().len() as u64,
-        Message::Time { .. } => 8,
+        Message::Uart { bytes, .. } | Message::Message { bytes, .. } => {
+            12 + bytes.as_slice().len() as u64
+        }
+        Message::Bus1553 { words, .. } => 14 + 2 * words.as_slice().len() as u64,
+        Message::Discrete { .. } | Message::Event { .. } => 12,
+        Message::Arinc { .. } | Message::Time { .. } => 8,
     }
 }

@@ -3,6 +3,7 @@
 //! message by the first check that it fails.
 #![tactic(auto)]
 
+mod channels;
 mod costs;
 mod entry;
 mod fault;

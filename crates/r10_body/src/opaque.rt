@@ -4,6 +4,8 @@ ghost use Rattle.std.specs.Prelude.{◌≡◌, ◌==◌};
 ghost use Rattle.std.specs.List.{list_any};
 ghost use Rattle.r10_body.specs.Foreign.{known_types, selects_other as word_selects, is_opaque as opaque};
 
+use r10_event::EventBody;
+use r10_message::MessageBody;
 use r10_packet::Header;
 use r10_setup::SetupBody;
 use r10_timebody::TimeBody;
@@ -25,7 +27,14 @@ pub fn is_opaque(header: &Header, body: &[u8]) -> bool
 fn is_known(data_type: u8) -> bool
     ensures { result ≡ list_any (λ type. type == data_type) known_types }
 {
-    data_type == 0x01 || data_type == 0x11 || data_type == 0x50
+    data_type == 0x01
+        || data_type == 0x02
+        || data_type == 0x11
+        || data_type == 0x19
+        || data_type == 0x29
+        || data_type == 0x30
+        || data_type == 0x38
+        || data_type == 0x50
 }
 
 /// Whether the channel specific word of a body of this type selects a form that isn't read.
@@ -33,6 +42,8 @@ fn selects_other(data_type: u8, body: &[u8]) -> bool
     ensures { result ≡ word_selects data_type body.now }
 {
     (data_type == 0x01 && SetupBody::is_opaque(body))
+        || (data_type == 0x02 && EventBody::is_opaque(body))
         || (data_type == 0x11 && TimeBody::is_opaque(body))
+        || (data_type == 0x30 && MessageBody::is_opaque(body))
         || (data_type == 0x50 && UartBody::is_opaque(body))
 }

@@ -32,7 +32,7 @@ impl ChannelSpec {
         if !self.kind.takes(message) {
             return Err(Refusal::WrongKind);
         }
-        if !message.is_in_range() {
+        if !message.is_in_range(self.bits) {
             return Err(Refusal::BadMessage);
         }
         if !self.fits(message) {
