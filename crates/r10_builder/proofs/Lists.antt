@@ -4,8 +4,9 @@ use Rattle.std.proofs.lemmas.List.{append-nil}
 use Rattle.std.specs.List.{AllByRecursion}
 use Rattle.r10_count.specs.Checks.{first_broken}
 use Rattle.r10_body.specs.declared.entry.Sample.{Sample}
-use Rattle.r10_builder.specs.Packing.{first_count, last_count}
-use Rattle.r10_builder.specs.Held.{RiseFrom}
+use Rattle.r10_body.specs.declared.message.Kind.{Kind}
+use Rattle.r10_builder.specs.Packing.{first_count, is_near, last_count}
+use Rattle.r10_builder.specs.Held.{NearFrom, RiseFrom}
 use Rattle.r10_builder.specs.Spelled.{all_bytes, sample_bytes}
 
 pub all_more : {A : Type 0} (P : A → Type 0) (xs : List A) (x : A) → AllByRecursion P xs → P x → AllByRecursion P (xs ++ x ∷ [])
@@ -32,6 +33,10 @@ last_any a b (f ∷ samples) lt = refl
 pub rise_more : (before : ℕ) (samples : List Sample) (s : Sample) → RiseFrom before samples → last_count before samples ≤ s.count → RiseFrom before (samples ++ s ∷ [])
 rise_more before [] s rise le = (le, tt)
 rise_more before (f ∷ samples) s rise le = (rise.0, rise_more f.count samples s rise.1 le)
+
+pub near_more : (kind : Kind) (before : ℕ) (samples : List Sample) (s : Sample) → NearFrom kind before samples → is_near kind (last_count before samples) s.count ≡ true → NearFrom kind before (samples ++ s ∷ [])
+near_more kind before [] s near is = (is, tt)
+near_more kind before (f ∷ samples) s near is = (near.0, near_more kind f.count samples s near.1 is)
 
 pub bytes_more : (before : ℕ) (samples : List Sample) (s : Sample) → all_bytes before (samples ++ s ∷ []) ≡ all_bytes before samples ++ sample_bytes (last_count before samples) s
 bytes_more before [] s = append-nil (sample_bytes before s)

@@ -1,12 +1,12 @@
 -- What the buffers of a channel hold.
-use Rattle.std.specs.Prelude.{◌≡◌, ℕ, ◌+◌, ◌≤◌, ◌<◌, Bool, false, List, [], ◌∷◌, length, drop, MatchOption, Option, None}
+use Rattle.std.specs.Prelude.{◌≡◌, ℕ, ◌+◌, ◌≤◌, ◌<◌, Bool, true, false, List, [], ◌∷◌, length, drop, MatchOption, Option, None}
 use Rattle.std.specs.List.{AllByRecursion}
-use Rattle.r10_count.specs.Count.{IsCount}
 use Rattle.r10_body.specs.Messages.{channel_refusal}
 use Rattle.r10_body.specs.declared.entry.Sample.{Sample}
+use Rattle.r10_body.specs.declared.message.Kind.{Kind}
 use Rattle.r10_body.specs.declared.spec.ChannelSpec.{ChannelSpec}
-use Rattle.r10_builder.specs.Packing.{first_count, last_count, packet_len, tenth}
-use Rattle.r10_builder.specs.Spelled.{open_body}
+use Rattle.r10_builder.specs.Packing.{first_count, is_near, last_count, packet_len, tenth}
+use Rattle.r10_builder.specs.Spelled.{Typed, open_body}
 use Rattle.r10_builder.specs.declared.open_packet.OpenPacket.{OpenPacket}
 
 -- counts don't fall from one on
@@ -14,11 +14,17 @@ abbrev pub RiseFrom : ℕ → List Sample → Type 0
 RiseFrom count [] = Unit {0}
 RiseFrom count (s ∷ samples) = (count ≤ s.count) × RiseFrom s.count samples
 
+-- each is near the one before, the first near a count
+abbrev pub NearFrom : Kind → ℕ → List Sample → Type 0
+NearFrom kind count [] = Unit {0}
+NearFrom kind count (s ∷ samples) = (is_near kind count s.count ≡ true) × NearFrom kind s.count samples
+
 -- samples of a channel that share a packet
 pub record Share (spec : ChannelSpec) (samples : List Sample) : Type 0 where
   pub taken : AllByRecursion (λ s. channel_refusal spec s.message ≡ None) samples
-  pub counts : AllByRecursion (λ s. IsCount s.count) samples
+  pub typed : AllByRecursion Typed samples
   pub rise : RiseFrom (first_count samples) samples
+  pub near : NearFrom spec.kind (first_count samples) samples
   pub soon : AllByRecursion (λ s. s.count ≤ first_count samples + tenth) samples
   pub plain : AllByRecursion (λ s. s.gap ≡ false) (drop 1 samples)
   pub few : 0 < spec.number → length samples ≤ spec.number

@@ -39,7 +39,8 @@ packet_len check samples = (24 + 4 + sum_by (λ s. spelling_len s.message) sampl
 
 -- a word of an ARINC bus tells its distance from the one before, which is at most a tenth of a second
 abbrev pub is_near : Kind → ℕ → ℕ → Bool
-is_near kinds.Uart before count = true
+is_near kinds.Arinc before count = nat_le count (before + tenth)
+is_near kind before count = true
 
 -- what must hold for a sample to go into the open packet, in order, and the reason to close the packet where it doesn't; no packet is open where there are no samples
 abbrev pub reason : ChannelSpec → List Sample → Sample → Option Reason
@@ -62,6 +63,10 @@ IsYoung now (first ∷ rest) = now ≤ first.count + tenth
 -- the data type of a channel's packets
 abbrev pub data_type : Kind → ℕ
 data_type kinds.Uart = 0x50
+data_type kinds.Bus1553 = 0x19
+data_type kinds.Arinc = 0x38
+data_type kinds.Discrete = 0x29
+data_type kinds.Message = 0x30
 
 -- the data checksum of so many bits
 abbrev pub check_of : ℕ → Check

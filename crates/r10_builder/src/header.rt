@@ -27,6 +27,10 @@ fn data_type(kind: Kind) -> u8
     ensures { result ≡ type_of_kind kind }
 {
     match kind {
+        Kind::Bus1553 => 0x19,
+        Kind::Discrete => 0x29,
+        Kind::Message => 0x30,
+        Kind::Arinc => 0x38,
         Kind::Uart => 0x50,
     }
 }

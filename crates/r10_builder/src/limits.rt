@@ -14,10 +14,7 @@ pub(crate) const TENTH: u64 = 1_000_000;
 pub(crate) fn is_near(kind: Kind, before: Count, count: Count) -> bool
     ensures { result ≡ comes_near kind before count }
 {
-    let _ = (before, count);
-    match kind {
-        Kind::Uart => true,
-    }
+    kind != Kind::Arinc || count.get() <= before.get() + TENTH
 }
 
 /// How long a packet is with a data checksum and a body of so many bytes: with header and least

@@ -7,16 +7,26 @@ use r10_packet::Packet;
 use std::alloc::Global;
 use std::test::Fail;
 
+/// A channel of the greatest packets.
+fn channel(id: u16, kind: Kind, bits: usize) -> ChannelSpec {
+    ChannelSpec {
+        id,
+        kind,
+        capacity: 2,
+        check: 0,
+        bytes: 524_288,
+        number: 65_535,
+        bits,
+    }
+}
+
 /// A UART channel.
 fn uart_channel(check: usize, bytes: usize, number: usize) -> ChannelSpec {
     ChannelSpec {
-        id: 5,
-        kind: Kind::Uart,
-        capacity: 2,
         check,
         bytes,
         number,
-        bits: 0,
+        ..channel(5, Kind::Uart, 0)
     }
 }
 
@@ -192,21 +202,133 @@ fn closes_before_a_gap(rt: HostRuntime) -> Result<(), Fail> {
     Ok(())
 }
 
+/// A word of the high speed bus 1.
+fn word(count: u64) -> Result<Sample, Fail> {
+    Ok(Sample {
+        count: Count::of(count).ok_or("no count")?,
+        message: Message::Arinc {
+            bus: 1,
+            format: false,
+            parity: false,
+            high: true,
+            word: 0x1234_5678,
+        },
+        gap: false,
+    })
+}
+
+#[test]
+fn closes_before_a_gap_of_the_bus(rt: HostRuntime) -> Result<(), Fail> {
+    let mut builder = Builder::new(rt.alloc(), channel(8, Kind::Arinc, 0));
+    join(&mut builder, word(5000)?)?;
+    join(&mut builder, word(1_005_000)?)?;
+    let closed = close(&mut builder, word(2_005_001)?)?;
+    assert_eq!(rt; closed.reason, Reason::BusGap);
+    // gaps of 0 and 1,000,000
+    let want = [
+        2, 0, 0, 0, 0, 0, 0x20, 0x01, 0x78, 0x56, 0x34, 0x12, 0x40, 0x42, 0x2F, 0x01, 0x78, 0x56,
+        0x34, 0x12,
+    ];
+    assert_eq!(rt; closed.body.as_slice(), want.as_slice());
+    Ok(())
+}
+
+#[test]
+fn packs_three_words(rt: HostRuntime) -> Result<(), Fail> {
+    let mut builder = Builder::new(rt.alloc(), channel(8, Kind::Arinc, 0));
+    for count in [5000, 5100, 5300] {
+        join(&mut builder, word(count)?)?;
+    }
+    let closed = flush(&mut builder)?;
+    let want = [
+        0x03, 0x00, 0x00, 0x00, 0x00, 0x00, 0x20, 0x01, 0x78, 0x56, 0x34, 0x12, 0x64, 0x00, 0x20,
+        0x01, 0x78, 0x56, 0x34, 0x12, 0xC8, 0x00, 0x20, 0x01, 0x78, 0x56, 0x34, 0x12,
+    ];
+    assert_eq!(rt; closed.body.as_slice(), want.as_slice());
+    assert_eq!(rt; closed.header.data_type, 0x38);
+    Ok(())
+}
+
+#[test]
+fn packs_a_bus_message(rt: HostRuntime) -> Result<(), Fail> {
+    let mut builder = Builder::new(rt.alloc(), channel(7, Kind::Bus1553, 0));
+    let sample = Sample {
+        count: Count::of(2000).ok_or("no count")?,
+        message: Message::Bus1553 {
+            status: 0x2000,
+            gap: 0,
+            words: Items::of(Vec::from_slice(rt.alloc(), &[0x0821, 0xABCD])?),
+        },
+        gap: false,
+    };
+    join(&mut builder, sample)?;
+    let want = [
+        0x25, 0xEB, 0x07, 0x00, 0x30, 0x00, 0x00, 0x00, 0x16, 0x00, 0x00, 0x00, 0x08, 0x00, 0x00,
+        0x19, 0xD0, 0x07, 0x00, 0x00, 0x00, 0x00, 0x4A, 0x0C, 0x01, 0x00, 0x00, 0x00, 0xD0, 0x07,
+        0x00, 0x00, 0x00, 0x00, 0x00, 0x00, 0x00, 0x20, 0x00, 0x00, 0x04, 0x00, 0x21, 0x08, 0xCD,
+        0xAB, 0x00, 0x00,
+    ];
+    let packet = framed(rt.alloc(), &flush(&mut builder)?)?;
+    assert_eq!(rt; packet.as_slice(), want.as_slice());
+    Ok(())
+}
+
+#[test]
+fn packs_states_of_discretes(rt: HostRuntime) -> Result<(), Fail> {
+    let mut builder = Builder::new(rt.alloc(), channel(9, Kind::Discrete, 8));
+    let sample = Sample {
+        count: Count::of(3000).ok_or("no count")?,
+        message: Message::Discrete { states: 0x81 },
+        gap: false,
+    };
+    join(&mut builder, sample)?;
+    let closed = flush(&mut builder)?;
+    let want = [0x40, 0, 0, 0, 0xB8, 0x0B, 0, 0, 0, 0, 0, 0, 0x81, 0, 0, 0];
+    assert_eq!(rt; closed.body.as_slice(), want.as_slice());
+    assert_eq!(rt; closed.header.data_type, 0x29);
+    Ok(())
+}
+
+#[test]
+fn packs_messages(rt: HostRuntime) -> Result<(), Fail> {
+    let mut builder = Builder::new(rt.alloc(), channel(10, Kind::Message, 0));
+    for count in [4000, 4001] {
+        let sample = Sample {
+            count: Count::of(count).ok_or("no count")?,
+            message: Message::Message {
+                data_error: true,
+                format: false,
+                sub: 1,
+                bytes: Items::of(Vec::from_slice(rt.alloc(), b"A")?),
+            },
+            gap: false,
+        };
+        join(&mut builder, sample)?;
+    }
+    let closed = flush(&mut builder)?;
+    let want = [
+        2, 0, 0, 0, 0xA0, 0x0F, 0, 0, 0, 0, 0, 0, 1, 0, 1, 0x80, 0x41, 0, 0xA1, 0x0F, 0, 0, 0, 0,
+        0, 0, 1, 0, 1, 0x80, 0x41, 0,
+    ];
+    assert_eq!(rt; closed.body.as_slice(), want.as_slice());
+    assert_eq!(rt; closed.header.data_type, 0x30);
+    Ok(())
+}
+
 #[test]
 fn a_ready_builder_uses_its_room_again(rt: HostRuntime) -> Result<(), Fail> {
     let mut builder = Builder::new(rt.alloc(), uart_channel(0, 128, 1));
     builder.ready()?;
-    for count in 0..4 {
-        let sample = text(rt.alloc(), count, b"A", false)?;
-        let Some(closed) = push(&mut builder, sample)? else {
-            continue;
-        };
-        assert_eq!(rt; closed.reason, Reason::Number);
-        let counter = closed.header.counter;
-        assert_eq!(rt; counter.get() + 1, count);
-        assert!(rt; closed.body.capacity() >= 128);
+    join(&mut builder, text(rt.alloc(), 0, b"A", false)?)?;
+    for count in 1..4 {
+        let closed = close(&mut builder, text(rt.alloc(), count, b"A", false)?)?;
+        let capacity = closed.body.capacity();
         builder.recycle(closed);
+        assert!(rt; capacity >= 128);
     }
+    let closed = flush(&mut builder)?;
+    let counter = closed.header.counter;
+    assert_eq!(rt; counter.get(), 3);
     Ok(())
 }
 
