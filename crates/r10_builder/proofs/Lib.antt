@@ -4,4 +4,5 @@ pub mod Holding
 pub mod Reading
 pub mod Contents
 pub mod Closing
+pub mod Frames
 pub mod Steps

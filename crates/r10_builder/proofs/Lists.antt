@@ -13,10 +13,6 @@ pub all_more : {A : Type 0} (P : A → Type 0) (xs : List A) (x : A) → AllByRe
 all_more P [] x all here = (here, tt)
 all_more P (y ∷ ys) x all here = (all.0, all_more P ys x all.1 here)
 
-pub all_map : {A : Type 0} (P Q : A → Type 0) (f : (a : A) → P a → Q a) (xs : List A) → AllByRecursion P xs → AllByRecursion Q xs
-all_map P Q f [] all = tt
-all_map P Q f (x ∷ xs) all = (f x all.0, all_map P Q f xs all.1)
-
 pub first_more : (samples : List Sample) (s : Sample) → 0 < length samples → first_count (samples ++ s ∷ []) ≡ first_count samples
 first_more [] s lt = absurd (omega arith)
 first_more (f ∷ samples) s lt = refl

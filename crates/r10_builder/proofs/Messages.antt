@@ -80,6 +80,3 @@ pub fits_behind : (spec : ChannelSpec) (before : ℕ) (s : Sample) → channel_r
 fits_behind spec before s is le near =
     let t = taken spec s.message is in
     record { range = t.range; short = t.short; reaches = reaches spec.kind before s.count s.message t.kind le near }
-
-pub fits_first : (spec : ChannelSpec) (s : Sample) → channel_refusal spec s.message ≡ None → Fits spec.bits s.count s
-fits_first spec s is = fits_behind spec s.count s is (omega arith) (near_itself spec.kind s.count)

@@ -6,12 +6,14 @@ mod builder;
 mod closed;
 mod encode;
 mod header;
+mod laws;
 mod limits;
 mod open_packet;
 mod packet;
 
 pub use builder::Builder;
 pub use closed::{Closed, Reason};
+pub use laws::handed_out_frames;
 
 #[cfg(test)]
 mod tests;
