@@ -136,7 +136,7 @@ impl Message {
     }
 
     /// How many bytes it adds to a packet's body.
-    pub(crate) fn spelling_len(&self) -> usize
+    pub fn spelling_len(&self) -> usize
         ensures { result ≡ spelled_len self.now }
     {
         match self {

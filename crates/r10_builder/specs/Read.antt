@@ -1,0 +1,49 @@
+-- The samples that the buffers of a channel hold, read from their bytes.
+use Rattle.std.specs.Prelude.{ℕ, zero, suc, ◌+◌, ◌/◌, ◌%◌, ◌^◌, ◌==◌, Bool, false, List, [], ◌∷◌, drop, take, Option, Some, None}
+use Rattle.r10_count.specs.Bytes.{u16_at, u32_at, u64_at}
+use Rattle.r10_body.specs.Messages.{spelling_len}
+use Rattle.r10_body.specs.declared.entry.Sample.{Sample}
+use Rattle.r10_body.specs.declared.message.Kind.{Kind}
+use Rattle.r10_body.specs.declared.message.Kind.TheVariants as kinds
+use Rattle.r10_body.specs.declared.message.Message.{Message}
+use Rattle.r10_body.specs.declared.message.Message.TheVariants as messages
+use Rattle.r10_builder.specs.declared.open_packet.OpenPacket.{OpenPacket}
+
+-- so many 16-bit words that stand end to end
+abbrev pub words_at : ℕ → List ℕ → List ℕ
+words_at zero bytes = []
+words_at (suc n) bytes = u16_at bytes 0 ∷ words_at n (drop 2 bytes)
+
+abbrev pub sample_of : ℕ → Message → Sample
+sample_of count m = record { count = count; message = m; gap = false }
+
+-- the sample that stands first in bytes, behind one at a count
+unfoldable pub sample_at : Kind → ℕ → List ℕ → Sample
+sample_at kinds.Uart before bytes =
+    let header = u32_at bytes 8 in
+    sample_of (u64_at bytes 0) (messages.Uart (header / 2 ^ 31 == 1) (header / 2 ^ 16 % 2 ^ 14) (take (header % 2 ^ 16) (drop 12 bytes)))
+sample_at kinds.Bus1553 before bytes = sample_of (u64_at bytes 0) (messages.Bus1553 (u16_at bytes 8) (u16_at bytes 10) (words_at (u16_at bytes 12 / 2) (drop 14 bytes)))
+sample_at kinds.Arinc before bytes =
+    let header = u32_at bytes 0 in
+    sample_of (before + header % 2 ^ 20) (messages.Arinc (header / 2 ^ 24) (header / 2 ^ 23 % 2 == 1) (header / 2 ^ 22 % 2 == 1) (header / 2 ^ 21 % 2 == 1) (u32_at bytes 4))
+sample_at kinds.Discrete before bytes = sample_of (u64_at bytes 0) (messages.Discrete (u32_at bytes 8))
+sample_at kinds.Message before bytes =
+    let header = u32_at bytes 8 in
+    sample_of (u64_at bytes 0) (messages.Message (header / 2 ^ 31 == 1) (header / 2 ^ 30 % 2 == 1) (header / 2 ^ 16 % 2 ^ 14) (take (header % 2 ^ 16) (drop 12 bytes)))
+
+-- so many samples that stand end to end
+abbrev pub samples_at : Kind → ℕ → ℕ → List ℕ → List Sample
+samples_at kind zero before bytes = []
+samples_at kind (suc n) before bytes =
+    sample_at kind before bytes
+    ∷ samples_at kind n (sample_at kind before bytes).count (drop (spelling_len (sample_at kind before bytes).message) bytes)
+
+-- the first sample has a gap or none
+abbrev pub with_gap : Bool → List Sample → List Sample
+with_gap gap [] = []
+with_gap gap (s ∷ samples) = record s { gap = gap } ∷ samples
+
+-- the samples of a channel of a kind
+unfoldable pub samples_in : Kind → Option OpenPacket → List ℕ → List Sample
+samples_in kind None body = []
+samples_in kind (Some o) body = with_gap o.gap (samples_at kind o.number o.first (drop 4 body))

@@ -1,0 +1,98 @@
+-- The bytes of samples in a body, and the header of a closed packet.
+use Rattle.std.specs.Prelude.{ℕ, ◌+◌, ◌-◌, ◌*◌, ◌/◌, ◌%◌, ◌^◌, ◌<◌, ◌≤◌, Bool, min, List, [], ◌∷◌, ◌++◌, IsTrue}
+use Rattle.std.specs.List.{AllByRecursion}
+use Rattle.r10_count.specs.Bytes.{flag_at, le_bytes}
+use Rattle.r10_count.specs.Count.{IsCount}
+use Rattle.r10_packet.specs.Header.{bits_of, flags_of}
+use Rattle.r10_packet.specs.declared.header.Header.{Header}
+use Rattle.r10_uart.specs.Uart.{uart_entry, uart_of}
+use Rattle.r10_b1553.specs.Bus.{bus_entry, bus_of}
+use Rattle.r10_a429.specs.Arinc.{arinc_entry}
+use Rattle.r10_a429.specs.declared.entry.ArincEntry.{ArincEntry}
+use Rattle.r10_discrete.specs.Discrete.{discrete_entry}
+use Rattle.r10_discrete.specs.declared.entry.DiscreteEntry.{DiscreteEntry}
+use Rattle.r10_message.specs.Message.{message_entry, message_of}
+use Rattle.r10_body.specs.Messages.{is_in_range, is_short}
+use Rattle.r10_body.specs.declared.entry.Sample.{Sample}
+use Rattle.r10_body.specs.declared.message.Kind.{Kind}
+use Rattle.r10_body.specs.declared.message.Kind.TheVariants as kinds
+use Rattle.r10_body.specs.declared.message.Message.{Message}
+use Rattle.r10_body.specs.declared.message.Message.TheVariants as messages
+use Rattle.r10_body.specs.declared.spec.ChannelSpec.{ChannelSpec}
+use Rattle.r10_builder.specs.Packing.{check_of, data_type, tenth}
+use Rattle.r10_builder.specs.declared.open_packet.OpenPacket.{OpenPacket}
+
+-- ---- bytes
+
+abbrev pub arinc_of : ℕ → ℕ → Bool → Bool → Bool → ℕ → ArincEntry
+arinc_of count bus format parity high word = record { count = count; bus = bus; format = format; parity = parity; high = high; word = word }
+
+abbrev pub discrete_of : ℕ → ℕ → DiscreteEntry
+discrete_of count states = record { count = count; states = states }
+
+-- a message at a count, behind one at another; times and events are on no channel
+abbrev pub message_bytes : ℕ → ℕ → Message → List ℕ
+message_bytes before count (messages.Uart parity sub bytes) = uart_entry (uart_of count parity sub bytes)
+message_bytes before count (messages.Bus1553 status gap words) = bus_entry (bus_of count status gap words)
+message_bytes before count (messages.Arinc bus format parity high word) = arinc_entry (count - before) (arinc_of count bus format parity high word)
+message_bytes before count (messages.Discrete states) = discrete_entry (discrete_of count states)
+message_bytes before count (messages.Message data_error format sub bytes) = message_entry (message_of count data_error format sub bytes)
+message_bytes before count m = []
+
+unfoldable pub sample_bytes : ℕ → Sample → List ℕ
+sample_bytes before s = message_bytes before s.count s.message
+
+-- a word of an ARINC bus tells its distance from the one before
+abbrev pub Reaches : ℕ → ℕ → Message → Type 0
+Reaches before count (messages.Arinc bus format parity high word) = (before ≤ count) × (count ≤ before + tenth)
+Reaches before count m = Unit {0}
+
+-- the fields of a message are in their ranges, on a channel of so many discretes and behind one at a count
+pub record Fits (bits before : ℕ) (s : Sample) : Type 0 where
+  pub range : IsTrue (is_in_range bits s.message)
+  pub short : IsTrue (is_short s.message)
+  pub reaches : Reaches before s.count s.message
+
+-- what the types of the fields say
+abbrev pub HasTypes : Message → Type 0
+HasTypes (messages.Bus1553 status gap words) = (gap < 2 ^ 16) × AllByRecursion (λ w. w < 2 ^ 16) words
+HasTypes (messages.Arinc bus format parity high word) = (bus < 2 ^ 8) × (word < 2 ^ 32)
+HasTypes m = Unit {0}
+
+pub record Typed (s : Sample) : Type 0 where
+  pub count : IsCount s.count
+  pub fields : HasTypes s.message
+
+-- each sample behind the one before, the first behind a count
+abbrev pub all_bytes : ℕ → List Sample → List ℕ
+all_bytes before [] = []
+all_bytes before (s ∷ samples) = sample_bytes before s ++ all_bytes s.count samples
+
+-- the body of an open packet, where the place of the channel specific data word is blank
+abbrev pub open_body : List Sample → List ℕ
+open_body [] = []
+open_body (s ∷ samples) = 0 ∷ 0 ∷ 0 ∷ 0 ∷ all_bytes s.count (s ∷ samples)
+
+-- the channel specific data word of so many samples, on a channel of so many discretes
+abbrev pub word_of : Kind → ℕ → ℕ → ℕ
+word_of kinds.Uart bits number = 0x80000000
+word_of kinds.Bus1553 bits number = number % 2 ^ 24
+word_of kinds.Arinc bits number = number % 2 ^ 16
+word_of kinds.Discrete bits number = 8 * (bits % 32)
+word_of kinds.Message bits number = number % 2 ^ 16
+
+abbrev pub word_bytes : ChannelSpec → ℕ → List ℕ
+word_bytes spec number = le_bytes 4 (word_of spec.kind spec.bits number)
+
+-- the header of a packet with a body of this length
+abbrev pub closed_header : ChannelSpec → OpenPacket → ℕ → Header
+closed_header spec o size = record {
+  channel = spec.id;
+  packet_len = min ((size + bits_of (check_of spec.check) / 8 + 27) / 4 * 4) 4294967295;
+  data_len = min size 4294967295;
+  version = 8;
+  sequence = 0;
+  flags = flag_at 4 o.gap + flags_of (check_of spec.check);
+  data_type = data_type spec.kind;
+  counter = o.first;
+}

@@ -1,0 +1,28 @@
+//! What a packet may have.
+
+ghost use Rattle.std.specs.Prelude.{◌≡◌, ◌+◌, ◌*◌, ◌/◌, ◌^◌, ◌<◌};
+ghost use Rattle.r10_builder.specs.Packing.{is_near as comes_near};
+
+use r10_body::Kind;
+use r10_count::Count;
+
+/// A tenth of a second in units of 100 ns: no sample of a packet is later than its first by more.
+pub(crate) const TENTH: u64 = 1_000_000;
+
+/// Whether a sample of this kind may stand in a packet behind one at a count: the words of an
+/// ARINC bus tell their distance, which is at most a tenth of a second.
+pub(crate) fn is_near(kind: Kind, before: Count, count: Count) -> bool
+    ensures { result ≡ comes_near kind before count }
+{
+    kind != Kind::Arinc || count.get() <= before.get() + TENTH
+}
+
+/// How long a packet is with a data checksum and a body of so many bytes: with header and least
+/// filler.
+pub(crate) fn packet_len(checksum: usize, body: usize) -> usize
+    requires checksum { checksum < 2 ^ 62 }
+    requires body { body < 2 ^ 63 + 2 ^ 20 }
+    ensures { result ≡ (body + checksum + 27) / 4 * 4 }
+{
+    (body + checksum + 27) / 4 * 4
+}

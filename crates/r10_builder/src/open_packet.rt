@@ -1,0 +1,33 @@
+//! What is known of the packet that is being filled.
+
+ghost use Rattle.std.specs.Prelude.{◌≡◌, [], ◌∷◌};
+
+use r10_body::Sample;
+use r10_count::Count;
+
+/// A packet with a message or more.
+#[derive(Clone, Copy, Debug)]
+pub(crate) struct OpenPacket {
+    /// The count of the first message.
+    pub(crate) first: Count,
+    /// The count of the last message.
+    pub(crate) last: Count,
+    /// How many messages there are.
+    pub(crate) number: usize,
+    /// Messages were lost before the first one.
+    pub(crate) gap: bool,
+}
+
+impl OpenPacket {
+    /// A packet of one sample.
+    pub(crate) fn of(sample: &Sample) -> OpenPacket
+        ensures { result ≡ record { first = sample.now.count; last = sample.now.count; number = 1; gap = sample.now.gap } }
+    {
+        OpenPacket {
+            first: sample.count,
+            last: sample.count,
+            number: 1,
+            gap: sample.gap,
+        }
+    }
+}
