@@ -1,10 +1,11 @@
 -- A body of messages is a body of its form.
-use Rattle.std.proofs.Common.{◌≡◌, ℕ, zero, suc, get_or, ◌+◌, ◌*◌, ◌%◌, ◌^◌, ◌<◌, ◌≤◌, List, [], ◌∷◌, ◌++◌, length, drop, refl, sym, ap, ◌∙◌, arith, length-append}
+use Rattle.std.proofs.Common.{◌≡◌, ℕ, get_or, ◌+◌, ◌*◌, ◌%◌, ◌^◌, ◌<◌, ◌≤◌, List, [], ◌∷◌, ◌++◌, length, drop, refl, sym, ap, ◌∙◌, arith, length-append}
 use Rattle.std.proofs.lemmas.Bool.{eq-eqb, eqb-true}
-use Rattle.std.specs.List.{flat_map, AllByRecursion, fold, sum_by}
+use Rattle.std.specs.List.{flat_map, AllByRecursion, sum_by}
 use Rattle.r10_entries.specs.Form.{IsBody, IsForeign, FitsAll, OpensAll, SuitsAll, spelled_all, body_bytes}
 use Rattle.r10_entries.proofs.Bodies.{one_spelled}
 use Rattle.r10_entries.proofs.Parts.{first_is}
+use Rattle.r10_entries.proofs.Lengths.{next_long, sizes_from}
 use Rattle.r10_entries.proofs.Plain.{plain_spelled, plain_fits, plain_all}
 use Rattle.r10_message.specs.Message.{FitsMessage, IsMessage, IsForeignMessage, message_body, message_entry, entry_size, told_size}
 use Rattle.r10_message.specs.Entry.{message_form, entry-told, entry-one, entry-size}
@@ -71,17 +72,11 @@ one_message_body es ds fe fd same =
 
 -- the entries that are left are the next one and those behind it
 pub next_size : (es : List MessageEntry) (i : ℕ) (e : MessageEntry) → i < length es → e ≡ get_or es i e → length (flat_map message_entry (drop i es)) ≡ entry_size e + length (flat_map message_entry (drop (i + 1) es))
-next_size [] i e lt is = absurd (omega arith)
-next_size (d ∷ ds) zero e lt is = omega (arith, length-append (message_entry d) (flat_map message_entry ds), entry-size d, ap (λ t. entry_size t) is)
-next_size (d ∷ ds) (suc i) e lt is = let next : suc i + 1 ≡ suc (i + 1) = omega arith in rw next (next_size ds i e (omega arith) is)
-
-lengths_from : (n : ℕ) (es : List MessageEntry) → fold (λ a e. a + entry_size e) n es ≡ n + length (flat_map message_entry es)
-lengths_from n [] = omega arith
-lengths_from n (e ∷ es) = lengths_from (n + entry_size e) es ∙ omega (arith, length-append (message_entry e) (flat_map message_entry es), entry-size e)
+next_size = next_long message_entry entry_size entry-size
 
 -- a body has its word and the sizes of its entries
 pub body-length : (es : List MessageEntry) → length (message_body es) ≡ 4 + sum_by entry_size es
-body-length es = omega (arith, lengths_from 0 es)
+body-length es = omega (arith, sizes_from message_entry entry_size entry-size 0 es)
 
 entries_long : (es : List MessageEntry) → 12 * length es ≤ length (flat_map message_entry es)
 entries_long [] = omega arith

@@ -1,9 +1,10 @@
 -- A UART body is a body of its form.
-use Rattle.std.proofs.Common.{◌≡◌, ℕ, zero, suc, get_or, ◌+◌, ◌<◌, List, [], ◌∷◌, ◌++◌, length, drop, refl, sym, ap, ◌∙◌, arith, length-append}
-use Rattle.std.specs.List.{flat_map, AllByRecursion, fold, sum_by}
+use Rattle.std.proofs.Common.{◌≡◌, ℕ, get_or, ◌+◌, ◌<◌, List, [], ◌∷◌, ◌++◌, length, drop, refl, sym, ap, ◌∙◌, arith}
+use Rattle.std.specs.List.{flat_map, AllByRecursion, sum_by}
 use Rattle.r10_entries.specs.Form.{IsBody, IsForeign, FitsAll, OpensAll, SuitsAll, spelled_all, body_bytes}
 use Rattle.r10_entries.proofs.Bodies.{one_spelled}
 use Rattle.r10_entries.proofs.Parts.{first_is}
+use Rattle.r10_entries.proofs.Lengths.{next_long, sizes_from}
 use Rattle.r10_entries.proofs.Plain.{plain_spelled, plain_fits, plain_all}
 use Rattle.r10_uart.specs.Uart.{FitsUart, IsUart, IsForeignUart, uart_body, uart_entry, uart_word, entry_size, told_size}
 use Rattle.r10_uart.specs.Entry.{uart_form, entry-told, entry-one, entry-size}
@@ -58,14 +59,8 @@ one_uart_body es ds fe fd same =
 
 -- the entries that are left are the next one and those behind it
 pub next_size : (es : List UartEntry) (i : ℕ) (e : UartEntry) → i < length es → e ≡ get_or es i e → length (flat_map uart_entry (drop i es)) ≡ entry_size e + length (flat_map uart_entry (drop (i + 1) es))
-next_size [] i e lt is = absurd (omega arith)
-next_size (d ∷ ds) zero e lt is = omega (arith, length-append (uart_entry d) (flat_map uart_entry ds), entry-size d, ap (λ t. entry_size t) is)
-next_size (d ∷ ds) (suc i) e lt is = let next : suc i + 1 ≡ suc (i + 1) = omega arith in rw next (next_size ds i e (omega arith) is)
-
-lengths_from : (n : ℕ) (es : List UartEntry) → fold (λ a e. a + entry_size e) n es ≡ n + length (flat_map uart_entry es)
-lengths_from n [] = omega arith
-lengths_from n (e ∷ es) = lengths_from (n + entry_size e) es ∙ omega (arith, length-append (uart_entry e) (flat_map uart_entry es), entry-size e)
+next_size = next_long uart_entry entry_size entry-size
 
 -- a body has its word and the sizes of its entries
 pub body-length : (es : List UartEntry) → length (uart_body es) ≡ 4 + sum_by entry_size es
-body-length es = omega (arith, lengths_from 0 es)
+body-length es = omega (arith, sizes_from uart_entry entry_size entry-size 0 es)
