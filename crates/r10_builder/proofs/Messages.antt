@@ -18,7 +18,7 @@ use Rattle.r10_body.specs.declared.message.Message.{Message}
 use Rattle.r10_body.specs.declared.message.Message.TheVariants as messages
 use Rattle.r10_body.specs.declared.spec.ChannelSpec.{ChannelSpec}
 use Rattle.r10_builder.specs.Packing.{is_near, tenth}
-use Rattle.r10_builder.specs.Spelled.{Fits, Reaches, all_bytes, message_bytes, sample_bytes}
+use Rattle.r10_builder.specs.Spelled.{Reaches, all_bytes, message_bytes, sample_bytes}
 use Rattle.r10_builder.proofs.Lists.{none_broken}
 
 pub no : false ≡ true → ⊥
@@ -75,8 +75,3 @@ reaches kind before count m is le near = tt
 pub near_itself : (kind : Kind) (count : ℕ) → is_near kind count count ≡ true
 near_itself kinds.Arinc count = le-leb count (count + tenth) (omega arith)
 near_itself kind count = refl
-
-pub fits_behind : (spec : ChannelSpec) (before : ℕ) (s : Sample) → channel_refusal spec s.message ≡ None → before ≤ s.count → is_near spec.kind before s.count ≡ true → Fits spec.bits before s
-fits_behind spec before s is le near =
-    let t = taken spec s.message is in
-    record { range = t.range; short = t.short; reaches = reaches spec.kind before s.count s.message t.kind le near }

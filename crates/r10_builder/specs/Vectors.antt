@@ -1,12 +1,13 @@
 -- When packets are closed, written out.
 use Rattle.std.specs.Prelude.{◌+◌, ◌++◌, length, ◌≡◌, ℕ, true, false, List, [], ◌∷◌, Some, None, replicate, refl}
+use Rattle.std.proofs.Common.{arith, lit≤}
 use Rattle.r10_body.specs.declared.entry.Sample.{Sample}
 use Rattle.r10_body.specs.declared.message.Kind.{Kind}
 use Rattle.r10_body.specs.declared.message.Kind.TheVariants as kinds
 use Rattle.r10_body.specs.declared.message.Message.{Message as Said}
 use Rattle.r10_body.specs.declared.message.Message.TheVariants.{Arinc, Bus1553, Discrete, Message, Uart}
 use Rattle.r10_body.specs.declared.spec.ChannelSpec.{ChannelSpec}
-use Rattle.r10_builder.specs.Packing.{first_count, last_count, packet_len, reason}
+use Rattle.r10_builder.specs.Packing.{IsYoung, first_count, last_count, packet_len, reason}
 use Rattle.r10_builder.specs.Read.{sample_at, samples_in}
 use Rattle.r10_builder.specs.Spelled.{open_body, sample_bytes}
 use Rattle.r10_builder.specs.declared.closed.Reason.TheVariants.{Gap, BusGap, Age, Number, Size}
@@ -23,6 +24,13 @@ soon-enough = refl
 
 pub too-late : reason (uart_channel 0 524288 65535) (text_at 0 [] ∷ text_at 1000000 [] ∷ []) (text_at 1000001 []) ≡ Some Age
 too-late = refl
+
+-- a tenth of a second after the first, and a count later
+pub still-young : IsYoung 1001000 (text_at 1000 [] ∷ [])
+still-young = lit≤ tt
+
+pub no-longer-young : IsYoung 1001001 (text_at 1000 [] ∷ []) → ⊥
+no-longer-young young = omega (arith, young)
 
 -- a packet of two
 pub one-of-two : reason (uart_channel 0 524288 2) (text_at 0 [] ∷ []) (text_at 1 []) ≡ None
