@@ -1,8 +1,8 @@
 // What a recorder needs of a directory to take it into use.
-ghost use Rattle.std.specs.Prelude.{◌≡◌, ◌≤◌, ◌+◌, ◌^◌, None, IfOk, OnOk, IfErr};
+ghost use Rattle.std.specs.Prelude.{◌≡◌, ◌≤◌, ◌+◌, ◌++◌, ◌^◌, None, IfOk, OnOk, IfErr, map};
 ghost use Rattle.r10_count.specs.Checks.{first_broken};
 ghost use Rattle.r10_dirchain.specs.Checked.{IsCheckError};
-ghost use Rattle.r10_dirchain.specs.Mount.{listed, stands, place_rules, full_rules, stand_rules, closed_rules, mount_rules};
+ghost use Rattle.r10_dirchain.specs.Mount.{listed, listed_in, stands, place_rules, full_rules, stand_rules, closed_rules, mount_rules};
 
 use crate::{ChainBlock, ChainError, Directory, Listed};
 use r10_dirblock::Entry;
@@ -15,12 +15,7 @@ impl Directory {
     {
         let mut files = Vec::new(alloc);
         for link in &self.chain {
-            for entry in link.block.entries.as_slice() {
-                files.push(Listed {
-                    entry: *entry,
-                    number: link.number,
-                })?;
-            }
+            list_block(&mut files, link)?;
         }
         Ok(files)
     }
@@ -55,6 +50,19 @@ impl Directory {
         }
         Ok(())
     }
+}
+
+// Adds the files that one block lists.
+fn list_block(files: &mut Vec<Listed>, link: &ChainBlock) -> Result<(), AllocError>
+    ensures { OnOk result (files.new.items ≡ files.old.items ++ map (listed_in link.now.number) link.now.block.entries) }
+{
+    for entry in link.block.entries.as_slice() {
+        files.push(Listed {
+            entry: *entry,
+            number: link.number,
+        })?;
+    }
+    Ok(())
 }
 
 // The first block that is not at its place among the reserved ones.

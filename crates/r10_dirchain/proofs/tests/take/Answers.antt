@@ -1,4 +1,4 @@
-use Rattle.std.proofs.Common.{◌≡◌, ℕ, length, None, subst, arith}
+use Rattle.std.proofs.Common.{◌≡◌, ℕ, None, subst, arith}
 use Rattle.r10_count.specs.Checks.{first_broken}
 use Rattle.r10_dirchain.specs.Mount.{mount_rules}
 use Rattle.r10_dirchain.proofs.Usable.{has_next}
