@@ -462,29 +462,30 @@ fn ticks_are_checked_and_recorded(rt: HostRuntime) -> Result<(), Fail> {
     Ok(())
 }
 
+/// A new recorder refuses a message on channel 5.
+fn refuses(rt: &impl Abort, alloc: Global, message: Message, refusal: Refusal) -> Result<(), Fail> {
+    let mut world = new_world(rt, alloc, 64, 2)?;
+    let mut replies = Vec::new(alloc);
+    let event = Event::Offer {
+        channel: 5,
+        count: 1000,
+        message,
+    };
+    assert_eq!(rt; run(&mut world, &[event], &mut replies), Ok(1));
+    assert_eq!(rt; replies.pop(), Some(Reply::Refused(refusal)));
+    Ok(())
+}
+
 /// Offers are refused for what they are in any mode: another kind, a subchannel too high, too many bytes.
 #[test]
 fn offers_are_checked(rt: HostRuntime) -> Result<(), Fail> {
     let alloc = rt.alloc();
     let civil = Civil::of(LEAP_DAY).ok_or("no such day")?;
+    refuses(&rt, alloc, Message::Time { civil }, Refusal::WrongKind)?;
+    refuses(&rt, alloc, uart(alloc, 16_384, b"A")?, Refusal::BadMessage)?;
     let mut long = Vec::new(alloc);
     long.resize(65_536, b'A')?;
-    let mut world = new_world(&rt, alloc, 64, 2)?;
-    for (message, refusal) in [
-        (Message::Time { civil }, Refusal::WrongKind),
-        (uart(alloc, 16_384, b"A")?, Refusal::BadMessage),
-        (uart(alloc, 0, &long)?, Refusal::TooLong),
-    ] {
-        let event = Event::Offer {
-            channel: 5,
-            count: 1000,
-            message,
-        };
-        let mut replies = Vec::new(alloc);
-        assert_eq!(rt; run(&mut world, &[event], &mut replies), Ok(1));
-        assert_eq!(rt; replies.pop(), Some(Reply::Refused(refusal)));
-    }
-    Ok(())
+    refuses(&rt, alloc, uart(alloc, 0, &long)?, Refusal::TooLong)
 }
 
 /// What an event is answered: once more where memory was refused, which `rt try --fail-alloc` does once.
