@@ -1,0 +1,87 @@
+//! What is printed.
+
+ghost use Rattle.std.specs.Prelude.{◌≡◌, ◌+◌, ◌*◌, ◌/◌, max, min};
+ghost use Rattle.std.specs.Duration.{as_nanos};
+
+use r10_builder::Closed;
+use std::fmt;
+use std::time::Duration;
+
+/// How many packets were handed out, and their lengths together.
+#[derive(Clone, Copy, Debug, Default)]
+pub struct Packets {
+    pub number: u64,
+    pub bytes: u64,
+}
+
+impl Packets {
+    /// Counts a packet in.
+    pub fn add(&mut self, closed: &Closed)
+        ensures number { self.new.number ≡ min (self.old.number + 1) u64.MAX }
+        ensures bytes { self.new.bytes ≡ min (self.old.bytes + closed.now.header.packet_len) u64.MAX }
+    {
+        self.number = self.number.saturating_add(1);
+        self.bytes = self
+            .bytes
+            .saturating_add(u64::from(closed.header.packet_len));
+    }
+}
+
+/// What was measured.
+#[derive(Clone, Copy, Debug, Default)]
+pub struct Figures {
+    pub messages: u64,
+    pub packets: Packets,
+    /// Processor time of the plain copy.
+    pub copying: Duration,
+    /// Processor time of lane and builder.
+    pub packing: Duration,
+}
+
+/// How many of these there are in a second, where there are so many in this time.
+fn a_second(amount: u64, time: Duration) -> u128
+    ensures { result ≡ amount * 1_000_000_000 / max 1 (as_nanos time) }
+{
+    u128::from(amount) * 1_000_000_000 / time.as_nanos().max(1)
+}
+
+impl Figures {
+    /// How many bytes the messages have.
+    fn bytes(&self) -> u64
+        ensures { result ≡ min (8 * self.now.messages) u64.MAX }
+    {
+        self.messages.saturating_mul(8)
+    }
+
+    fn write_row<W: fmt::Write>(
+        &self,
+        name: &str,
+        time: Duration,
+        f: &mut fmt::Formatter<W>,
+    ) -> fmt::Result {
+        let millis = time.as_millis();
+        let messages = a_second(self.messages, time);
+        let bytes = a_second(self.bytes(), time);
+        writeln!(
+            f,
+            "{name:16} {millis:>6} ms {messages:>12} messages/s {bytes:>12} bytes/s"
+        )
+    }
+}
+
+impl fmt::Display for Figures {
+    fn fmt<W: fmt::Write>(&self, f: &mut fmt::Formatter<W>) -> fmt::Result {
+        let messages = self.messages;
+        let bytes = self.bytes();
+        let Packets {
+            number,
+            bytes: length,
+        } = self.packets;
+        writeln!(
+            f,
+            "{messages} messages of {bytes} bytes, in {number} packets of {length} bytes"
+        )?;
+        self.write_row("plain copy", self.copying, f)?;
+        self.write_row("lane and builder", self.packing, f)
+    }
+}

@@ -1,0 +1,33 @@
+//! The program `r10_bench`, run by hand: how many small UART messages a second go through a lane and a builder, beside a
+//! plain copy of the same bytes.
+#![tactic(auto)]
+
+mod bench;
+mod copy;
+mod fault;
+mod figures;
+mod messages;
+mod path;
+
+use fault::Fault;
+use std::io;
+use std::process::ExitCode;
+use std::rt::Env;
+
+/// How many messages the command line asks for.
+fn number_of<R: Env + AllocGlobal>(rt: &R) -> io::Result<Option<u32>> {
+    match std::env::args(rt)?.nth(1) {
+        Some(word) => Ok(word.parse().ok()),
+        None => Ok(None),
+    }
+}
+
+fn main(rt: HostRuntime) -> Result<ExitCode, Fault> {
+    let Some(number) = number_of(&rt)? else {
+        println!(rt; "usage: r10_bench MESSAGES")?;
+        return Ok(ExitCode::from(2));
+    };
+    let figures = bench::run(&rt, rt.alloc(), number)?;
+    print!(rt; "{figures}")?;
+    Ok(ExitCode::SUCCESS)
+}
