@@ -4,6 +4,8 @@
 mod command;
 mod fault;
 mod input;
+#[cfg(test)]
+mod kind_tests;
 mod sim;
 #[cfg(test)]
 mod tests;

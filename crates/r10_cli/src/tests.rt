@@ -159,13 +159,13 @@ fn words_of(alloc: Global, texts: &[&str]) -> Result<Vec<String>, Fail> {
 }
 
 /// What a command answers and writes.
-struct Outcome {
-    status: u8,
-    lines: String,
-    faults: String,
+pub(crate) struct Outcome {
+    pub(crate) status: u8,
+    pub(crate) lines: String,
+    pub(crate) faults: String,
 }
 
-fn outcome_of(alloc: Global, texts: &[&str], input: &str) -> Result<Outcome, Fail> {
+pub(crate) fn outcome_of(alloc: Global, texts: &[&str], input: &str) -> Result<Outcome, Fail> {
     let words = words_of(alloc, texts)?;
     let mut reader = input.as_bytes();
     let mut lines = Vec::new(alloc);
