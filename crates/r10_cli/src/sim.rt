@@ -2,7 +2,7 @@
 
 ghost use Rattle.std.specs.Prelude.{◌≡◌, ◌<◌, ◌+◌, ◌^◌, ℕ, [], length, IfOk, OnOk};
 ghost use Rattle.r10_machine.specs.Machine.{Machine, fresh};
-ghost use Rattle.r10_world.specs.Files.{IsFormatted};
+ghost use Rattle.r10_control.specs.Files.{IsFormatted};
 ghost use Rattle.r10_cli.specs.Lines.{WritesLines, RunsAndWrites, IsReady};
 
 use crate::fault::Fault;
@@ -51,7 +51,7 @@ fn fresh_world<M: BlockMedium + Drop>(
     ensures machine { IfOk result (λ w. w.machine ≡ fresh settings.channels [] (M.disk w.medium).failures) }
     ensures formatted { IfOk result (λ w. IsFormatted (M.disk w.medium).blocks) }
 {
-    match r10_world::format(&mut medium, &settings) {
+    match r10_control::format(&mut medium, &settings) {
         Ok(()) => (),
         Err(Refusal::OutOfMemory) => return Err(Fault::Memory(AllocError)),
         Err(refusal) => return Err(Fault::Format(refusal)),

@@ -17,12 +17,8 @@ use Rattle.r10_machine.specs.Machine.{Machine, lane_of, cursor_of, with_lane}
 use Rattle.r10_machine.specs.Checks.{refusal, is_recording, offer_checks}
 use Rattle.r10_machine.specs.Calls.{TicksIn, overflowed}
 use Rattle.r10_machine.specs.Step.{Run, Step, Answers, Replies, Refuses, GivesUp, Does, after_refusal}
-use Rattle.r10_machine.specs.Limits.{IsConfig}
-use Rattle.r10_machine.specs.Sound.{IsSound}
-use Rattle.r10_machine.proofs.Steady.{sound_with}
-use Rattle.r10_machine.proofs.Steps.{step_sound}
-use Rattle.r10_world.specs.Files.{IsFormatted}
-use Rattle.r10_world.specs.Going.{Goes, stepped, unread}
+use Rattle.r10_control.specs.Files.{IsFormatted}
+use Rattle.r10_control.specs.Going.{Goes, stepped, unread}
 
 -- ---- what is unmounted was unmounted before
 
@@ -127,11 +123,6 @@ pub still_formatted : (s : Config) (old : Machine) (event : Event) (reply : Repl
     → Goes s before old event reply new → (old.mode ≡ modes.Unmounted → IsFormatted before) → (new.mode ≡ modes.Unmounted → later ≡ before) → new.mode ≡ modes.Unmounted → IsFormatted later
 still_formatted s old event reply new before later goes formatted same unmounted =
     subst IsFormatted (sym (same unmounted)) (formatted (was_unmounted s old event reply new (goes_step s before old event reply new goes formatted) unmounted))
-
--- and a sound state stays sound
-pub goes_sound : (s : Config) (image : Image) (old : Machine) (event : Event) (reply : Reply) (new : Machine) → IsConfig s → IsSound s old → Goes s image old event reply new → IsSound s new
-goes_sound s image old event reply new limits sound (stepped step) = step_sound s old event reply new limits sound step
-goes_sound s image old event reply new limits sound (unread u) = subst (IsSound s) (sym u.same) (sound_with s old old.cursors new.failures sound sound.cursors)
 
 -- ---- one event more
 

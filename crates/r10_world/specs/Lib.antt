@@ -1,12 +1,1 @@
-pub mod Blocks
 pub mod Copies
-pub mod Cursors
-pub mod Files
-pub mod Going
-pub mod Inside
-pub mod Kept
-pub mod Lanes
-pub mod Notes
-pub mod Saying
-pub mod State
-pub mod Vectors

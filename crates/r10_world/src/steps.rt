@@ -1,32 +1,17 @@
-//! Steps and runs of a recorder.
+//! Runs of a recorder.
 
 ghost use Rattle.std.specs.Prelude.{◌≡◌, ◌<◌, ◌≤◌, ◌+◌, Ok, Err, IfOk, OnErr, length, take, drop, vec_len};
-ghost use Rattle.r10_machine.specs.Limits.{IsConfig};
-ghost use Rattle.r10_machine.specs.Sound.{IsSound};
 ghost use Rattle.r10_machine.specs.Step.{Run};
 ghost use Rattle.r10_machine.specs.declared.reply.Mode.TheVariants as modes;
-ghost use Rattle.r10_machine.specs.declared.reply.Reply.TheVariants as replies;
 ghost use Rattle.r10_world.specs.Copies.{IsCopy};
-ghost use Rattle.r10_world.specs.Files.{IsFormatted};
-ghost use Rattle.r10_world.specs.Going.{Goes};
-ghost use Rattle.r10_world.specs.Saying.{MediumSays};
+ghost use Rattle.r10_control.specs.Files.{IsFormatted};
+ghost use Rattle.r10_control.specs.Saying.{MediumSays};
 
-use crate::recorder::Recorder;
 use crate::world::World;
-use r10_body::{Message, Refusal};
+use r10_body::Message;
 use r10_machine::{Event, Reply, runs_join};
 use r10_medium::BlockMedium;
 use std::alloc::{AllocError, Global};
-
-/// What a call answered.
-fn done(answer: Result<(), Refusal>) -> Reply
-    ensures { result ≡ elim answer [ Ok u ↦ replies.Done | Err r ↦ replies.Refused r ] }
-{
-    match answer {
-        Ok(()) => Reply::Done,
-        Err(refusal) => Reply::Refused(refusal),
-    }
-}
 
 /// A copy of the message that is offered, if the event is an offer.
 fn message_of(alloc: Global, event: &Event) -> Result<Option<Message>, AllocError>
@@ -35,55 +20,6 @@ fn message_of(alloc: Global, event: &Event) -> Result<Option<Message>, AllocErro
     match event {
         Event::Offer { message, .. } => Ok(Some(message.copied(alloc)?)),
         _ => Ok(None),
-    }
-}
-
-impl<M: BlockMedium> Recorder<M> {
-    /// One event. An offer takes the copy of its message.
-    pub(crate) fn step(&mut self, event: &Event, copy: Option<Message>) -> Reply
-        requires copy { IsCopy event.now copy }
-        requires limits { IsConfig self.old.config }
-        requires sound { IsSound self.old.config self.old.machine }
-        ensures goes { Goes self.old.config (M.disk self.old.medium).blocks self.old.machine event.now result self.new.machine }
-        ensures config { self.new.config ≡ self.old.config }
-        ensures unmounted { self.new.machine.mode ≡ modes.Unmounted → (M.disk self.new.medium).blocks ≡ (M.disk self.old.medium).blocks }
-        ensures says { MediumSays (M.disk self.old.medium).blocks self.old.machine.files → MediumSays (M.disk self.new.medium).blocks self.new.machine.files }
-    {
-        match event {
-            Event::Mount => done(self.mount()),
-            Event::Tick { count, parts } => done(self.tick(*count, *parts)),
-            Event::Start { name, setup } => done(self.start(name, setup)),
-            Event::Offer { channel, count, .. } => match copy {
-                Some(message) => done(self.offer(*channel, *count, message)),
-                None => Reply::Refused(Refusal::OutOfMemory),
-            },
-            Event::Pump { channel, most } => match self.pump(*channel, *most) {
-                Ok(moved) => Reply::Moved(moved),
-                Err(refusal) => Reply::Refused(refusal),
-            },
-            Event::Stop => match self.stop() {
-                Ok(stopped) => Reply::Stopped(stopped),
-                Err(refusal) => Reply::Refused(refusal),
-            },
-            Event::Cursor {
-                file,
-                channels,
-                from,
-                to,
-            } => match self.cursor(*file, channels, *from, *to) {
-                Ok(id) => Reply::Cursor(id),
-                Err(refusal) => Reply::Refused(refusal),
-            },
-            Event::Advance { id } => match self.advance(*id) {
-                Ok(queued) => Reply::Advanced(queued),
-                Err(refusal) => Reply::Refused(refusal),
-            },
-            Event::Next { id } => match self.next(*id) {
-                Ok(given) => Reply::Next(given),
-                Err(refusal) => Reply::Refused(refusal),
-            },
-            Event::Close { id } => done(self.close(*id)),
-        }
     }
 }
 
@@ -111,7 +47,7 @@ pub fn run<M: BlockMedium>(
     ensures replies_kept { OnErr result (replies.new.items ≡ replies.old.items) }
 {
     runs_join();
-    let alloc = world.recorder.alloc;
+    let alloc = world.alloc();
     for (i, event) in events.iter().enumerate() {
         let copy = message_of(alloc, event);
         let place = replies.reserve(1);

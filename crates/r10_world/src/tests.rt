@@ -1,5 +1,6 @@
-use crate::{World, format, run};
+use crate::{World, run};
 use r10_body::{ChannelSpec, Entry, Kind, Message, Refusal};
+use r10_control::format;
 use r10_count::{Civil, Count, Items, Parts};
 use r10_machine::{Event, Reply, Settings, Stopped};
 use r10_medium::{BlockMedium, Memory};

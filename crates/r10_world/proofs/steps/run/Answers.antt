@@ -17,7 +17,7 @@ loop-i-preserved g c =
     let reply = c.step-reply.result in
     let so_far = c.loop-i.invariant in
     let here : c.loop-i.i < length c.args.events.now = omega arith in
-    let longer : ys ≡ xs ++ reply ∷ [] = c.push_reserved.ensures.items ∙ ap (λ (l : List Reply). l ++ reply ∷ []) c.reserve-place.ensures.items in
+    let longer : ys ≡ xs ++ reply ∷ [] = ◌∙◌ {A = List Reply} c.push_reserved.ensures.items (ap (λ (l : List Reply). l ++ reply ∷ []) c.reserve-place.ensures.items) in
     let within : n ≤ length xs = omega (arith, so_far.count, c.loop-i.replies.ok.0) in
     record {
       run = λ formatted.

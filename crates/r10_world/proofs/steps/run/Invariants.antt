@@ -1,8 +1,8 @@
 use Rattle.std.proofs.Common.{◌≡◌, ◌+◌, take, drop, vec_len}
 use Rattle.r10_machine.specs.Step.{Run}
 use Rattle.r10_machine.specs.declared.reply.Mode.TheVariants as modes
-use Rattle.r10_world.specs.Files.{IsFormatted}
-use Rattle.r10_world.specs.Saying.{MediumSays}
+use Rattle.r10_control.specs.Files.{IsFormatted}
+use Rattle.r10_control.specs.Saying.{MediumSays}
 use Rattle.r10_world.proofs.steps.run.Given as goal
 
 abbrev pub invariant-loop-i : goal.invariant-loop-i

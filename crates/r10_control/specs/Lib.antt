@@ -1,0 +1,10 @@
+pub mod Blocks
+pub mod Files
+pub mod Going
+pub mod Inside
+pub mod Kept
+pub mod Lanes
+pub mod Notes
+pub mod Saying
+pub mod State
+pub mod Vectors
