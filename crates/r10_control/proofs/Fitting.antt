@@ -90,8 +90,8 @@ open_more s k l entries is_open follows fits =
 
 pub pumped : (s : Config) (lane after : Lane) (most : ℕ) (k l : Kept) (n room : ℕ) (taken : List Entry) → room ≡ area s k.file → taken ≡ take n (take most (waiting_entries lane))
     → n ≡ fitting room (cost_of k.file) (take most (waiting_entries lane)) → first_fits room (cost_of k.file) (take most (waiting_entries lane)) ≡ true → IsOpen s k
-    → after ≡ without n lane → Follows s k l taken → l.created ≡ k.created → PumpsLane s lane most k (Ok n) after l
-pumped s lane after most k l n room taken here is count first is_open dropped follows created =
+    → after ≡ without n lane → Follows s k l taken → PumpsLane s lane most k (Ok n) after l
+pumped s lane after most k l n room taken here is count first is_open dropped follows =
     let asked : List Entry = take most (waiting_entries lane) in
     let few : n ≤ most = omega (arith, count, fitting_within room (cost_of k.file) asked, length-take most (waiting_entries lane)) in
     let same : taken ≡ take n (waiting_entries lane) = is ∙ take-take n most (waiting_entries lane) few in
@@ -102,14 +102,13 @@ pumped s lane after most k l n room taken here is count first is_open dropped fo
       λ some. omega (arith, count, some_fit room (cost_of k.file) asked first some),
       dropped,
       follows.file ∙ ap (λ (es : List Entry). with_entries es k.file) same,
-      created,
       follows.grows,
       open_more s k l taken is_open follows cost,
     )
 
 pub noted : (s : Config) (k l : Kept) (entry e : Entry) (room : ℕ) → entry ≡ e → room ≡ area s k.file → nat_le (cost_of k.file + (104 + message_cost entry.message)) room ≡ true → IsOpen s k
-    → Follows s k l (entry ∷ []) → l.created ≡ k.created → Notes s (Some k) e (Ok tt) (Some l)
-noted s k l entry e room same here has is_open follows created =
+    → Follows s k l (entry ∷ []) → Notes s (Some k) e (Ok tt) (Some l)
+noted s k l entry e room same here has is_open follows =
     let fine : nat_le (cost_of k.file + entry_cost entry) (area s k.file) ≡ true = subst (λ (a : ℕ). nat_le (cost_of k.file + entry_cost entry) a ≡ true) here has in
     let cost : cost_of k.file + sum_by entry_cost (entry ∷ []) ≤ area s k.file = omega (arith, sum_by-cons entry_cost entry [], leb-true (cost_of k.file + entry_cost entry) (area s k.file) fine) in
-    subst (λ (x : Entry). Notes s (Some k) x (Ok tt) (Some l)) same (fine, (follows.file, created, follows.grows, open_more s k l (entry ∷ []) is_open follows cost))
+    subst (λ (x : Entry). Notes s (Some k) x (Ok tt) (Some l)) same (fine, (follows.file, follows.grows, open_more s k l (entry ∷ []) is_open follows cost))

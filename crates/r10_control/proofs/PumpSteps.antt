@@ -66,7 +66,7 @@ known channels lanes channel i lane same some at here =
 moved : (s : Config) (tick : Option Tick) (lanes : List Lane) (image : Image) (k l : Kept) (cursors : List (Option Cursor)) (failures channel most i n : ℕ) (lane after : Lane)
     → IsAt (is_channel channel) lanes i lane → lane ≡ get_or lanes i lane → PumpsLane s lane most k (Ok n) after l
     → Step s (machine_of Recording tick lanes image (Some k) cursors failures) (event.Pump channel most) (reply.Moved n) (machine_of Recording tick (set lanes i after) image (Some l) cursors failures)
-moved s tick lanes image k l cursors failures channel most i n lane after at here (count, some, dropped, file, created, grows, is_open) =
+moved s tick lanes image k l cursors failures channel most i n lane after at here (count, some, dropped, file, grows, is_open) =
     let found : find (is_channel channel) lanes ≡ Some lane = at.found ∙ ap (λ (x : Lane). Some x) (sym here) in
     let changed : set lanes i after ≡ change_first (is_channel channel) (without n) lanes = ap (set lanes i) (dropped ∙ ap (without n) here) ∙ sym (at.changed (without n)) in (
       omega arith,
@@ -133,7 +133,7 @@ stands_some image (Some d) k l entries same grows shown size stands = stands_mor
 
 pub pumped_agrees : (s : Config) (mode : Mode) (image : Image) (d : Option DirBlock) (k l : Kept) (lane after : Lane) (most : ℕ) (result : Result ℕ Refusal)
     → first_broken (recording_checks mode) ≡ None → Agrees mode s image d (Some k) → PumpsLane s lane most k result after l → Agrees mode s image d (Some l)
-pumped_agrees s Recording image d k l lane after most (Ok n) fine (is_open, stands) (count, some, dropped, file, created, grows, opened) = (opened, stands_some image d k l (take n (waiting_entries lane)) file grows is_open.shown is_open.size stands)
+pumped_agrees s Recording image d k l lane after most (Ok n) fine (is_open, stands) (count, some, dropped, file, grows, opened) = (opened, stands_some image d k l (take n (waiting_entries lane)) file grows is_open.shown is_open.size stands)
 pumped_agrees s Recording image d k l lane after most (Err r) fine agrees (lacks, same, kept) = subst (λ (x : Kept). Agrees Recording s image d (Some x)) (sym kept) agrees
 pumped_agrees s Unmounted image d k l lane after most result fine agrees pumps = absurd (cc)
 pumped_agrees s Idle image d k l lane after most result fine agrees pumps = absurd (cc)
@@ -142,7 +142,7 @@ pumped_agrees s Failed image d k l lane after most result fine agrees pumps = ab
 pub noted_agrees : (s : Config) (mode : Mode) (image : Image) (d : Option DirBlock) (file later : Option Kept) (e : Entry) → true ≡ sameb the_type mode Recording → Agrees mode s image d file → Notes s file e (Ok tt) later → Agrees mode s image d later
 noted_agrees s Recording image d None later e is agrees notes = absurd agrees.0
 noted_agrees s Recording image d (Some k) None e is agrees notes = absurd notes.1
-noted_agrees s Recording image d (Some k) (Some l) e is (is_open, stands) (room, (file, created, grows, opened)) = (opened, stands_some image d k l (e ∷ []) file grows is_open.shown is_open.size stands)
+noted_agrees s Recording image d (Some k) (Some l) e is (is_open, stands) (room, (file, grows, opened)) = (opened, stands_some image d k l (e ∷ []) file grows is_open.shown is_open.size stands)
 noted_agrees s Idle image d file later e is agrees notes = absurd (cc)
 noted_agrees s Unmounted image d file later e is agrees notes = absurd (cc)
 noted_agrees s Failed image d file later e is agrees notes = absurd (cc)

@@ -1,14 +1,12 @@
 -- A file that is kept in memory while it is recorded.
 use Rattle.std.specs.Prelude.{◌≡◌, ◌≤◌, ◌++◌, ℕ, true, false, List, [], ◌∷◌, length}
-use Rattle.r10_count.specs.declared.civil.Parts.{Parts}
 use Rattle.r10_dirblock.specs.Texts.{IsStripped}
 use Rattle.r10_body.specs.declared.entry.Entry.{Entry}
 use Rattle.r10_machine.specs.Machine.{File}
 
--- the file, when it was created, and its bytes, of which the medium shows the first
+-- the file and its bytes, of which the medium shows the first
 pub record Kept : Type 0 where
   pub file : File
-  pub created : Parts
   pub bytes : List ℕ
 
 -- a file has kept its bytes, and may have more behind them

@@ -1,4 +1,5 @@
 pub mod Blocks
+pub mod Directory
 pub mod Files
 pub mod Going
 pub mod Inside

@@ -21,7 +21,7 @@ Lacks s f e r = ⊥
 abbrev pub Notes : Config → Option Kept → Entry → Result (Unit {0}) Refusal → Option Kept → Type 0
 Notes s None e result new = Unit {0}
 Notes s (Some k) e result new = MatchResult result
-    (λ _. (fits s k.file e ≡ true) × IsSomeAnd new (λ l. (l.file ≡ with_entries (e ∷ []) k.file) × (l.created ≡ k.created) × Grows k l × IsOpen s l))
+    (λ _. (fits s k.file e ≡ true) × IsSomeAnd new (λ l. (l.file ≡ with_entries (e ∷ []) k.file) × Grows k l × IsOpen s l))
     (λ r. Lacks s k.file e r × (new ≡ Some k))
 
 -- the first of these entries has room behind what costs so much, or there is none
@@ -40,7 +40,7 @@ abbrev pub PumpsLane : Config → Lane → ℕ → Kept → Result ℕ Refusal �
 PumpsLane s lane most k result after l =
     let asked : List Entry = take most (waiting_entries lane) in
     MatchResult result
-    (λ n. (n ≡ room_for s k.file asked) × (0 < length asked → 0 < n) × (after ≡ without n lane) × (l.file ≡ with_entries (take n (waiting_entries lane)) k.file) × (l.created ≡ k.created) × Grows k l × IsOpen s l)
+    (λ n. (n ≡ room_for s k.file asked) × (0 < length asked → 0 < n) × (after ≡ without n lane) × (l.file ≡ with_entries (take n (waiting_entries lane)) k.file) × Grows k l × IsOpen s l)
     (λ r. LacksFirst s k asked r × (after ≡ lane) × (l ≡ k))
 
 -- there is a new file with the time of a tick, or no room or no memory for it

@@ -1,11 +1,12 @@
 //! A recorder over a medium, in one thread, whose states are sound.
 
-ghost use Rattle.std.specs.Prelude.{◌≡◌, [], length, IfOk, IfErr, MatchResult};
+ghost use Rattle.std.specs.Prelude.{◌≡◌, [], length, IfOk, IfErr, OnOk, MatchResult};
 ghost use Rattle.r10_machine.specs.Machine.{fresh};
 ghost use Rattle.r10_machine.specs.Step.{Answers};
 ghost use Rattle.r10_machine.specs.declared.event.Event.TheVariants as event;
 ghost use Rattle.r10_machine.specs.declared.reply.Mode.TheVariants as modes;
 ghost use Rattle.r10_machine.specs.declared.reply.Reply.TheVariants as reply;
+ghost use Rattle.r10_control.specs.Directory.{in_use, Rereads, RereadsBegun, RereadsClosed};
 ghost use Rattle.r10_control.specs.Files.{IsFormatted};
 ghost use Rattle.r10_control.specs.Going.{Goes};
 ghost use Rattle.r10_control.specs.Saying.{MediumSays};
@@ -76,6 +77,7 @@ impl<M: BlockMedium> Recorder<M> {
         ensures config { self.new.config ≡ self.old.config }
         ensures unmounted { self.new.machine.mode ≡ modes.Unmounted → (M.disk self.new.medium).blocks ≡ (M.disk self.old.medium).blocks }
         ensures says { MediumSays (M.disk self.old.medium).blocks self.old.machine.files → MediumSays (M.disk self.new.medium).blocks self.new.machine.files }
+        ensures in_use { OnOk result (Rereads (M.disk self.old.medium).blocks (M.disk self.new.medium).blocks in_use) }
     {
         self.inner.mount()
     }
@@ -98,6 +100,7 @@ impl<M: BlockMedium> Recorder<M> {
         ensures config { self.new.config ≡ self.old.config }
         ensures unmounted { self.new.machine.mode ≡ modes.Unmounted → (M.disk self.new.medium).blocks ≡ (M.disk self.old.medium).blocks }
         ensures says { MediumSays (M.disk self.old.medium).blocks self.old.machine.files → MediumSays (M.disk self.new.medium).blocks self.new.machine.files }
+        ensures begun { OnOk result (RereadsBegun (M.disk self.old.medium).blocks (M.disk self.new.medium).blocks self.old.machine.tick self.new.machine.files) }
     {
         self.inner.start(name, setup)
     }
@@ -131,6 +134,7 @@ impl<M: BlockMedium> Recorder<M> {
         ensures config { self.new.config ≡ self.old.config }
         ensures unmounted { self.new.machine.mode ≡ modes.Unmounted → (M.disk self.new.medium).blocks ≡ (M.disk self.old.medium).blocks }
         ensures says { MediumSays (M.disk self.old.medium).blocks self.old.machine.files → MediumSays (M.disk self.new.medium).blocks self.new.machine.files }
+        ensures closed { OnOk result (RereadsClosed (M.disk self.old.medium).blocks (M.disk self.new.medium).blocks self.old.machine.tick self.new.machine.files) }
     {
         self.inner.stop()
     }

@@ -1,4 +1,4 @@
-use Rattle.std.proofs.Common.{◌≡◌, ◌≤◌, ◌+◌, ◌∙◌, ℕ, List, length, Option, Some, None, refl, subst, IsSomeAnd}
+use Rattle.std.proofs.Common.{◌≡◌, ◌≤◌, ◌+◌, ◌∙◌, ℕ, List, [], ◌∷◌, length, Option, Some, None, refl, subst, IsSomeAnd}
 use Rattle.std.specs.Prelude.{is_some}
 use Rattle.r10_count.specs.Checks.{first_broken}
 use Rattle.r10_body.specs.declared.entry.Entry.{Entry}
@@ -15,10 +15,12 @@ use Rattle.r10_machine.specs.declared.event.Event.TheVariants as event
 use Rattle.r10_machine.specs.declared.reply.Mode.TheVariants.{Recording, Failed}
 use Rattle.r10_machine.specs.declared.reply.Reply.TheVariants as reply
 use Rattle.r10_control.specs.Blocks.{ShowsAs, ShowsSome, file_blocks}
+use Rattle.r10_control.specs.Directory.{begun_entry, Rereads, RereadsBegun, with_files}
 use Rattle.r10_control.specs.Files.{machine_of, Shows, Stands}
 use Rattle.r10_control.specs.Inside.{IsOpen}
 use Rattle.r10_control.specs.Kept.{Kept, begun}
 use Rattle.r10_control.specs.State.{State}
+use Rattle.r10_control.proofs.Listing.{rereads}
 use Rattle.r10_control.proofs.Showing.{begun_says, shows_begun, stands_says}
 use Rattle.r10_control.proofs.Shown.{block_1}
 use Rattle.r10_control.proofs.StartSteps.{begin_of, beside_of, beside_refused, begin_refused, start_done, start_fails, either_listed, nothing_beside, idle_stands, named}
@@ -145,3 +147,18 @@ returns-clause-says g c = λ says.
       shows = its_shows w.settings disk later c.in-Ok.file c.args.name.now c.args.setup.now (time_entry w.settings c.in-Some.tick) c.first_block.result c.bytes.result.now c.listing_begun-directory.result i.blocks c.show_file-shown.ensures.blocks i.reserved
           c.first_block.ensures c.bytes.ensures.value c.in-Ok.ensures.1 c.in-Ok.ensures.2 c.in-Ok-shown.ensures.shown;
     })
+
+pub returns-clause-begun : goal.returns-clause-begun
+returns-clause-begun g c =
+    let w = c.self.inside in
+    let disk = g.M.BlockMedium.disk w.medium in
+    let later = g.M.BlockMedium.disk c.show_file-shown.new.medium in
+    let k = c.in-Ok.file in
+    let tick = c.in-Some.tick in
+    let stands : IsSomeAnd w.directory (λ d. Stands disk.blocks d w.file) = idle_stands w.mode w.settings disk.blocks w.directory w.file c.in_ok-check_idle.ensures c.self.invariant.agrees in
+    let here : Stands disk.blocks c.in-Some-directory.directory w.file = rw c.in-Some-directory.is at stands in
+    let told : c.listing_begun-directory.result ≡ with_files (begun_entry k.file tick.civil ∷ []) c.in-Some-directory.directory = rw c.civil.ensures at c.listing_begun-directory.ensures.value in
+    let all : Rereads disk.blocks later.blocks (with_files (begun_entry k.file tick.civil ∷ [])) =
+    rereads disk.blocks later.blocks c.in-Some-directory.directory c.listing_begun-directory.result (with_files (begun_entry k.file tick.civil ∷ [])) here.reads c.in-Ok-shown.ensures.shown.reads told in
+    subst (λ (v : State _). RereadsBegun (g.M.BlockMedium.disk v.medium).blocks later.blocks v.machine.tick (k.file ∷ [])) c.self.view_is
+    (rw c.in-Some.is all)

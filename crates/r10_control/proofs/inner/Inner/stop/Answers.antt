@@ -1,4 +1,4 @@
-use Rattle.std.proofs.Common.{◌≡◌, ◌∙◌, ◌≤◌, ◌++◌, [], ◌∷◌, ℕ, length, take, Some, Ok, refl, sym, ap, subst, List}
+use Rattle.std.proofs.Common.{◌≡◌, ◌∙◌, ◌≤◌, ◌++◌, [], ◌∷◌, ℕ, length, map, take, Some, Ok, refl, sym, ap, subst, List}
 use Rattle.std.specs.List.{AllByRecursion}
 use Rattle.r10_body.specs.Files.{on_channel}
 use Rattle.r10_body.specs.Rules.{Rise}
@@ -17,6 +17,7 @@ use Rattle.r10_machine.specs.declared.event.Event.TheVariants as event
 use Rattle.r10_machine.specs.declared.reply.Mode.TheVariants.{Idle, Failed}
 use Rattle.r10_machine.specs.declared.reply.Reply.TheVariants as reply
 use Rattle.r10_control.specs.Blocks.{ShowsAs, ShowsSome, file_blocks}
+use Rattle.r10_control.specs.Directory.{closed_entry, Rereads, RereadsClosed, with_files}
 use Rattle.r10_control.specs.Files.{machine_of, Shows, Stands}
 use Rattle.r10_control.specs.Inside.{IsOpen}
 use Rattle.r10_control.specs.Kept.{Grows, Kept, closed_kept}
@@ -26,7 +27,8 @@ use Rattle.r10_control.specs.Saying.{MediumSays}
 use Rattle.r10_control.specs.State.{State}
 use Rattle.r10_control.proofs.Following.{stop_rises}
 use Rattle.r10_control.proofs.Fronts.{few_without, specs_without}
-use Rattle.r10_control.proofs.PumpSteps.{stands_more}
+use Rattle.r10_control.proofs.Listing.{rereads}
+use Rattle.r10_control.proofs.PumpSteps.{lists_more, stands_more}
 use Rattle.r10_control.proofs.Showing.{closed_says, first_unshown, shows_closed, stands_says, unshown}
 use Rattle.r10_control.proofs.Shown.{block_1}
 use Rattle.r10_control.proofs.StopSteps.{stop_done, stop_fails, either_listed, taken_are, recording_stands}
@@ -65,7 +67,7 @@ returns-in_default-show_file-clause-step g c =
     (rw c.in-Some-file.is
     (stop_fails w.settings w.mode w.tick w.lanes.items disk.blocks later.blocks k l w.cursors.slots disk.failures later.failures c.in-Ok.taken c.in_ok-check_recording.ensures takes
     c.show_file.ensures.counts.no_fewer (c.in_default-show_file.ensures.counts.cause refl) both.0.shown
-    (either_listed w.settings disk.blocks later.blocks c.in-Some-directory.directory c.listing_closed-directory.result k l (take c.in-Ok.taken (all_waiting w.lanes.items)) takes.1 takes.3 here (block_1 _ _ _ _ _ c.show_file.ensures.either) c.listing_closed-directory.ensures.lists)))
+    (either_listed w.settings disk.blocks later.blocks c.in-Some-directory.directory c.listing_closed-directory.result k l (take c.in-Ok.taken (all_waiting w.lanes.items)) takes.1 takes.3 here (block_1 _ _ _ _ _ c.show_file.ensures.either) (c.listing_closed-directory.ensures.lists (lists_more c.in-Some-directory.directory.entries k c.take_waiting.new.file (take c.in-Ok.taken (all_waiting w.lanes.items)) takes.1 here.lists)))))
 
 pub held_by-requires-clause-few : goal.held_by-requires-clause-few
 held_by-requires-clause-few g c =
@@ -96,7 +98,7 @@ invariant_of-self-2 g c =
     let whole : Stands later.blocks c.listing_closed-directory.result (Some (closed_kept c.take_waiting.new.file)) = record {
       reads = c.in-Ok-show_file.ensures.shown.reads;
       root = c.listing_closed-directory.ensures.root here.root;
-      lists = c.listing_closed-directory.ensures.lists;
+      lists = (c.listing_closed-directory.ensures.lists (lists_more c.in-Some-directory.directory.entries k c.take_waiting.new.file (take c.in-Ok.taken (all_waiting w.lanes.items)) takes.1 here.lists));
       shows = its_shows w.settings disk later c.in-Some-directory.directory k c.take_waiting.new.file (take c.in-Ok.taken (all_waiting w.lanes.items)) c.first_unshown-first.result c.unshown.result.now c.listing_closed-directory.result
           i.blocks c.show_file.ensures.blocks i.reserved takes.1 takes.2 both.0 takes.3 here c.first_unshown-first.ensures c.unshown.ensures.value c.in-Ok-show_file.ensures.shown;
     } in
@@ -140,7 +142,7 @@ returns-in_default-show_file-clause-says g c = λ says.
     let both = recording_stands w.mode w.settings disk.blocks w.directory k c.in_ok-check_recording.ensures (rw c.in-Some-file.is at i.agrees) in
     let here : Stands disk.blocks c.in-Some-directory.directory (Some k) = rw c.in-Some-directory.is at both.1 in
     closed_says w.settings disk.blocks later.blocks k l (take c.in-Ok.taken (all_waiting w.lanes.items)) c.in-Some-directory.directory new i.blocks c.show_file.ensures.blocks (whole_reads disk) (whole_reads later) i.reserved
-    takes.1 takes.2 both.0 takes.3 here c.listing_closed-directory.ensures.root c.listing_closed-directory.ensures.lists
+    takes.1 takes.2 both.0 takes.3 here c.listing_closed-directory.ensures.root (c.listing_closed-directory.ensures.lists (lists_more c.in-Some-directory.directory.entries k c.take_waiting.new.file (take c.in-Ok.taken (all_waiting w.lanes.items)) takes.1 here.lists))
     (subst (λ (n : ℕ). ShowsSome n (file_blocks (unshown l)) new disk.blocks later.blocks) c.first_unshown-first.ensures
     (subst (λ (b : List ℕ). ShowsSome c.first_unshown-first.result (file_blocks b) new disk.blocks later.blocks) c.unshown.ensures.value c.show_file.ensures.either))
 
@@ -158,7 +160,24 @@ returns-clause-says g c = λ says.
     (stands_says later.blocks c.listing_closed-directory.result (Some (closed_kept c.take_waiting.new.file)) (record {
       reads = c.in-Ok-show_file.ensures.shown.reads;
       root = c.listing_closed-directory.ensures.root here.root;
-      lists = c.listing_closed-directory.ensures.lists;
+      lists = (c.listing_closed-directory.ensures.lists (lists_more c.in-Some-directory.directory.entries k c.take_waiting.new.file (take c.in-Ok.taken (all_waiting w.lanes.items)) takes.1 here.lists));
       shows = its_shows w.settings disk later c.in-Some-directory.directory k c.take_waiting.new.file (take c.in-Ok.taken (all_waiting w.lanes.items)) c.first_unshown-first.result c.unshown.result.now c.listing_closed-directory.result
           i.blocks c.show_file.ensures.blocks i.reserved takes.1 takes.2 both.0 takes.3 here c.first_unshown-first.ensures c.unshown.ensures.value c.in-Ok-show_file.ensures.shown;
     }))
+
+pub returns-clause-closed : goal.returns-clause-closed
+returns-clause-closed g c =
+    let w = c.self.inside in
+    let disk = g.M.BlockMedium.disk w.medium in
+    let later = g.M.BlockMedium.disk c.show_file.new.medium in
+    let k = c.in-Some-file.file in
+    let l = c.take_waiting.new.file in
+    let tick = c.in-Some.tick in
+    let both = recording_stands w.mode w.settings disk.blocks w.directory k c.in_ok-check_recording.ensures (rw c.in-Some-file.is at c.self.invariant.agrees) in
+    let here : Stands disk.blocks c.in-Some-directory.directory (Some k) = rw c.in-Some-directory.is at both.1 in
+    let told : c.listing_closed-directory.result ≡ with_files (map (closed_entry (length l.bytes) tick.civil) c.in-Some-directory.directory.entries) c.in-Some-directory.directory =
+    rw c.civil.ensures at c.listing_closed-directory.ensures.value in
+    let all : Rereads disk.blocks later.blocks (λ d. with_files (map (closed_entry (length l.bytes) tick.civil) d.entries) d) =
+    rereads disk.blocks later.blocks c.in-Some-directory.directory c.listing_closed-directory.result (λ d. with_files (map (closed_entry (length l.bytes) tick.civil) d.entries) d) here.reads c.in-Ok-show_file.ensures.shown.reads told in
+    subst (λ (v : State _). RereadsClosed (g.M.BlockMedium.disk v.medium).blocks later.blocks v.machine.tick (c.close.new.self.file ∷ [])) c.self.view_is
+    (rw (c.in-Some.is, c.close.ensures) all)
