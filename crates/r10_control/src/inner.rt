@@ -123,7 +123,7 @@ impl<M: BlockMedium> Inner<M> {
     ) -> Result<(), Refusal>
         ensures step { Answers self.old.config self.old.machine (event.Offer channel count message) (λ _. reply.Done) result self.new.machine }
         ensures config { self.new.config ≡ self.old.config }
-        ensures unmounted { self.new.machine.mode ≡ modes.Unmounted → (M.disk self.new.medium).blocks ≡ (M.disk self.old.medium).blocks }
+        ensures medium { self.new.medium ≡ self.old.medium }
         ensures says { MediumSays (M.disk self.old.medium).blocks self.old.machine.files → MediumSays (M.disk self.new.medium).blocks self.new.machine.files }
     {
         offer_to(&mut self.lanes, channel, count, message)
@@ -139,7 +139,7 @@ impl<M: BlockMedium> Inner<M> {
     ) -> Result<usize, Refusal>
         ensures step { Answers self.old.config self.old.machine (event.Cursor file channels.now from to) (λ id. reply.Cursor id) result self.new.machine }
         ensures config { self.new.config ≡ self.old.config }
-        ensures unmounted { self.new.machine.mode ≡ modes.Unmounted → (M.disk self.new.medium).blocks ≡ (M.disk self.old.medium).blocks }
+        ensures medium { self.new.medium ≡ self.old.medium }
         ensures says { MediumSays (M.disk self.old.medium).blocks self.old.machine.files → MediumSays (M.disk self.new.medium).blocks self.new.machine.files }
     {
         check_mounted(self.mode)?;
@@ -154,7 +154,7 @@ impl<M: BlockMedium> Inner<M> {
     pub(crate) fn advance(&mut self, id: usize) -> Result<usize, Refusal>
         ensures step { Answers self.old.config self.old.machine (event.Advance id) (λ n. reply.Advanced n) result self.new.machine }
         ensures config { self.new.config ≡ self.old.config }
-        ensures unmounted { self.new.machine.mode ≡ modes.Unmounted → (M.disk self.new.medium).blocks ≡ (M.disk self.old.medium).blocks }
+        ensures medium { self.new.medium ≡ self.old.medium }
         ensures says { MediumSays (M.disk self.old.medium).blocks self.old.machine.files → MediumSays (M.disk self.new.medium).blocks self.new.machine.files }
     {
         check_mounted(self.mode)?;
@@ -170,7 +170,7 @@ impl<M: BlockMedium> Inner<M> {
     pub(crate) fn next(&mut self, id: usize) -> Result<Option<Entry>, Refusal>
         ensures step { Answers self.old.config self.old.machine (event.Next id) (λ given. reply.Next given) result self.new.machine }
         ensures config { self.new.config ≡ self.old.config }
-        ensures unmounted { self.new.machine.mode ≡ modes.Unmounted → (M.disk self.new.medium).blocks ≡ (M.disk self.old.medium).blocks }
+        ensures medium { self.new.medium ≡ self.old.medium }
         ensures says { MediumSays (M.disk self.old.medium).blocks self.old.machine.files → MediumSays (M.disk self.new.medium).blocks self.new.machine.files }
     {
         next_entry(&mut self.cursors, id)
@@ -180,7 +180,7 @@ impl<M: BlockMedium> Inner<M> {
     pub(crate) fn close(&mut self, id: usize) -> Result<(), Refusal>
         ensures step { Answers self.old.config self.old.machine (event.Close id) (λ _. reply.Done) result self.new.machine }
         ensures config { self.new.config ≡ self.old.config }
-        ensures unmounted { self.new.machine.mode ≡ modes.Unmounted → (M.disk self.new.medium).blocks ≡ (M.disk self.old.medium).blocks }
+        ensures medium { self.new.medium ≡ self.old.medium }
         ensures says { MediumSays (M.disk self.old.medium).blocks self.old.machine.files → MediumSays (M.disk self.new.medium).blocks self.new.machine.files }
     {
         match self.cursors.try_remove(id) {

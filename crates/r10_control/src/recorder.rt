@@ -1,6 +1,8 @@
 //! A recorder over a medium, in one thread, whose states are sound.
 
-ghost use Rattle.std.specs.Prelude.{◌≡◌, [], length, IfOk, IfErr, OnOk, MatchResult};
+ghost use Rattle.std.specs.Prelude.{◌≡◌, ◌≢◌, [], length, IfOk, IfErr, OnOk, MatchResult};
+ghost use Rattle.r10_body.specs.declared.refusal.Refusal.TheVariants as refusal;
+ghost use Rattle.r10_medium.specs.Disk.{block_at};
 ghost use Rattle.r10_machine.specs.Machine.{fresh};
 ghost use Rattle.r10_machine.specs.Step.{Answers};
 ghost use Rattle.r10_machine.specs.declared.event.Event.TheVariants as event;
@@ -77,6 +79,8 @@ impl<M: BlockMedium> Recorder<M> {
         ensures config { self.new.config ≡ self.old.config }
         ensures unmounted { self.new.machine.mode ≡ modes.Unmounted → (M.disk self.new.medium).blocks ≡ (M.disk self.old.medium).blocks }
         ensures says { MediumSays (M.disk self.old.medium).blocks self.old.machine.files → MediumSays (M.disk self.new.medium).blocks self.new.machine.files }
+        ensures zero { block_at (M.disk self.new.medium).blocks 0 ≡ block_at (M.disk self.old.medium).blocks 0 }
+        ensures refused { IfErr result (λ r. r ≢ refusal.Medium → (M.disk self.new.medium).blocks ≡ (M.disk self.old.medium).blocks) }
         ensures in_use { OnOk result (Rereads (M.disk self.old.medium).blocks (M.disk self.new.medium).blocks in_use) }
     {
         self.inner.mount()
@@ -87,7 +91,7 @@ impl<M: BlockMedium> Recorder<M> {
     pub fn tick(&mut self, count: u64, parts: Parts) -> Result<(), Refusal>
         ensures step { Answers self.old.config self.old.machine (event.Tick count parts) (λ _. reply.Done) result self.new.machine }
         ensures config { self.new.config ≡ self.old.config }
-        ensures unmounted { self.new.machine.mode ≡ modes.Unmounted → (M.disk self.new.medium).blocks ≡ (M.disk self.old.medium).blocks }
+        ensures medium { self.new.medium ≡ self.old.medium }
         ensures says { MediumSays (M.disk self.old.medium).blocks self.old.machine.files → MediumSays (M.disk self.new.medium).blocks self.new.machine.files }
     {
         self.inner.tick(count, parts)
@@ -100,6 +104,8 @@ impl<M: BlockMedium> Recorder<M> {
         ensures config { self.new.config ≡ self.old.config }
         ensures unmounted { self.new.machine.mode ≡ modes.Unmounted → (M.disk self.new.medium).blocks ≡ (M.disk self.old.medium).blocks }
         ensures says { MediumSays (M.disk self.old.medium).blocks self.old.machine.files → MediumSays (M.disk self.new.medium).blocks self.new.machine.files }
+        ensures zero { block_at (M.disk self.new.medium).blocks 0 ≡ block_at (M.disk self.old.medium).blocks 0 }
+        ensures refused { IfErr result (λ r. r ≢ refusal.Medium → (M.disk self.new.medium).blocks ≡ (M.disk self.old.medium).blocks) }
         ensures begun { OnOk result (RereadsBegun (M.disk self.old.medium).blocks (M.disk self.new.medium).blocks self.old.machine.tick self.new.machine.files) }
     {
         self.inner.start(name, setup)
@@ -110,7 +116,7 @@ impl<M: BlockMedium> Recorder<M> {
     pub fn offer(&mut self, channel: u16, count: u64, message: Message) -> Result<(), Refusal>
         ensures step { Answers self.old.config self.old.machine (event.Offer channel count message) (λ _. reply.Done) result self.new.machine }
         ensures config { self.new.config ≡ self.old.config }
-        ensures unmounted { self.new.machine.mode ≡ modes.Unmounted → (M.disk self.new.medium).blocks ≡ (M.disk self.old.medium).blocks }
+        ensures medium { self.new.medium ≡ self.old.medium }
         ensures says { MediumSays (M.disk self.old.medium).blocks self.old.machine.files → MediumSays (M.disk self.new.medium).blocks self.new.machine.files }
     {
         self.inner.offer(channel, count, message)
@@ -121,7 +127,7 @@ impl<M: BlockMedium> Recorder<M> {
     pub fn pump(&mut self, channel: u16, most: usize) -> Result<usize, Refusal>
         ensures step { Answers self.old.config self.old.machine (event.Pump channel most) (λ n. reply.Moved n) result self.new.machine }
         ensures config { self.new.config ≡ self.old.config }
-        ensures unmounted { self.new.machine.mode ≡ modes.Unmounted → (M.disk self.new.medium).blocks ≡ (M.disk self.old.medium).blocks }
+        ensures medium { self.new.medium ≡ self.old.medium }
         ensures says { MediumSays (M.disk self.old.medium).blocks self.old.machine.files → MediumSays (M.disk self.new.medium).blocks self.new.machine.files }
     {
         self.inner.pump(channel, most)
@@ -134,6 +140,8 @@ impl<M: BlockMedium> Recorder<M> {
         ensures config { self.new.config ≡ self.old.config }
         ensures unmounted { self.new.machine.mode ≡ modes.Unmounted → (M.disk self.new.medium).blocks ≡ (M.disk self.old.medium).blocks }
         ensures says { MediumSays (M.disk self.old.medium).blocks self.old.machine.files → MediumSays (M.disk self.new.medium).blocks self.new.machine.files }
+        ensures zero { block_at (M.disk self.new.medium).blocks 0 ≡ block_at (M.disk self.old.medium).blocks 0 }
+        ensures refused { IfErr result (λ r. r ≢ refusal.Medium → (M.disk self.new.medium).blocks ≡ (M.disk self.old.medium).blocks) }
         ensures closed { OnOk result (RereadsClosed (M.disk self.old.medium).blocks (M.disk self.new.medium).blocks self.old.machine.tick self.new.machine.files) }
     {
         self.inner.stop()
@@ -150,7 +158,7 @@ impl<M: BlockMedium> Recorder<M> {
     ) -> Result<usize, Refusal>
         ensures step { Answers self.old.config self.old.machine (event.Cursor file channels.now from to) (λ id. reply.Cursor id) result self.new.machine }
         ensures config { self.new.config ≡ self.old.config }
-        ensures unmounted { self.new.machine.mode ≡ modes.Unmounted → (M.disk self.new.medium).blocks ≡ (M.disk self.old.medium).blocks }
+        ensures medium { self.new.medium ≡ self.old.medium }
         ensures says { MediumSays (M.disk self.old.medium).blocks self.old.machine.files → MediumSays (M.disk self.new.medium).blocks self.new.machine.files }
     {
         self.inner.cursor(file, channels, from, to)
@@ -161,7 +169,7 @@ impl<M: BlockMedium> Recorder<M> {
     pub fn advance(&mut self, id: usize) -> Result<usize, Refusal>
         ensures step { Answers self.old.config self.old.machine (event.Advance id) (λ n. reply.Advanced n) result self.new.machine }
         ensures config { self.new.config ≡ self.old.config }
-        ensures unmounted { self.new.machine.mode ≡ modes.Unmounted → (M.disk self.new.medium).blocks ≡ (M.disk self.old.medium).blocks }
+        ensures medium { self.new.medium ≡ self.old.medium }
         ensures says { MediumSays (M.disk self.old.medium).blocks self.old.machine.files → MediumSays (M.disk self.new.medium).blocks self.new.machine.files }
     {
         self.inner.advance(id)
@@ -171,7 +179,7 @@ impl<M: BlockMedium> Recorder<M> {
     pub fn next(&mut self, id: usize) -> Result<Option<Entry>, Refusal>
         ensures step { Answers self.old.config self.old.machine (event.Next id) (λ given. reply.Next given) result self.new.machine }
         ensures config { self.new.config ≡ self.old.config }
-        ensures unmounted { self.new.machine.mode ≡ modes.Unmounted → (M.disk self.new.medium).blocks ≡ (M.disk self.old.medium).blocks }
+        ensures medium { self.new.medium ≡ self.old.medium }
         ensures says { MediumSays (M.disk self.old.medium).blocks self.old.machine.files → MediumSays (M.disk self.new.medium).blocks self.new.machine.files }
     {
         self.inner.next(id)
@@ -181,7 +189,7 @@ impl<M: BlockMedium> Recorder<M> {
     pub fn close(&mut self, id: usize) -> Result<(), Refusal>
         ensures step { Answers self.old.config self.old.machine (event.Close id) (λ _. reply.Done) result self.new.machine }
         ensures config { self.new.config ≡ self.old.config }
-        ensures unmounted { self.new.machine.mode ≡ modes.Unmounted → (M.disk self.new.medium).blocks ≡ (M.disk self.old.medium).blocks }
+        ensures medium { self.new.medium ≡ self.old.medium }
         ensures says { MediumSays (M.disk self.old.medium).blocks self.old.machine.files → MediumSays (M.disk self.new.medium).blocks self.new.machine.files }
     {
         self.inner.close(id)
