@@ -1,8 +1,10 @@
 //! A lane of one thread.
 
-ghost use Rattle.std.specs.Prelude.{◌≡◌, ◌≤◌, IfOk};
+ghost use Rattle.std.specs.Prelude.{◌≡◌, ◌≤◌, ◌↔◌, [], IfOk, IsTrue, length, option_copied, slice_get};
+ghost use Rattle.r10_machine.specs.Calls.{without};
 ghost use Rattle.r10_machine.specs.Machine.{fresh_lane};
-ghost use Rattle.r10_lane.specs.Lanes.{Offers, reached};
+ghost use Rattle.r10_machine.specs.Sound.{count_or_0};
+ghost use Rattle.r10_lane.specs.Lanes.{Offers, reached, Waits};
 
 use crate::lane_out::LaneOut;
 use circular_buffer::HeapCircularBuffer;
@@ -91,6 +93,42 @@ impl RingLane {
         }
     }
 
+    /// How many samples wait.
+    pub fn len(&self) -> usize
+        ensures { result ≡ length self.now.waiting }
+    {
+        self.waiting.len()
+    }
+
+    /// Whether nothing waits.
+    pub fn is_empty(&self) -> bool
+        ensures { IsTrue result ↔ (self.now.waiting ≡ []) }
+    {
+        self.waiting.is_empty()
+    }
+
+    /// The sample that waits at this place, the first at 0. It stays.
+    pub fn get(&self, place: usize) -> Option<&Sample>
+        ensures { option_copied result ≡ slice_get self.now.waiting place }
+    {
+        self.waiting.get(place)
+    }
+
+    /// Drops the first samples, at most so many.
+    pub fn drop_front(&mut self, most: usize)
+        ensures { self.new ≡ without most self.old }
+    {
+        let left = self.waiting.len().saturating_sub(most);
+        self.waiting.truncate_front(left);
+    }
+
+    /// A law: each sample that waits passes the channel's check, and counts don't fall up to the last that was accepted.
+    pub fn waits(&self)
+        ensures { Waits self.now.spec (count_or_0 self.now.last) self.now.waiting }
+    {
+        let _ = &self.waiting;
+    }
+
     /// How many messages were refused for want of room, up to `u64::MAX`, where it stays.
     pub fn lost(&self) -> u64
         ensures { result ≡ self.now.lost }
@@ -127,7 +165,7 @@ impl LaneOut for RingLane {
     }
 
     fn held(&mut self) -> usize {
-        self.waiting.len()
+        self.len()
     }
 
     ghost joins = { took_joins };

@@ -113,3 +113,25 @@ fn a_lane_refuses_what_its_channel_does_not_take(rt: HostRuntime) -> Result<(), 
     assert_eq!(rt; next(&mut lane), (1, Some(1000), second));
     Ok(())
 }
+
+#[test]
+fn the_first_samples_are_dropped(rt: HostRuntime) -> Result<(), Fail> {
+    let alloc = rt.alloc();
+    let mut lane = RingLane::new(alloc, channel(3))?;
+    assert!(rt; lane.is_empty());
+    for (units, byte) in [(1000, b'A'), (1001, b'B'), (1002, b'C')] {
+        assert_eq!(rt; offer(&rt, alloc, &mut lane, units, byte)?, Ok(()));
+    }
+    assert_eq!(rt; lane.len(), 3);
+    lane.drop_front(2);
+    assert_eq!(rt; lane.len(), 1);
+    let third = sample(&rt, alloc, 1002, b'C', false)?;
+    match lane.get(0) {
+        Some(first) => assert_eq!(rt; *first, third),
+        None => assert!(rt; false),
+    }
+    assert!(rt; lane.get(1).is_none());
+    lane.drop_front(2);
+    assert!(rt; lane.is_empty());
+    Ok(())
+}
