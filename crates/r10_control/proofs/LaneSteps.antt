@@ -1,5 +1,6 @@
--- Offers that are refused before their room is looked at.
-use Rattle.std.proofs.Common.{◌≡◌, ℕ, ◌+◌, ◌<◌, List, [], ◌∷◌, ◌++◌, Option, Some, Result, Ok, Err, refl, sym, ap, ◌∙◌, Bool, true, false, is_none, if◌then◌else◌, find, take, map, length, get_or, set, arith}
+-- Offers to the lanes of all channels.
+use Rattle.std.proofs.Common.{◌≡◌, ℕ, ◌+◌, ◌<◌, List, [], ◌∷◌, ◌++◌, Some, None, Result, Ok, Err, refl, sym, ap, ◌∙◌, Bool, true, false, is_none, if◌then◌else◌, find, take, map, slice_get, length, get_or, set, arith}
+use Rattle.std.proofs.lemmas.Option.{get_or_from_slice_get, slice_get_within}
 use Rattle.std.proofs.lemmas.List.{take_more, get_or-map, length-map, set-get_or, map-set}
 use Rattle.r10_body.specs.declared.entry.Entry.{Entry}
 use Rattle.r10_body.specs.declared.entry.Sample.{Sample}
@@ -7,7 +8,8 @@ use Rattle.r10_machine.specs.Machine.{entry_of}
 use Rattle.r10_count.specs.Checks.{first_broken}
 use Rattle.r10_body.specs.declared.message.Message.{Message}
 use Rattle.r10_body.specs.declared.refusal.Refusal.{Refusal}
-use Rattle.r10_machine.specs.Checks.{offer_checks, room_checks}
+use Rattle.r10_machine.specs.Checks.{offer_checks, room_checks, taking_checks, message_checks, in_48_bits, is_not_before}
+use Rattle.r10_body.specs.declared.refusal.Refusal.TheVariants.{CountBack}
 use Rattle.r10_machine.specs.Calls.{accepted, overflowed}
 use Rattle.r10_body.specs.declared.spec.ChannelSpec.{ChannelSpec}
 use Rattle.r10_machine.specs.Limits.{IsChannel}
@@ -15,24 +17,42 @@ use Rattle.std.specs.Prelude.{IsSome}
 use Rattle.std.proofs.Common.{zero, suc}
 use Rattle.r10_machine.specs.Machine.{cursor_at, Lane, fresh_lane, is_channel, change_first}
 use Rattle.std.specs.List.{AllByRecursion}
-use Rattle.r10_control.specs.Lanes.{Offers, OffersTo, specs_of}
-use Rattle.r10_control.proofs.Checks.{broken_first}
+use Rattle.r10_lane.specs.Lanes.{Offers}
+use Rattle.r10_lane.proofs.Waiting.{refused_before_room}
+use Rattle.r10_control.specs.Lanes.{OffersTo, specs_of}
 use Rattle.r10_control.proofs.Places.{IsAt}
 
-pub refused_before_room : (lane : Lane) (count : ℕ) (message : Message) (r : Refusal) → first_broken (offer_checks (Some lane) count message) ≡ Some r → Offers lane count message (Err r) lane
-refused_before_room lane count message r e = (
-  broken_first (offer_checks (Some lane) count message) (room_checks (Some lane)) r e,
-  ap (λ (first : Option Refusal). if is_none first then overflowed lane else lane) (sym e),
-)
+-- without a last count, an offer is refused for its message or its range, and so it is with one
+without_last : (ms : List (Bool × Refusal)) (range : Bool × Refusal) (late : Bool) (r : Refusal) → first_broken (ms ++ range ∷ (true, CountBack) ∷ []) ≡ Some r → first_broken (ms ++ range ∷ (late, CountBack) ∷ []) ≡ Some r
+without_last [] (true, out) late r e = absurd (cc)
+without_last [] (false, out) late r e = e
+without_last ((true, f) ∷ ms) range late r e = without_last ms range late r e
+without_last ((false, f) ∷ ms) range late r e = e
+
+pub refused_early : (lane : Lane) (count : ℕ) (message : Message) (r : Refusal) → first_broken (taking_checks lane.spec None count message) ≡ Some r → Offers lane count message (Err r) lane
+refused_early lane count message r e = refused_before_room lane count message r (without_last (message_checks lane.spec message) (in_48_bits count) (is_not_before lane.last count) r e)
 
 -- one waiting message more
-pub front_more : (channel : ℕ) (waiting : List Sample) (so_far : List Entry) (i : ℕ) (s : Sample) (message : Message) → i < length waiting → s ≡ get_or waiting i s → message ≡ s.message
+pub front_more : (channel : ℕ) (waiting : List Sample) (so_far : List Entry) (i : ℕ) (s : Sample) (message : Message) → slice_get waiting i ≡ Some s → message ≡ s.message
     → so_far ≡ take i (map (entry_of channel) waiting)
     → so_far ++ record { channel = channel; count = s.count; message = message; gap = s.gap } ∷ [] ≡ take (i + 1) (map (entry_of channel) waiting)
-front_more channel waiting so_far i s message lt here same e =
+front_more channel waiting so_far i s message here same e =
+    let lt : i < length waiting = slice_get_within waiting i s here in
+    let its : get_or waiting i s ≡ s = get_or_from_slice_get waiting i s s here in
     rw (e, same)
-    (ap (λ (x : Entry). take i (map (entry_of channel) waiting) ++ x ∷ []) (ap (entry_of channel) here ∙ sym (get_or-map (entry_of channel) waiting i s (entry_of channel s) lt))
+    (ap (λ (x : Entry). take i (map (entry_of channel) waiting) ++ x ∷ []) (ap (entry_of channel) (sym its) ∙ sym (get_or-map (entry_of channel) waiting i s (entry_of channel s) lt))
     ∙ sym (take_more (map (entry_of channel) waiting) i (entry_of channel s) (let n : length (map (entry_of channel) waiting) ≡ length waiting = simp length-map in omega arith)))
+
+-- nothing is first where nothing waits
+pub none_first : (waiting : List Sample) → slice_get waiting 0 ≡ None → waiting ≡ []
+none_first [] e = refl
+none_first (s ∷ waiting) e = absurd (cc)
+
+-- there is one at each place below their number
+pub some_there : (waiting : List Sample) (i : ℕ) → i < length waiting → slice_get waiting i ≡ None → ⊥
+some_there [] i lt e = omega (arith, lt)
+some_there (s ∷ waiting) zero lt e = cc
+some_there (s ∷ waiting) (suc i) lt e = some_there waiting i (omega (arith, lt)) e
 
 -- ---- all lanes
 

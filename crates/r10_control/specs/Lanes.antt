@@ -1,31 +1,12 @@
--- What a lane answers to an offer.
-use Rattle.std.specs.Prelude.{◌≡◌, ℕ, List, ◌++◌, map, find, Option, Some, None, Result, MatchResult, is_none, if◌then◌else◌}
+-- What the lanes of all channels answer to an offer.
+use Rattle.std.specs.Prelude.{◌≡◌, ℕ, List, ◌++◌, map, find, None, Some, Result, MatchResult, is_none, if◌then◌else◌}
 use Rattle.r10_count.specs.Checks.{first_broken}
-use Rattle.r10_body.specs.Messages.{channel_refusal}
-use Rattle.r10_body.specs.declared.entry.Sample.{Sample}
 use Rattle.r10_body.specs.declared.message.Message.{Message}
 use Rattle.r10_body.specs.declared.spec.ChannelSpec.{ChannelSpec}
 use Rattle.r10_body.specs.declared.refusal.Refusal.{Refusal}
 use Rattle.r10_machine.specs.Checks.{offer_checks, room_checks}
 use Rattle.r10_machine.specs.Calls.{accepted, overflowed}
 use Rattle.r10_machine.specs.Machine.{Lane, is_channel, change_first}
-
--- a waiting message is one that the channel takes
-abbrev pub IsTaken : ChannelSpec → Sample → Type 0
-IsTaken spec s = channel_refusal spec s.message ≡ None
-
--- why a lane refuses an offer
-abbrev pub offer_refusal : Lane → ℕ → Message → Option Refusal
-offer_refusal lane count message = first_broken (offer_checks (Some lane) count message ++ room_checks (Some lane))
-
--- the lane after a refused offer: it is counted where nothing but the room was lacking
-abbrev pub after_refusal : Lane → ℕ → Message → Lane
-after_refusal lane count message = if is_none (first_broken (offer_checks (Some lane) count message)) then overflowed lane else lane
-
-abbrev pub Offers : Lane → ℕ → Message → Result (Unit {0}) Refusal → Lane → Type 0
-Offers old count message result new = MatchResult result
-    (λ _. (offer_refusal old count message ≡ None) × (new ≡ accepted count message old))
-    (λ r. (offer_refusal old count message ≡ Some r) × (new ≡ after_refusal old count message))
 
 -- the lanes after an offer to a channel
 abbrev pub OffersTo : ℕ → List Lane → ℕ → Message → Result (Unit {0}) Refusal → List Lane → Type 0

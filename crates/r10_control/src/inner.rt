@@ -10,13 +10,13 @@ ghost use Rattle.r10_machine.specs.declared.reply.Reply.TheVariants as reply;
 ghost use Rattle.r10_control.specs.Saying.{MediumSays};
 
 use crate::clock::ClockTick;
-use crate::lane::ListLane;
 use crate::lanes::{new_lanes, offer_to};
 use crate::recording::{Recording, shown_of};
 use r10_body::{Entry, Message, Refusal};
 use r10_count::Items;
 use r10_cursor::{Reader, advance_cursor, check_read, next_entry, open_cursor};
 use r10_dirblock::DirBlock;
+use r10_lane::RingLane;
 use r10_machine::{Mode, Settings, check_cursor, check_mounted};
 use r10_medium::BlockMedium;
 use slab::Slab;
@@ -31,7 +31,7 @@ pub(crate) struct Inner<M: BlockMedium> {
     pub(crate) medium: M,
     pub(crate) mode: Mode,
     pub(crate) tick: Option<ClockTick>,
-    pub(crate) lanes: Vec<ListLane>,
+    pub(crate) lanes: Vec<RingLane>,
     pub(crate) directory: Option<DirBlock>,
     pub(crate) file: Option<Recording>,
     pub(crate) cursors: Slab<Reader>,

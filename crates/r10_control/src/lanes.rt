@@ -9,13 +9,14 @@ ghost use Rattle.r10_machine.specs.Machine.{fresh_lane, is_channel, lane_in};
 ghost use Rattle.r10_mux.specs.Follow.{Belongs};
 ghost use Rattle.r10_control.specs.Lanes.{OffersTo, specs_of};
 
-use crate::lane::ListLane;
+use crate::lane::{belong, front};
 use r10_body::{ChannelSpec, Entry, Message, Refusal};
-use r10_machine::rising;
+use r10_lane::{LaneOut, RingLane};
+use r10_machine::{check_offer, rising};
 use std::alloc::{AllocError, Global};
 
 /// The place of a channel's lane.
-pub(crate) fn place_of(lanes: &[ListLane], channel: u16) -> Option<usize>
+pub(crate) fn place_of(lanes: &[RingLane], channel: u16) -> Option<usize>
     ensures { result ≡ position (is_channel channel) lanes.now }
 {
     lanes.iter().position(|lane| lane.spec().id == channel)
@@ -23,7 +24,7 @@ pub(crate) fn place_of(lanes: &[ListLane], channel: u16) -> Option<usize>
 
 /// Offers a message to a channel's lane.
 pub(crate) fn offer_to(
-    lanes: &mut Vec<ListLane>,
+    lanes: &mut Vec<RingLane>,
     channel: u16,
     count: u64,
     message: Message,
@@ -35,6 +36,10 @@ pub(crate) fn offer_to(
         return Err(Refusal::NoSuchChannel);
     };
     let lane = &mut lanes[at];
+    let count = match check_offer(&lane.spec(), None, count, &message) {
+        Ok(count) => count,
+        Err(refusal) => return Err(refusal),
+    };
     lane.offer(count, message)
 }
 
@@ -42,33 +47,33 @@ pub(crate) fn offer_to(
 pub(crate) fn new_lanes(
     alloc: Global,
     channels: &[ChannelSpec],
-) -> Result<Vec<ListLane>, AllocError>
+) -> Result<Vec<RingLane>, AllocError>
     ensures { IfOk result (λ lanes. lanes.items ≡ map fresh_lane channels.now) }
 {
     let mut lanes = Vec::new(alloc);
     for spec in channels {
-        lanes.push(ListLane::new(alloc, *spec)?)?;
+        lanes.push(RingLane::new(alloc, *spec)?)?;
     }
     Ok(lanes)
 }
 
 /// What waits on a channel, at most as much as its lane has room for.
-fn front_of(alloc: Global, lanes: &[ListLane], channel: u16) -> Result<Vec<Entry>, AllocError>
+fn front_of(alloc: Global, lanes: &[RingLane], channel: u16) -> Result<Vec<Entry>, AllocError>
     ensures front { IfOk result (λ entries. entries.items ≡ front_of (lane_in channel lanes.now)) }
     ensures belong { AllByRecursion (λ c. 0 < c.id) (specs_of lanes.now) → IfOk result (λ entries. All (Belongs (specs_of lanes.now)) entries.items) }
 {
     match place_of(lanes, channel) {
         Some(at) => {
             let lane = &lanes[at];
-            lane.belong();
-            lane.front(alloc, lane.spec().capacity)
+            belong(lane);
+            front(alloc, lane, lane.spec().capacity)
         }
         None => Ok(Vec::new(alloc)),
     }
 }
 
 /// What waits on these channels, one after the other.
-fn fronts_of(alloc: Global, lanes: &[ListLane], channels: &[u16]) -> Result<Vec<Entry>, AllocError>
+fn fronts_of(alloc: Global, lanes: &[RingLane], channels: &[u16]) -> Result<Vec<Entry>, AllocError>
     ensures fronts { IfOk result (λ entries. entries.items ≡ flat_map (λ channel. front_of (lane_in channel lanes.now)) channels.now) }
     ensures belong { AllByRecursion (λ c. 0 < c.id) (specs_of lanes.now) → IfOk result (λ entries. All (Belongs (specs_of lanes.now)) entries.items) }
 {
@@ -83,7 +88,7 @@ fn fronts_of(alloc: Global, lanes: &[ListLane], channels: &[u16]) -> Result<Vec<
 /// What waits on all channels, by rising ID.
 pub(crate) fn all_waiting(
     alloc: Global,
-    lanes: &[ListLane],
+    lanes: &[RingLane],
     channels: &[ChannelSpec],
 ) -> Result<Vec<Entry>, AllocError>
     requires same { specs_of lanes.now ≡ channels.now }
@@ -106,7 +111,7 @@ fn count_on(entries: &[Entry], channel: u16) -> usize
 }
 
 /// Drops from each lane as many of its first messages as there are of these entries on its channel.
-pub(crate) fn drop_taken(lanes: &mut Vec<ListLane>, entries: &[Entry])
+pub(crate) fn drop_taken(lanes: &mut Vec<RingLane>, entries: &[Entry])
     ensures { lanes.new.items ≡ lanes_without entries.now lanes.old.items }
 {
     for lane in lanes.iter_mut() {
@@ -115,14 +120,14 @@ pub(crate) fn drop_taken(lanes: &mut Vec<ListLane>, entries: &[Entry])
 }
 
 /// How many messages wait on all channels.
-pub(crate) fn held_by(lanes: &[ListLane]) -> usize
+pub(crate) fn held_by(lanes: &[RingLane]) -> usize
     requires few { length lanes.now ≤ 64 }
     requires each { AllByRecursion IsChannel (specs_of lanes.now) }
     ensures { result ≡ waiting_count lanes.now }
 {
     let mut held = 0;
     for lane in lanes {
-        held += lane.held();
+        held += lane.len();
     }
     held
 }

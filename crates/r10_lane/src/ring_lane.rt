@@ -68,6 +68,7 @@ impl RingLane {
     pub fn offer(&mut self, count: Count, message: Message) -> Result<(), Refusal>
         ensures offers { Offers self.old count message result self.new }
         ensures climbs { reached self.old ≤ reached self.new }
+        ensures spec { self.new.spec ≡ self.old.spec }
     {
         let count = match check_offer(&self.spec, self.last, count.get(), &message) {
             Ok(count) => count,
@@ -93,9 +94,10 @@ impl RingLane {
         }
     }
 
-    /// How many samples wait.
+    /// How many samples wait: never more than the capacity.
     pub fn len(&self) -> usize
-        ensures { result ≡ length self.now.waiting }
+        ensures count { result ≡ length self.now.waiting }
+        ensures room { result ≤ self.now.spec.capacity }
     {
         self.waiting.len()
     }

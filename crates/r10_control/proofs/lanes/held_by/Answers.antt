@@ -12,7 +12,7 @@ overflow_add-held c =
     let i = c.loop-lane.lane-index in
     let lt : i < length lanes = omega arith in
     let most : lane.spec.capacity ≤ 65536 = capacity_at lanes i lane lt c.lane-item.is c.requires.each in
-    omega (arith, c.held-held.ensures.room)
+    omega (arith, c.len-held.ensures.room)
 
 pub loop-lane-preserved : goal.loop-lane-preserved
 loop-lane-preserved c =
@@ -21,8 +21,8 @@ loop-lane-preserved c =
     let i = c.loop-lane.lane-index in
     let lt : i < length lanes = omega arith in
     let most : lane.spec.capacity ≤ 65536 = capacity_at lanes i lane lt c.lane-item.is c.requires.each in
-    let more : c.loop-lane.held + c.held-held.result ≡ waiting_count (take i lanes) + length lane.waiting = omega (arith, c.loop-lane.invariant.count, c.held-held.ensures.count) in
+    let more : c.loop-lane.held + c.len-held.result ≡ waiting_count (take i lanes) + length lane.waiting = omega (arith, c.loop-lane.invariant.count, c.len-held.ensures.count) in
     record {
       count = more ∙ ap (λ (l : Lane). waiting_count (take i lanes) + length l.waiting) c.lane-item.is ∙ sym (sum_by_more (λ (l : Lane). length l.waiting) lanes i lane lt);
-      few = omega (arith, c.loop-lane.invariant.few, c.held-held.ensures.room);
+      few = omega (arith, c.loop-lane.invariant.few, c.len-held.ensures.room);
     }

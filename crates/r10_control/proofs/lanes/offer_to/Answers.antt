@@ -1,7 +1,11 @@
-use Rattle.std.proofs.Common.{◌≡◌, None, Some, sym, ap, ◌∙◌, refl}
+use Rattle.std.proofs.Common.{◌≡◌, ℕ, None, Some, Err, sym, ap, ◌∙◌, refl, subst}
 use Rattle.std.specs.List.{position}
+use Rattle.r10_count.specs.Checks.{first_broken}
+use Rattle.r10_body.specs.declared.spec.ChannelSpec.{ChannelSpec}
+use Rattle.r10_machine.specs.Checks.{taking_checks}
 use Rattle.r10_machine.specs.Machine.{is_channel}
-use Rattle.r10_control.proofs.LaneSteps.{offers_at, same_specs}
+use Rattle.r10_lane.specs.Lanes.{Offers}
+use Rattle.r10_control.proofs.LaneSteps.{offers_at, refused_early, same_specs}
 use Rattle.r10_control.proofs.Places.{place_found, place_none}
 use Rattle.r10_control.proofs.lanes.offer_to.Goals as goal
 
@@ -11,13 +15,24 @@ returns-in_default-clause-offers c =
     let e : position (is_channel c.args.channel) items ≡ None = ap (position (is_channel c.args.channel)) (sym c.as_slice.ensures.value) ∙ sym c.place_of.ensures ∙ c.in_default.is in
     rw (place_none (is_channel c.args.channel) items e).none (refl, refl)
 
+pub returns-in-Err-clause-offers : goal.returns-in-Err-clause-offers
+returns-in-Err-clause-offers c =
+    let items = c.args.lanes.now.items in
+    let old = c.index_mut-lane.result.now in
+    let e : position (is_channel c.args.channel) items ≡ Some c.in-Some.at = ap (position (is_channel c.args.channel)) (sym c.as_slice.ensures.value) ∙ sym c.place_of.ensures ∙ c.in-Some.is in
+    let first : first_broken (taking_checks old.spec None c.args.count c.args.message) ≡ Some c.in-Err.refusal =
+    subst (λ (s : ChannelSpec). first_broken (taking_checks s None c.args.count c.args.message) ≡ Some c.in-Err.refusal) c.spec.ensures c.in-Err.ensures in
+    offers_at c.args.channel items c.in-Some.at old old c.args.count c.args.message (Err c.in-Err.refusal)
+    (place_found (is_channel c.args.channel) items c.in-Some.at old e) c.index_mut-lane.ensures.value (refused_early old c.args.count c.args.message c.in-Err.refusal first)
+
 pub returns-clause-offers : goal.returns-clause-offers
 returns-clause-offers c =
     let items = c.args.lanes.now.items in
     let old = c.index_mut-lane.result.now in
     let e : position (is_channel c.args.channel) items ≡ Some c.in-Some.at = ap (position (is_channel c.args.channel)) (sym c.as_slice.ensures.value) ∙ sym c.place_of.ensures ∙ c.in-Some.is in
     offers_at c.args.channel items c.in-Some.at old c.offer.new.self c.args.count c.args.message c.offer.result
-    (place_found (is_channel c.args.channel) items c.in-Some.at old e) c.index_mut-lane.ensures.value c.offer.ensures.offers
+    (place_found (is_channel c.args.channel) items c.in-Some.at old e) c.index_mut-lane.ensures.value
+    (subst (λ (n : ℕ). Offers old n c.args.message c.offer.result c.offer.new.self) c.in-Ok.ensures.0 c.offer.ensures.offers)
 
 pub returns-clause-specs : goal.returns-clause-specs
 returns-clause-specs c = same_specs c.args.lanes.now.items c.in-Some.at c.index_mut-lane.result.now c.offer.new.self c.index_mut-lane.ensures.value c.offer.ensures.spec
