@@ -2,11 +2,6 @@
 use Rattle.std.proofs.Common.{◌≡◌, Bool, true, false, List, [], ◌∷◌, ◌++◌, Some, None, refl}
 use Rattle.r10_count.specs.Checks.{first_broken}
 
-pub broken_first : {F : Type 0} (xs ys : List (Bool × F)) (f : F) → first_broken xs ≡ Some f → first_broken (xs ++ ys) ≡ Some f
-broken_first [] ys f e = absurd (cc)
-broken_first ((true, g) ∷ xs) ys f e = broken_first xs ys f e
-broken_first ((false, g) ∷ xs) ys f e = e
-
 pub broken_then : {F : Type 0} (xs ys : List (Bool × F)) → first_broken xs ≡ None → first_broken (xs ++ ys) ≡ first_broken ys
 broken_then [] ys e = refl
 broken_then ((true, g) ∷ xs) ys e = broken_then xs ys e
