@@ -1,6 +1,6 @@
 //! The cursors of all readers.
 
-ghost use Rattle.std.specs.Prelude.{◌≡◌, IfOk, IfErr, OnOk, OnErr, IsSome, IsSomeAnd, Some, None};
+ghost use Rattle.std.specs.Prelude.{◌≡◌, IfOk, IfErr, Ok, OnOk, OnErr, IsSome, IsSomeAnd, Some, None};
 ghost use Rattle.r10_machine.specs.Calls.{fresh_cursor};
 ghost use Rattle.r10_machine.specs.Checks.{Tests, advance_checks, open_checks};
 ghost use Rattle.r10_machine.specs.Machine.{cursor_at, Sets};
@@ -64,15 +64,16 @@ pub fn check_read(cursors: &Slab<Reader>, id: usize) -> Result<(), Refusal>
 }
 
 /// Queues what a cursor wants of these entries behind those that it has covered: by count, then channel, then place. It
-/// answers how many they are, and has covered all entries then. Where memory is refused, the cursors are as before.
+/// answers how many they are, and the cursor has covered all entries then. It answers 0 and does nothing where no open cursor has
+/// the number. Where memory is refused, the cursors are as before.
 pub fn advance_cursor(
     alloc: Global,
     cursors: &mut Slab<Reader>,
     id: usize,
     shown: &[Entry],
 ) -> Result<usize, AllocError>
-    requires { IsSome (cursor_at cursors.old.slots id) }
-    ensures advanced { IfOk result (λ n. AdvancesOver cursors.old.slots cursors.new.slots id shown.now n) }
+    ensures advanced { IsSome (cursor_at cursors.old.slots id) → IfOk result (λ n. AdvancesOver cursors.old.slots cursors.new.slots id shown.now n) }
+    ensures absent { cursor_at cursors.old.slots id ≡ None → (result ≡ Ok 0) × (cursors.new.slots ≡ cursors.old.slots) }
     ensures kept { OnErr result (cursors.new.slots ≡ cursors.old.slots) }
 {
     let Some(cursor) = cursors.get_mut(id) else {

@@ -51,13 +51,14 @@ fn given(cursors: &mut Slab<Reader>, id: usize) -> Result<Option<(u16, u64)>, Re
 #[test]
 fn instalments_go_by_count(rt: HostRuntime) -> Result<(), Fail> {
     let alloc = rt.alloc();
+    let early = entries(alloc, &[(6, 20), (5, 10), (7, 5), (5, 20)])?;
     let shown = entries(
         alloc,
         &[(6, 20), (5, 10), (7, 5), (5, 20), (5, 99), (5, 30)],
     )?;
     let mut cursors = Slab::new(alloc);
     let id = open(alloc, &mut cursors, &[5, 6], 10, 30)?;
-    assert_eq!(rt; advance_cursor(alloc, &mut cursors, id, &shown[..4]), Ok(3));
+    assert_eq!(rt; advance_cursor(alloc, &mut cursors, id, &early), Ok(3));
     assert_eq!(rt; check_read(&cursors, id), Err(Refusal::Unread));
     assert_eq!(rt; given(&mut cursors, id), Ok(Some((5, 10))));
     assert_eq!(rt; given(&mut cursors, id), Ok(Some((5, 20))));
@@ -83,6 +84,7 @@ fn cursors_have_numbers(rt: HostRuntime) -> Result<(), Fail> {
     assert_eq!(rt; advance_cursor(alloc, &mut cursors, late, &shown), Ok(1));
     assert_eq!(rt; given(&mut cursors, late), Ok(Some((6, 2))));
     assert_eq!(rt; given(&mut cursors, all), Ok(Some((5, 1))));
+    assert_eq!(rt; advance_cursor(alloc, &mut cursors, 9, &shown), Ok(0));
     assert_eq!(rt; given(&mut cursors, 9), Err(Refusal::NoCursor));
     assert_eq!(rt; check_read(&cursors, 9), Err(Refusal::NoCursor));
     Ok(())

@@ -3,7 +3,7 @@ use Rattle.r10_cursor.proofs.CursorSteps.{advances}
 use Rattle.r10_cursor.proofs.table.advance_cursor.Goals as goal
 
 pub returns-clause-advanced : goal.returns-clause-advanced
-returns-clause-advanced c =
+returns-clause-advanced c = λ some.
     let old = c.in-Some.cursor.now in
     let from = c.min-from.ensures ∙ ap (λ (k : ℕ). min k (length c.args.shown.now)) c.covered.ensures in
     advances c.args.cursors.now.slots c.args.id old c.fill.new.self c.args.shown.now c.in_ok-queue.queue.items c.len-n.result c.min-from.result

@@ -15,4 +15,4 @@ returns-clause-step g c =
     let place = c.in_ok-check_read.ensures.place in
     subst (λ (v : State _). Step v.config v.machine (event.Advance c.args.id) (reply.Advanced c.in-Ok.n) (machine_of w.mode w.tick w.lanes.items disk.blocks w.file cursors disk.failures)) c.self.view_is
     (advance_step w.settings w.mode w.tick w.lanes.items disk.blocks w.file w.cursors.slots cursors disk.failures c.shown_of-shown.result.now c.args.id c.in-Ok.n
-    (c.self.invariant.readers c.args.id (is_there _ place)) c.in_ok-check_mounted.ensures c.in_ok-check_read.ensures.tested place c.shown_of-shown.ensures c.in-Ok.ensures.advanced)
+    (c.self.invariant.readers c.args.id (is_there _ place)) c.in_ok-check_mounted.ensures c.in_ok-check_read.ensures.tested place c.shown_of-shown.ensures (c.in-Ok.ensures.advanced (is_there _ place)))
