@@ -1,6 +1,6 @@
 use crate::{Recorder, format};
-use r10_body::{ChannelSpec, Entry, Kind, Message, Refusal};
-use r10_count::{Count, Items, Parts};
+use r10_body::{ChannelSpec, Kind, Message, Refusal};
+use r10_count::{Items, Parts};
 use r10_machine::{Settings, Stopped};
 use r10_medium::{BlockMedium, Faulty, Memory};
 use std::alloc::{AllocError, Global};
@@ -50,12 +50,10 @@ fn uart(alloc: Global, bytes: &[u8]) -> Result<Message, AllocError> {
     })
 }
 
+type Tested = Recorder<Faulty<Memory>>;
+
 /// A recorder over a new medium, which fails its call of that number.
-fn new_recorder(
-    rt: &impl Abort,
-    alloc: Global,
-    fails: u64,
-) -> Result<Recorder<Faulty<Memory>>, Fail> {
+fn new_recorder(rt: &impl Abort, alloc: Global, fails: u64) -> Result<Tested, Fail> {
     let settings = settings(rt, alloc)?;
     let mut medium = Memory::new(alloc, settings.blocks())?;
     assert_eq!(rt; format(&mut medium, &settings), Ok(()));
@@ -63,34 +61,48 @@ fn new_recorder(
     Ok(recorder.ok().ok_or(AllocError)?)
 }
 
-/// A message is offered, taken, shown and replayed.
-#[test]
-fn a_message_is_recorded_and_replayed(rt: HostRuntime) -> Result<(), Fail> {
-    let alloc = rt.alloc();
-    let mut recorder = new_recorder(&rt, alloc, 0)?;
+type Answer<T> = Result<Result<T, Refusal>, AllocError>;
+
+fn start(alloc: Global, recorder: &mut Tested) -> Answer<()> {
     let name = text(alloc, b"FLT1")?;
     let setup = text(alloc, b"ABCD")?;
+    Ok(recorder.start_file(&name, &setup))
+}
+
+fn offer(alloc: Global, recorder: &mut Tested, count: u64, bytes: &[u8]) -> Answer<()> {
+    let message = uart(alloc, bytes)?;
+    Ok(recorder.offer(5, count, message))
+}
+
+fn cursor(alloc: Global, recorder: &mut Tested, file: usize) -> Answer<usize> {
+    let channels = Items::of(Vec::from_slice(alloc, &[5])?);
+    Ok(recorder.cursor(file, &channels, 1000, LAST_COUNT))
+}
+
+/// The count of what a cursor gives next.
+fn next(recorder: &mut Tested, id: usize) -> Result<Option<u64>, Refusal> {
+    let given = recorder.next(id)?;
+    Ok(given.map(|entry| entry.count.get()))
+}
+
+/// Two messages are offered, taken, shown and replayed.
+#[test]
+fn two_messages_are_recorded_and_replayed(rt: HostRuntime) -> Result<(), Fail> {
+    let alloc = rt.alloc();
+    let mut recorder = new_recorder(&rt, alloc, 0)?;
     assert_eq!(rt; recorder.mount(), Ok(()));
     assert_eq!(rt; recorder.tick(1000, LEAP_DAY), Ok(()));
-    assert_eq!(rt; recorder.start_file(&name, &setup), Ok(()));
-    assert_eq!(rt; recorder.offer(5, 1000, uart(alloc, b"ABC")?), Ok(()));
-    assert_eq!(rt; recorder.offer(5, 1010, uart(alloc, b"")?), Ok(()));
+    assert_eq!(rt; start(alloc, &mut recorder), Ok(Ok(())));
+    assert_eq!(rt; offer(alloc, &mut recorder, 1000, b"ABC"), Ok(Ok(())));
+    assert_eq!(rt; offer(alloc, &mut recorder, 1010, b""), Ok(Ok(())));
     assert_eq!(rt; recorder.pump(5, 1), Ok(1));
     assert_eq!(rt; recorder.stop_file(), Ok(Stopped { taken: 1, left: 0 }));
-    let all = Items::of(Vec::from_slice(alloc, &[5])?);
-    let id = recorder.cursor(0, &all, 1000, LAST_COUNT);
-    assert_eq!(rt; id, Ok(0));
+    assert_eq!(rt; cursor(alloc, &mut recorder, 0), Ok(Ok(0)));
     assert_eq!(rt; recorder.advance(0), Ok(2));
-    let first = Entry {
-        channel: 5,
-        count: Count::of(1000).ok_or("not a count")?,
-        message: uart(alloc, b"ABC")?,
-        gap: false,
-    };
-    assert_eq!(rt; recorder.next(0), Ok(Some(first)));
+    assert_eq!(rt; next(&mut recorder, 0), Ok(Some(1000)));
     assert_eq!(rt; recorder.advance(0), Err(Refusal::Unread));
     assert_eq!(rt; recorder.close(0), Ok(()));
-    assert_eq!(rt; recorder.next(0), Err(Refusal::NoCursor));
+    assert_eq!(rt; next(&mut recorder, 0), Err(Refusal::NoCursor));
     Ok(())
 }
 
@@ -99,40 +111,48 @@ fn a_message_is_recorded_and_replayed(rt: HostRuntime) -> Result<(), Fail> {
 fn calls_have_their_time(rt: HostRuntime) -> Result<(), Fail> {
     let alloc = rt.alloc();
     let mut recorder = new_recorder(&rt, alloc, 0)?;
-    let name = text(alloc, b"FLT1")?;
-    let setup = text(alloc, b"")?;
-    let all = Items::of(Vec::new(alloc));
     assert_eq!(rt; recorder.tick(1000, LEAP_DAY), Err(Refusal::NotMounted));
-    assert_eq!(rt; recorder.cursor(0, &all, 0, 1), Err(Refusal::NotMounted));
+    assert_eq!(rt;
+        cursor(alloc, &mut recorder, 0),
+        Ok(Err(Refusal::NotMounted))
+    );
     assert_eq!(rt; recorder.advance(0), Err(Refusal::NotMounted));
     assert_eq!(rt; recorder.mount(), Ok(()));
     assert_eq!(rt; recorder.mount(), Err(Refusal::AlreadyMounted));
     assert_eq!(rt; recorder.pump(5, 1), Err(Refusal::NotRecording));
     assert_eq!(rt; recorder.stop_file(), Err(Refusal::NotRecording));
-    assert_eq!(rt; recorder.start_file(&name, &setup), Err(Refusal::NoTime));
-    assert_eq!(rt; recorder.cursor(0, &all, 0, 1), Err(Refusal::NoSuchFile));
+    assert_eq!(rt; start(alloc, &mut recorder), Ok(Err(Refusal::NoTime)));
+    assert_eq!(rt;
+        cursor(alloc, &mut recorder, 0),
+        Ok(Err(Refusal::NoSuchFile))
+    );
     assert_eq!(rt; recorder.close(0), Err(Refusal::NoCursor));
     Ok(())
 }
 
-/// Where the medium fails in a mount, which reads, writes and makes sure, or in a start, the recorder is Failed. It goes on
-/// to take offers, and hands out its medium.
+/// Where the medium fails in a mount, which reads, makes sure and writes, the recorder is Failed. It goes on to take offers,
+/// and hands out its medium.
 #[test]
-fn a_failing_medium_ends_the_work(rt: HostRuntime) -> Result<(), Fail> {
+fn a_mount_that_fails(rt: HostRuntime) -> Result<(), Fail> {
     let alloc = rt.alloc();
-    let name = text(alloc, b"FLT1")?;
-    let setup = text(alloc, b"")?;
     for fails in [1, 3] {
         let mut recorder = new_recorder(&rt, alloc, fails)?;
         assert_eq!(rt; recorder.mount(), Err(Refusal::Medium));
         assert_eq!(rt; recorder.mount(), Err(Refusal::Failed));
-        assert_eq!(rt; recorder.offer(5, 1, uart(alloc, b"A")?), Ok(()));
+        assert_eq!(rt; offer(alloc, &mut recorder, 1, b"A"), Ok(Ok(())));
         assert_eq!(rt; recorder.into_medium().failures(), 1);
     }
+    Ok(())
+}
+
+/// So it is where it fails in a start.
+#[test]
+fn a_start_that_fails(rt: HostRuntime) -> Result<(), Fail> {
+    let alloc = rt.alloc();
     let mut recorder = new_recorder(&rt, alloc, 5)?;
     assert_eq!(rt; recorder.mount(), Ok(()));
     assert_eq!(rt; recorder.tick(1000, LEAP_DAY), Ok(()));
-    assert_eq!(rt; recorder.start_file(&name, &setup), Err(Refusal::Medium));
+    assert_eq!(rt; start(alloc, &mut recorder), Ok(Err(Refusal::Medium)));
     assert_eq!(rt; recorder.stop_file(), Err(Refusal::Failed));
     Ok(())
 }
