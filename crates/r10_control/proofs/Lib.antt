@@ -1,6 +1,5 @@
 mod Belonging
 mod BytesOnMedium
-mod Checks
 mod ControlSteps
 mod FileBlocks
 mod Fitting

@@ -31,7 +31,7 @@ use Rattle.r10_control.specs.Kept.{Grows, Kept}
 use Rattle.r10_control.specs.Lanes.{specs_of}
 use Rattle.r10_control.specs.Notes.{LacksFirst, Notes, PumpsLane, first_fits}
 use Rattle.r10_control.specs.Saying.{Lists}
-use Rattle.r10_control.proofs.Checks.{broken_then}
+use Rattle.r10_machine.proofs.Rules.{rules_pass}
 use Rattle.r10_control.proofs.Places.{IsAt}
 use Rattle.r10_control.proofs.Shown.{shows_more}
 
@@ -109,7 +109,7 @@ pub no_channel : (s : Config) (mode : Mode) (tick : Option Tick) (lanes : List L
     → first_broken (recording_checks mode) ≡ None → find (is_channel channel) lanes ≡ None
     → let m = machine_of mode tick lanes image file cursors failures in Step s m (event.Pump channel most) (reply.Refused NoSuchChannel) m
 no_channel s mode tick lanes image file cursors failures channel most fine none =
-    let first : first_broken (recording_checks mode ++ channel_checks (find (is_channel channel) lanes)) ≡ Some NoSuchChannel = broken_then (recording_checks mode) (channel_checks (find (is_channel channel) lanes)) fine ∙ rw none refl in
+    let first : first_broken (recording_checks mode ++ channel_checks (find (is_channel channel) lanes)) ≡ Some NoSuchChannel = rules_pass (recording_checks mode) (channel_checks (find (is_channel channel) lanes)) fine ∙ rw none refl in
     (omega arith, rw first (refl, refl))
 
 -- ---- what ties the fields together afterwards

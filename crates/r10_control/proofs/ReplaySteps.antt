@@ -16,7 +16,7 @@ use Rattle.r10_machine.specs.Calls.{Advances}
 use Rattle.r10_cursor.specs.Cursors.{AdvancesOver}
 use Rattle.r10_control.specs.Files.{files_in, machine_of}
 use Rattle.r10_control.specs.Kept.{Kept}
-use Rattle.r10_control.proofs.Checks.{broken_then}
+use Rattle.r10_machine.proofs.Rules.{rules_pass}
 
 -- a mounted recorder's files are the one that is kept
 pub files_mounted : (mode : Mode) (image : Image) (k : Kept) → first_broken (mounted_checks mode) ≡ None → files_in mode image (Some k) ≡ k.file ∷ []
@@ -47,7 +47,7 @@ advance_step s mode tick lanes image (Some k) cursors more failures shown id n s
     let old : Machine = machine_of mode tick lanes image (Some k) cursors failures in (
       omega arith,
       (
-        broken_then (mounted_checks mode) (advance_checks 0 (cursor_at cursors id)) mounted ∙ read,
+        rules_pass (mounted_checks mode) (advance_checks 0 (cursor_at cursors id)) mounted ∙ read,
         advances old (record old { cursors = more }) k shown id n (cursor_at cursors id) refl refl (files_mounted mode image k mounted) all.0 all.1 place over,
       ),
     )

@@ -30,7 +30,7 @@ use Rattle.r10_control.specs.Inside.{Agrees}
 use Rattle.r10_control.specs.Kept.{Kept, IsFileName}
 use Rattle.r10_control.specs.Notes.{Begins, Lacks}
 use Rattle.r10_control.specs.Saying.{Lists}
-use Rattle.r10_control.proofs.Checks.{broken_then}
+use Rattle.r10_machine.proofs.Rules.{rules_pass}
 use Rattle.r10_control.proofs.ControlSteps.{lanes_kept}
 
 -- ---- what passed checks say
@@ -110,7 +110,7 @@ pub beside_refused : (s : Config) (mode : Mode) (tick : Option Tick) (lanes : Li
 beside_refused s Idle tick lanes image None cursors failures name setup r fine begin beside = absurd (cc)
 beside_refused s Idle tick lanes image (Some k) cursors failures name setup r fine begin beside =
     let first : first_broken (idle_checks Idle ++ (begin_checks (is_some tick) name setup ++ file_checks s (k.file ∷ []) name)) ≡ Some r =
-    broken_then (idle_checks Idle) (begin_checks (is_some tick) name setup ++ file_checks s (k.file ∷ []) name) fine ∙ broken_then (begin_checks (is_some tick) name setup) (file_checks s (k.file ∷ []) name) begin ∙ beside in
+    rules_pass (idle_checks Idle) (begin_checks (is_some tick) name setup ++ file_checks s (k.file ∷ []) name) fine ∙ rules_pass (begin_checks (is_some tick) name setup) (file_checks s (k.file ∷ []) name) begin ∙ beside in
     (omega arith, rw first (refl, refl))
 beside_refused s Recording tick lanes image file cursors failures name setup r fine begin beside = absurd (cc)
 beside_refused s Unmounted tick lanes image file cursors failures name setup r fine begin beside = absurd (cc)
@@ -120,7 +120,7 @@ beside_refused s Failed tick lanes image file cursors failures name setup r fine
 passes : (s : Config) (mode : Mode) (name setup : List ℕ) → first_broken (idle_checks mode) ≡ None → first_broken (begin_checks true name setup) ≡ None
     → first_broken (idle_checks mode ++ (begin_checks true name setup ++ file_checks s [] name)) ≡ None
 passes s mode name setup fine begin =
-    broken_then (idle_checks mode) (begin_checks true name setup ++ file_checks s [] name) fine ∙ broken_then (begin_checks true name setup) (file_checks s [] name) begin
+    rules_pass (idle_checks mode) (begin_checks true name setup ++ file_checks s [] name) fine ∙ rules_pass (begin_checks true name setup) (file_checks s [] name) begin
 
 lacks : (s : Config) (mode : Mode) (tick : Tick) (lanes : List Lane) (image : Image) (cursors : List (Option Cursor)) (failures : ℕ) (name setup : List ℕ) (r : Refusal)
     → Lacks s (empty_file s [] name setup) (time_entry s tick) r
