@@ -8,7 +8,7 @@ use Rattle.r10_machine.specs.Machine.{entry_of}
 use Rattle.r10_count.specs.Checks.{first_broken}
 use Rattle.r10_body.specs.declared.message.Message.{Message}
 use Rattle.r10_body.specs.declared.refusal.Refusal.{Refusal}
-use Rattle.r10_machine.specs.Checks.{offer_checks, room_checks, taking_checks, message_checks, in_48_bits, is_not_before}
+use Rattle.r10_machine.specs.Checks.{offer_checks, taking_checks, message_checks, in_48_bits, is_not_before}
 use Rattle.r10_body.specs.declared.refusal.Refusal.TheVariants.{CountBack}
 use Rattle.r10_machine.specs.Calls.{accepted, overflowed}
 use Rattle.r10_body.specs.declared.spec.ChannelSpec.{ChannelSpec}

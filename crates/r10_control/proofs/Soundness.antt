@@ -9,7 +9,7 @@ use Rattle.r10_machine.specs.Config.{Config}
 use Rattle.r10_machine.specs.Limits.{IsConfig}
 use Rattle.r10_machine.specs.Machine.{Machine}
 use Rattle.r10_machine.specs.Sound.{IsSound}
-use Rattle.r10_machine.specs.Step.{Step, Answers}
+use Rattle.r10_machine.specs.Step.{Answers}
 use Rattle.r10_machine.proofs.Steady.{sound_with}
 use Rattle.r10_machine.proofs.Steps.{step_sound}
 use Rattle.r10_control.specs.Going.{Goes, stepped, unread}

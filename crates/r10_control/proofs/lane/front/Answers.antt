@@ -1,4 +1,4 @@
-use Rattle.std.proofs.Common.{◌≡◌, ◌<◌, ◌∙◌, Some, None, length, slice_get, sym, ap, arith}
+use Rattle.std.proofs.Common.{◌≡◌, ◌<◌, ◌∙◌, Some, length, slice_get, sym, ap, arith}
 use Rattle.std.specs.Option.{option_copied}
 use Rattle.r10_control.proofs.LaneSteps.{front_more, some_there}
 use Rattle.r10_control.proofs.lane.front.Goals as goal
