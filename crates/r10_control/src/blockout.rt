@@ -1,6 +1,6 @@
 //! A file's bytes in the medium's blocks.
 
-ghost use Rattle.std.specs.Prelude.{◌≡◌, ◌+◌, ◌*◌, ◌≤◌, OnOk, length, drop};
+ghost use Rattle.std.specs.Prelude.{◌≡◌, ◌+◌, ◌*◌, ◌≤◌, OnOk, length};
 ghost use Rattle.r10_medium.specs.Disk.{Counts};
 ghost use Rattle.r10_medium.specs.Stop.{Moves, PutsSome, put_blocks};
 ghost use Rattle.r10_machine.specs.Room.{blocks_of as blocks_for};
