@@ -23,9 +23,9 @@ use std::marker::Model;
 
 /// A recorder. Contracts see its settings, its state as the small machine has it, and its medium.
 ///
-/// Of what each call refuses, the first that applies is answered, in the order in which the call's text names them. A
-/// refused call leaves the state and the medium as they were, but for two: an offer that a full lane refuses is counted as
-/// lost, and where the medium failed the recorder is Failed from then on.
+/// Of what each call refuses, the first that applies is answered, in the order in which the call's text names them; Medium is
+/// answered as soon as the medium fails. A refused call leaves the state and the medium's blocks as they were, but for two: an
+/// offer that a full lane refuses is counted as lost, and where the medium failed the recorder is Failed from then on.
 #[derive(Drop)]
 pub struct Recorder<M: BlockMedium> {
     inner: Inner<M>,
