@@ -1,0 +1,1 @@
+// Headers, frames, directory blocks, bodies of entries.

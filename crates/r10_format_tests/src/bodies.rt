@@ -1,0 +1,1 @@
+// The bodies of each kind of channel.

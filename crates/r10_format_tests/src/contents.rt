@@ -1,0 +1,1 @@
+// Whole bodies and whole files.

@@ -1,0 +1,9 @@
+//! Calls of the formats once each with ample memory, and what their contracts do not say.
+#![tactic(auto)]
+
+#[cfg(test)]
+mod base;
+#[cfg(test)]
+mod bodies;
+#[cfg(test)]
+mod contents;

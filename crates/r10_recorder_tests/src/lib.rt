@@ -1,0 +1,9 @@
+//! The recorder and its parts called once each with ample memory, and what their contracts do not say.
+#![tactic(auto)]
+
+#[cfg(test)]
+mod builder;
+#[cfg(test)]
+mod parts;
+#[cfg(test)]
+mod recorder;

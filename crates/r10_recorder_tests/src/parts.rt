@@ -1,0 +1,1 @@
+// Settings, lanes, cursors.
