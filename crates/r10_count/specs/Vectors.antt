@@ -1,10 +1,11 @@
 -- Worked values.
-use Rattle.std.specs.Prelude.{◌≡◌, ℕ, ◌*◌, true, false, List, [], ◌∷◌, map, Some, None, refl}
+use Rattle.std.specs.Prelude.{◌≡◌, ℕ, ◌*◌, true, false, List, [], ◌∷◌, map, replicate, Some, None, refl}
 use Rattle.r10_count.specs.declared.civil.Parts.{Parts}
 use Rattle.r10_count.specs.Bytes.{le_bytes, u16_at, u32_at, u64_at, flag_at, bit_of}
 use Rattle.r10_count.specs.Checks.{first_broken}
 use Rattle.r10_count.specs.Civil.{is_leap, is_civil, day_number, centi_of_day, centis_between}
 use Rattle.r10_count.specs.Count.{stamp}
+use Rattle.r10_count.specs.Names.{is_name_byte, is_name, is_volume}
 
 pub stamp-1000 : stamp 1000 ≡ 0xE8 ∷ 0x03 ∷ 0 ∷ 0 ∷ 0 ∷ 0 ∷ 0 ∷ 0 ∷ []
 stamp-1000 = refl
@@ -75,3 +76,20 @@ over_the_end_of_february = refl
 
 pub over_midnight : centis_between (at 23 59 59 99) (record (noon 2017 1 1) { hour = 0 }) ≡ 1
 over_midnight = refl
+
+-- beside the ends of digits and letters
+pub name_bytes : map is_name_byte (0x2F ∷ 0x30 ∷ 0x39 ∷ 0x3A ∷ 0x40 ∷ 0x41 ∷ 0x5A ∷ 0x5B ∷ 0x60 ∷ 0x61 ∷ 0x7A ∷ 0x7B ∷ []) ≡ false ∷ true ∷ true ∷ false ∷ false ∷ true ∷ true ∷ false ∷ false ∷ true ∷ true ∷ false ∷ []
+name_bytes = refl
+
+pub marks : map is_name_byte (0x20 ∷ 0x2D ∷ 0x2E ∷ 0x5F ∷ 0 ∷ 0xFF ∷ []) ≡ false ∷ true ∷ true ∷ true ∷ false ∷ false ∷ []
+marks = refl
+
+-- FLT1, the empty name, and FLT 1
+pub names : map is_name ((0x46 ∷ 0x4C ∷ 0x54 ∷ 0x31 ∷ []) ∷ [] ∷ (0x46 ∷ 0x4C ∷ 0x54 ∷ 0x20 ∷ 0x31 ∷ []) ∷ []) ≡ true ∷ false ∷ false ∷ []
+names = refl
+
+pub lengths_of_names : map is_name (replicate 56 0x41 ∷ replicate 57 0x41 ∷ []) ≡ true ∷ false ∷ []
+lengths_of_names = refl
+
+pub lengths_of_volumes : map is_volume ([] ∷ replicate 1 0x41 ∷ replicate 32 0x41 ∷ replicate 33 0x41 ∷ []) ≡ false ∷ true ∷ true ∷ false ∷ []
+lengths_of_volumes = refl
