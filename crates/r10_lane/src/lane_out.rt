@@ -36,9 +36,10 @@ pub trait LaneOut {
     fn spec(&self) -> ChannelSpec
         ensures { result ≡ spec_of self.now };
 
-    /// The first sample, which stays. A `take` right after this gives the same one.
+    /// The first sample, which stays. The next `take`, and each `front` before it, give the same one.
     fn front(&mut self) -> Option<&Sample>
-        ensures* after { sem 𝓛 (Rests Self.row self.entry (λ new. took self.old [] new × IfSome result (λ first. shows new first.now))) }
+        ensures* after { sem 𝓛 (Rests Self.row self.entry (λ new. took self.old [] new × ((first : One) → shows self.old first → shows new first) × IfSome result (λ first. shows new first.now))) }
+        ensures shown { (first : One) → shows self.old first → option_copied result ≡ Some first }
         ensures quiet { IfSome (quiet self.old) (λ waiting. option_copied result ≡ slice_get waiting 0) };
 
     /// Takes the first sample.
