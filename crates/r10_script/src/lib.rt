@@ -8,8 +8,6 @@ mod script;
 mod settings;
 mod step;
 mod table;
-#[cfg(test)]
-mod tests;
 
 pub use fault::{Place, ScriptFault, Wrong};
 pub use line::reply_line;
