@@ -1,7 +1,8 @@
 -- ARINC 429 bodies written out.
-use Rattle.std.specs.Prelude.{◌≡◌, ℕ, true, false, List, [], ◌∷◌, ◌++◌, refl}
+use Rattle.std.specs.Prelude.{◌≡◌, ℕ, true, false, List, [], ◌∷◌, ◌++◌, replicate, refl}
+use Rattle.std.proofs.Common.{arith, lit<, lit≤}
 use Rattle.r10_a429.specs.declared.entry.ArincEntry.{ArincEntry}
-use Rattle.r10_a429.specs.Arinc.{arinc_body}
+use Rattle.r10_a429.specs.Arinc.{FollowsSoon, IsForeignArinc, arinc_body}
 
 -- a word on the high speed bus 1
 abbrev pub word_at : ℕ → ArincEntry
@@ -23,3 +24,20 @@ two_buses = record { count = 5000; bus = 0; format = false; parity = false; high
 pub two_buses-body : arinc_body 5000 two_buses
     ≡ 2 ∷ 0 ∷ 0 ∷ 0 ∷ 0 ∷ 0 ∷ 0 ∷ 0 ∷ 0 ∷ 0 ∷ 0 ∷ 0 ∷ 0x40 ∷ 0x42 ∷ 0xCF ∷ 0xFF ∷ 0xFF ∷ 0xFF ∷ 0xFF ∷ 0xFF ∷ []
 two_buses-body = refl
+
+-- a tenth of a second later, and a count more; no later, and a count before
+pub soon-enough : FollowsSoon 5000 (word_at 1005000)
+soon-enough = (lit≤ tt, lit≤ tt)
+
+pub too-late : FollowsSoon 5000 (word_at 1005001) → ⊥
+too-late soon = omega (arith, soon.1)
+
+pub at-once : FollowsSoon 5000 (word_at 5000)
+at-once = (lit≤ tt, lit≤ tt)
+
+pub too-soon : FollowsSoon 5000 (word_at 4999) → ⊥
+too-soon soon = omega (arith, soon.0)
+
+-- any upper half of the word, and any bytes of as many words, may be another recorder's
+pub another-recorders : IsForeignArinc ((2 ∷ 0 ∷ 0xFF ∷ 0xFF ∷ []) ++ replicate 16 0xFF)
+another-recorders = (0xFFFF0002, replicate 16 0xFF, lit< tt, refl, refl)

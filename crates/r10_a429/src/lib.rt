@@ -7,6 +7,3 @@ mod entry;
 
 pub use body::ArincBody;
 pub use entry::ArincEntry;
-
-#[cfg(test)]
-mod tests;

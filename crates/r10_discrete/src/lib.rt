@@ -7,6 +7,3 @@ mod entry;
 
 pub use body::DiscreteBody;
 pub use entry::DiscreteEntry;
-
-#[cfg(test)]
-mod tests;

@@ -3,7 +3,5 @@
 #![tactic(auto)]
 
 mod body;
-#[cfg(test)]
-mod tests;
 
 pub use body::SetupBody;

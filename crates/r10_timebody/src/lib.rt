@@ -4,7 +4,5 @@
 
 mod body;
 mod digits;
-#[cfg(test)]
-mod tests;
 
 pub use body::TimeBody;
