@@ -1,6 +1,7 @@
 -- Bus messages written out.
-use Rattle.std.specs.Prelude.{◌≡◌, ℕ, List, Some, None, [], ◌∷◌, bit_and, refl}
-use Rattle.r10_b1553.specs.Bus.{bus_body, bus_of, named_bits, told_size}
+use Rattle.std.specs.Prelude.{◌≡◌, ℕ, List, Some, None, [], ◌∷◌, ◌++◌, bit_and, refl, replicate}
+use Rattle.std.proofs.Common.{arith, lit<, lit≤}
+use Rattle.r10_b1553.specs.Bus.{FitsBus, IsForeignBus, bus_body, bus_of, named_bits, told_size}
 
 -- on bus B, a command and a data word at 2000
 pub one_message-body : bus_body (bus_of 2000 0x2000 0 (0x0821 ∷ 0xABCD ∷ []) ∷ [])
@@ -29,3 +30,10 @@ four-bytes = refl
 
 pub five-bytes : told_size (front_of 5) ≡ None
 five-bytes = refl
+
+pub too-many-words : FitsBus (bus_of 0 0 0 (replicate 37 7)) → ⊥
+too-many-words fits = omega (arith, fits.few)
+
+-- any upper bits of the word, any stamp and any block status may be another recorder's
+pub another-recorders : IsForeignBus ((1 ∷ 0 ∷ 0 ∷ 0x40 ∷ []) ++ replicate 12 0xFF ++ (2 ∷ 0 ∷ 0x21 ∷ 0x08 ∷ []))
+another-recorders = (0x40000001, (replicate 12 0xFF ++ (2 ∷ 0 ∷ 0x21 ∷ 0x08 ∷ [])) ∷ [], lit< tt, refl, ((lit≤ tt, refl), tt), refl)

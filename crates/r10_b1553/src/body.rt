@@ -1,11 +1,10 @@
 //! The body of a MIL-STD-1553 packet.
 
 ghost use Rattle.std.specs.Prelude.{◌≡◌, ◌↔◌, ◌^◌, ◌<◌, List, length, IsTrue, IfOk};
-ghost use Rattle.std.specs.List.{AllByRecursion};
 ghost use Rattle.r10_entries.specs.Append.{Appends};
 ghost use Rattle.r10_entries.specs.Reading.{Reads};
 ghost use Rattle.r10_entries.specs.declared.reading.Reading.TheVariants.{Strict};
-ghost use Rattle.r10_b1553.specs.Bus.{FitsBus, FitsBusBody, IsBus, IsForeignBus, bus_body};
+ghost use Rattle.r10_b1553.specs.Bus.{FitsBusBody, IsBus, IsForeignBus, bus_body};
 ghost use Rattle.r10_b1553.specs.declared.entry.BusEntry.{BusEntry as Spoken};
 
 use crate::entry::BusEntry;
@@ -46,8 +45,7 @@ impl BusBody {
 
     /// Adds the body's bytes. Where memory is refused, nothing is added.
     pub fn encode_into(&self, out: &mut Vec<u8>) -> Result<(), AllocError>
-        requires counted { length self.now.entries < 2 ^ 24 }
-        requires fields { AllByRecursion FitsBus self.now.entries }
+        requires { FitsBusBody self.now.entries }
         ensures { Appends (bus_body self.now.entries) out.old out.new result }
     {
         write_body(0, 0, self.entries.as_slice(), out)

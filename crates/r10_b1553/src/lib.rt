@@ -8,6 +8,3 @@ mod words;
 
 pub use body::BusBody;
 pub use entry::{BusEntry, channel_word, push_entry};
-
-#[cfg(test)]
-mod tests;

@@ -1,7 +1,8 @@
 -- Message bodies written out.
-use Rattle.std.specs.Prelude.{◌≡◌, true, false, List, [], ◌∷◌, refl}
+use Rattle.std.specs.Prelude.{◌≡◌, ℕ, Some, true, false, List, [], ◌∷◌, ◌++◌, refl}
+use Rattle.std.proofs.Common.{arith, lit<, lit≤}
 use Rattle.r10_message.specs.declared.entry.MessageEntry.{MessageEntry}
-use Rattle.r10_message.specs.Message.{message_body, message_entry, message_of, is_opaque}
+use Rattle.r10_message.specs.Message.{FitsMessage, IsForeignMessage, message_body, message_entry, message_of, told_size, is_opaque}
 
 -- ABC at 1000 and an empty message at 1010
 abbrev pub two_messages : List MessageEntry
@@ -35,3 +36,24 @@ last_segments = refl
 
 pub no-word : is_opaque (2 ∷ 0 ∷ 1 ∷ []) ≡ false
 no-word = refl
+
+-- the last subchannel, and one behind it
+pub greatest-fits : FitsMessage (message_of 281474976710655 true false 16383 (0x5A ∷ 0xA5 ∷ []))
+greatest-fits = record { count = lit< tt; sub = lit< tt; bytes = lit< tt }
+
+pub subchannel-16384 : FitsMessage (message_of 0 false false 16384 []) → ⊥
+subchannel-16384 fits = omega (arith, fits.sub)
+
+-- a front with any stamp, any upper half of the header, and this length
+abbrev pub front_of : ℕ → List ℕ
+front_of bytes = 0xFF ∷ 0xFF ∷ 0xFF ∷ 0xFF ∷ 0xFF ∷ 0xFF ∷ 0xFF ∷ 0xFF ∷ bytes ∷ 0 ∷ 0xFF ∷ 0xFF ∷ []
+
+pub four-bytes : told_size (front_of 4) ≡ Some 16
+four-bytes = refl
+
+pub five-bytes : told_size (front_of 5) ≡ Some 18
+five-bytes = refl
+
+-- any upper half of the word, any stamp and header, and any byte behind an odd number of bytes, may be another recorder's
+pub another-recorders : IsForeignMessage ((2 ∷ 0 ∷ 0xFC ∷ 0xFF ∷ []) ++ front_of 1 ++ (0x41 ∷ 0x20 ∷ []) ++ front_of 0)
+another-recorders = (0xFFFC0002, (front_of 1 ++ (0x41 ∷ 0x20 ∷ [])) ∷ front_of 0 ∷ [], lit< tt, refl, ((lit≤ tt, refl), ((lit≤ tt, refl), tt)), refl)

@@ -1,11 +1,10 @@
 //! The body of a message data packet.
 
 ghost use Rattle.std.specs.Prelude.{◌≡◌, ◌↔◌, ◌^◌, ◌<◌, List, length, IsTrue, IfOk};
-ghost use Rattle.std.specs.List.{AllByRecursion};
 ghost use Rattle.r10_entries.specs.Append.{Appends};
 ghost use Rattle.r10_entries.specs.Reading.{Reads};
 ghost use Rattle.r10_entries.specs.declared.reading.Reading.TheVariants.{Strict};
-ghost use Rattle.r10_message.specs.Message.{FitsMessage, FitsMessageBody, IsMessage, IsForeignMessage, message_body, is_opaque};
+ghost use Rattle.r10_message.specs.Message.{FitsMessageBody, IsMessage, IsForeignMessage, message_body, is_opaque};
 ghost use Rattle.r10_message.specs.declared.entry.MessageEntry.{MessageEntry as Spoken};
 
 use crate::entry::MessageEntry;
@@ -44,8 +43,7 @@ impl MessageBody {
 
     /// Adds the body's bytes. Where memory is refused, nothing is added.
     pub fn encode_into(&self, out: &mut Vec<u8>) -> Result<(), AllocError>
-        requires counted { length self.now.entries < 2 ^ 16 }
-        requires fields { AllByRecursion FitsMessage self.now.entries }
+        requires { FitsMessageBody self.now.entries }
         ensures { Appends (message_body self.now.entries) out.old out.new result }
     {
         write_body(0, 0, self.entries.as_slice(), out)

@@ -7,6 +7,3 @@ mod entry;
 
 pub use body::MessageBody;
 pub use entry::{MessageEntry, channel_word, push_entry};
-
-#[cfg(test)]
-mod tests;

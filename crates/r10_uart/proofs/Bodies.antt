@@ -35,10 +35,10 @@ all_suit [] = tt
 all_suit (e ∷ es) = (refl, all_suit es)
 
 pub body_is : (es : List UartEntry) (body : List ℕ) → IsUart es body → IsBody uart_form 0 0 es body
-body_is es body is = record { opens = some_opens es is.0; suits = all_suit es; agrees = refl; fits = fits_are 0 es is.1; spelled = is.2 ∙ sym (bytes_are es) }
+body_is es body is = record { opens = some_opens es is.0.0; suits = all_suit es; agrees = refl; fits = fits_are 0 es is.0.1; spelled = is.1 ∙ sym (bytes_are es) }
 
 pub is_body : (es : List UartEntry) (body : List ℕ) → IsBody uart_form 0 0 es body → IsUart es body
-is_body es body is = (opens_some es is.opens, are_fits 0 es is.fits, is.spelled ∙ bytes_are es)
+is_body es body is = ((opens_some es is.opens, are_fits 0 es is.fits), is.spelled ∙ bytes_are es)
 
 pub foreign_is : (body : List ℕ) → IsForeign uart_form body → IsForeignUart body
 foreign_is body f = (f.0, f.1, f.2, f.4, f.5)

@@ -35,9 +35,13 @@ pub record FitsUart (e : UartEntry) : Type 0 where
   pub sub : e.sub < 2 ^ 14
   pub bytes : length e.bytes < 2 ^ 16
 
+-- the messages of one packet: there is one
+abbrev pub FitsUartBody : List UartEntry → Type 0
+FitsUartBody entries = (0 < length entries) × AllByRecursion FitsUart entries
+
 -- the body that the writer makes of these entries
 abbrev pub IsUart : List UartEntry → List ℕ → Type 0
-IsUart entries body = (0 < length entries) × AllByRecursion FitsUart entries × (body ≡ uart_body entries)
+IsUart entries body = FitsUartBody entries × (body ≡ uart_body entries)
 
 -- the number of bytes that the header behind a stamp tells
 abbrev pub told_bytes : List ℕ → ℕ

@@ -1,7 +1,8 @@
 -- UART bodies written out.
-use Rattle.std.specs.Prelude.{◌≡◌, true, false, List, [], ◌∷◌, refl}
+use Rattle.std.specs.Prelude.{◌≡◌, ℕ, Some, true, false, List, [], ◌∷◌, ◌++◌, refl}
+use Rattle.std.proofs.Common.{arith, lit<, lit≤}
 use Rattle.r10_uart.specs.declared.entry.UartEntry.{UartEntry}
-use Rattle.r10_uart.specs.Uart.{uart_body, uart_entry, uart_of, is_opaque}
+use Rattle.r10_uart.specs.Uart.{FitsUart, IsForeignUart, uart_body, uart_entry, uart_of, told_size, is_opaque}
 
 -- ABC at 1000 and an empty message at 1010
 abbrev pub two_messages : List UartEntry
@@ -23,3 +24,24 @@ without-stamps = refl
 
 pub no-word : is_opaque (0 ∷ 0 ∷ 0 ∷ []) ≡ false
 no-word = refl
+
+-- the last subchannel, and one behind it
+pub greatest-fits : FitsUart (uart_of 281474976710655 true 16383 (0x5A ∷ 0xA5 ∷ []))
+greatest-fits = record { count = lit< tt; sub = lit< tt; bytes = lit< tt }
+
+pub subchannel-16384 : FitsUart (uart_of 0 false 16384 []) → ⊥
+subchannel-16384 fits = omega (arith, fits.sub)
+
+-- a front with any stamp, any upper half of the header, and this length
+abbrev pub front_of : ℕ → List ℕ
+front_of bytes = 0xFF ∷ 0xFF ∷ 0xFF ∷ 0xFF ∷ 0xFF ∷ 0xFF ∷ 0xFF ∷ 0xFF ∷ bytes ∷ 0 ∷ 0xFF ∷ 0xFF ∷ []
+
+pub four-bytes : told_size (front_of 4) ≡ Some 16
+four-bytes = refl
+
+pub five-bytes : told_size (front_of 5) ≡ Some 18
+five-bytes = refl
+
+-- any word, stamp and header, and any byte behind an odd number of bytes, may be another recorder's
+pub another-recorders : IsForeignUart ((1 ∷ 0 ∷ 0 ∷ 0 ∷ []) ++ front_of 1 ++ (0x41 ∷ 0x20 ∷ []) ++ front_of 0)
+another-recorders = (1, (front_of 1 ++ (0x41 ∷ 0x20 ∷ [])) ∷ front_of 0 ∷ [], lit< tt, ((lit≤ tt, refl), ((lit≤ tt, refl), tt)), refl)

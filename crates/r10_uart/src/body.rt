@@ -1,11 +1,10 @@
 //! The body of a UART packet.
 
 ghost use Rattle.std.specs.Prelude.{◌≡◌, ◌↔◌, ◌^◌, ◌<◌, List, length, IsTrue, IfOk};
-ghost use Rattle.std.specs.List.{AllByRecursion};
 ghost use Rattle.r10_entries.specs.Append.{Appends};
 ghost use Rattle.r10_entries.specs.Reading.{Reads};
 ghost use Rattle.r10_entries.specs.declared.reading.Reading.TheVariants.{Strict};
-ghost use Rattle.r10_uart.specs.Uart.{FitsUart, IsUart, IsForeignUart, uart_body, is_opaque};
+ghost use Rattle.r10_uart.specs.Uart.{FitsUartBody, IsUart, IsForeignUart, uart_body, is_opaque};
 ghost use Rattle.r10_uart.specs.declared.entry.UartEntry.{UartEntry as Spoken};
 
 use crate::entry::UartEntry;
@@ -23,7 +22,7 @@ pub struct UartBody {
 impl UartBody {
     /// Whether there is an entry, and the fields of each are in their ranges.
     pub fn check(&self) -> bool
-        ensures { IsTrue result ↔ ((0 < length self.now.entries) × AllByRecursion FitsUart self.now.entries) }
+        ensures { IsTrue result ↔ FitsUartBody self.now.entries }
     {
         let entries = self.entries.as_slice();
         !entries.is_empty() && entries.iter().all(|entry| entry.check())
@@ -43,7 +42,7 @@ impl UartBody {
 
     /// Adds the body's bytes. Where memory is refused, nothing is added.
     pub fn encode_into(&self, out: &mut Vec<u8>) -> Result<(), AllocError>
-        requires { AllByRecursion FitsUart self.now.entries }
+        requires { FitsUartBody self.now.entries }
         ensures { Appends (uart_body self.now.entries) out.old out.new result }
     {
         write_body(0, 0, self.entries.as_slice(), out)

@@ -7,6 +7,3 @@ mod entry;
 
 pub use body::UartBody;
 pub use entry::{UartEntry, channel_word, push_entry};
-
-#[cfg(test)]
-mod tests;

@@ -4,7 +4,7 @@ use Rattle.r10_uart.proofs.Bodies.{fits_are, bytes_are}
 use Rattle.r10_uart.proofs.body.UartBody.encode_into.Goals as goal
 
 pub write_body-requires : goal.write_body-requires
-write_body-requires c = rw c.as_slice.ensures (fits_are 0 c.args.self.now.entries c.requires)
+write_body-requires c = rw c.as_slice.ensures (fits_are 0 c.args.self.now.entries c.requires.1)
 
 pub returns : goal.returns
 returns c =
