@@ -1,11 +1,11 @@
 -- A formatted block, and the entry of a recording.
-use Rattle.std.specs.Prelude.{◌≡◌, ℕ, List, [], ◌∷◌, ◌++◌, replicate, slice_set, Ok, Err, true, false, refl}
+use Rattle.std.specs.Prelude.{◌≡◌, ℕ, List, [], ◌∷◌, ◌++◌, map, take, replicate, slice_set, Ok, Err, true, false, refl}
 use Rattle.r10_count.specs.declared.civil.Parts.{Parts}
 use Rattle.r10_dirblock.specs.declared.entry.Entry.{Entry}
 use Rattle.r10_dirblock.specs.declared.block.DirBlock.{DirBlock}
 use Rattle.r10_dirblock.specs.declared.read.DirFault.TheVariants as faults
-use Rattle.r10_dirblock.specs.Texts.{padded, stripped}
-use Rattle.r10_dirblock.specs.Block.{block_bytes, head_bytes, entry_bytes, entry_of, read_block, begun, sized, is_closed}
+use Rattle.r10_dirblock.specs.Texts.{padded, stripped, date_text, time_text}
+use Rattle.r10_dirblock.specs.Block.{block_bytes, head_bytes, entry_bytes, entry_of, read_block, blank, begun, sized, has_room, is_closed}
 
 -- ---- the first directory block of a formatted medium
 
@@ -65,6 +65,36 @@ flight_is_closed = refl
 pub begun_is_open : is_closed (begun flight_name 3 leap_day) ≡ false
 begun_is_open = refl
 
+-- the block that lists it, written and read
+abbrev with_flight : DirBlock
+with_flight = record formatted { entries = flight ∷ [] }
+
+abbrev with_flight_bytes : List ℕ
+with_flight_bytes = take 64 (slice_set formatted_bytes 11 1) ++ flight_bytes ++ replicate 336 0
+
+pub listed_is_written : block_bytes with_flight ≡ with_flight_bytes
+unfolding head_bytes entry_bytes
+listed_is_written = refl
+
+pub listed_is_read : read_block with_flight_bytes ≡ Ok with_flight
+unfolding read_block entry_of
+listed_is_read = refl
+
+-- `29022024` and `12345678`
+pub texts_of_a_leap_day : date_text leap_day ∷ time_text leap_day ∷ [] ≡ (0x32 ∷ 0x39 ∷ 0x30 ∷ 0x32 ∷ 0x32 ∷ 0x30 ∷ 0x32 ∷ 0x34 ∷ []) ∷ clock ∷ []
+texts_of_a_leap_day = refl
+
+-- ---- sizes
+
+abbrev blocks_of : ℕ → ℕ
+blocks_of size = (sized size blank).block_count
+
+pub blocks_for_a_size : map blocks_of (0 ∷ 1 ∷ 512 ∷ 513 ∷ 18446744073709551615 ∷ []) ≡ 0 ∷ 1 ∷ 1 ∷ 2 ∷ 36028797018963968 ∷ []
+blocks_for_a_size = refl
+
+pub room_for_a_size : map has_room (record blank { block_count = 1; size = 512 } ∷ record blank { block_count = 1; size = 513 } ∷ record blank { size = 1 } ∷ []) ≡ true ∷ false ∷ false ∷ []
+room_for_a_size = refl
+
 -- ---- names
 
 -- zero bytes and spaces in any mix behind a name, and those inside or before it
@@ -73,6 +103,9 @@ mixed_padding = refl
 
 pub no_name : stripped (0x20 ∷ 0x00 ∷ []) ≡ []
 no_name = refl
+
+pub three_letters_in_six : padded 6 (0x56 ∷ 0x4F ∷ 0x4C ∷ []) ≡ 0x56 ∷ 0x4F ∷ 0x4C ∷ 0 ∷ 0 ∷ 0 ∷ []
+three_letters_in_six = refl
 
 -- ---- faults
 
@@ -101,6 +134,20 @@ larger_blocks = refl
 pub without_room : read_block (slice_set (with 11 2) 255 1) ≡ Err (faults.Entry 1)
 unfolding read_block entry_of
 without_room = refl
+
+-- the count's high byte
+pub many_entries : read_block (with 10 1) ≡ Err faults.Count
+unfolding read_block
+many_entries = refl
+
+-- the last of four, and not where only three are counted
+pub fourth_without_room : read_block (slice_set (with 11 4) 479 1) ≡ Err (faults.Entry 3)
+unfolding read_block entry_of
+fourth_without_room = refl
+
+pub unused_entry : read_block (slice_set (with 11 0) 143 1) ≡ Ok formatted
+unfolding read_block entry_of
+unused_entry = refl
 
 -- a revision is not judged
 pub another_revision : read_block (with 8 0x01) ≡ Ok formatted

@@ -28,23 +28,6 @@ pub struct Entry {
 }
 
 impl Entry {
-    /// An entry of zero bytes.
-    pub fn blank() -> Entry
-        ensures { result ≡ blank }
-    {
-        Entry {
-            name: [0; 56],
-            first_block: 0,
-            block_count: 0,
-            size: 0,
-            create_date: [0; 8],
-            create_time: [0; 8],
-            time_type: 0,
-            reserved: [0; 7],
-            close_time: [0; 8],
-        }
-    }
-
     /// The entry of a file that has just been begun: without blocks, and not closed.
     pub fn begun(name: &[u8], first_block: u64, created: Civil) -> Entry
         requires { length name.now ≤ 56 }
@@ -108,10 +91,21 @@ impl Entry {
     }
 }
 
+/// An entry of zero bytes.
 impl Default for Entry {
     ghost is_default = { λ e. e ≡ blank };
 
     fn default() -> Entry {
-        Entry::blank()
+        Entry {
+            name: [0; 56],
+            first_block: 0,
+            block_count: 0,
+            size: 0,
+            create_date: [0; 8],
+            create_time: [0; 8],
+            time_type: 0,
+            reserved: [0; 7],
+            close_time: [0; 8],
+        }
     }
 }

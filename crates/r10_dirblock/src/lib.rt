@@ -13,7 +13,4 @@ pub use block::{DirBlock, encode};
 pub use entries::Entries;
 pub use entry::Entry;
 pub use read::{DirFault, decode};
-pub use text::{date_digits, pad, strip, time_digits};
-
-#[cfg(test)]
-mod tests;
+pub use text::{pad, strip};

@@ -37,7 +37,7 @@ fn is_pad(byte: u8) -> bool
 }
 
 /// The date as DDMMYYYY.
-pub fn date_digits(time: Civil) -> [u8; 8]
+pub(crate) fn date_digits(time: Civil) -> [u8; 8]
     ensures { result ≡ date_text time }
 {
     let parts = time.parts();
@@ -49,7 +49,7 @@ pub fn date_digits(time: Civil) -> [u8; 8]
 }
 
 /// The time of day as HHMMSSss, to the hundredth of a second.
-pub fn time_digits(time: Civil) -> [u8; 8]
+pub(crate) fn time_digits(time: Civil) -> [u8; 8]
     ensures { result ≡ time_text time }
 {
     let parts = time.parts();

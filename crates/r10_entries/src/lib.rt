@@ -16,6 +16,3 @@ pub use body::{read_body, write_body};
 pub use entry::BodyEntry;
 pub use padding::unpadded;
 pub use reading::Reading;
-
-#[cfg(test)]
-mod tests;

@@ -17,6 +17,3 @@ pub use laws::{flags_tell, header_again, packet_again, packet_found, part_length
 pub use packet::Packet;
 pub use sums::{sum8, sum16, sum32};
 pub use view::{DataSum, PacketView};
-
-#[cfg(test)]
-mod tests;
