@@ -4,3 +4,4 @@ pub mod Lone
 mod Discretes
 pub mod Sentence
 pub mod Says
+pub mod Lenient

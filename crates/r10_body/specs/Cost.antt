@@ -14,8 +14,16 @@ message_cost (messages.Message data_error format sub bytes) = 12 + length bytes
 message_cost (messages.Time civil) = 8
 message_cost (messages.Event number count) = 12
 
+-- what every entry costs, whatever its message
+abbrev pub each_entry : ℕ
+each_entry = 104
+
+-- what every file costs before its setup text and its entries
+abbrev pub each_file : ℕ
+each_file = 152
+
 abbrev pub entry_cost : Entry → ℕ
-entry_cost e = 104 + message_cost e.message
+entry_cost e = each_entry + message_cost e.message
 
 abbrev pub file_cost : List ℕ → List Entry → ℕ
-file_cost setup entries = 152 + length setup + sum_by entry_cost entries
+file_cost setup entries = each_file + length setup + sum_by entry_cost entries

@@ -10,6 +10,14 @@ use Rattle.r10_body.specs.declared.refusal.Refusal.TheVariants.{WrongKind, BadMe
 use Rattle.r10_body.specs.declared.spec.ChannelSpec.{ChannelSpec}
 use Rattle.r10_count.specs.Checks.{first_broken}
 
+-- the data type of the packets of a channel of this kind
+abbrev pub kind_type : Kind → ℕ
+kind_type kinds.Uart = 0x50
+kind_type kinds.Bus1553 = 0x19
+kind_type kinds.Arinc = 0x38
+kind_type kinds.Discrete = 0x29
+kind_type kinds.Message = 0x30
+
 -- a message is of a channel's kind; times and events are of none
 abbrev pub is_kind : Kind → Message → Bool
 is_kind kinds.Uart (messages.Uart parity sub bytes) = true

@@ -1,15 +1,15 @@
 -- The first recording written out: setup, time and two UART messages; packets of the other kinds; what messages cost; and packets of other recorders.
-use Rattle.std.specs.Prelude.{◌≡◌, ℕ, ◌+◌, ◌*◌, true, false, List, [], ◌∷◌, ◌++◌, length, map, refl, replicate, take, drop, Some, None}
+use Rattle.std.specs.Prelude.{◌≡◌, ℕ, ◌+◌, ◌*◌, ◌^◌, true, false, List, [], ◌∷◌, ◌++◌, length, map, refl, replicate, take, drop, Some, None, nat_le}
 use Rattle.std.proofs.Common.{inr}
 use Rattle.r10_packet.specs.Header.{header_bytes}
 use Rattle.r10_count.specs.declared.civil.Parts.{Parts}
 use Rattle.r10_uart.specs.declared.entry.UartEntry.{UartEntry}
 use Rattle.r10_a429.specs.declared.entry.ArincEntry.{ArincEntry}
-use Rattle.r10_body.specs.Bodies.{content_of}
+use Rattle.r10_body.specs.Bodies.{content_of, message_type}
 use Rattle.r10_body.specs.Content.{body_of, setup, time, uart, arinc}
 use Rattle.r10_body.specs.Packets.{Packet, packet_bytes, file_bytes, file_entries}
 use Rattle.r10_body.specs.Cost.{message_cost, file_cost}
-use Rattle.r10_body.specs.Messages.{alone_len, channel_refusal, is_in_range}
+use Rattle.r10_body.specs.Messages.{alone_len, channel_refusal, is_in_range, is_kind}
 use Rattle.r10_body.specs.Foreign.{opaque_at, is_opaque, IsForeignPacket}
 use Rattle.r10_body.specs.Faults.{HasFault, IsFaulty}
 use Rattle.r10_body.specs.declared.fault.FileFault.TheVariants.{Truncated, HeaderSum}
@@ -125,6 +125,12 @@ pub message-body : body_of 1000 (content_of 0 1000 (messages.Message true false 
     0x01 ∷ 0x00 ∷ 0x00 ∷ 0x00 ∷ 0xE8 ∷ 0x03 ∷ 0x00 ∷ 0x00 ∷ 0x00 ∷ 0x00 ∷ 0x00 ∷ 0x00 ∷ 0x03 ∷ 0x00 ∷ 0x01 ∷ 0x80 ∷ 0x41 ∷ 0x42 ∷ 0x43 ∷ 0x00 ∷ []
 message-body = refl
 
+-- a message of each kind, in the order of the kinds, then a time and an event
+abbrev pub one_of_each : List Message
+one_of_each =
+    Uart false 7 (0x41 ∷ 0x42 ∷ 0x43 ∷ []) ∷ bus_message ∷ messages.Arinc 1 false false true 0x12345678 ∷ messages.Discrete 0x81
+    ∷ messages.Message true false 1 (0x41 ∷ []) ∷ Time leap_day ∷ messages.Event 3 1 ∷ []
+
 -- ---- what channels take
 
 abbrev pub channel_of : Kind → ℕ → ChannelSpec
@@ -143,6 +149,10 @@ bus-too-long = refl
 pub bus-bad-status : channel_refusal (channel_of kinds.Bus1553 0) (messages.Bus1553 0x4000 0 (replicate 37 0)) ≡ Some BadMessage
 bus-bad-status = refl
 
+-- each bit that has no name
+pub bus-unnamed : map (λ bit. is_in_range 0 (messages.Bus1553 (2 ^ bit) 0 [])) (0 ∷ 1 ∷ 2 ∷ 6 ∷ 7 ∷ 8 ∷ 14 ∷ 15 ∷ []) ≡ replicate 8 false
+bus-unnamed = refl
+
 -- another kind's message, whatever is wrong with it besides
 pub bus-on-uart : channel_refusal (channel_of kinds.Uart 0) (messages.Bus1553 0x4000 0 (replicate 37 0)) ≡ Some WrongKind
 bus-on-uart = refl
@@ -157,6 +167,9 @@ last-state = refl
 pub state-beyond : channel_refusal (channel_of kinds.Discrete 8) (messages.Discrete 0x100) ≡ Some BadMessage
 state-beyond = refl
 
+pub discrete-ranges : map (λ (one : ℕ × ℕ). is_in_range one.0 (messages.Discrete one.1)) ((1, 1) ∷ (1, 2) ∷ (31, 0x7FFFFFFF) ∷ (31, 0x80000000) ∷ (32, 0) ∷ []) ≡ true ∷ false ∷ true ∷ false ∷ false ∷ []
+discrete-ranges = refl
+
 pub no-discretes : channel_refusal (channel_of kinds.Discrete 0) (messages.Discrete 0) ≡ Some BadMessage
 no-discretes = refl
 
@@ -168,6 +181,30 @@ message-taken = refl
 
 pub message-sub-too-large : channel_refusal (channel_of kinds.Message 0) (messages.Message false false 16384 []) ≡ Some BadMessage
 message-sub-too-large = refl
+
+pub uart-taken : channel_refusal (channel_of kinds.Uart 0) (Uart false 16383 []) ≡ None
+uart-taken = refl
+
+pub uart-sub-too-large : channel_refusal (channel_of kinds.Uart 0) (Uart false 16384 []) ≡ Some BadMessage
+uart-sub-too-large = refl
+
+-- each kind takes its own message alone, and none a time or an event
+pub kinds-take : map (λ kind. map (is_kind kind) one_of_each) (kinds.Uart ∷ kinds.Bus1553 ∷ kinds.Arinc ∷ kinds.Discrete ∷ kinds.Message ∷ []) ≡
+    (true ∷ false ∷ false ∷ false ∷ false ∷ false ∷ false ∷ [])
+    ∷ (false ∷ true ∷ false ∷ false ∷ false ∷ false ∷ false ∷ [])
+    ∷ (false ∷ false ∷ true ∷ false ∷ false ∷ false ∷ false ∷ [])
+    ∷ (false ∷ false ∷ false ∷ true ∷ false ∷ false ∷ false ∷ [])
+    ∷ (false ∷ false ∷ false ∷ false ∷ true ∷ false ∷ false ∷ [])
+    ∷ []
+kinds-take = refl
+
+pub data-types : map message_type one_of_each ≡ 0x50 ∷ 0x19 ∷ 0x38 ∷ 0x29 ∷ 0x30 ∷ 0x11 ∷ 0x02 ∷ []
+data-types = refl
+
+-- 88 bytes are as long as 128 bytes for a packet allow, 86 with a data checksum of 8 or 16 bits, and 84 with one of 32
+pub longest : map (λ (one : ℕ × ℕ). nat_le (alone_len one.0 (Uart false 0 (replicate one.1 0))) 128)
+    ((0, 88) ∷ (0, 89) ∷ (8, 86) ∷ (8, 87) ∷ (16, 86) ∷ (16, 87) ∷ (32, 84) ∷ (32, 85) ∷ []) ≡ true ∷ false ∷ true ∷ false ∷ true ∷ false ∷ true ∷ false ∷ []
+longest = refl
 
 pub event-ranges : map (is_in_range 0) (messages.Event 4095 65535 ∷ messages.Event 4096 0 ∷ []) ≡ true ∷ false ∷ []
 event-ranges = refl
@@ -221,9 +258,8 @@ pub alone-8 : alone_len 8 (Uart false 0 (0x41 ∷ 0x42 ∷ 0x43 ∷ [])) ≡ len
 unfolding packet_bytes header_bytes
 alone-8 = refl
 
--- two words of a bus, a word of an ARINC bus, states, and an event
-pub kinds-costs : map message_cost (bus_message ∷ messages.Arinc 1 false false true 0 ∷ messages.Discrete 0x81 ∷ messages.Message true false 1 (0x41 ∷ []) ∷ Time leap_day ∷ messages.Event 3 1 ∷ []) ≡
-    18 ∷ 8 ∷ 12 ∷ 13 ∷ 8 ∷ 12 ∷ []
+-- three bytes, two words of a bus, a word of an ARINC bus, states, a byte, a time and an event
+pub kinds-costs : map message_cost one_of_each ≡ 15 ∷ 18 ∷ 8 ∷ 12 ∷ 13 ∷ 8 ∷ 12 ∷ []
 kinds-costs = refl
 
 pub bus-alone : alone_len 0 bus_message ≡ length (packet_bytes bus_packet)

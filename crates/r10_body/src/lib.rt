@@ -15,16 +15,13 @@ mod refusal;
 mod spec;
 mod spelling;
 
-pub use costs::cost;
+pub use costs::{ENTRY_COST, FILE_COST, cost};
 pub use entry::{Entry, Sample, Timed};
 pub use fault::FileFault;
-pub use laws::{lone_packet, one_sentence};
+pub use laws::{lone_packet, one_sentence, strict_is_lenient};
 pub use meaning::decode;
 pub use message::{Kind, Message};
 pub use opaque::is_opaque;
 pub use refusal::{Glance, Refusal};
 pub use spec::ChannelSpec;
 pub use spelling::encode;
-
-#[cfg(test)]
-mod tests;

@@ -1,7 +1,8 @@
 //! Messages.
 
 ghost use Rattle.std.specs.Prelude.{◌≡◌, IfOk};
-ghost use Rattle.r10_body.specs.Messages.{has_only as only_states, is_kind, is_in_range as in_range, is_short as short, spelling_len as spelled_len};
+ghost use Rattle.r10_body.specs.Bodies.{message_type};
+ghost use Rattle.r10_body.specs.Messages.{kind_type, has_only as only_states, is_kind, is_in_range as in_range, is_short as short, spelling_len as spelled_len};
 
 use r10_count::{Civil, Items};
 use std::alloc::{AllocError, Global};
@@ -87,6 +88,20 @@ pub enum Message {
 }
 
 impl Kind {
+    /// The data type of the packets of a channel of this kind.
+    /// Source: IRIG 106-17 chapter 11, data types.
+    pub fn data_type(self) -> u8
+        ensures { result ≡ kind_type self }
+    {
+        match self {
+            Kind::Bus1553 => 0x19,
+            Kind::Discrete => 0x29,
+            Kind::Message => 0x30,
+            Kind::Arinc => 0x38,
+            Kind::Uart => 0x50,
+        }
+    }
+
     /// Whether the message is of this kind.
     pub(crate) fn takes(self, message: &Message) -> bool
         ensures { result ≡ is_kind self message.now }
@@ -111,6 +126,21 @@ fn has_only(bits: usize, states: u32) -> bool
 }
 
 impl Message {
+    /// The data type of a packet that says it.
+    pub fn data_type(&self) -> u8
+        ensures { result ≡ message_type self.now }
+    {
+        match self {
+            Message::Uart { .. } => Kind::Uart.data_type(),
+            Message::Bus1553 { .. } => Kind::Bus1553.data_type(),
+            Message::Arinc { .. } => Kind::Arinc.data_type(),
+            Message::Discrete { .. } => Kind::Discrete.data_type(),
+            Message::Message { .. } => Kind::Message.data_type(),
+            Message::Time { .. } => 0x11,
+            Message::Event { .. } => 0x02,
+        }
+    }
+
     /// Whether its fields are in their ranges, on a channel of so many discretes.
     pub(crate) fn is_in_range(&self, bits: usize) -> bool
         ensures { result ≡ in_range bits self.now }

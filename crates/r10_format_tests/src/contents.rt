@@ -1,1 +1,197 @@
 // Whole bodies and whole files.
+
+ghost use Rattle.std.specs.Prelude.{◌≡◌};
+ghost use Rattle.r10_mux.specs.Follow.{IsTimeEntry};
+
+use r10_body::{
+    ChannelSpec, Entry, FileFault, Glance, Message, Refusal, Sample, Timed, decode, encode,
+};
+use r10_count::{Civil, Count, Items, Parts};
+use r10_entries::Reading;
+use r10_mux::Mux;
+use std::alloc::{AllocError, Global};
+use std::test::Fail;
+
+fn leap_day() -> Option<Civil> {
+    Civil::of(Parts {
+        year: 2024,
+        month: 2,
+        day: 29,
+        hour: 12,
+        minute: 34,
+        second: 56,
+        centi: 78,
+    })
+}
+
+/// A message of each kind, then a time and an event.
+fn one_of_each(alloc: Global) -> Result<[Message; 7], Fail> {
+    let civil = leap_day().ok_or("no such day")?;
+    Ok([
+        Message::Uart {
+            parity: false,
+            sub: 7,
+            bytes: Items::of(b"ABC".to_vec(alloc)?),
+        },
+        Message::Bus1553 {
+            status: 0x2000,
+            gap: 0,
+            words: Items::of(vec![in alloc; 0x0821, 0xABCD]?),
+        },
+        Message::Arinc {
+            bus: 1,
+            format: false,
+            parity: false,
+            high: true,
+            word: 0x1234_5678,
+        },
+        Message::Discrete { states: 0x81 },
+        Message::Message {
+            data_error: true,
+            format: false,
+            sub: 1,
+            bytes: Items::of(b"A".to_vec(alloc)?),
+        },
+        Message::Time { civil },
+        Message::Event {
+            number: 3,
+            count: 1,
+        },
+    ])
+}
+
+/// A word of a slow bus.
+const WORD: Message = Message::Arinc {
+    bus: 1,
+    format: false,
+    parity: false,
+    high: false,
+    word: 0x1234_5678,
+};
+
+#[test]
+fn a_body_is_said_again(rt: HostRuntime) -> Result<(), Fail> {
+    let alloc = rt.alloc();
+    let count = Count::of(1000).ok_or("no count")?;
+    let body = encode(alloc, 0, count, &WORD)?;
+    let said = decode(alloc, 0x38, count, &body)?;
+    let message = WORD;
+    let one = vec![in alloc; Timed { count, message }]?;
+    assert!(rt; said == Reading::Strict(Items::of(one)));
+    Ok(())
+}
+
+/// Whether a message, and an entry and a sample of it, are equal to their copies.
+fn is_copied(alloc: Global, count: Count, message: Message) -> Result<bool, AllocError> {
+    let sample = Sample {
+        count,
+        message: message.copied(alloc)?,
+        gap: true,
+    };
+    let entry = Entry {
+        channel: 5,
+        count,
+        message,
+        gap: true,
+    };
+    let again = sample.copied(alloc)?;
+    Ok(entry.copied(alloc)? == entry && again == sample && again.message == entry.message)
+}
+
+#[test]
+fn copies_are_equal(rt: HostRuntime) -> Result<(), Fail> {
+    let alloc = rt.alloc();
+    let count = Count::of(1000).ok_or("no count")?;
+    for message in one_of_each(alloc)? {
+        assert!(rt; is_copied(alloc, count, message)?);
+    }
+    Ok(())
+}
+
+#[test]
+fn refusals_print_number_name_and_values(rt: HostRuntime) -> Result<(), Fail> {
+    let seen = Glance {
+        commits: 2,
+        file: 0,
+        bytes: 112,
+    };
+    let table = [
+        (Refusal::Failed, "1 Failed"),
+        (Refusal::MediumFull, "25 MediumFull"),
+        (Refusal::BadDirectory(1), "26 BadDirectory 1"),
+        (
+            Refusal::BadFile(272, FileFault::Truncated),
+            "27 BadFile 272 Truncated",
+        ),
+        (Refusal::BadFile(0, FileFault::Sync), "27 BadFile 0 Sync"),
+        (
+            Refusal::BadFile(0, FileFault::HeaderSum),
+            "27 BadFile 0 HeaderSum",
+        ),
+        (
+            Refusal::BadFile(0, FileFault::Length),
+            "27 BadFile 0 Length",
+        ),
+        (
+            Refusal::BadFile(0, FileFault::DataSum),
+            "27 BadFile 0 DataSum",
+        ),
+        (Refusal::BadFile(0, FileFault::Body), "27 BadFile 0 Body"),
+        (
+            Refusal::BadFile(32, FileFault::Rule(4)),
+            "27 BadFile 32 Rule 4",
+        ),
+        (Refusal::Behind(seen), "29 Behind 2 0 112"),
+        (Refusal::OutOfMemory, "30 OutOfMemory"),
+    ];
+    for (refusal, printed) in table {
+        let line = format!(in rt.alloc(); "{refusal}")?;
+        assert_eq!(rt; line.as_str(), printed);
+    }
+    Ok(())
+}
+
+/// A setup of ABCD, and the leap day at 1000 and again at 1010 on channel 1.
+const SETUP_AND_TIMES: [u8; 104] = [
+    0x25, 0xEB, 0x00, 0x00, 0x20, 0x00, 0x00, 0x00, 0x08, 0x00, 0x00, 0x00, 0x08, 0x00, 0x00, 0x01,
+    0xE8, 0x03, 0x00, 0x00, 0x00, 0x00, 0x3D, 0xF0, 0x0C, 0x00, 0x00, 0x00, 0x41, 0x42, 0x43, 0x44,
+    0x25, 0xEB, 0x01, 0x00, 0x24, 0x00, 0x00, 0x00, 0x0C, 0x00, 0x00, 0x00, 0x08, 0x00, 0x00, 0x11,
+    0xE8, 0x03, 0x00, 0x00, 0x00, 0x00, 0x46, 0x00, 0x01, 0x03, 0x00, 0x00, 0x78, 0x56, 0x34, 0x12,
+    0x29, 0x02, 0x24, 0x20, 0x25, 0xEB, 0x01, 0x00, 0x24, 0x00, 0x00, 0x00, 0x0C, 0x00, 0x00, 0x00,
+    0x08, 0x01, 0x00, 0x11, 0xF2, 0x03, 0x00, 0x00, 0x00, 0x00, 0x50, 0x01, 0x01, 0x03, 0x00, 0x00,
+    0x78, 0x56, 0x34, 0x12, 0x29, 0x02, 0x24, 0x20,
+];
+
+/// A time on channel 1.
+fn time(count: Count, civil: Civil) -> Entry
+    ensures channel { result.channel ≡ 1 }
+    ensures time { IsTimeEntry result }
+{
+    Entry {
+        channel: 1,
+        count,
+        message: Message::Time { civil },
+        gap: false,
+    }
+}
+
+/// Adds a time to a file without channels.
+fn add_time(mux: &mut Mux, alloc: Global, time: Entry) -> Result<(), AllocError>
+    requires channel { time.channel ≡ 1 }
+    requires time { IsTimeEntry time }
+{
+    let channels: [ChannelSpec; 0] = [];
+    mux.append_all(alloc, &[time], &channels)
+}
+
+#[test]
+fn a_file_grows(rt: HostRuntime) -> Result<(), Fail> {
+    let alloc = rt.alloc();
+    let civil = leap_day().ok_or("no such day")?;
+    let start = Count::of(1000).ok_or("no count")?;
+    let next = Count::of(1010).ok_or("no count")?;
+    let mut mux = Mux::begin(alloc, b"ABCD", &time(start, civil))?;
+    add_time(&mut mux, alloc, time(next, civil))?;
+    assert_eq!(rt; mux.bytes(), SETUP_AND_TIMES.as_slice());
+    Ok(())
+}

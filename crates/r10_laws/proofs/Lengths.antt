@@ -15,7 +15,7 @@ use Rattle.r10_message.specs.Message.{entry_size as message_size}
 use Rattle.r10_message.proofs.Bodies.{body-length as message_length}
 use Rattle.r10_body.proofs.Lone.{packet-length}
 use Rattle.r10_body.specs.Content.{Content, setup, time, event, uart, bus, arinc, discrete, message, type_of, body_of, FitsContent, timed, messages_of}
-use Rattle.r10_body.specs.Cost.{message_cost, entry_cost, file_cost}
+use Rattle.r10_body.specs.Cost.{each_file, message_cost, entry_cost, file_cost}
 use Rattle.r10_body.specs.Files.{FileSays}
 use Rattle.r10_body.specs.Packets.{Packet, FitsPacket, packet_body, packet_bytes, packet_entries, with_gaps, file_bytes, file_entries}
 use Rattle.r10_body.specs.Rules.{MayFollow, EachFollows, is_setup}
@@ -94,7 +94,7 @@ content_is : (c : Content) (text : List ℕ) → c ∷ [] ≡ setup text ∷ [] 
 content_is c text same = cc
 
 -- the cost covers the packets
-pub packets_covered : (ps : List Packet) (text : List ℕ) → EachFollows [] ps → map (λ p. p.content) (take 1 ps) ≡ setup text ∷ [] → length (file_bytes ps) ≤ 152 + length text + sum_by entry_cost (file_entries ps)
+pub packets_covered : (ps : List Packet) (text : List ℕ) → EachFollows [] ps → map (λ p. p.content) (take 1 ps) ≡ setup text ∷ [] → length (file_bytes ps) ≤ each_file + length text + sum_by entry_cost (file_entries ps)
 packets_covered [] text each says = omega arith
 packets_covered (p ∷ ps) text each says =
     let is : p.content ≡ setup text = content_is p.content text says in
@@ -107,7 +107,7 @@ packets_covered (p ∷ ps) text each says =
 pub file_covered : (bytes text : List ℕ) (entries : List Entry) (closed : Bool) → FileSays bytes text entries closed → length bytes ≤ file_cost text entries
 file_covered bytes text entries closed says =
     let same : length bytes ≡ length (file_bytes says.0) = ap (λ (t : List ℕ). length t) says.1 in
-    let covered : length (file_bytes says.0) ≤ 152 + length text + sum_by entry_cost (file_entries says.0) = packets_covered says.0 text says.2.file.each says.2.setup_is in
+    let covered : length (file_bytes says.0) ≤ each_file + length text + sum_by entry_cost (file_entries says.0) = packets_covered says.0 text says.2.file.each says.2.setup_is in
     let sums : sum_by entry_cost (file_entries says.0) ≡ sum_by entry_cost entries = same_sum entry_cost (file_entries says.0) entries says.2.entries_are in
     omega arith
 

@@ -1,3 +1,4 @@
 pub mod Follow
 pub mod Places
 pub mod Packing
+pub mod Vectors

@@ -7,8 +7,5 @@ mod packet;
 mod sequence;
 mod settings;
 mod spell;
-#[cfg(test)]
-mod tests;
 
 pub use mux::Mux;
-pub use settings::belong;

@@ -4,28 +4,13 @@ ghost use Rattle.std.specs.Prelude.{◌≡◌, ◌+◌, ◌<◌, ◌≤◌, ◌^
 ghost use Rattle.std.specs.List.{AllByRecursion};
 ghost use Rattle.r10_count.specs.Bytes.{flag_at};
 ghost use Rattle.r10_count.specs.Civil.{IsCivil};
-ghost use Rattle.r10_mux.specs.Packing.{message_type, entry_bytes, setup_bytes, FitsMessage, IsEntry};
+ghost use Rattle.r10_mux.specs.Packing.{entry_bytes, setup_bytes, FitsMessage, IsEntry};
 
 use r10_body::{Entry, Message, encode};
 use r10_count::{Civil, Count};
 use r10_packet::{Header, Packet};
 use r10_setup::SetupBody;
 use std::alloc::{AllocError, Global};
-
-/// The data type of a message's packet.
-fn data_type(message: &Message) -> u8
-    ensures { result ≡ message_type message.now }
-{
-    match message {
-        Message::Uart { .. } => 0x50,
-        Message::Bus1553 { .. } => 0x19,
-        Message::Arinc { .. } => 0x38,
-        Message::Discrete { .. } => 0x29,
-        Message::Message { .. } => 0x30,
-        Message::Time { .. } => 0x11,
-        Message::Event { .. } => 0x02,
-    }
-}
 
 /// The flags of a packet whose first entry may have a gap.
 fn flags_of(gap: bool, check: u8) -> u8
@@ -103,7 +88,7 @@ pub(crate) fn encode_entry(
         version: 8,
         sequence,
         flags: flags_of(entry.gap, check),
-        data_type: data_type(&entry.message),
+        data_type: entry.message.data_type(),
         counter: entry.count,
     };
     Packet::frame(alloc, &header, &body)

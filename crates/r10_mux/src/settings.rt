@@ -1,11 +1,10 @@
-//! What a channel is set to, and which entries it takes.
+//! What a channel is set to.
 
-ghost use Rattle.std.specs.Prelude.{◌≡◌, ◌<◌, ◌↔◌, IsTrue};
-ghost use Rattle.std.specs.List.{All};
-ghost use Rattle.r10_mux.specs.Follow.{spec_of as settings_of, is_time_message, Belongs};
+ghost use Rattle.std.specs.Prelude.{◌≡◌, ◌<◌};
+ghost use Rattle.r10_mux.specs.Follow.{spec_of as settings_of};
 ghost use Rattle.r10_mux.specs.Packing.{check_code as code_of, check_of as flags_of, discretes_of as told_discretes};
 
-use r10_body::{ChannelSpec, Entry, Message};
+use r10_body::ChannelSpec;
 
 /// The header flags of a data checksum of so many bits.
 fn check_code(bits: usize) -> u8
@@ -43,28 +42,4 @@ pub(crate) fn discretes_of(channels: &[ChannelSpec], channel: u16) -> usize
     ensures { result ≡ told_discretes channels.now channel }
 {
     spec_of(channels, channel).map_or(0, |spec| spec.bits)
-}
-
-fn is_time(message: &Message) -> bool
-    ensures { result ≡ is_time_message message.now }
-{
-    matches!(message, Message::Time { .. })
-}
-
-/// Whether a channel of the settings takes the entry, or it is a time of another.
-fn belongs(channels: &[ChannelSpec], entry: &Entry) -> bool
-    ensures { IsTrue result ↔ Belongs channels.now entry.now }
-{
-    let is_taken = match spec_of(channels, entry.channel) {
-        Some(spec) => spec.check(&entry.message).is_ok(),
-        None => is_time(&entry.message) && !entry.gap,
-    };
-    entry.channel > 0 && is_taken
-}
-
-/// Whether each entry is one that its channel takes, or a time on a channel that isn't in the settings.
-pub fn belong(channels: &[ChannelSpec], entries: &[Entry]) -> bool
-    ensures { IsTrue result ↔ All (Belongs channels.now) entries.now }
-{
-    entries.iter().all(|entry| belongs(channels, entry))
 }
