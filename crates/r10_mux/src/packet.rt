@@ -15,7 +15,8 @@ use std::alloc::{AllocError, Global};
 /// The flags of a packet whose first entry may have a gap.
 fn flags_of(gap: bool, check: u8) -> u8
     requires { check < 4 }
-    ensures { result ≡ flag_at 4 gap + check }
+    ensures value { result ≡ flag_at 4 gap + check }
+    ensures plain { result < 128 }
 {
     if gap { 16 + check } else { check }
 }

@@ -53,7 +53,7 @@ header_fault bytes = first_broken (header_rules bytes)
 abbrev pub framing_fault : List ℕ → Option PacketFault
 framing_fault bytes = first_broken (framing_rules bytes)
 
--- the body
+-- the body; of a packet with a secondary header, these bytes begin with that header
 abbrev pub body_at : List ℕ → List ℕ
 body_at bytes = slice_range bytes 24 (24 + (header_at bytes).data_len)
 

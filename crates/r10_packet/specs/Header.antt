@@ -1,5 +1,5 @@
 -- The primary header of a packet.
-use Rattle.std.specs.Prelude.{ℕ, ◌^◌, ◌%◌, ◌<◌, List, [], ◌∷◌, ◌++◌, slice_index}
+use Rattle.std.specs.Prelude.{ℕ, ◌^◌, ◌%◌, ◌<◌, Bool, List, [], ◌∷◌, ◌++◌, slice_index, ◌==◌, if◌then◌else◌}
 use Rattle.r10_count.specs.Bytes.{le_bytes}
 use Rattle.r10_count.specs.Count.{IsCount}
 use Rattle.r10_packet.specs.Sums.{sum_of_words16}
@@ -45,3 +45,10 @@ flags_of Nothing = 0
 flags_of Sum8 = 1
 flags_of Sum16 = 2
 flags_of Sum32 = 3
+
+-- the data checksum of so many bits, and whether one has so many
+abbrev pub check_of_bits : ℕ → Check
+check_of_bits bits = if bits == 8 then Sum8 else if bits == 16 then Sum16 else if bits == 32 then Sum32 else Nothing
+
+abbrev pub is_check_width : ℕ → Bool
+is_check_width bits = bits_of (check_of_bits bits) == bits

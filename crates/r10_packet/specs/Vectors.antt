@@ -1,8 +1,10 @@
 -- Packets written out, with the header and body that each says.
-use Rattle.std.specs.Prelude.{◌≡◌, ℕ, List, [], ◌∷◌, ◌++◌, refl, Some, None, true, false, drop, take}
+use Rattle.std.specs.Prelude.{◌≡◌, ℕ, List, [], ◌∷◌, ◌++◌, refl, Some, None, true, false, drop, take, map, replicate}
 use Rattle.r10_packet.specs.declared.header.Header.{Header}
 use Rattle.r10_packet.specs.declared.fault.PacketFault.TheVariants.{Truncated, Sync, HeaderSum, Length}
-use Rattle.r10_packet.specs.Header.{header_bytes, checksum_bits}
+use Rattle.r10_packet.specs.Sums.{sum_of_bytes, sum_of_words16, sum_of_words32}
+use Rattle.r10_packet.specs.Header.{header_bytes, checksum_bits, flags_of, check_of_bits, is_check_width}
+use Rattle.r10_packet.specs.declared.check.Check.TheVariants.{Nothing, Sum8, Sum16, Sum32}
 use Rattle.r10_packet.specs.Packet.{filled, least_filler, IsPacket}
 use Rattle.r10_packet.specs.Framing.{framing_fault, has_lengths, has_data_checksum, data_sum_of, header_at, body_at}
 use Rattle.r10_packet.specs.declared.view.DataSum.TheVariants.{NoRoom, Wrong, Right}
@@ -95,9 +97,14 @@ wrong-header-sum = refl
 pub wrong-sync : framing_fault (0x24 ∷ drop 1 setup_packet) ≡ Some Sync
 wrong-sync = refl
 
-pub time-header : drop 22 (header_bytes (record { channel = 1; packet_len = 36; data_len = 12; version = 8; sequence = 0; flags = 0; data_type = 0x11; counter = 1000 })) ≡ 0x46 ∷ 0 ∷ []
+pub time-header : header_bytes (record { channel = 1; packet_len = 36; data_len = 12; version = 8; sequence = 0; flags = 0; data_type = 0x11; counter = 1000 }) ≡ 0x25 ∷ 0xEB ∷ 1 ∷ 0 ∷ 0x24 ∷ 0 ∷ 0 ∷ 0 ∷ 0x0C ∷ 0 ∷ 0 ∷ 0 ∷ 8 ∷ 0 ∷ 0 ∷ 0x11 ∷ 0xE8 ∷ 3 ∷ 0 ∷ 0 ∷ 0 ∷ 0 ∷ 0x46 ∷ 0 ∷ []
 unfolding header_bytes
 time-header = refl
+
+-- each field at its place, its lowest byte first
+pub each-field : take 22 (header_bytes (record { channel = 0x0201; packet_len = 0x06050403; data_len = 0x0A090807; version = 0x0B; sequence = 0x0C; flags = 0x0D; data_type = 0x0E; counter = 0x14131211100F })) ≡ 0x25 ∷ 0xEB ∷ 1 ∷ 2 ∷ 3 ∷ 4 ∷ 5 ∷ 6 ∷ 7 ∷ 8 ∷ 9 ∷ 10 ∷ 11 ∷ 12 ∷ 13 ∷ 14 ∷ 15 ∷ 16 ∷ 17 ∷ 18 ∷ 19 ∷ 20 ∷ []
+unfolding header_bytes
+each-field = refl
 
 -- lengths: not in whole words, and with a body that doesn't fit
 pub broken-word : framing_fault (header_bytes (uart_header 58 0) ++ uart_body ++ 0 ∷ 0 ∷ []) ≡ Some Length
@@ -129,3 +136,40 @@ sum-without-filler = refl
 pub no-room : data_sum_of (uart_header 56 1) (header_bytes (uart_header 56 1) ++ uart_body) ≡ NoRoom
 unfolding header_bytes
 no-room = refl
+
+-- a packet of another recorder with a secondary header: the bytes behind the primary header are not its body
+abbrev secondary : List ℕ
+secondary =
+    0x25 ∷ 0xEB ∷ 9 ∷ 0 ∷ 0x2C ∷ 0 ∷ 0 ∷ 0 ∷ 8 ∷ 0 ∷ 0 ∷ 0 ∷ 8 ∷ 0 ∷ 0x80 ∷ 0x68 ∷ 0xE8 ∷ 3 ∷ 0 ∷ 0 ∷ 0 ∷ 0 ∷ 0xD2 ∷ 0x57 ∷ replicate 20 0
+
+pub secondary-passes : framing_fault secondary ≡ None
+secondary-passes = refl
+
+pub secondary-flags : (header_at secondary).flags ≡ 0x80
+secondary-flags = refl
+
+pub secondary-right : data_sum_of (header_at secondary) secondary ≡ Right
+secondary-right = refl
+
+-- sums of what isn't whole words
+pub sum-of-bytes : sum_of_bytes (0xFF ∷ 2 ∷ []) ≡ 1
+sum-of-bytes = refl
+
+pub sum-of-two : map sum_of_words16 ((0xFF ∷ 0xFF ∷ 2 ∷ []) ∷ (1 ∷ 2 ∷ []) ∷ []) ≡ 1 ∷ 0x0201 ∷ []
+sum-of-two = refl
+
+pub sum-of-four : map sum_of_words32 ((0xFF ∷ 0xFF ∷ 0xFF ∷ 0xFF ∷ 2 ∷ 1 ∷ 3 ∷ []) ∷ (1 ∷ 2 ∷ 3 ∷ 4 ∷ 5 ∷ []) ∷ (1 ∷ 2 ∷ []) ∷ []) ≡ 0x0003_0101 ∷ 0x0403_0206 ∷ 0x0201 ∷ []
+sum-of-four = refl
+
+-- the two low bits of the flags, and the widths
+pub told-bits : map checksum_bits (0 ∷ 1 ∷ 2 ∷ 3 ∷ 4 ∷ 0xFE ∷ []) ≡ 0 ∷ 8 ∷ 16 ∷ 32 ∷ 0 ∷ 16 ∷ []
+told-bits = refl
+
+pub told-flags : map flags_of (Nothing ∷ Sum8 ∷ Sum16 ∷ Sum32 ∷ []) ≡ 0 ∷ 1 ∷ 2 ∷ 3 ∷ []
+told-flags = refl
+
+pub widths : map check_of_bits (0 ∷ 8 ∷ 16 ∷ 32 ∷ []) ≡ Nothing ∷ Sum8 ∷ Sum16 ∷ Sum32 ∷ []
+widths = refl
+
+pub other-widths : map is_check_width (0 ∷ 1 ∷ 8 ∷ 9 ∷ 16 ∷ 24 ∷ 32 ∷ 33 ∷ 64 ∷ []) ≡ true ∷ false ∷ true ∷ false ∷ true ∷ false ∷ true ∷ false ∷ false ∷ []
+other-widths = refl

@@ -1,7 +1,7 @@
 //! Which data checksum a packet has.
 
 ghost use Rattle.std.specs.Prelude.{◌≡◌, ◌/◌, ◌≤◌};
-ghost use Rattle.r10_packet.specs.Header.{bits_of, flags_of, checksum_bits};
+ghost use Rattle.r10_packet.specs.Header.{bits_of, flags_of, checksum_bits, check_of_bits, is_check_width};
 
 /// The data checksum behind a packet's body and filler.
 #[derive(Clone, Copy, Debug, PartialEq, Eq)]
@@ -13,6 +13,25 @@ pub enum Check {
 }
 
 impl Check {
+    /// Whether a data checksum has so many bits: 0, 8, 16 or 32.
+    pub fn is_width(bits: usize) -> bool
+        ensures { result ≡ is_check_width bits }
+    {
+        matches!(bits, 0 | 8 | 16 | 32)
+    }
+
+    /// The data checksum of so many bits; of any number that is no width, `Nothing`.
+    pub fn of_bits(bits: usize) -> Check
+        ensures { result ≡ check_of_bits bits }
+    {
+        match bits {
+            8 => Check::Sum8,
+            16 => Check::Sum16,
+            32 => Check::Sum32,
+            _ => Check::Nothing,
+        }
+    }
+
     /// The data checksum that a header's flags tell.
     pub fn of_flags(flags: u8) -> Check
         ensures { bits_of result ≡ checksum_bits flags }

@@ -11,10 +11,13 @@ pub enum DataSum {
     Right,
 }
 
-/// A packet that stands first in bytes.
+/// A packet that stands first in bytes. Where bit 7 of the header's flags tells a secondary
+/// header, the packet is only told apart from the next: the body behind that header is not looked at.
 #[derive(Clone, Copy, Debug)]
 pub struct PacketView<'a> {
     pub header: Header,
+    /// As many bytes as the header's data length tells, right behind the primary header. Of a
+    /// packet with a secondary header they begin with that header.
     pub body: &'a [u8],
     pub data_sum: DataSum,
 }
