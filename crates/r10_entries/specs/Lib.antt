@@ -3,4 +3,5 @@ pub mod Form
 pub mod Gaps
 pub mod Padding
 pub mod Reading
+pub mod Texts
 pub mod Vectors

@@ -6,8 +6,9 @@ use Rattle.r10_entries.specs.Form.{IsBody, IsForeign, FitsAll, OpensAll, SuitsAl
 use Rattle.r10_entries.proofs.Bodies.{one_spelled}
 use Rattle.r10_entries.proofs.Parts.{first_is}
 use Rattle.r10_entries.proofs.Lengths.{next_long, sizes_from}
+use Rattle.r10_entries.specs.Texts.{told_size}
 use Rattle.r10_entries.proofs.Plain.{plain_spelled, plain_fits, plain_all}
-use Rattle.r10_message.specs.Message.{FitsMessage, IsMessage, IsForeignMessage, message_body, message_entry, entry_size, told_size}
+use Rattle.r10_message.specs.Message.{FitsMessage, IsMessage, IsForeignMessage, message_body, message_entry, entry_size}
 use Rattle.r10_message.specs.Entry.{message_form, entry-told, entry-one, entry-size}
 use Rattle.r10_message.specs.declared.entry.MessageEntry.{MessageEntry}
 

@@ -8,14 +8,12 @@ use Rattle.r10_count.specs.Bytes.{le_bytes, u32_at, flag_at}
 use Rattle.r10_count.proofs.Fronts.{same_stamp, same_u32}
 use Rattle.r10_entries.specs.Form.{Form, IsEntry}
 use Rattle.r10_entries.specs.Padding.{padding, padded}
-use Rattle.r10_message.specs.Message.{message_entry, message_header, message_of, entry_size, told_size, told_bytes, FitsMessage}
+use Rattle.r10_entries.specs.Texts.{told_size, told-front, padded-size, same_padded}
+use Rattle.r10_message.specs.Message.{message_entry, message_header, message_of, entry_size, FitsMessage}
 use Rattle.r10_message.specs.declared.entry.MessageEntry.{MessageEntry}
 
-pub told-front : (front : List ℕ) (n : ℕ) → told_size front ≡ Some n → 12 ≤ n
-told-front front n e = let is : 12 + told_bytes front + told_bytes front % 2 ≡ n = cc in omega arith
-
 pub entry-size : (e : MessageEntry) → length (message_entry e) ≡ entry_size e
-entry-size e = omega (arith, length-append e.bytes (padding (length e.bytes)), length-replicate {A = ℕ} (length e.bytes % 2) 0)
+entry-size e = omega (arith, padded-size e.bytes)
 
 pub word-fits : (n : ℕ) → n % 65536 < 2 ^ 32
 word-fits n = omega arith
@@ -53,12 +51,6 @@ header-sub true true sub size hs hb = omega arith
 header-sub true false sub size hs hb = omega arith
 header-sub false true sub size hs hb = omega arith
 header-sub false false sub size hs hb = omega arith
-
--- bytes before their padding
-pub same_padded : (s t : List ℕ) → length s ≡ length t → padded s ≡ padded t → s ≡ t
-same_padded s t n e =
-    let left : s ≡ take (length s) (padded s) = sym (take-append_seam s (padding (length s))) in
-    left ∙ ap (take (length s)) e ∙ rw n (take-append_seam t (padding (length t)))
 
 pub same_fields : (m n : ℕ) (p q a b : Bool) (i j : ℕ) (s t : List ℕ) → m ≡ n → p ≡ q → a ≡ b → i ≡ j → s ≡ t → message_of m p a i s ≡ message_of n q b j t
 same_fields m n p q a b i j s t counts data_errors formats subs texts = rw (counts, data_errors, formats, subs, texts) refl

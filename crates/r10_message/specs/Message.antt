@@ -1,10 +1,11 @@
 -- The body of a message data packet: the channel specific data word, then for each message an intra-packet time stamp, an intra-packet data header and the bytes.
-use Rattle.std.specs.Prelude.{◌≡◌, ℕ, ◌+◌, ◌*◌, ◌/◌, ◌%◌, ◌^◌, ◌<◌, ◌==◌, Bool, not, ◌&&◌, nat_le, Option, Some, List, ◌++◌, length}
+use Rattle.std.specs.Prelude.{◌≡◌, ℕ, ◌+◌, ◌*◌, ◌/◌, ◌%◌, ◌^◌, ◌<◌, ◌==◌, Bool, not, ◌&&◌, nat_le, List, ◌++◌, length}
 use Rattle.std.specs.List.{flat_map, AllByRecursion, concat}
 use Rattle.r10_count.specs.Bytes.{le_bytes, flag_at, u32_at}
 use Rattle.r10_count.specs.Count.{IsCount, stamp}
 use Rattle.r10_entries.specs.Form.{IsEntry}
 use Rattle.r10_entries.specs.Padding.{padded}
+use Rattle.r10_entries.specs.Texts.{told_size}
 use Rattle.r10_message.specs.declared.entry.MessageEntry.{MessageEntry}
 
 -- the word has the number of messages, and says that each of them is whole
@@ -44,14 +45,6 @@ pub record FitsMessageBody (entries : List MessageEntry) : Type 0 where
 -- the body that the writer makes of these entries
 abbrev pub IsMessage : List MessageEntry → List ℕ → Type 0
 IsMessage entries body = FitsMessageBody entries × (body ≡ message_body entries)
-
--- the number of bytes that the header behind a stamp tells
-abbrev pub told_bytes : List ℕ → ℕ
-told_bytes front = u32_at front 8 % 2 ^ 16
-
--- the length of an entry that begins with this stamp and header
-abbrev pub told_size : List ℕ → Option ℕ
-told_size front = Some (12 + told_bytes front + told_bytes front % 2)
 
 -- whoever wrote it: a word, and exactly as many entries as it tells
 abbrev pub IsForeignMessage : List ℕ → Type 0

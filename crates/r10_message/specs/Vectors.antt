@@ -1,8 +1,8 @@
 -- Message bodies written out.
-use Rattle.std.specs.Prelude.{◌≡◌, ℕ, Some, true, false, List, [], ◌∷◌, ◌++◌, refl}
+use Rattle.std.specs.Prelude.{◌≡◌, ℕ, true, false, List, [], ◌∷◌, ◌++◌, refl}
 use Rattle.std.proofs.Common.{arith, lit<, lit≤}
 use Rattle.r10_message.specs.declared.entry.MessageEntry.{MessageEntry}
-use Rattle.r10_message.specs.Message.{FitsMessage, IsForeignMessage, message_body, message_entry, message_of, told_size, is_opaque}
+use Rattle.r10_message.specs.Message.{FitsMessage, IsForeignMessage, message_body, message_entry, message_of, is_opaque}
 
 -- ABC at 1000 and an empty message at 1010
 abbrev pub two_messages : List MessageEntry
@@ -47,12 +47,6 @@ subchannel-16384 fits = omega (arith, fits.sub)
 -- a front with any stamp, any upper half of the header, and this length
 abbrev pub front_of : ℕ → List ℕ
 front_of bytes = 0xFF ∷ 0xFF ∷ 0xFF ∷ 0xFF ∷ 0xFF ∷ 0xFF ∷ 0xFF ∷ 0xFF ∷ bytes ∷ 0 ∷ 0xFF ∷ 0xFF ∷ []
-
-pub four-bytes : told_size (front_of 4) ≡ Some 16
-four-bytes = refl
-
-pub five-bytes : told_size (front_of 5) ≡ Some 18
-five-bytes = refl
 
 -- any upper half of the word, any stamp and header, and any byte behind an odd number of bytes, may be another recorder's
 pub another-recorders : IsForeignMessage ((2 ∷ 0 ∷ 0xFC ∷ 0xFF ∷ []) ++ front_of 1 ++ (0x41 ∷ 0x20 ∷ []) ++ front_of 0)

@@ -8,14 +8,12 @@ use Rattle.r10_count.specs.Bytes.{le_bytes, u32_at, flag_at}
 use Rattle.r10_count.proofs.Fronts.{same_stamp, same_u32}
 use Rattle.r10_entries.specs.Form.{Form, IsEntry}
 use Rattle.r10_entries.specs.Padding.{padding, padded}
-use Rattle.r10_uart.specs.Uart.{uart_entry, uart_header, uart_of, entry_size, told_size, told_bytes, FitsUart}
+use Rattle.r10_entries.specs.Texts.{told_size, told-front, padded-size, same_padded}
+use Rattle.r10_uart.specs.Uart.{uart_entry, uart_header, uart_of, entry_size, FitsUart}
 use Rattle.r10_uart.specs.declared.entry.UartEntry.{UartEntry}
 
-pub told-front : (front : List ℕ) (n : ℕ) → told_size front ≡ Some n → 12 ≤ n
-told-front front n e = let is : 12 + told_bytes front + told_bytes front % 2 ≡ n = cc in omega arith
-
 pub entry-size : (e : UartEntry) → length (uart_entry e) ≡ entry_size e
-entry-size e = omega (arith, length-append e.bytes (padding (length e.bytes)), length-replicate {A = ℕ} (length e.bytes % 2) 0)
+entry-size e = omega (arith, padded-size e.bytes)
 
 -- a header has 32 bits, and its fields are read from it
 pub header-fits : (parity : Bool) (sub size : ℕ) → sub < 2 ^ 14 → size < 2 ^ 16 → flag_at 31 parity + 65536 * sub + size < 2 ^ 32
@@ -37,12 +35,6 @@ header-sub false sub size hs hb = omega arith
 pub header-free : (parity : Bool) (sub size : ℕ) → sub < 2 ^ 14 → size < 2 ^ 16 → (flag_at 31 parity + 65536 * sub + size) / 1073741824 % 2 ≡ 0
 header-free true sub size hs hb = omega arith
 header-free false sub size hs hb = omega arith
-
--- bytes before their padding
-pub same_padded : (s t : List ℕ) → length s ≡ length t → padded s ≡ padded t → s ≡ t
-same_padded s t n e =
-    let left : s ≡ take (length s) (padded s) = sym (take-append_seam s (padding (length s))) in
-    left ∙ ap (take (length s)) e ∙ rw n (take-append_seam t (padding (length t)))
 
 pub same_fields : (m n : ℕ) (p q : Bool) (i j : ℕ) (s t : List ℕ) → m ≡ n → p ≡ q → i ≡ j → s ≡ t → uart_of m p i s ≡ uart_of n q j t
 same_fields m n p q i j s t counts parities subs texts = rw (counts, parities, subs, texts) refl
