@@ -7,7 +7,7 @@ use Rattle.r10_machine.specs.Step.{Run}
 use Rattle.r10_machine.specs.declared.event.Event.{Event}
 use Rattle.r10_machine.specs.declared.reply.Reply.{Reply}
 use Rattle.r10_machine.specs.declared.reply.Mode.TheVariants.{Unmounted}
-use Rattle.r10_script.specs.Line.{IsReplyLine}
+use Rattle.r10_lines.specs.Line.{IsReplyLine}
 use Rattle.r10_control.specs.Files.{IsFormatted}
 
 -- the lines of the replies to the steps behind the first `done` ones, end to end

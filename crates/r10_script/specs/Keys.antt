@@ -1,7 +1,6 @@
 -- What a table of a script has under its keys.
 use Rattle.std.specs.Prelude.{◌≡◌, ℕ, ℤ, pos, Bool, true, false, List, [], ◌∷◌, map, Option, Some, None, is_some, option_and_then, if◌then◌else◌}
-use Rattle.std.specs.Int.{w16, to_be_bytes}
-use Rattle.std.specs.List.{All, flat_map, list_any}
+use Rattle.std.specs.List.{All, list_any}
 use Rattle.std.specs.Str.{bytes_eq}
 use Rattle.std.specs.Result.{result_ok}
 use Rattle.hex.specs.Hex.{decode_of}
@@ -47,10 +46,6 @@ items_at table key = listed_array (option_and_then as_array (get_member key tabl
 -- the items of an array as whole numbers
 abbrev pub integers_at : Members → List ℕ → List (Option ℤ)
 integers_at table key = map as_integer (items_at table key)
-
--- 16-bit words, the high byte of each first
-abbrev pub words_bytes : List ℕ → List ℕ
-words_bytes words = flat_map (to_be_bytes w16) words
 
 -- the keys of a table
 abbrev pub keys_of : Members → List (List ℕ)

@@ -1,7 +1,6 @@
 pub mod Civil
 pub mod Keys
 pub mod Kinds
-pub mod Line
 pub mod Script
 pub mod Steps
 pub mod Vectors

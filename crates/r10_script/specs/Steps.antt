@@ -9,8 +9,9 @@ use Rattle.r10_body.specs.declared.message.Message.{Message}
 use Rattle.r10_body.specs.declared.message.Message.TheVariants as messages
 use Rattle.r10_machine.specs.declared.event.Event.{Event}
 use Rattle.r10_machine.specs.declared.event.Event.TheVariants as events
-use Rattle.r10_script.specs.Civil.{civil_text}
-use Rattle.r10_script.specs.Keys.{integer_at, integer_or_zero_at, integers_at, text_at, bytes_at, bytes_or_none_at, flag_or_false_at, words_bytes, HasOnly}
+use Rattle.r10_lines.specs.Civil.{civil_text}
+use Rattle.r10_lines.specs.Line.{words_bytes}
+use Rattle.r10_script.specs.Keys.{integer_at, integer_or_zero_at, integers_at, text_at, bytes_at, bytes_or_none_at, flag_or_false_at, HasOnly}
 use Rattle.r10_script.specs.Kinds.{kind_word, offer_keys}
 
 -- the keys of a message of each kind; no step gives a time or an event

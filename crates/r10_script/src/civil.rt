@@ -1,7 +1,8 @@
 //! Civil times as text.
 
 ghost use Rattle.std.specs.Prelude.{◌≡◌, ◌<◌, ◌∷◌, ◌++◌, ℕ, List, IfSome, IfNone};
-ghost use Rattle.r10_script.specs.Civil.{two_digits, civil_text, HasText};
+ghost use Rattle.r10_lines.specs.Civil.{two_digits, civil_text};
+ghost use Rattle.r10_script.specs.Civil.{HasText};
 
 use r10_count::Parts;
 

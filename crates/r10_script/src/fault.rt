@@ -1,6 +1,6 @@
-//! Why a text is no script.
+//! Why a text is no script, and where.
 
-use r10_machine::SettingsFault;
+use crate::found::Found;
 use std::alloc::AllocError;
 use std::fmt;
 use thiserror::Error;
@@ -12,20 +12,27 @@ pub enum ScriptFault {
     #[error("out of memory")]
     OutOfMemory(#[from(alloc)] AllocError),
     /// The text is no script.
-    #[error("{place}: {wrong}")]
-    Wrong { place: Place, wrong: Wrong },
+    #[error("{spot}: {wrong}")]
+    Wrong { spot: Spot, wrong: Wrong },
 }
 
-/// Where in a script.
+/// Where in a script: the line of the text, from 1, where it is known, and the table.
+#[derive(Clone, Copy, Debug, PartialEq, Eq)]
+pub struct Spot {
+    pub line: Option<usize>,
+    pub place: Place,
+}
+
+/// Which of a script's tables.
 #[derive(Clone, Copy, Debug, PartialEq, Eq)]
 pub enum Place {
-    /// In this line of the text, from 1.
-    Line(usize),
-    /// In the keys above the first table.
+    /// None of them: the text as a whole.
+    Text,
+    /// The keys above the first table.
     Top,
-    /// In the channel table of this place in the text, from 1.
+    /// The channel table of this place in the text, from 1.
     Channel(usize),
-    /// In the step of this number, from 1.
+    /// The step of this number, from 1.
     Step(usize),
 }
 
@@ -42,97 +49,67 @@ pub enum Wrong {
     Missing {
         key: &'static str,
     },
-    /// A key that no such table has.
-    #[error("unknown key {key:?}")]
+    /// A key that no such table has, and those that it may have.
+    #[error("unknown key {key:?}, the keys here are: {known}")]
     Unknown {
         key: String,
+        known: String,
     },
-    /// A value of another TOML type.
-    #[error("`{key}` must be {wanted}")]
-    Type {
+    /// A value that is not what its key wants.
+    #[error("`{key}` must be {wanted}, not {found}")]
+    Value {
         key: &'static str,
         wanted: &'static str,
+        found: Found,
     },
-    /// A number outside the range of its number type.
-    #[error("`{key}` must be from 0 to {most}")]
-    Range {
-        key: &'static str,
-        most: u64,
+    /// An offer that does not tell the kind of its message, on a channel that is not there.
+    #[error("there is no channel {channel}, so `kind` is needed")]
+    NoChannel {
+        channel: u16,
     },
-    /// A text that is not pairs of hex digits.
-    #[error("`{key}` must be an even number of hex digits")]
-    Hex {
-        key: &'static str,
+    /// No channel tables, or too many.
+    #[error("there must be 1 to 64 channel tables, not {count}")]
+    Tables {
+        count: usize,
     },
-    /// A text that is not four hex digits for each word.
-    #[error("`{key}` must be four hex digits for each word")]
-    Words {
-        key: &'static str,
-    },
-    /// A civil time in another form.
-    #[error("`{key}` must have the form \"YYYY-MM-DD hh:mm:ss.cc\"")]
-    Civil {
-        key: &'static str,
-    },
-    /// A word that the key does not know.
-    #[error("unknown `{key}` {word:?}, it must be one of: {known}")]
-    Word {
-        key: &'static str,
-        word: String,
-        known: &'static str,
-    },
-    /// A setting outside its limits.
-    #[error("{0}")]
-    Limit(Limit),
 }
 
-/// A setting outside its limits.
-#[derive(Clone, Copy, Debug, PartialEq, Eq)]
-pub struct Limit(pub SettingsFault);
-
-impl fmt::Display for Place {
-    fn fmt<W: fmt::Write>(&self, f: &mut fmt::Formatter<W>) -> fmt::Result {
+impl Wrong {
+    /// The key that a person looks for, empty where there is none.
+    pub fn key(&self) -> &str {
         match self {
-            Place::Line(number) => write!(f, "line {number}"),
-            Place::Top => write!(f, "settings"),
-            Place::Channel(number) => write!(f, "channel table {number}"),
-            Place::Step(number) => write!(f, "step {number}"),
+            Wrong::Toml { .. } | Wrong::Tables { .. } => "",
+            Wrong::Missing { key } => key,
+            Wrong::Unknown { key, .. } => key.as_str(),
+            Wrong::Value { key, .. } => key,
+            Wrong::NoChannel { .. } => "channel",
         }
     }
 }
 
-impl fmt::Display for Limit {
+impl fmt::Display for Spot {
     fn fmt<W: fmt::Write>(&self, f: &mut fmt::Formatter<W>) -> fmt::Result {
-        match self.0 {
-            SettingsFault::Blocks => {
-                write!(f, "`blocks` must be from `directory` + 2 to 16777216")
+        let place = self.place;
+        match self.line {
+            Some(line) => {
+                if place == Place::Text {
+                    write!(f, "line {line}")
+                } else {
+                    write!(f, "line {line}, {place}")
+                }
             }
-            SettingsFault::Directory => write!(f, "`directory` must be from 1 to 64"),
-            SettingsFault::Channel(0) => write!(
-                f,
-                "there must be 1 to 64 channels, and `time`, `event` and each channel's `id` must be from 1 to 65535"
-            ),
-            SettingsFault::Channel(id) => write!(
-                f,
-                "ID {id} is there twice among `time`, `event` and the channels"
-            ),
-            SettingsFault::Capacity(id) => {
-                write!(f, "channel {id}: `capacity` must be from 1 to 65536")
-            }
-            SettingsFault::Check(id) => write!(f, "channel {id}: `check` must be 0, 8, 16 or 32"),
-            SettingsFault::Bytes(id) => write!(
-                f,
-                "channel {id}: `bytes` must be from 128 to 524288, and a multiple of 4"
-            ),
-            SettingsFault::Number(id) => {
-                write!(f, "channel {id}: `number` must be from 1 to 65535")
-            }
-            SettingsFault::Bits(id) => write!(f, "channel {id}: `bits` must be from 1 to 31"),
-            SettingsFault::Nodes => write!(f, "`nodes` must be from 1 to 32765"),
-            SettingsFault::Volume => write!(
-                f,
-                "`volume` must be 1 to 32 letters, digits, \".\", \"_\" or \"-\""
-            ),
+            None => write!(f, "{place}"),
+        }
+    }
+}
+
+impl fmt::Display for Place {
+    fn fmt<W: fmt::Write>(&self, f: &mut fmt::Formatter<W>) -> fmt::Result {
+        match self {
+            Place::Text => write!(f, "the script"),
+            Place::Top => write!(f, "above the first table"),
+            Place::Channel(number) => write!(f, "channel table {number}"),
+            Place::Step(number) => write!(f, "step {number}"),
         }
     }
 }

@@ -1,14 +1,16 @@
-//! Reads a script, the settings and the steps of a run in TOML, and prints the line of each step's reply.
+//! Reads a script: the settings and the steps of a run, in TOML.
 #![tactic(auto)]
 
 mod civil;
 mod fault;
-mod line;
+mod found;
+mod limits;
+mod locate;
 mod script;
 mod settings;
 mod step;
 mod table;
 
-pub use fault::{Place, ScriptFault, Wrong};
-pub use line::reply_line;
+pub use fault::{Place, ScriptFault, Spot, Wrong};
+pub use found::Found;
 pub use script::{Script, read_script};

@@ -7,7 +7,8 @@ ghost use Rattle.toml.specs.View.{table_view};
 ghost use Rattle.r10_script.specs.Keys.{HasOnly};
 ghost use Rattle.r10_script.specs.Script.{AreSettings, AreSteps, script_keys};
 
-use crate::fault::{Place, ScriptFault, Wrong};
+use crate::fault::{Place, ScriptFault, Spot, Wrong};
+use crate::locate::line_of;
 use crate::settings::settings_of;
 use crate::step::event_of;
 use crate::table::Fields;
@@ -27,24 +28,32 @@ pub fn read_script(alloc: Global, text: &[u8]) -> Result<Script, ScriptFault>
     ensures text { IfOk result (λ _. IsUtf8 text.now) }
     ensures script { IfOk result (λ script. (table : Members) × (parse_document text.now ≡ Some table) × HasOnly script_keys table × AreSettings table script.settings × AreSteps script.settings.channels table script.events.items) }
 {
+    match script_of(alloc, text) {
+        Ok(script) => Ok(script),
+        Err(fault) => Err(located(text, fault)),
+    }
+}
+
+/// The script that the text spells. A fault behind the text's form names no line.
+fn script_of(alloc: Global, text: &[u8]) -> Result<Script, ScriptFault>
+    ensures text { IfOk result (λ _. IsUtf8 text.now) }
+    ensures script { IfOk result (λ script. (table : Members) × (parse_document text.now ≡ Some table) × HasOnly script_keys table × AreSettings table script.settings × AreSteps script.settings.channels table script.events.items) }
+{
     let table = match toml::table_from_slice(alloc, text) {
         Ok(table) => table,
         Err(error) => return Err(toml_fault(alloc, text, &error)),
     };
-    let top = Fields::new(&table, Place::Top);
-    top.only(
-        alloc,
-        &[
-            "blocks",
-            "directory",
-            "volume",
-            "nodes",
-            "time",
-            "event",
-            "channel",
-            "step",
-        ],
-    )?;
+    let top = Fields::new(alloc, &table, Place::Top);
+    top.only(&[
+        "blocks",
+        "directory",
+        "volume",
+        "nodes",
+        "time",
+        "event",
+        "channel",
+        "step",
+    ])?;
     let settings = settings_of(alloc, top)?;
     let events = events_of(alloc, settings.channels(), top)?;
     Ok(Script { settings, events })
@@ -61,8 +70,8 @@ fn events_of(
     let mut number = 0usize;
     for value in top.tables("step")? {
         number = number.saturating_add(1);
-        let fields = Fields::of_value(value, "step", Place::Step(number))?;
-        events.push(event_of(alloc, channels, fields)?)?;
+        let fields = top.table_of(value, "step", Place::Step(number))?;
+        events.push(event_of(channels, fields)?)?;
     }
     Ok(events)
 }
@@ -73,11 +82,33 @@ fn toml_fault(alloc: Global, text: &[u8], error: &toml::de::Error) -> ScriptFaul
     };
     let before = text.iter().take(span.start);
     let line = before.filter(|byte| **byte == b'\n').count();
+    let line = Some(line.saturating_add(1));
+    let place = Place::Text;
     match String::from_str(alloc, error.message()) {
         Ok(message) => ScriptFault::Wrong {
-            place: Place::Line(line.saturating_add(1)),
+            spot: Spot { line, place },
             wrong: Wrong::Toml { message },
         },
         Err(error) => ScriptFault::OutOfMemory(error),
+    }
+}
+
+/// The fault with the line of what it names, where it has none and the text has it in a line of its own.
+fn located(text: &[u8], fault: ScriptFault) -> ScriptFault {
+    match fault {
+        ScriptFault::Wrong {
+            spot: Spot { line: None, place },
+            wrong,
+        } => {
+            let line = match str::from_utf8(text) {
+                Ok(text) => line_of(text, place, wrong.key()),
+                Err(_) => None,
+            };
+            ScriptFault::Wrong {
+                spot: Spot { line, place },
+                wrong,
+            }
+        }
+        other => other,
     }
 }

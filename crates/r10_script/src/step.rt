@@ -5,7 +5,7 @@ ghost use Rattle.std.specs.List.{find};
 ghost use Rattle.toml.specs.View.{table_view};
 ghost use Rattle.r10_body.specs.declared.message.Kind.TheVariants as kinds;
 ghost use Rattle.r10_body.specs.declared.spec.ChannelSpec.{ChannelSpec as Spec};
-ghost use Rattle.r10_script.specs.Civil.{civil_text};
+ghost use Rattle.r10_lines.specs.Civil.{civil_text};
 ghost use Rattle.r10_script.specs.Keys.{integer_at, text_at, HasOnly};
 ghost use Rattle.r10_script.specs.Kinds.{kind_word};
 ghost use Rattle.r10_script.specs.Steps.{IsOfKind, IsStep, offered_word};
@@ -17,52 +17,49 @@ use crate::table::Fields;
 use r10_body::{ChannelSpec, Kind, Message};
 use r10_count::{Items, Parts};
 use r10_machine::Event;
-use std::alloc::Global;
 
-const STEPS: &str = "mount, tick, start, offer, pump, stop, cursor, advance, next, close";
+const CIVIL: &str = "a text of the form YYYY-MM-DD hh:mm:ss.cc";
+
+const STEPS: &str = "one of: mount, tick, start, offer, pump, stop, cursor, advance, next, close";
 
 /// The event that a step's table spells.
-pub fn event_of(
-    alloc: Global,
-    channels: &[ChannelSpec],
-    fields: Fields<'_>,
-) -> Result<Event, ScriptFault>
+pub fn event_of(channels: &[ChannelSpec], fields: Fields<'_>) -> Result<Event, ScriptFault>
     ensures { IfOk result (λ event. IsStep channels.now (table_view fields.entry.table.now) event) }
 {
-    match fields.text("do")? {
+    match fields.text("do", STEPS)? {
         "mount" => {
-            fields.only(alloc, &["do"])?;
+            fields.only(&["do"])?;
             Ok(Event::Mount)
         }
-        "tick" => tick_of(alloc, fields),
-        "start" => start_of(alloc, fields),
-        "offer" => offer_of(alloc, channels, fields),
-        "pump" => pump_of(alloc, fields),
+        "tick" => tick_of(fields),
+        "start" => start_of(fields),
+        "offer" => offer_of(channels, fields),
+        "pump" => pump_of(fields),
         "stop" => {
-            fields.only(alloc, &["do"])?;
+            fields.only(&["do"])?;
             Ok(Event::Stop)
         }
-        "cursor" => cursor_of(alloc, fields),
+        "cursor" => cursor_of(fields),
         "advance" => {
-            let id = id_of(alloc, fields)?;
+            let id = id_of(fields)?;
             Ok(Event::Advance { id })
         }
         "next" => {
-            let id = id_of(alloc, fields)?;
+            let id = id_of(fields)?;
             Ok(Event::Next { id })
         }
         "close" => {
-            let id = id_of(alloc, fields)?;
+            let id = id_of(fields)?;
             Ok(Event::Close { id })
         }
-        word => Err(fields.unknown_word(alloc, "do", word, STEPS)),
+        _ => Err(fields.refused("do", STEPS)),
     }
 }
 
-fn tick_of(alloc: Global, fields: Fields<'_>) -> Result<Event, ScriptFault>
+fn tick_of(fields: Fields<'_>) -> Result<Event, ScriptFault>
     ensures { IfOk result (λ event. (channels : List Spec) → text_at (table_view fields.entry.table.now) (codes "do") ≡ Some (codes "tick") → IsStep channels (table_view fields.entry.table.now) event) }
 {
-    fields.only(alloc, &["do", "count", "civil"])?;
+    fields.only(&["do", "count", "civil"])?;
     let count = fields.count("count")?;
     let parts = civil_of(fields)?;
     Ok(Event::Tick { count, parts })
@@ -72,35 +69,31 @@ fn tick_of(alloc: Global, fields: Fields<'_>) -> Result<Event, ScriptFault>
 fn civil_of(fields: Fields<'_>) -> Result<Parts, ScriptFault>
     ensures { IfOk result (λ parts. text_at (table_view fields.entry.table.now) (codes "civil") ≡ Some (civil_text parts)) }
 {
-    match parts_of(fields.text("civil")?.as_bytes()) {
+    match parts_of(fields.text("civil", CIVIL)?.as_bytes()) {
         Some(parts) => Ok(parts),
-        None => Err(fields.fault(Wrong::Civil { key: "civil" })),
+        None => Err(fields.refused("civil", CIVIL)),
     }
 }
 
-fn start_of(alloc: Global, fields: Fields<'_>) -> Result<Event, ScriptFault>
+fn start_of(fields: Fields<'_>) -> Result<Event, ScriptFault>
     ensures { IfOk result (λ event. (channels : List Spec) → text_at (table_view fields.entry.table.now) (codes "do") ≡ Some (codes "start") → IsStep channels (table_view fields.entry.table.now) event) }
 {
-    fields.only(alloc, &["do", "name", "setup"])?;
-    let name = Vec::from_slice(alloc, fields.text("name")?.as_bytes())?;
-    let setup = fields.bytes(alloc, "setup")?;
+    fields.only(&["do", "name", "setup"])?;
+    let name = fields.text_bytes("name", "a text")?;
+    let setup = fields.bytes("setup")?;
     Ok(Event::Start {
         name: Items::of(name),
         setup: Items::of(setup),
     })
 }
 
-fn offer_of(
-    alloc: Global,
-    channels: &[ChannelSpec],
-    fields: Fields<'_>,
-) -> Result<Event, ScriptFault>
+fn offer_of(channels: &[ChannelSpec], fields: Fields<'_>) -> Result<Event, ScriptFault>
     ensures { IfOk result (λ event. text_at (table_view fields.entry.table.now) (codes "do") ≡ Some (codes "offer") → IsStep channels.now (table_view fields.entry.table.now) event) }
 {
     let channel = fields.short("channel")?;
     let count = fields.count("count")?;
-    let kind = offered_kind(alloc, channels, channel, fields)?;
-    let message = message_of(alloc, kind, fields)?;
+    let kind = offered_kind(channels, channel, fields)?;
+    let message = message_of(kind, fields)?;
     Ok(Event::Offer {
         channel,
         count,
@@ -110,7 +103,6 @@ fn offer_of(
 
 /// The kind that the step names, or else that of its channel.
 fn offered_kind(
-    alloc: Global,
     channels: &[ChannelSpec],
     channel: u16,
     fields: Fields<'_>,
@@ -118,11 +110,11 @@ fn offered_kind(
     ensures { IfOk result (λ kind. offered_word channels.now channel (table_view fields.entry.table.now) ≡ Some (kind_word kind)) }
 {
     if fields.has("kind") {
-        return kind_of(alloc, fields);
+        return kind_of(fields);
     }
     match spec_of(channels, channel) {
         Some(spec) => Ok(spec.kind),
-        None => Err(fields.fault(Wrong::Missing { key: "kind" })),
+        None => Err(fields.fault(Wrong::NoChannel { channel })),
     }
 }
 
@@ -134,55 +126,46 @@ fn spec_of(channels: &[ChannelSpec], channel: u16) -> Option<ChannelSpec>
 }
 
 /// A message of this kind: a key that is absent is false, 0 or empty.
-fn message_of(alloc: Global, kind: Kind, fields: Fields<'_>) -> Result<Message, ScriptFault>
+fn message_of(kind: Kind, fields: Fields<'_>) -> Result<Message, ScriptFault>
     ensures { IfOk result (λ message. IsOfKind kind (table_view fields.entry.table.now) message) }
 {
     match kind {
-        Kind::Uart => uart_of(alloc, fields),
-        Kind::Bus1553 => bus_of(alloc, fields),
-        Kind::Arinc => arinc_of(alloc, fields),
-        Kind::Discrete => discrete_of(alloc, fields),
-        Kind::Message => bytes_of(alloc, fields),
+        Kind::Uart => uart_of(fields),
+        Kind::Bus1553 => bus_of(fields),
+        Kind::Arinc => arinc_of(fields),
+        Kind::Discrete => discrete_of(fields),
+        Kind::Message => bytes_of(fields),
     }
 }
 
-fn uart_of(alloc: Global, fields: Fields<'_>) -> Result<Message, ScriptFault>
+fn uart_of(fields: Fields<'_>) -> Result<Message, ScriptFault>
     ensures { IfOk result (λ message. IsOfKind kinds.Uart (table_view fields.entry.table.now) message) }
 {
-    fields.only(
-        alloc,
-        &["do", "channel", "count", "kind", "parity", "sub", "bytes"],
-    )?;
+    fields.only(&["do", "channel", "count", "kind", "parity", "sub", "bytes"])?;
     let parity = fields.truth_or_false("parity")?;
     let sub = fields.short_or_zero("sub")?;
-    let bytes = Items::of(fields.bytes_or_none(alloc, "bytes")?);
+    let bytes = Items::of(fields.bytes_or_none("bytes")?);
     Ok(Message::Uart { parity, sub, bytes })
 }
 
 /// A message of a MIL-STD-1553 bus.
-fn bus_of(alloc: Global, fields: Fields<'_>) -> Result<Message, ScriptFault>
+fn bus_of(fields: Fields<'_>) -> Result<Message, ScriptFault>
     ensures { IfOk result (λ message. IsOfKind kinds.Bus1553 (table_view fields.entry.table.now) message) }
 {
-    fields.only(
-        alloc,
-        &["do", "channel", "count", "kind", "status", "gap", "words"],
-    )?;
+    fields.only(&["do", "channel", "count", "kind", "status", "gap", "words"])?;
     let status = fields.short_or_zero("status")?;
     let gap = fields.short_or_zero("gap")?;
-    let words = Items::of(fields.words_or_none(alloc, "words")?);
+    let words = Items::of(fields.words_or_none("words")?);
     Ok(Message::Bus1553 { status, gap, words })
 }
 
 /// A word of an ARINC 429 bus.
-fn arinc_of(alloc: Global, fields: Fields<'_>) -> Result<Message, ScriptFault>
+fn arinc_of(fields: Fields<'_>) -> Result<Message, ScriptFault>
     ensures { IfOk result (λ message. IsOfKind kinds.Arinc (table_view fields.entry.table.now) message) }
 {
-    fields.only(
-        alloc,
-        &[
-            "do", "channel", "count", "kind", "bus", "format", "parity", "high", "data",
-        ],
-    )?;
+    fields.only(&[
+        "do", "channel", "count", "kind", "bus", "format", "parity", "high", "data",
+    ])?;
     Ok(Message::Arinc {
         bus: fields.byte_or_zero("bus")?,
         format: fields.truth_or_false("format")?,
@@ -192,28 +175,25 @@ fn arinc_of(alloc: Global, fields: Fields<'_>) -> Result<Message, ScriptFault>
     })
 }
 
-fn discrete_of(alloc: Global, fields: Fields<'_>) -> Result<Message, ScriptFault>
+fn discrete_of(fields: Fields<'_>) -> Result<Message, ScriptFault>
     ensures { IfOk result (λ message. IsOfKind kinds.Discrete (table_view fields.entry.table.now) message) }
 {
-    fields.only(alloc, &["do", "channel", "count", "kind", "states"])?;
+    fields.only(&["do", "channel", "count", "kind", "states"])?;
     let states = fields.long_or_zero("states")?;
     Ok(Message::Discrete { states })
 }
 
 /// A message of a message channel.
-fn bytes_of(alloc: Global, fields: Fields<'_>) -> Result<Message, ScriptFault>
+fn bytes_of(fields: Fields<'_>) -> Result<Message, ScriptFault>
     ensures { IfOk result (λ message. IsOfKind kinds.Message (table_view fields.entry.table.now) message) }
 {
-    fields.only(
-        alloc,
-        &[
-            "do", "channel", "count", "kind", "data", "format", "sub", "bytes",
-        ],
-    )?;
+    fields.only(&[
+        "do", "channel", "count", "kind", "data", "format", "sub", "bytes",
+    ])?;
     let data_error = fields.truth_or_false("data")?;
     let format = fields.truth_or_false("format")?;
     let sub = fields.short_or_zero("sub")?;
-    let bytes = Items::of(fields.bytes_or_none(alloc, "bytes")?);
+    let bytes = Items::of(fields.bytes_or_none("bytes")?);
     Ok(Message::Message {
         data_error,
         format,
@@ -222,21 +202,21 @@ fn bytes_of(alloc: Global, fields: Fields<'_>) -> Result<Message, ScriptFault>
     })
 }
 
-fn pump_of(alloc: Global, fields: Fields<'_>) -> Result<Event, ScriptFault>
+fn pump_of(fields: Fields<'_>) -> Result<Event, ScriptFault>
     ensures { IfOk result (λ event. (channels : List Spec) → text_at (table_view fields.entry.table.now) (codes "do") ≡ Some (codes "pump") → IsStep channels (table_view fields.entry.table.now) event) }
 {
-    fields.only(alloc, &["do", "channel", "k"])?;
+    fields.only(&["do", "channel", "k"])?;
     let channel = fields.short("channel")?;
     let most = fields.size("k")?;
     Ok(Event::Pump { channel, most })
 }
 
-fn cursor_of(alloc: Global, fields: Fields<'_>) -> Result<Event, ScriptFault>
+fn cursor_of(fields: Fields<'_>) -> Result<Event, ScriptFault>
     ensures { IfOk result (λ event. (channels : List Spec) → text_at (table_view fields.entry.table.now) (codes "do") ≡ Some (codes "cursor") → IsStep channels (table_view fields.entry.table.now) event) }
 {
-    fields.only(alloc, &["do", "file", "channels", "from", "to"])?;
+    fields.only(&["do", "file", "channels", "from", "to"])?;
     let file = fields.size("file")?;
-    let channels = Items::of(fields.shorts(alloc, "channels")?);
+    let channels = Items::of(fields.shorts("channels")?);
     let from = fields.count("from")?;
     let to = fields.count("to")?;
     Ok(Event::Cursor {
@@ -248,9 +228,9 @@ fn cursor_of(alloc: Global, fields: Fields<'_>) -> Result<Event, ScriptFault>
 }
 
 /// The number of a cursor, the one key of a step.
-fn id_of(alloc: Global, fields: Fields<'_>) -> Result<usize, ScriptFault>
+fn id_of(fields: Fields<'_>) -> Result<usize, ScriptFault>
     ensures { IfOk result (λ id. (integer_at (table_view fields.entry.table.now) (codes "id") ≡ Some (pos id)) × HasOnly (codes "do" ∷ codes "id" ∷ []) (table_view fields.entry.table.now)) }
 {
-    fields.only(alloc, &["do", "id"])?;
+    fields.only(&["do", "id"])?;
     fields.size("id")
 }

@@ -6,28 +6,52 @@ ghost use Rattle.std.specs.List.{All, list_any};
 ghost use Rattle.std.specs.Str.{bytes_eq};
 ghost use Rattle.toml.specs.Data.{get_member, as_table};
 ghost use Rattle.toml.specs.View.{view, table_view};
-ghost use Rattle.r10_script.specs.Keys.{integer_at, integer_or_zero_at, integers_at, text_at, bytes_at, bytes_or_none_at, flag_or_false_at, items_at, words_bytes, HasOnly};
+ghost use Rattle.r10_lines.specs.Line.{words_bytes};
+ghost use Rattle.r10_script.specs.Keys.{integer_at, integer_or_zero_at, integers_at, text_at, bytes_at, bytes_or_none_at, flag_or_false_at, items_at, HasOnly};
 
-use crate::fault::{Place, ScriptFault, Wrong};
+use crate::fault::{Place, ScriptFault, Spot, Wrong};
+use crate::found::{cut, found_of, listed};
 use std::alloc::{AllocError, Global};
 use toml::{Table, Value};
+
+const TABLES: &str = "an array of tables";
+
+const NATURAL: &str = "a whole number from 0";
+
+const BYTE: &str = "a whole number from 0 to 255";
+
+const SHORT: &str = "a whole number from 0 to 65535";
+
+const LONG: &str = "a whole number from 0 to 4294967295";
+
+const SHORTS: &str = "whole numbers from 0 to 65535 in an array";
+
+const HEX: &str = "an even number of hex digits";
+
+const WORDS: &str = "four hex digits for each word";
 
 /// A table of a script, and where it stands.
 #[derive(Clone, Copy)]
 pub struct Fields<'a> {
+    alloc: Global,
     table: &'a Table,
     place: Place,
 }
 
 impl<'a> Fields<'a> {
-    pub fn new(table: &'a Table, place: Place) -> Fields<'a>
+    pub fn new(alloc: Global, table: &'a Table, place: Place) -> Fields<'a>
         ensures { result.table.now ≡ table.now }
     {
-        Fields { table, place }
+        Fields {
+            alloc,
+            table,
+            place,
+        }
     }
 
     /// The table that a value of an array of tables is.
-    pub fn of_value(
+    pub fn table_of(
+        &self,
         value: &'a Value,
         key: &'static str,
         place: Place,
@@ -35,19 +59,45 @@ impl<'a> Fields<'a> {
         ensures { IfOk result (λ fields. as_table (view value.now) ≡ Some (table_view fields.table.now)) }
     {
         match value.as_table() {
-            Some(table) => Ok(Fields { table, place }),
-            None => {
-                let wanted = "an array of tables";
-                let wrong = Wrong::Type { key, wanted };
-                Err(ScriptFault::Wrong { place, wrong })
-            }
+            Some(table) => Ok(Fields::new(self.alloc, table, place)),
+            None => Err(self.mistaken(key, TABLES, value)),
         }
     }
 
-    /// The fault of this table.
+    /// The same keys, as those of another place.
+    pub fn of_place(&self, place: Place) -> Fields<'a> {
+        Fields::new(self.alloc, self.table, place)
+    }
+
+    /// A fault of this table. Its line is not known here.
     pub fn fault(&self, wrong: Wrong) -> ScriptFault {
         let place = self.place;
-        ScriptFault::Wrong { place, wrong }
+        let spot = Spot { line: None, place };
+        ScriptFault::Wrong { spot, wrong }
+    }
+
+    /// The fault of a key that is not there, or has not what is wanted.
+    pub fn refused(&self, key: &'static str, wanted: &'static str) -> ScriptFault {
+        match self.found(key) {
+            Some(value) => self.mistaken(key, wanted, value),
+            None => self.fault(Wrong::Missing { key }),
+        }
+    }
+
+    /// The fault of a value that is not what is wanted.
+    fn mistaken(&self, key: &'static str, wanted: &'static str, value: &Value) -> ScriptFault {
+        match found_of(self.alloc, value) {
+            Ok(found) => self.fault(Wrong::Value { key, wanted, found }),
+            Err(error) => ScriptFault::OutOfMemory(error),
+        }
+    }
+
+    /// The fault of a key that is not one of these.
+    fn unknown(&self, key: &str, known: &[&str]) -> ScriptFault {
+        match (cut(self.alloc, key), listed(self.alloc, known)) {
+            (Ok(key), Ok(known)) => self.fault(Wrong::Unknown { key, known }),
+            _ => ScriptFault::OutOfMemory(AllocError),
+        }
     }
 
     /// The value under the key.
@@ -64,15 +114,20 @@ impl<'a> Fields<'a> {
         self.found(key).is_some()
     }
 
+    /// Whether the key has this number.
+    pub fn is_number(&self, key: &str, number: u16) -> bool {
+        match self.found(key) {
+            Some(value) => value.as_integer() == Some(i64::from(number)),
+            None => false,
+        }
+    }
+
     /// Refuses a key that is not one of these.
-    pub fn only(&self, alloc: Global, known: &[&str]) -> Result<(), ScriptFault>
+    pub fn only(&self, known: &[&str]) -> Result<(), ScriptFault>
         ensures { IfOk result (λ _. HasOnly (map (λ word. word.now) known.now) (table_view self.now.table.now)) }
     {
         match unknown_key(self.table, known) {
-            Some(key) => {
-                let key = String::from_str(alloc, key.as_str())?;
-                Err(self.fault(Wrong::Unknown { key }))
-            }
+            Some(key) => Err(self.unknown(key.as_str(), known)),
             None => Ok(()),
         }
     }
@@ -87,17 +142,13 @@ impl<'a> Fields<'a> {
         }
     }
 
-    fn mistyped(&self, key: &'static str, wanted: &'static str) -> ScriptFault {
-        self.fault(Wrong::Type { key, wanted })
-    }
-
-    fn integer(&self, key: &'static str) -> Result<i64, ScriptFault>
-        ensures read { IfOk result (λ z. integer_at (table_view self.now.table.now) key.now ≡ Some z) }
-        ensures fault { IfErr result (λ _. integer_at (table_view self.now.table.now) key.now ≡ None) }
+    fn integer(&self, key: &'static str, wanted: &'static str) -> Result<i64, ScriptFault>
+        ensures { IfOk result (λ z. integer_at (table_view self.now.table.now) key.now ≡ Some z) }
     {
-        match self.value(key)?.as_integer() {
+        let value = self.value(key)?;
+        match value.as_integer() {
             Some(number) => Ok(number),
-            None => Err(self.mistyped(key, "a whole number")),
+            None => Err(self.mistaken(key, wanted, value)),
         }
     }
 
@@ -105,44 +156,52 @@ impl<'a> Fields<'a> {
     pub fn count(&self, key: &'static str) -> Result<u64, ScriptFault>
         ensures { IfOk result (λ n. integer_at (table_view self.now.table.now) key.now ≡ Some (pos n)) }
     {
-        match u64::try_from(self.integer(key)?) {
+        match u64::try_from(self.integer(key, NATURAL)?) {
             Ok(number) => Ok(number),
-            Err(_) => Err(self.fault(Wrong::Range {
-                key,
-                most: u64::MAX,
-            })),
+            Err(_) => Err(self.refused(key, NATURAL)),
         }
     }
 
-    /// A size, a place or a number of things.
+    /// A place or a number of things.
     pub fn size(&self, key: &'static str) -> Result<usize, ScriptFault>
         ensures { IfOk result (λ n. integer_at (table_view self.now.table.now) key.now ≡ Some (pos n)) }
     {
-        match usize::try_from(self.integer(key)?) {
+        self.size_of(key, NATURAL)
+    }
+
+    /// A setting that is a number. Of one that is none it is said what is wanted.
+    pub fn size_of(&self, key: &'static str, wanted: &'static str) -> Result<usize, ScriptFault>
+        ensures { IfOk result (λ n. integer_at (table_view self.now.table.now) key.now ≡ Some (pos n)) }
+    {
+        match usize::try_from(self.integer(key, wanted)?) {
             Ok(number) => Ok(number),
-            Err(_) => Err(self.fault(Wrong::Range {
-                key,
-                most: u64::MAX,
-            })),
+            Err(_) => Err(self.refused(key, wanted)),
         }
     }
 
-    /// A channel ID or a field of 16 bits.
+    /// A channel's number in a step.
     pub fn short(&self, key: &'static str) -> Result<u16, ScriptFault>
         ensures { IfOk result (λ n. integer_at (table_view self.now.table.now) key.now ≡ Some (pos n)) }
     {
-        match u16::try_from(self.integer(key)?) {
+        self.short_of(key, SHORT)
+    }
+
+    /// A setting of 16 bits. Of one that is none it is said what is wanted.
+    pub fn short_of(&self, key: &'static str, wanted: &'static str) -> Result<u16, ScriptFault>
+        ensures { IfOk result (λ n. integer_at (table_view self.now.table.now) key.now ≡ Some (pos n)) }
+    {
+        match u16::try_from(self.integer(key, wanted)?) {
             Ok(number) => Ok(number),
-            Err(_) => Err(self.fault(Wrong::Range { key, most: 65_535 })),
+            Err(_) => Err(self.refused(key, wanted)),
         }
     }
 
     /// A whole number, 0 where the key is absent.
-    fn integer_or_zero(&self, key: &'static str) -> Result<i64, ScriptFault>
+    fn integer_or_zero(&self, key: &'static str, wanted: &'static str) -> Result<i64, ScriptFault>
         ensures { IfOk result (λ z. integer_or_zero_at (table_view self.now.table.now) key.now ≡ Some z) }
     {
         if self.has(key) {
-            self.integer(key)
+            self.integer(key, wanted)
         } else {
             Ok(0)
         }
@@ -152,9 +211,9 @@ impl<'a> Fields<'a> {
     pub fn byte_or_zero(&self, key: &'static str) -> Result<u8, ScriptFault>
         ensures { IfOk result (λ n. integer_or_zero_at (table_view self.now.table.now) key.now ≡ Some (pos n)) }
     {
-        match u8::try_from(self.integer_or_zero(key)?) {
+        match u8::try_from(self.integer_or_zero(key, BYTE)?) {
             Ok(number) => Ok(number),
-            Err(_) => Err(self.fault(Wrong::Range { key, most: 255 })),
+            Err(_) => Err(self.refused(key, BYTE)),
         }
     }
 
@@ -162,9 +221,9 @@ impl<'a> Fields<'a> {
     pub fn short_or_zero(&self, key: &'static str) -> Result<u16, ScriptFault>
         ensures { IfOk result (λ n. integer_or_zero_at (table_view self.now.table.now) key.now ≡ Some (pos n)) }
     {
-        match u16::try_from(self.integer_or_zero(key)?) {
+        match u16::try_from(self.integer_or_zero(key, SHORT)?) {
             Ok(number) => Ok(number),
-            Err(_) => Err(self.fault(Wrong::Range { key, most: 65_535 })),
+            Err(_) => Err(self.refused(key, SHORT)),
         }
     }
 
@@ -172,12 +231,9 @@ impl<'a> Fields<'a> {
     pub fn long_or_zero(&self, key: &'static str) -> Result<u32, ScriptFault>
         ensures { IfOk result (λ n. integer_or_zero_at (table_view self.now.table.now) key.now ≡ Some (pos n)) }
     {
-        match u32::try_from(self.integer_or_zero(key)?) {
+        match u32::try_from(self.integer_or_zero(key, LONG)?) {
             Ok(number) => Ok(number),
-            Err(_) => Err(self.fault(Wrong::Range {
-                key,
-                most: 4_294_967_295,
-            })),
+            Err(_) => Err(self.refused(key, LONG)),
         }
     }
 
@@ -185,38 +241,50 @@ impl<'a> Fields<'a> {
     fn elements(&self, key: &'static str, wanted: &'static str) -> Result<&'a [Value], ScriptFault>
         ensures { IfOk result (λ vs. map view vs.now ≡ items_at (table_view self.now.table.now) key.now) }
     {
-        match self.value(key)?.as_array() {
+        let value = self.value(key)?;
+        match value.as_array() {
             Some(values) => Ok(values.as_slice()),
-            None => Err(self.mistyped(key, wanted)),
+            None => Err(self.mistaken(key, wanted, value)),
         }
     }
 
     /// The channel IDs of an array.
-    pub fn shorts(&self, alloc: Global, key: &'static str) -> Result<Vec<u16>, ScriptFault>
+    pub fn shorts(&self, key: &'static str) -> Result<Vec<u16>, ScriptFault>
         ensures { IfOk result (λ v. integers_at (table_view self.now.table.now) key.now ≡ map (λ n. Some (pos n)) v.items) }
     {
-        let wanted = "an array of whole numbers";
-        let mut numbers = Vec::new(alloc);
-        for value in self.elements(key, wanted)? {
+        let mut numbers = Vec::new(self.alloc);
+        for value in self.elements(key, SHORTS)? {
             let Some(number) = value.as_integer() else {
-                return Err(self.mistyped(key, wanted));
+                return Err(self.mistaken(key, SHORTS, value));
             };
             match u16::try_from(number) {
                 Ok(number) => numbers.push(number)?,
-                Err(_) => return Err(self.fault(Wrong::Range { key, most: 65_535 })),
+                Err(_) => return Err(self.mistaken(key, SHORTS, value)),
             }
         }
         Ok(numbers)
     }
 
-    pub fn text(&self, key: &'static str) -> Result<&'a str, ScriptFault>
-        ensures read { IfOk result (λ t. text_at (table_view self.now.table.now) key.now ≡ Some t.now) }
-        ensures fault { IfErr result (λ _. text_at (table_view self.now.table.now) key.now ≡ None) }
+    pub fn text(&self, key: &'static str, wanted: &'static str) -> Result<&'a str, ScriptFault>
+        ensures { IfOk result (λ t. text_at (table_view self.now.table.now) key.now ≡ Some t.now) }
     {
-        match self.value(key)?.as_str() {
+        let value = self.value(key)?;
+        match value.as_str() {
             Some(text) => Ok(text),
-            None => Err(self.mistyped(key, "a text")),
+            None => Err(self.mistaken(key, wanted, value)),
         }
+    }
+
+    /// The bytes of a text.
+    pub fn text_bytes(
+        &self,
+        key: &'static str,
+        wanted: &'static str,
+    ) -> Result<Vec<u8>, ScriptFault>
+        ensures { IfOk result (λ v. text_at (table_view self.now.table.now) key.now ≡ Some v.items) }
+    {
+        let text = self.text(key, wanted)?;
+        Ok(Vec::from_slice(self.alloc, text.as_bytes())?)
     }
 
     /// A truth value, false where the key is absent.
@@ -228,55 +296,50 @@ impl<'a> Fields<'a> {
         };
         match value.as_bool() {
             Some(truth) => Ok(truth),
-            None => Err(self.mistyped(key, "true or false")),
+            None => Err(self.mistaken(key, "true or false", value)),
         }
     }
 
-    /// The bytes that a text of hex digits stands for. Of another text this is said.
-    fn decoded(
-        &self,
-        alloc: Global,
-        key: &'static str,
-        wrong: Wrong,
-    ) -> Result<Vec<u8>, ScriptFault>
+    /// The bytes that a text of hex digits stands for. Of another text it is said what is wanted.
+    fn decoded(&self, key: &'static str, wanted: &'static str) -> Result<Vec<u8>, ScriptFault>
         ensures { IfOk result (λ v. bytes_at (table_view self.now.table.now) key.now ≡ Some v.items) }
     {
-        match hex::decode(alloc, self.text(key)?) {
+        match hex::decode(self.alloc, self.text(key, wanted)?) {
             Ok(bytes) => Ok(bytes),
             Err(hex::FromHexError::OutOfMemory) => Err(ScriptFault::OutOfMemory(AllocError)),
-            Err(_) => Err(self.fault(wrong)),
+            Err(_) => Err(self.refused(key, wanted)),
         }
     }
 
     /// The bytes that a text of hex digits stands for.
-    pub fn bytes(&self, alloc: Global, key: &'static str) -> Result<Vec<u8>, ScriptFault>
+    pub fn bytes(&self, key: &'static str) -> Result<Vec<u8>, ScriptFault>
         ensures { IfOk result (λ v. bytes_at (table_view self.now.table.now) key.now ≡ Some v.items) }
     {
-        self.decoded(alloc, key, Wrong::Hex { key })
+        self.decoded(key, HEX)
     }
 
     /// The bytes that a text of hex digits stands for, none where the key is absent.
-    pub fn bytes_or_none(&self, alloc: Global, key: &'static str) -> Result<Vec<u8>, ScriptFault>
+    pub fn bytes_or_none(&self, key: &'static str) -> Result<Vec<u8>, ScriptFault>
         ensures { IfOk result (λ v. bytes_or_none_at (table_view self.now.table.now) key.now ≡ Some v.items) }
     {
         if self.has(key) {
-            self.bytes(alloc, key)
+            self.bytes(key)
         } else {
-            Ok(Vec::new(alloc))
+            Ok(Vec::new(self.alloc))
         }
     }
 
     /// The 16-bit words that a text of four hex digits each stands for, none where the key is absent.
-    pub fn words_or_none(&self, alloc: Global, key: &'static str) -> Result<Vec<u16>, ScriptFault>
+    pub fn words_or_none(&self, key: &'static str) -> Result<Vec<u16>, ScriptFault>
         ensures { IfOk result (λ v. bytes_or_none_at (table_view self.now.table.now) key.now ≡ Some (words_bytes v.items)) }
     {
         if !self.has(key) {
-            return Ok(Vec::new(alloc));
+            return Ok(Vec::new(self.alloc));
         }
-        let bytes = self.decoded(alloc, key, Wrong::Words { key })?;
-        match words_of(alloc, &bytes)? {
+        let bytes = self.decoded(key, WORDS)?;
+        match words_of(self.alloc, &bytes)? {
             Some(words) => Ok(words),
-            None => Err(self.fault(Wrong::Words { key })),
+            None => Err(self.refused(key, WORDS)),
         }
     }
 
@@ -285,23 +348,9 @@ impl<'a> Fields<'a> {
         ensures { IfOk result (λ vs. map view vs.now ≡ items_at (table_view self.now.table.now) key.now) }
     {
         if self.has(key) {
-            self.elements(key, "an array of tables")
+            self.elements(key, TABLES)
         } else {
             Ok(&[])
-        }
-    }
-
-    /// The fault of a word that the key does not know.
-    pub fn unknown_word(
-        &self,
-        alloc: Global,
-        key: &'static str,
-        word: &str,
-        known: &'static str,
-    ) -> ScriptFault {
-        match String::from_str(alloc, word) {
-            Ok(word) => self.fault(Wrong::Word { key, word, known }),
-            Err(error) => ScriptFault::OutOfMemory(error),
         }
     }
 }

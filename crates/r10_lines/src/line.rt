@@ -1,8 +1,8 @@
 //! The line that a step prints.
 
 ghost use Rattle.std.specs.Prelude.{◌≡◌, ◌∷◌, [], ℕ, List, codes, string_bytes, IfOk};
-ghost use Rattle.r10_script.specs.Civil.{civil_text as civil_digits};
-ghost use Rattle.r10_script.specs.Line.{IsReplyLine, IsReplyText, entry_text as entry_words, message_text as message_words, bytes_text, flag_text as flag_digit, long_text as eight_digits, word_text as four_digits, spaced, words_text as words_digits};
+ghost use Rattle.r10_lines.specs.Civil.{civil_text as civil_digits};
+ghost use Rattle.r10_lines.specs.Line.{IsReplyLine, IsReplyText, entry_text as entry_words, message_text as message_words, bytes_text, flag_text as flag_digit, long_text as eight_digits, word_text as four_digits, spaced, words_text as words_digits};
 
 use r10_body::{Entry, Message, Refusal};
 use r10_count::Civil;

@@ -2,14 +2,14 @@
 use Rattle.std.specs.Prelude.{◌≡◌, ℕ, Bool, true, false, List, [], ◌∷◌, ◌++◌, Some, None, codes}
 use Rattle.std.specs.Fmt.{decimal}
 use Rattle.std.specs.Int.{w16, w32, to_be_bytes}
+use Rattle.std.specs.List.{flat_map}
 use Rattle.hex.specs.Hex.{encode_lower}
 use Rattle.r10_body.specs.declared.entry.Entry.{Entry}
 use Rattle.r10_body.specs.declared.message.Message.{Message}
 use Rattle.r10_body.specs.declared.message.Message.TheVariants as messages
 use Rattle.r10_machine.specs.declared.reply.Reply.{Reply}
 use Rattle.r10_machine.specs.declared.reply.Reply.TheVariants as replies
-use Rattle.r10_script.specs.Civil.{civil_text}
-use Rattle.r10_script.specs.Keys.{words_bytes}
+use Rattle.r10_lines.specs.Civil.{civil_text}
 
 -- words with a space between each and the next
 abbrev pub spaced : List (List ℕ) → List ℕ
@@ -30,6 +30,10 @@ bytes_text (b ∷ bs) = encode_lower (b ∷ bs)
 -- a word of 16 bits in four hex digits
 abbrev pub word_text : ℕ → List ℕ
 word_text n = encode_lower (to_be_bytes w16 n)
+
+-- 16-bit words, the high byte of each first
+abbrev pub words_bytes : List ℕ → List ℕ
+words_bytes words = flat_map (to_be_bytes w16) words
 
 -- words of four hex digits each, a dash where there are none
 abbrev pub words_text : List ℕ → List ℕ

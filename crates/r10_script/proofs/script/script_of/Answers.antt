@@ -2,7 +2,7 @@ use Rattle.std.proofs.Common.{rules}
 use Rattle.toml.specs.View.{table_view}
 use Rattle.r10_script.specs.Keys.{HasOnly}
 use Rattle.r10_script.specs.Script.{AreSteps, script_keys}
-use Rattle.r10_script.proofs.script.read_script.Goals as goal
+use Rattle.r10_script.proofs.script.script_of.Goals as goal
 
 pub returns-clause-script : goal.returns-clause-script
 returns-clause-script c =

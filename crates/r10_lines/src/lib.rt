@@ -1,0 +1,6 @@
+//! Prints the line of each step's reply.
+#![tactic(auto)]
+
+mod line;
+
+pub use line::reply_line;

@@ -1,0 +1,71 @@
+//! What a script has where something else is wanted, as it is said in a fault.
+
+use std::alloc::{AllocError, Global};
+use thiserror::Error;
+use toml::Value;
+
+/// How many characters of a word of a script are said.
+const MOST: usize = 60;
+
+/// What a key has.
+#[derive(Debug, Drop, Error)]
+pub enum Found {
+    #[error("{0}")]
+    Number(i64),
+    #[error("{0}")]
+    Truth(bool),
+    /// The first characters of a text.
+    #[error("{0:?}")]
+    Text(String),
+    /// A value of another type, by the type's name.
+    #[error("{0}")]
+    Other(&'static str),
+}
+
+/// What is said of a value.
+pub fn found_of(alloc: Global, value: &Value) -> Result<Found, AllocError> {
+    if let Some(number) = value.as_integer() {
+        return Ok(Found::Number(number));
+    }
+    if let Some(truth) = value.as_bool() {
+        return Ok(Found::Truth(truth));
+    }
+    if let Some(text) = value.as_str() {
+        return Ok(Found::Text(cut(alloc, text)?));
+    }
+    Ok(Found::Other(type_of(value)))
+}
+
+/// The type of a value that is no number, truth value or text.
+fn type_of(value: &Value) -> &'static str {
+    if value.is_array() {
+        "an array"
+    } else if value.is_table() {
+        "a table"
+    } else if value.is_float() {
+        "a number with a point"
+    } else {
+        "a date or time"
+    }
+}
+
+/// The first characters of a word.
+pub fn cut(alloc: Global, word: &str) -> Result<String, AllocError> {
+    let mut said = String::new(alloc);
+    for character in word.chars().take(MOST) {
+        said.push(character)?;
+    }
+    Ok(said)
+}
+
+/// The words with a comma between each and the next.
+pub fn listed(alloc: Global, words: &[&str]) -> Result<String, AllocError> {
+    let mut said = String::new(alloc);
+    for word in words {
+        if !said.is_empty() {
+            said.push_str(", ")?;
+        }
+        said.push_str(word)?;
+    }
+    Ok(said)
+}

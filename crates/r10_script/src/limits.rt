@@ -1,0 +1,94 @@
+//! The settings outside their limits, and the tables where a person finds them.
+
+use crate::fault::{Place, ScriptFault, Wrong};
+use crate::table::Fields;
+use r10_machine::SettingsFault;
+
+pub const BLOCKS: &str = "a whole number from `directory` + 2 to 16777216";
+
+pub const DIRECTORY: &str = "a whole number from 1 to 64";
+
+pub const NODES: &str = "a whole number from 1 to 32765";
+
+pub const VOLUME: &str = "1 to 32 letters, digits, \".\", \"_\" or \"-\"";
+
+pub const ID: &str = "a whole number from 1 to 65535";
+
+pub const CAPACITY: &str = "a whole number from 1 to 65536";
+
+pub const CHECK: &str = "0, 8, 16 or 32";
+
+pub const BYTES: &str = "a multiple of 4 from 128 to 524288";
+
+pub const NUMBER: &str = "a whole number from 1 to 65535";
+
+pub const BITS: &str = "a whole number from 1 to 31";
+
+const OTHER_ID: &str = "another number than `time`, `event` and the channels above have";
+
+/// The fault of a setting outside its limits.
+pub fn limit_fault(top: Fields<'_>, fault: SettingsFault) -> ScriptFault {
+    match fault {
+        SettingsFault::Blocks => top.refused("blocks", BLOCKS),
+        SettingsFault::Directory => top.refused("directory", DIRECTORY),
+        SettingsFault::Channel(0) => zero_fault(top),
+        SettingsFault::Channel(id) => twice_fault(top, id),
+        SettingsFault::Capacity(id) => channel_with(top, id, 0).refused("capacity", CAPACITY),
+        SettingsFault::Check(id) => channel_with(top, id, 0).refused("check", CHECK),
+        SettingsFault::Bytes(id) => channel_with(top, id, 0).refused("bytes", BYTES),
+        SettingsFault::Number(id) => channel_with(top, id, 0).refused("number", NUMBER),
+        SettingsFault::Bits(id) => channel_with(top, id, 0).refused("bits", BITS),
+        SettingsFault::Nodes => top.refused("nodes", NODES),
+        SettingsFault::Volume => top.refused("volume", VOLUME),
+    }
+}
+
+/// The fault of a number of channel tables, or else of an ID 0.
+fn zero_fault(top: Fields<'_>) -> ScriptFault {
+    let count = match top.tables("channel") {
+        Ok(values) => values.len(),
+        Err(_) => 0,
+    };
+    if count == 0 || count > 64 {
+        return top.of_place(Place::Text).fault(Wrong::Tables { count });
+    }
+    if top.is_number("time", 0) {
+        return top.refused("time", ID);
+    }
+    if top.is_number("event", 0) {
+        return top.refused("event", ID);
+    }
+    channel_with(top, 0, 0).refused("id", ID)
+}
+
+/// The fault of an ID that is there before.
+fn twice_fault(top: Fields<'_>, id: u16) -> ScriptFault {
+    let (time, event) = (top.is_number("time", id), top.is_number("event", id));
+    if time && event {
+        return top.refused("event", "another number than `time` has");
+    }
+    let before = if time || event { 0 } else { 1 };
+    channel_with(top, id, before).refused("id", OTHER_ID)
+}
+
+/// The channel table with this ID behind so many others with it, or else the keys above the tables.
+fn channel_with<'a>(top: Fields<'a>, id: u16, before: usize) -> Fields<'a> {
+    let Ok(values) = top.tables("channel") else {
+        return top;
+    };
+    let mut number = 0usize;
+    let mut left = before;
+    for value in values {
+        number = number.saturating_add(1);
+        let Ok(fields) = top.table_of(value, "channel", Place::Channel(number)) else {
+            return top;
+        };
+        if fields.is_number("id", id) {
+            if left == 0 {
+                return fields;
+            }
+            left = left.saturating_sub(1);
+        }
+    }
+    top
+}
