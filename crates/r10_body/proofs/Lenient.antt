@@ -20,7 +20,7 @@ content_is_foreign : (counter : ℕ) (content : Content) (body : List ℕ) → F
 content_is_foreign counter (setup text) body fits is = record { setup = λ _. omega (arith, ap length is); event = λ e. absurd (omega (arith, e)); time = λ e. absurd (omega (arith, e)); bus = λ e. absurd (omega (arith, e)); discrete = λ e. absurd (omega (arith, e)); message = λ e. absurd (omega (arith, e)); arinc = λ e. absurd (omega (arith, e)); uart = λ e. absurd (omega (arith, e)) }
 content_is_foreign counter (time civil) body fits is = record { setup = λ e. absurd (omega (arith, e)); event = λ e. absurd (omega (arith, e)); time = λ _. ap length is; bus = λ e. absurd (omega (arith, e)); discrete = λ e. absurd (omega (arith, e)); message = λ e. absurd (omega (arith, e)); arinc = λ e. absurd (omega (arith, e)); uart = λ e. absurd (omega (arith, e)) }
 content_is_foreign counter (event e) body fits is = record { setup = λ e. absurd (omega (arith, e)); event = λ _. event_is_foreign e body (fits, is); time = λ e. absurd (omega (arith, e)); bus = λ e. absurd (omega (arith, e)); discrete = λ e. absurd (omega (arith, e)); message = λ e. absurd (omega (arith, e)); arinc = λ e. absurd (omega (arith, e)); uart = λ e. absurd (omega (arith, e)) }
-content_is_foreign counter (uart entries) body fits is = record { setup = λ e. absurd (omega (arith, e)); event = λ e. absurd (omega (arith, e)); time = λ e. absurd (omega (arith, e)); bus = λ e. absurd (omega (arith, e)); discrete = λ e. absurd (omega (arith, e)); message = λ e. absurd (omega (arith, e)); arinc = λ e. absurd (omega (arith, e)); uart = λ _. uarts.foreign_is body (body_is_foreign uart_form 0 0 entries body (uarts.body_is entries body (fits.0, fits.1, is))) }
+content_is_foreign counter (uart entries) body fits is = record { setup = λ e. absurd (omega (arith, e)); event = λ e. absurd (omega (arith, e)); time = λ e. absurd (omega (arith, e)); bus = λ e. absurd (omega (arith, e)); discrete = λ e. absurd (omega (arith, e)); message = λ e. absurd (omega (arith, e)); arinc = λ e. absurd (omega (arith, e)); uart = λ _. uarts.foreign_is body (body_is_foreign uart_form 0 0 entries body (uarts.body_is entries body (fits, is))) }
 content_is_foreign counter (bus entries) body fits is = record { setup = λ e. absurd (omega (arith, e)); event = λ e. absurd (omega (arith, e)); time = λ e. absurd (omega (arith, e)); bus = λ _. buses.foreign_is body (body_is_foreign bus_form 0 0 entries body (buses.body_is entries body (fits, is))); discrete = λ e. absurd (omega (arith, e)); message = λ e. absurd (omega (arith, e)); arinc = λ e. absurd (omega (arith, e)); uart = λ e. absurd (omega (arith, e)) }
 content_is_foreign counter (arinc entries) body fits is = record { setup = λ e. absurd (omega (arith, e)); event = λ e. absurd (omega (arith, e)); time = λ e. absurd (omega (arith, e)); bus = λ e. absurd (omega (arith, e)); discrete = λ e. absurd (omega (arith, e)); message = λ e. absurd (omega (arith, e)); arinc = λ _. arincs.foreign_is body (body_is_foreign arinc_form 0 counter entries body (arincs.body_is counter entries body (fits, is))); uart = λ e. absurd (omega (arith, e)) }
 content_is_foreign counter (discrete bits entries) body fits is = record { setup = λ e. absurd (omega (arith, e)); event = λ e. absurd (omega (arith, e)); time = λ e. absurd (omega (arith, e)); bus = λ e. absurd (omega (arith, e)); discrete = λ _. discretes.foreign_is body (body_is_foreign discrete_form bits 0 entries body (discretes.body_is bits entries body (fits, is))); message = λ e. absurd (omega (arith, e)); arinc = λ e. absurd (omega (arith, e)); uart = λ e. absurd (omega (arith, e)) }
