@@ -105,8 +105,11 @@ fn listed<M: BlockMedium>(alloc: Global, medium: &mut M) -> Result<Vec<Entry>, F
 
 fn copy(rt: &impl Abort, alloc: Global, medium: &Memory) -> Result<Memory, Fail> {
     let bytes = medium.image(alloc)?;
-    assert!(rt; bytes.len() % 512 == 0);
-    Ok(Memory::of_image(alloc, &bytes)?)
+    let mut other = Memory::new(alloc, BLOCKS)?;
+    for (n, block) in bytes.as_chunks::<512>().0.iter().enumerate() {
+        put(rt, &mut other, n, block);
+    }
+    Ok(other)
 }
 
 fn formatted(rt: &impl Abort, alloc: Global) -> Result<Memory, Fail> {

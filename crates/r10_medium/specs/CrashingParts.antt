@@ -1,5 +1,5 @@
 -- What a medium that is stopped after some calls is made of, and what each choice of a stop gives.
-use Rattle.std.specs.Prelude.{◌≡◌, ℕ}
+use Rattle.std.specs.Prelude.{◌≡◌, ℕ, ◌+◌, ◌<◌, Result, IsOk, IsErr}
 use Rattle.r10_medium.specs.Disk.{Disk, Image}
 use Rattle.r10_medium.specs.Crashing.{crashing, with_block_of}
 use Rattle.r10_medium.specs.declared.crashing.Crashing.{Crashing}
@@ -27,6 +27,12 @@ pub record IsSameButCalls (old new : Crashing) : Type 0 where
   pub synced : new.synced ≡ old.synced
   pub lowest : new.lowest ≡ old.lowest
 
+-- A call: one of those that are left goes well, and where none is left it fails without effect.
+pub record Calls {T E : Type 0} (old new : Crashing) (result : Result T E) : Type 0 where
+  pub taken : 0 < calls_left old → IsOk result × (calls_left new + 1 ≡ calls_left old)
+  pub stopped : calls_left old ≡ 0 → IsErr result × (calls_left new ≡ 0) × IsSameButCalls old new
+
+-- what a stop now leaves by each choice
 abbrev pub left_by : Choice → Crashing → Image
 left_by Synced c = synced_blocks c
 left_by Read c = (crashing_disk c).blocks
