@@ -1,12 +1,10 @@
 -- When the open packet of a channel is closed, and what is handed out.
-use Rattle.std.specs.Prelude.{◌≡◌, ℕ, ◌+◌, ◌*◌, ◌/◌, ◌<◌, ◌≤◌, Bool, true, not, List, [], ◌∷◌, ◌++◌, length, map, Option, None, nat_lt, nat_le, ◌==◌, if◌then◌else◌}
+use Rattle.std.specs.Prelude.{◌≡◌, ℕ, ◌+◌, ◌*◌, ◌/◌, ◌<◌, ◌≤◌, Bool, true, not, List, [], ◌∷◌, ◌++◌, length, map, Option, None, nat_lt, nat_le}
 use Rattle.std.specs.List.{AllByRecursion, sum_by}
 use Rattle.r10_count.specs.Checks.{first_broken}
-use Rattle.r10_packet.specs.Header.{bits_of, checksum_bits}
-use Rattle.r10_packet.specs.declared.check.Check.{Check}
-use Rattle.r10_packet.specs.declared.check.Check.TheVariants.{Nothing, Sum8, Sum16, Sum32}
+use Rattle.r10_packet.specs.Header.{bits_of, check_of_bits, checksum_bits}
 use Rattle.r10_body.specs.Content.{type_of}
-use Rattle.r10_body.specs.Messages.{spelling_len}
+use Rattle.r10_body.specs.Messages.{kind_type, spelling_len}
 use Rattle.r10_body.specs.Packets.{Packet, FitsPacket, header_of, packet_body, packet_entries}
 use Rattle.r10_body.specs.Rules.{Rise}
 use Rattle.r10_body.specs.declared.entry.Entry.{Entry}
@@ -60,21 +58,9 @@ IsYoung now (first ∷ rest) = now ≤ first.count + tenth
 
 -- ---- what is handed out
 
--- the data type of a channel's packets
-abbrev pub data_type : Kind → ℕ
-data_type kinds.Uart = 0x50
-data_type kinds.Bus1553 = 0x19
-data_type kinds.Arinc = 0x38
-data_type kinds.Discrete = 0x29
-data_type kinds.Message = 0x30
-
--- the data checksum of so many bits
-abbrev pub check_of : ℕ → Check
-check_of bits = if bits == 8 then Sum8 else if bits == 16 then Sum16 else if bits == 32 then Sum32 else Nothing
-
 -- settings within the limits of a recorder
 pub record IsLimited (spec : ChannelSpec) : Type 0 where
-  pub check : bits_of (check_of spec.check) ≡ spec.check
+  pub check : bits_of (check_of_bits spec.check) ≡ spec.check
   pub bytes : spec.bytes ≤ 524288
   pub some : 0 < spec.number
   pub number : spec.number < 65536
@@ -93,7 +79,7 @@ pub record IsClosed (spec : ChannelSpec) (samples : List Sample) (closed : Close
   pub channel : packet.channel ≡ spec.id
   pub sequence : packet.sequence ≡ 0
   pub check : checksum_bits packet.check ≡ spec.check
-  pub type_is : type_of packet.content ≡ data_type spec.kind
+  pub type_is : type_of packet.content ≡ kind_type spec.kind
   -- the counter is the first entry's count, counts don't fall, and none is more than a tenth of a second later
   pub counter : packet.counter ≡ first_count samples
   pub rise : Rise packet.counter (packet_entries packet)

@@ -3,7 +3,7 @@ use Rattle.std.specs.Prelude.{ℕ, ◌+◌, ◌-◌, ◌*◌, ◌/◌, ◌%◌, 
 use Rattle.std.specs.List.{AllByRecursion}
 use Rattle.r10_count.specs.Bytes.{flag_at, le_bytes}
 use Rattle.r10_count.specs.Count.{IsCount}
-use Rattle.r10_packet.specs.Header.{bits_of, flags_of}
+use Rattle.r10_packet.specs.Header.{bits_of, check_of_bits, flags_of}
 use Rattle.r10_packet.specs.declared.header.Header.{Header}
 use Rattle.r10_uart.specs.Uart.{uart_entry, uart_of}
 use Rattle.r10_b1553.specs.Bus.{bus_entry, bus_of}
@@ -12,14 +12,14 @@ use Rattle.r10_a429.specs.declared.entry.ArincEntry.{ArincEntry}
 use Rattle.r10_discrete.specs.Discrete.{discrete_entry}
 use Rattle.r10_discrete.specs.declared.entry.DiscreteEntry.{DiscreteEntry}
 use Rattle.r10_message.specs.Message.{message_entry, message_of}
-use Rattle.r10_body.specs.Messages.{is_in_range, is_short}
+use Rattle.r10_body.specs.Messages.{is_in_range, is_short, kind_type}
 use Rattle.r10_body.specs.declared.entry.Sample.{Sample}
 use Rattle.r10_body.specs.declared.message.Kind.{Kind}
 use Rattle.r10_body.specs.declared.message.Kind.TheVariants as kinds
 use Rattle.r10_body.specs.declared.message.Message.{Message}
 use Rattle.r10_body.specs.declared.message.Message.TheVariants as messages
 use Rattle.r10_body.specs.declared.spec.ChannelSpec.{ChannelSpec}
-use Rattle.r10_builder.specs.Packing.{check_of, data_type, tenth}
+use Rattle.r10_builder.specs.Packing.{tenth}
 use Rattle.r10_builder.specs.declared.open_packet.OpenPacket.{OpenPacket}
 
 -- ---- bytes
@@ -88,11 +88,11 @@ word_bytes spec number = le_bytes 4 (word_of spec.kind spec.bits number)
 abbrev pub closed_header : ChannelSpec → OpenPacket → ℕ → Header
 closed_header spec o size = record {
   channel = spec.id;
-  packet_len = min ((size + bits_of (check_of spec.check) / 8 + 27) / 4 * 4) 4294967295;
+  packet_len = min ((size + bits_of (check_of_bits spec.check) / 8 + 27) / 4 * 4) 4294967295;
   data_len = min size 4294967295;
   version = 8;
   sequence = 0;
-  flags = flag_at 4 o.gap + flags_of (check_of spec.check);
-  data_type = data_type spec.kind;
+  flags = flag_at 4 o.gap + flags_of (check_of_bits spec.check);
+  data_type = kind_type spec.kind;
   counter = o.first;
 }

@@ -14,6 +14,3 @@ mod packet;
 pub use builder::Builder;
 pub use closed::{Closed, Reason};
 pub use laws::handed_out_frames;
-
-#[cfg(test)]
-mod tests;

@@ -1,6 +1,6 @@
 //! What a packet may have.
 
-ghost use Rattle.std.specs.Prelude.{◌≡◌, ◌+◌, ◌*◌, ◌/◌, ◌^◌, ◌<◌};
+ghost use Rattle.std.specs.Prelude.{◌≡◌, ◌↔◌, ◌+◌, ◌*◌, ◌/◌, ◌^◌, ◌<◌, ◌≤◌, IsTrue};
 ghost use Rattle.r10_builder.specs.Packing.{is_near as comes_near};
 
 use r10_body::Kind;
@@ -25,4 +25,15 @@ pub(crate) fn packet_len(checksum: usize, body: usize) -> usize
     ensures { result ≡ (body + checksum + 27) / 4 * 4 }
 {
     (body + checksum + 27) / 4 * 4
+}
+
+/// Whether a packet with a data checksum and a body of so many bytes, and some more in the body, is no longer than it may
+/// be: with header and least filler.
+pub(crate) fn has_room(most: usize, checksum: usize, body: usize, more: usize) -> bool
+    requires { checksum < 2 ^ 62 }
+    ensures { IsTrue result ↔ (body + more + checksum + 27) / 4 * 4 ≤ most }
+{
+    let most = most / 4 * 4 + 3;
+    let rest = checksum + 27;
+    rest <= most && body <= most - rest && more <= most - rest - body
 }

@@ -41,7 +41,7 @@ impl MessageBody {
         size
     }
 
-    /// Adds the body's bytes. Where memory is refused, nothing is added.
+    /// Adds the bytes of a body that passes the check. Where memory is refused, nothing is added.
     pub fn encode_into(&self, out: &mut Vec<u8>) -> Result<(), AllocError>
         requires { FitsMessageBody self.now.entries }
         ensures { Appends (message_body self.now.entries) out.old out.new result }
