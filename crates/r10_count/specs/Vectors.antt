@@ -1,9 +1,9 @@
 -- Worked values.
-use Rattle.std.specs.Prelude.{◌≡◌, ℕ, ◌-◌, ◌*◌, true, false, List, [], ◌∷◌, map, replicate, Some, None, refl}
+use Rattle.std.specs.Prelude.{◌≡◌, ℕ, ◌*◌, true, false, List, [], ◌∷◌, map, replicate, Some, None, refl}
 use Rattle.r10_count.specs.declared.civil.Parts.{Parts}
 use Rattle.r10_count.specs.Bytes.{le_bytes, u16_at, u32_at, u64_at, flag_at, bit_of}
 use Rattle.r10_count.specs.Checks.{first_broken}
-use Rattle.r10_count.specs.Civil.{is_leap, is_civil, day_number, centi_of_day, centis}
+use Rattle.r10_count.specs.Civil.{is_leap, is_civil, day_number, centi_of_day, centis_between}
 use Rattle.r10_count.specs.Count.{stamp}
 use Rattle.r10_count.specs.Names.{is_name_byte, is_name, is_volume}
 
@@ -64,17 +64,17 @@ abbrev leap_day : Parts
 leap_day = record { year = 2024; month = 2; day = 29; hour = 12; minute = 34; second = 56; centi = 78 }
 
 -- 22 hundredths to 12:34:57.00 of the same day
-pub later_the_same_day : centis (record leap_day { second = 57; centi = 0 }) - centis leap_day ≡ 22
+pub later_the_same_day : centis_between leap_day (record leap_day { second = 57; centi = 0 }) ≡ 22
 later_the_same_day = refl
 
 -- over a leap day, over no leap day, and into the next day
-pub over_a_leap_day : centis (noon 2024 3 1) - centis (noon 2024 2 28) ≡ 2 * 8_640_000
+pub over_a_leap_day : centis_between (noon 2024 2 28) (noon 2024 3 1) ≡ 2 * 8_640_000
 over_a_leap_day = refl
 
-pub over_the_end_of_february : centis (noon 2023 3 1) - centis (noon 2023 2 28) ≡ 8_640_000
+pub over_the_end_of_february : centis_between (noon 2023 2 28) (noon 2023 3 1) ≡ 8_640_000
 over_the_end_of_february = refl
 
-pub over_midnight : centis (record (noon 2017 1 1) { hour = 0 }) - centis (at 23 59 59 99) ≡ 1
+pub over_midnight : centis_between (at 23 59 59 99) (record (noon 2017 1 1) { hour = 0 }) ≡ 1
 over_midnight = refl
 
 -- beside the ends of digits and letters
