@@ -3,6 +3,7 @@ use Rattle.std.proofs.Common.{◌≡◌, ℕ, zero, suc, ◌≤◌, ◌-◌, ◌
 use Rattle.std.proofs.lemmas.List.{drop_min}
 use Rattle.std.proofs.lemmas.Bool.{leb-true}
 use Rattle.r10_count.specs.Checks.{first_broken}
+use Rattle.r10_body.specs.Messages.{channel_refusal}
 use Rattle.r10_body.specs.declared.entry.Sample.{Sample}
 use Rattle.r10_body.specs.declared.message.Message.{Message}
 use Rattle.r10_body.specs.declared.refusal.Refusal.{Refusal}
@@ -30,15 +31,21 @@ not_before : (last : Option ℕ) (count : ℕ) → is_not_before last count ≡ 
 not_before None count fine = omega arith
 not_before (Some n) count fine = leb-true n count fine
 
--- a message that passes its checks may go behind what waits
+-- a message that passes its checks is one that the channel takes, and its count isn't below the last one
+pub passed : (spec : ChannelSpec) (last : Option ℕ) (count : ℕ) (message : Message) → first_broken (taking_checks spec last count message) ≡ None → (channel_refusal spec message ≡ None) × (count_or_0 last ≤ count)
+passed spec last count message fine =
+    let parts = parts_pass (message_checks spec message) (count_checks last count) fine in
+    let range = checks_pass (in_48_bits count).0 CountRange ((is_not_before last count, CountBack) ∷ []) parts.1 in
+    let order = checks_pass (is_not_before last count) CountBack [] range.1 in
+    (parts.0, not_before last count order.0)
+
+-- and may go behind what waits
 pub waits_more : (spec : ChannelSpec) (last : Option ℕ) (waiting : List Sample) (x : Sample) → Waits spec (count_or_0 last) waiting → first_broken (taking_checks spec last x.count x.message) ≡ None → Waits spec x.count (waiting ++ x ∷ [])
 waits_more spec last waiting x waits fine =
-    let parts = parts_pass (message_checks spec x.message) (count_checks last x.count) fine in
-    let range = checks_pass (in_48_bits x.count).0 CountRange ((is_not_before last x.count, CountBack) ∷ []) parts.1 in
-    let order = checks_pass (is_not_before last x.count) CountBack [] range.1 in
+    let fine = passed spec last x.count x.message fine in
     record {
-      taken = all_joined (IsTaken spec) waiting (x ∷ []) waits.taken (parts.0, tt);
-      climbs = subst (λ (ns : List ℕ). Climbs 0 ns x.count) (sym (map-joined (λ (y : Sample). y.count) waiting (x ∷ []))) (climbs_push 0 (counts_of waiting) (count_or_0 last) x.count (not_before last x.count order.0) waits.climbs);
+      taken = all_joined (IsTaken spec) waiting (x ∷ []) waits.taken (fine.0, tt);
+      climbs = subst (λ (ns : List ℕ). Climbs 0 ns x.count) (sym (map-joined (λ (y : Sample). y.count) waiting (x ∷ []))) (climbs_push 0 (counts_of waiting) (count_or_0 last) x.count fine.1 waits.climbs);
     }
 
 -- ---- without the first

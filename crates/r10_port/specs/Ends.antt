@@ -1,0 +1,79 @@
+-- The two ends of a lane between threads.
+use Rattle.std.specs.Prelude.{◌≡◌, ℕ, ◌+◌, ◌≤◌, List, [], ◌∷◌, ◌++◌, Option, Some, None, Result, Err, MatchOption, MatchResult}
+use denote.RawPtr.{Ptr}
+use Rattle.std.specs.declared.alloc.Global.{Global}
+use Rattle.rtrb.specs.Shared.{Names}
+use Rattle.rtrb.specs.declared.end.End.{End}
+use Rattle.r10_count.specs.Checks.{first_broken}
+use Rattle.r10_body.specs.declared.entry.Sample.{Sample}
+use Rattle.r10_body.specs.declared.message.Message.{Message}
+use Rattle.r10_body.specs.declared.refusal.Refusal.{Refusal}
+use Rattle.r10_body.specs.declared.refusal.Refusal.TheVariants.{Overflow}
+use Rattle.r10_body.specs.declared.spec.ChannelSpec.{ChannelSpec}
+use Rattle.r10_machine.specs.Machine.{Lane}
+use Rattle.r10_machine.specs.Checks.{offer_checks}
+use Rattle.r10_machine.specs.Calls.{accepted, overflowed}
+use Rattle.r10_machine.specs.Sound.{count_or_0}
+use Rattle.r10_port.specs.declared.item.Item.{Item}
+use Rattle.r10_port.specs.declared.item.Item.TheVariants.{Announce, Entry}
+use Rattle.r10_port.specs.declared.rule.InOrder.{InOrder}
+use Rattle.r10_port.specs.Items.{last_count}
+
+-- ---- rings
+
+-- which ring it is
+abbrev pub Ring : Type 0
+Ring = Ptr × Ptr × Names × Global
+
+abbrev pub ring_of : End Item Global InOrder → Ring
+ring_of end = (end.words, end.slots, end.names, end.heap)
+
+-- ---- the sending end
+
+-- the sending end: its ring, the lane as it would be had nothing been taken, and how many more the end knows to have room for
+pub record Sending : Type 0 where
+  pub ring : Ring
+  pub lane : Lane
+  pub free : ℕ
+
+-- everything that was sent
+abbrev pub sent : Sending → List Sample
+sent port = port.lane.waiting
+
+-- what an offer answers and leaves: it is refused by the first rule on the message and its count that is broken, and nothing changes;
+-- else the message is sent, or it is lost where there may be no room for it
+abbrev pub Offered : Sending → ℕ → Message → Result (Unit {0}) Refusal → Sending → Type 0
+Offered old count message result new = MatchOption (first_broken (offer_checks (Some old.lane) count message))
+    (MatchResult result
+    (λ _. (new ≡ record old { lane = accepted count message old.lane; free = new.free }) × (old.free ≤ new.free + 1))
+    (λ r. (r ≡ Overflow) × (old.free ≡ 0) × (new ≡ record old { lane = overflowed old.lane })))
+    (λ r. (result ≡ Err r) × (new ≡ old))
+
+-- ---- the receiving end
+
+-- the receiving end: its ring, what the channel is set to, everything that was received, and what it knows to come next
+pub record Receiving : Type 0 where
+  pub ring : Ring
+  pub spec : ChannelSpec
+  pub received : List Sample
+  pub ahead : List Item
+
+-- the sample of an item
+abbrev pub sample_in : Item → Option Sample
+sample_in (Announce spec) = None
+sample_in (Entry x) = Some x
+
+-- the next sample, where it is known
+abbrev pub next_known : List Item → Option Sample
+next_known [] = None
+next_known (item ∷ items) = sample_in item
+
+-- the count that the end has reached: of the last sample that was received
+abbrev pub reached : Receiving → ℕ
+reached outlet = count_or_0 (last_count None outlet.received)
+
+-- these samples were received, over the same ring
+pub record Took (old : Receiving) (samples : List Sample) (new : Receiving) : Type 0 where
+  pub same : (new.ring ≡ old.ring) × (new.spec ≡ old.spec)
+  pub received : new.received ≡ old.received ++ samples
+  pub rises : reached old ≤ reached new

@@ -1,0 +1,4 @@
+pub mod Items
+pub mod Ends
+pub mod Laws
+pub mod Vectors

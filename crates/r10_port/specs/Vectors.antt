@@ -1,0 +1,109 @@
+-- A lane of two messages between two threads, call by call.
+use Rattle.std.specs.Prelude.{◌≡◌, ℕ, Bool, true, false, List, [], ◌∷◌, Option, Some, None, Ok, Err, refl}
+use Rattle.std.proofs.Common.{lit≤}
+use Rattle.r10_body.specs.declared.entry.Sample.{Sample}
+use Rattle.r10_body.specs.declared.message.Kind.TheVariants as kinds
+use Rattle.r10_body.specs.declared.message.Message.{Message}
+use Rattle.r10_body.specs.declared.message.Message.TheVariants.{Uart, Discrete}
+use Rattle.r10_body.specs.declared.refusal.Refusal.TheVariants.{WrongKind, BadMessage, TooLong, CountBack, Overflow}
+use Rattle.r10_body.specs.declared.spec.ChannelSpec.{ChannelSpec}
+use Rattle.r10_machine.specs.Machine.{fresh_lane}
+use Rattle.r10_port.specs.declared.item.Item.TheVariants.{Announce, Entry}
+use Rattle.r10_port.specs.Items.{MayFollow}
+use Rattle.r10_port.specs.Ends.{Ring, Sending, Receiving, Offered, Took, reached, next_known}
+
+abbrev channel : ChannelSpec
+channel = record { id = 5; kind = kinds.Uart; capacity = 2; check = 0; bytes = 524288; number = 65535; bits = 0 }
+
+abbrev text : ℕ → Message
+text byte = Uart false 0 (byte ∷ [])
+
+abbrev sample : ℕ → ℕ → Bool → Sample
+sample count byte gap = record { count = count; message = text byte; gap = gap }
+
+abbrev port : Ring → List Sample → Option ℕ → ℕ → ℕ → ℕ → Sending
+port ring sent last missed lost free = record {
+  ring = ring;
+  lane = record { spec = channel; waiting = sent; last = last; missed = missed; lost = lost; erased = 0 };
+  free = free;
+}
+
+abbrev outlet : Ring → List Sample → Receiving
+outlet ring received = record { ring = ring; spec = channel; received = received; ahead = [] }
+
+abbrev first : Sample
+first = sample 1 0x41 false
+
+abbrev second : Sample
+second = sample 2 0x42 false
+
+abbrev fourth : Sample
+fourth = sample 4 0x44 true
+
+module _ (ring : Ring) where
+  abbrev full : Sending
+  full = port ring (first ∷ second ∷ []) (Some 2) 0 0 0
+
+  -- two are sent, the third is lost
+  one_is_sent : Offered (record { ring = ring; lane = fresh_lane channel; free = 2 }) 1 (text 0x41) (Ok tt) (port ring (first ∷ []) (Some 1) 0 0 1)
+  one_is_sent = (refl, lit≤ tt)
+
+  two_are_sent : Offered (port ring (first ∷ []) (Some 1) 0 0 1) 2 (text 0x42) (Ok tt) full
+  two_are_sent = (refl, lit≤ tt)
+
+  a_third_is_lost : Offered full 3 (text 0x43) (Err Overflow) (port ring (first ∷ second ∷ []) (Some 2) 1 1 0)
+  a_third_is_lost = (refl, refl, refl)
+
+  -- one is taken, and the next that is sent has a gap
+  one_is_taken : Took (outlet ring []) (first ∷ []) (outlet ring (first ∷ []))
+  one_is_taken = record { same = (refl, refl); received = refl; rises = lit≤ tt }
+
+  a_gap_is_marked : Offered (port ring (first ∷ second ∷ []) (Some 2) 1 1 0) 4 (text 0x44) (Ok tt) (port ring (first ∷ second ∷ fourth ∷ []) (Some 4) 0 1 0)
+  a_gap_is_marked = (refl, lit≤ tt)
+
+  two_are_taken : Took (outlet ring (first ∷ [])) (second ∷ fourth ∷ []) (outlet ring (first ∷ second ∷ fourth ∷ []))
+  two_are_taken = record { same = (refl, refl); received = refl; rises = lit≤ tt }
+
+  -- the kind is looked at before the message, the message before its length, and the count last; none of them is a loss
+  a_wrong_kind : Offered full 1 (Discrete 0) (Err WrongKind) full
+  a_wrong_kind = (refl, refl)
+
+  a_bad_message : Offered full 1 (Uart false 16384 []) (Err BadMessage) full
+  a_bad_message = (refl, refl)
+
+  a_count_back : Offered full 1 (text 0x43) (Err CountBack) full
+  a_count_back = (refl, refl)
+
+  -- the losses stay at the greatest of 64 bits
+  losses_stay : Offered (port ring [] None 1 18446744073709551615 0) 3 (text 0x43) (Err Overflow) (port ring [] None 2 18446744073709551615 0)
+  losses_stay = (refl, refl, refl)
+
+  -- what has been reached: nothing, the last that was received
+  nothing_reached : reached (outlet ring []) ≡ 0
+  nothing_reached = refl
+
+  last_reached : reached (outlet ring (first ∷ second ∷ [])) ≡ 2
+  last_reached = refl
+
+-- a channel is announced first, and then takes what it takes
+announced : MayFollow [] (Announce channel)
+announced = tt
+
+one_may_follow : MayFollow (Announce channel ∷ []) (Entry first)
+one_may_follow = refl
+
+two_may_follow : MayFollow (Announce channel ∷ Entry first ∷ []) (Entry second)
+two_may_follow = refl
+
+back_may_not : MayFollow (Announce channel ∷ Entry second ∷ []) (Entry first) → ⊥
+back_may_not may = absurd (cc)
+
+unannounced_may_not : MayFollow [] (Entry first) → ⊥
+unannounced_may_not may = may
+
+-- what is known to come next
+next_is_known : next_known (Entry second ∷ []) ≡ Some second
+next_is_known = refl
+
+nothing_is_known : next_known [] ≡ None
+nothing_is_known = refl

@@ -1,0 +1,99 @@
+//! The receiving end.
+
+ghost use Rattle.std.specs.Prelude.{◌≡◌, option_copied};
+ghost use Rattle.r10_port.specs.Ends.{sample_in};
+
+use crate::item::Item;
+use crate::rule::InOrder;
+use r10_body::{ChannelSpec, Sample};
+use r10_lane::LaneOut;
+use rtrb::Consumer;
+use std::alloc::Global;
+use std::marker::Model;
+
+/// The receiving end of a lane between two threads.
+#[derive(Drop)]
+pub struct Outlet {
+    pub(crate) consumer: Consumer<Item, Global, InOrder>,
+    pub(crate) spec: ChannelSpec,
+}
+
+impl Model for Outlet {
+    ghost use Rattle.std.specs.Prelude.{◌≡◌, Some, slice_get};
+    ghost use Rattle.rtrb.specs.Ring.{received, known_items};
+    ghost use Rattle.r10_port.specs.declared.item.Item.TheVariants.{Announce};
+    ghost use Rattle.r10_port.specs.Items.{samples};
+    ghost use Rattle.r10_port.specs.Ends.{Receiving, ring_of};
+
+    ghost Value = { Receiving };
+
+    ghost view = { λ o. record {
+      ring = ring_of o.consumer.end;
+      spec = o.spec;
+      received = samples (received o.consumer);
+      ahead = known_items o.consumer;
+    } };
+
+    ghost invariant = { λ o. slice_get (received o.consumer) 0 ≡ Some (Announce o.spec) };
+}
+
+impl LaneOut for Outlet {
+    ghost use Rattle.std.specs.Prelude.{◌≡◌, None, Some};
+    ghost use Rattle.r10_port.specs.Ends.{Took, next_known, reached};
+    ghost use Rattle.r10_port.specs.Laws.{took_joins, took_nothing, took_stays, took_keeps_spec, took_rises, never_quiet};
+
+    ghost spec_of = { λ outlet. outlet.spec };
+
+    ghost took = { Took };
+
+    ghost shows = { λ outlet first. next_known outlet.ahead ≡ Some first };
+
+    ghost reached = { reached };
+
+    ghost quiet = { λ outlet. None };
+
+    fn spec(&self) -> ChannelSpec {
+        self.spec
+    }
+
+    fn front(&mut self) -> Option<&Sample> {
+        if self.consumer.is_empty() {
+            return None;
+        }
+        sample_of(self.consumer.peek_known())
+    }
+
+    fn take(&mut self) -> Option<Sample> {
+        match self.consumer.pop() {
+            Ok(Item::Entry(sample)) => Some(sample),
+            Ok(Item::Announce(_)) => unreachable!(),
+            Err(_) => None,
+        }
+    }
+
+    fn held(&mut self) -> usize {
+        self.consumer.slots()
+    }
+
+    ghost joins = { took_joins };
+
+    ghost took_none = { took_nothing };
+
+    ghost stays = { took_stays };
+
+    ghost keeps_spec = { took_keeps_spec };
+
+    ghost rises = { took_rises };
+
+    ghost stays_quiet = { never_quiet };
+}
+
+/// The sample of an item.
+fn sample_of(item: &Item) -> Option<&Sample>
+    ensures { option_copied result ≡ sample_in item.now }
+{
+    match item {
+        Item::Entry(sample) => Some(sample),
+        Item::Announce(_) => None,
+    }
+}

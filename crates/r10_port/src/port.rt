@@ -1,0 +1,101 @@
+//! The sending end.
+
+ghost use Rattle.std.specs.Prelude.{◌≡◌, length};
+ghost use Rattle.r10_machine.specs.Machine.{saturated};
+ghost use Rattle.r10_port.specs.Ends.{Offered, sent};
+
+use crate::item::Item;
+use crate::rule::InOrder;
+use r10_body::{ChannelSpec, Message, Refusal, Sample};
+use r10_count::Count;
+use r10_machine::check_offer;
+use rtrb::Producer;
+use std::alloc::Global;
+use std::marker::Model;
+
+/// The sending end of a lane between two threads.
+#[derive(Drop)]
+pub struct Port {
+    pub(crate) producer: Producer<Item, Global, InOrder>,
+    pub(crate) spec: ChannelSpec,
+    pub(crate) last: Option<Count>,
+    pub(crate) missed: u64,
+    pub(crate) sent: u64,
+    pub(crate) lost: u64,
+}
+
+impl Model for Port {
+    ghost use Rattle.std.specs.Prelude.{◌≡◌, Some, None, length, slice_get};
+    ghost use Rattle.rtrb.specs.Ring.{sent as pushed, known_free};
+    ghost use Rattle.r10_machine.specs.Machine.{saturated};
+    ghost use Rattle.r10_port.specs.declared.item.Item.TheVariants.{Announce};
+    ghost use Rattle.r10_port.specs.Items.{samples, last_count};
+    ghost use Rattle.r10_port.specs.Ends.{Sending, ring_of};
+
+    ghost Value = { Sending };
+
+    ghost view = { λ p. record {
+      ring = ring_of p.producer.end;
+      lane = record {
+        spec = p.spec;
+        waiting = samples (pushed p.producer);
+        last = p.last;
+        missed = p.missed;
+        lost = p.lost;
+        erased = 0;
+      };
+      free = known_free p.producer;
+    } };
+
+    ghost invariant = { λ p. record {
+      announced : slice_get (pushed p.producer) 0 ≡ Some (Announce p.spec);
+      last : last_count None (samples (pushed p.producer)) ≡ p.last;
+      counted : p.sent ≡ saturated (length (samples (pushed p.producer)));
+    } };
+}
+
+impl Port {
+    /// Sends a message, with a gap mark where some were lost since the last one that was sent. Else says why not, by the first
+    /// of these that applies: WrongKind, BadMessage, TooLong, CountBack, or Overflow where as many wait as the capacity. An
+    /// overflow counts the message as lost; every other refusal leaves the port as it was. This takes no memory and waits for
+    /// nobody.
+    pub fn offer(&mut self, count: Count, message: Message) -> Result<(), Refusal>
+        ensures { Offered self.old count message result self.new }
+    {
+        if let Err(refusal) = check_offer(&self.spec, self.last, count.get(), &message) {
+            return Err(refusal);
+        }
+        let sample = Sample {
+            count,
+            message,
+            gap: self.missed > 0,
+        };
+        match self.producer.push(Item::Entry(sample)) {
+            Ok(()) => {
+                self.last = Some(count);
+                self.missed = 0;
+                self.sent = self.sent.saturating_add(1);
+                Ok(())
+            }
+            Err(_) => {
+                self.missed = self.missed.saturating_add(1);
+                self.lost = self.lost.saturating_add(1);
+                Err(Refusal::Overflow)
+            }
+        }
+    }
+
+    /// How many messages were sent, up to `u64::MAX`, where it stays.
+    pub fn sent(&self) -> u64
+        ensures { result ≡ saturated (length (sent self.now)) }
+    {
+        self.sent
+    }
+
+    /// How many messages were refused for want of room, up to `u64::MAX`, where it stays.
+    pub fn lost(&self) -> u64
+        ensures { result ≡ self.now.lane.lost }
+    {
+        self.lost
+    }
+}
