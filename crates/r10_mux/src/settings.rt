@@ -2,22 +2,10 @@
 
 ghost use Rattle.std.specs.Prelude.{◌≡◌, ◌<◌};
 ghost use Rattle.r10_mux.specs.Follow.{spec_of as settings_of};
-ghost use Rattle.r10_mux.specs.Packing.{check_code as code_of, check_of as flags_of, discretes_of as told_discretes};
+ghost use Rattle.r10_mux.specs.Packing.{check_of as flags_of, discretes_of as told_discretes};
 
 use r10_body::ChannelSpec;
-
-/// The header flags of a data checksum of so many bits.
-fn check_code(bits: usize) -> u8
-    ensures value { result ≡ code_of bits }
-    ensures range { result < 4 }
-{
-    match bits {
-        8 => 1,
-        16 => 2,
-        32 => 3,
-        _ => 0,
-    }
-}
+use r10_packet::Check;
 
 /// The settings of a channel.
 fn spec_of(channels: &[ChannelSpec], channel: u16) -> Option<ChannelSpec>
@@ -32,7 +20,7 @@ pub(crate) fn check_of(channels: &[ChannelSpec], channel: u16) -> u8
     ensures range { result < 4 }
 {
     match spec_of(channels, channel) {
-        Some(spec) => check_code(spec.check),
+        Some(spec) => Check::of_bits(spec.check).flags(),
         None => 0,
     }
 }

@@ -1,6 +1,6 @@
 //! Which data checksum a packet has.
 
-ghost use Rattle.std.specs.Prelude.{◌≡◌, ◌/◌, ◌≤◌};
+ghost use Rattle.std.specs.Prelude.{◌≡◌, ◌/◌, ◌<◌, ◌≤◌};
 ghost use Rattle.r10_packet.specs.Header.{bits_of, flags_of, checksum_bits, check_of_bits, is_check_width};
 
 /// The data checksum behind a packet's body and filler.
@@ -46,7 +46,8 @@ impl Check {
 
     /// The two low bits of the flags that tell it.
     pub fn flags(self) -> u8
-        ensures { result ≡ flags_of self }
+        ensures value { result ≡ flags_of self }
+        ensures range { result < 4 }
     {
         match self {
             Check::Nothing => 0,
