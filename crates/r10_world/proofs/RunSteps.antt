@@ -19,6 +19,7 @@ use Rattle.r10_machine.specs.Calls.{TicksIn, overflowed}
 use Rattle.r10_machine.specs.Step.{Run, Step, Answers, Replies, Refuses, GivesUp, Does, after_refusal}
 use Rattle.r10_control.specs.Files.{IsFormatted}
 use Rattle.r10_control.specs.Going.{Goes, stepped, unread}
+use Rattle.r10_world.specs.Going.{GoesOn}
 
 -- ---- what is unmounted was unmounted before
 
@@ -124,6 +125,35 @@ pub still_formatted : (s : Config) (old : Machine) (event : Event) (reply : Repl
 still_formatted s old event reply new before later goes formatted same unmounted =
     subst IsFormatted (sym (same unmounted)) (formatted (was_unmounted s old event reply new (goes_step s before old event reply new goes formatted) unmounted))
 
+-- ---- whatever the medium has
+
+-- what goes over a medium that is as it was at first while nothing is mounted goes over the first
+pub goes_at_first : (s : Config) (first image : Image) (old : Machine) (event : Event) (reply : Reply) (new : Machine)
+    → (old.mode ≡ modes.Unmounted → image ≡ first) → Goes s image old event reply new → Goes s first old event reply new
+goes_at_first s first image old event reply new same (stepped step) = stepped step
+goes_at_first s first image old event reply new same (unread u) = unread (record {
+  mount = u.mount;
+  refused = u.refused;
+  unmounted = u.unmounted;
+  unformatted = λ formatted. u.unformatted (subst IsFormatted (sym (same u.unmounted)) formatted);
+  no_fewer = u.no_fewer;
+  same = u.same;
+})
+
+-- and is as it was while nothing is mounted still
+pub goes_unmounted : (s : Config) (first image later : Image) (old : Machine) (event : Event) (reply : Reply) (new : Machine)
+    → (old.mode ≡ modes.Unmounted → image ≡ first) → Goes s image old event reply new → (new.mode ≡ modes.Unmounted → later ≡ image)
+    → new.mode ≡ modes.Unmounted → later ≡ first
+goes_unmounted s first image later old event reply new same (stepped step) kept unmounted = kept unmounted ∙ same (was_unmounted s old event reply new step unmounted)
+goes_unmounted s first image later old event reply new same (unread u) kept unmounted = kept unmounted ∙ same u.unmounted
+
+goes_join : (s : Config) (image : Image) (old mid new : Machine) (es : List Event) (rs : List Reply) (event : Event) (reply : Reply)
+    → GoesOn s image old es rs mid → Goes s image mid event reply new → GoesOn s image old (es ++ event ∷ []) (rs ++ reply ∷ []) new
+goes_join s image old mid new [] [] event reply is goes = (new, subst (λ (m : Machine). Goes s image m event reply new) is goes, refl)
+goes_join s image old mid new (e ∷ es) (r ∷ rs) event reply (next, first, rest) goes = (next, first, goes_join s image next mid new es rs event reply rest goes)
+goes_join s image old mid new [] (r ∷ rs) event reply is goes = absurd is
+goes_join s image old mid new (e ∷ es) [] event reply is goes = absurd is
+
 -- ---- one event more
 
 -- a list behind its first ones, with one element more
@@ -141,3 +171,11 @@ pub run_more : (s : Config) (start mid new : Machine) (events : List Event) (i n
 run_more s start mid new events i n event reply xs ys join here is within longer run step =
     let more : take (i + 1) events ≡ take i events ++ event ∷ [] = take_more events i event here ∙ ap (λ (e : Event). take i events ++ e ∷ []) (sym is) in
     rw (more, drop_one_more n xs ys reply within longer) (join s start mid new (take i events) (event ∷ []) (drop n xs) (reply ∷ []) run (new, step, refl))
+
+-- and so is what goes on
+pub goes_more : (s : Config) (image : Image) (start mid new : Machine) (events : List Event) (i n : ℕ) (event : Event) (reply : Reply) (xs ys : List Reply)
+    → i < length events → event ≡ get_or events i event → n ≤ length xs → ys ≡ xs ++ reply ∷ []
+    → GoesOn s image start (take i events) (drop n xs) mid → Goes s image mid event reply new → GoesOn s image start (take (i + 1) events) (drop n ys) new
+goes_more s image start mid new events i n event reply xs ys here is within longer on goes =
+    let more : take (i + 1) events ≡ take i events ++ event ∷ [] = take_more events i event here ∙ ap (λ (e : Event). take i events ++ e ∷ []) (sym is) in
+    rw (more, drop_one_more n xs ys reply within longer) (goes_join s image start mid new (take i events) (drop n xs) event reply on goes)

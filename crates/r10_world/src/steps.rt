@@ -4,6 +4,7 @@ ghost use Rattle.std.specs.Prelude.{◌≡◌, ◌<◌, ◌≤◌, ◌+◌, Ok, 
 ghost use Rattle.r10_machine.specs.Step.{Run};
 ghost use Rattle.r10_machine.specs.declared.reply.Mode.TheVariants as modes;
 ghost use Rattle.r10_world.specs.Copies.{IsCopy};
+ghost use Rattle.r10_world.specs.Going.{GoesOn};
 ghost use Rattle.r10_control.specs.Files.{IsFormatted};
 ghost use Rattle.r10_control.specs.Saying.{MediumSays};
 
@@ -24,7 +25,8 @@ fn message_of(alloc: Global, event: &Event) -> Result<Option<Message>, AllocErro
 }
 
 /// Does events in order, until one can't be told or taken for want of memory, and adds their replies. It answers how
-/// many events it did; it fails only where it did none though there are some.
+/// many events it did; it fails only where it did none though there are some. A mount of a medium that isn't formatted
+/// is refused as BadDirectory of block 1, and everything else is a step of the small machine.
 pub fn run<M: BlockMedium>(
     world: &mut World<M>,
     events: &[Event],
@@ -32,6 +34,8 @@ pub fn run<M: BlockMedium>(
 ) -> Result<usize, AllocError>
     ensures run { IfOk result (λ n. (world.old.machine.mode ≡ modes.Unmounted → IsFormatted (M.disk world.old.medium).blocks)
         → Run world.old.config world.old.machine (take n events.now) (drop (vec_len replies.old) replies.new.items) world.new.machine) }
+    // whatever the medium has
+    ensures goes { IfOk result (λ n. GoesOn world.old.config (M.disk world.old.medium).blocks world.old.machine (take n events.now) (drop (vec_len replies.old) replies.new.items) world.new.machine) }
     // where it isn't mounted yet, it may go on so
     ensures formatted { (world.old.machine.mode ≡ modes.Unmounted → IsFormatted (M.disk world.old.medium).blocks)
         → world.new.machine.mode ≡ modes.Unmounted → IsFormatted (M.disk world.new.medium).blocks }

@@ -117,6 +117,8 @@ impl<M: BlockMedium> World<M> {
     /// One event over a medium that is formatted until it is mounted. An offer takes the copy of its message.
     pub(crate) fn step(&mut self, event: &Event, copy: Option<Message>) -> Reply
         requires { IsCopy event.now copy }
+        ensures goes { Goes self.old.config (M.disk self.old.medium).blocks self.old.machine event.now result self.new.machine }
+        ensures unmounted { self.new.machine.mode ≡ modes.Unmounted → (M.disk self.new.medium).blocks ≡ (M.disk self.old.medium).blocks }
         ensures step { (self.old.machine.mode ≡ modes.Unmounted → IsFormatted (M.disk self.old.medium).blocks) → Step self.old.config self.old.machine event.now result self.new.machine }
         ensures config { self.new.config ≡ self.old.config }
         ensures formatted { (self.old.machine.mode ≡ modes.Unmounted → IsFormatted (M.disk self.old.medium).blocks)

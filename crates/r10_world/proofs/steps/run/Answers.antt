@@ -2,7 +2,8 @@ use Rattle.std.proofs.Common.{◌≡◌, ◌≤◌, ◌<◌, ◌++◌, ◌∷◌
 use Rattle.r10_machine.specs.declared.reply.Reply.{Reply}
 use Rattle.r10_machine.specs.Config.{Config}
 use Rattle.r10_machine.specs.Step.{Step}
-use Rattle.r10_world.proofs.RunSteps.{run_more, take_one_more}
+use Rattle.r10_control.specs.Going.{Goes}
+use Rattle.r10_world.proofs.RunSteps.{run_more, goes_more, goes_at_first, goes_unmounted, take_one_more}
 use Rattle.r10_world.proofs.steps.run.Goals as goal
 
 pub loop-i-preserved : goal.loop-i-preserved
@@ -13,6 +14,9 @@ loop-i-preserved g c =
     let ys = c.push_reserved.new.self.items in
     let mid = c.loop-i.world in
     let new = c.step-reply.new.self in
+    let first = (g.M.BlockMedium.disk start.medium).blocks in
+    let now = (g.M.BlockMedium.disk mid.medium).blocks in
+    let later = (g.M.BlockMedium.disk new.medium).blocks in
     let event = c.index-events-i.result in
     let reply = c.step-reply.result in
     let so_far = c.loop-i.invariant in
@@ -24,6 +28,11 @@ loop-i-preserved g c =
           run_more start.config start.machine mid.machine new.machine c.args.events.now c.loop-i.i n event reply xs ys c.runs_join.ensures
           here c.index-events-i.is within longer (so_far.run formatted)
           (subst (λ (s : Config). Step s mid.machine event reply new.machine) so_far.config (c.step-reply.ensures.step (so_far.formatted formatted)));
+      goes = goes_more start.config first start.machine mid.machine new.machine c.args.events.now c.loop-i.i n event reply xs ys
+          here c.index-events-i.is within longer so_far.goes
+          (subst (λ (s : Config). Goes s first mid.machine event reply new.machine) so_far.config
+          (goes_at_first mid.config first now mid.machine event reply new.machine so_far.unmounted c.step-reply.ensures.goes));
+      unmounted = goes_unmounted mid.config first now later mid.machine event reply new.machine so_far.unmounted c.step-reply.ensures.goes c.step-reply.ensures.unmounted;
       formatted = λ formatted. c.step-reply.ensures.formatted (so_far.formatted formatted);
       says = λ said. c.step-reply.ensures.says (so_far.says said);
       config = c.step-reply.ensures.config ∙ so_far.config;
