@@ -1,6 +1,7 @@
 pub mod Refusals
 pub mod Cost
 pub mod Messages
+pub mod Channels
 pub mod Content
 pub mod Bodies
 pub mod Packets

@@ -1,6 +1,7 @@
 -- How many entries fit, and what they cost.
 use Rattle.std.proofs.Common.{◌≡◌, ℕ, zero, suc, ◌+◌, ◌<◌, ◌≤◌, Bool, true, false, List, [], ◌∷◌, ◌++◌, length, take, map, nat_le, refl, sym, ap, ◌∙◌, subst, arith, Some, IsSomeAnd, slice_get, Ok}
 use Rattle.std.proofs.lemmas.List.{take-take, length-append, length-take}
+use Rattle.r10_body.specs.Channels.{spec_of}
 use Rattle.r10_body.specs.declared.message.Message.{Message}
 use Rattle.std.proofs.lemmas.Bool.{leb-true}
 use Rattle.std.proofs.lemmas.List.Elements.{All-append, All-cons, All-nil}
@@ -16,7 +17,7 @@ use Rattle.r10_machine.specs.Machine.{File, Lane, entry_of, waiting_entries, wit
 use Rattle.r10_machine.specs.Calls.{without}
 use Rattle.r10_machine.specs.Config.{Config}
 use Rattle.r10_machine.specs.Room.{area, cost_of, fitting}
-use Rattle.r10_mux.specs.Follow.{Belongs, CanFollow, spec_of}
+use Rattle.r10_mux.specs.Follow.{Belongs, CanFollow}
 use Rattle.r10_lane.specs.Lanes.{IsTaken}
 use Rattle.r10_control.specs.Notes.{Notes, PumpsLane, first_fits}
 use Rattle.r10_control.specs.Inside.{IsOpen}

@@ -5,13 +5,14 @@ use Rattle.std.proofs.lemmas.List.Edits.{map_over_more}
 use Rattle.std.proofs.lemmas.List.Elements.{All-take}
 use Rattle.std.proofs.lemmas.List.{length-map}
 use Rattle.std.proofs.lemmas.Simd.{map-map}
+use Rattle.r10_body.specs.Channels.{spec_of}
 use Rattle.r10_body.specs.Rules.{entry_on}
 use Rattle.r10_body.specs.declared.entry.Entry.{Entry}
 use Rattle.r10_body.specs.declared.spec.ChannelSpec.{ChannelSpec}
 use Rattle.r10_machine.specs.Calls.{front_of, lanes_without, without}
 use Rattle.r10_machine.specs.Machine.{Lane, is_channel, lane_in, waiting_entries}
 use Rattle.r10_machine.specs.Limits.{channel_ids, IsChannel}
-use Rattle.r10_mux.specs.Follow.{Belongs, spec_of}
+use Rattle.r10_mux.specs.Follow.{Belongs}
 use Rattle.r10_control.specs.Lanes.{specs_of}
 use Rattle.r10_control.proofs.Places.{IsAt}
 use Rattle.r10_control.proofs.PumpSteps.{known}

@@ -7,6 +7,7 @@ use Rattle.std.specs.List.{AllByRecursion}
 use denote.Enum.Bare.{sameb}
 use Rattle.r10_machine.specs.contracts.reply.Mode.{the_type}
 use Rattle.r10_count.specs.Checks.{first_broken}
+use Rattle.r10_body.specs.Channels.{spec_of}
 use Rattle.r10_body.specs.declared.entry.Entry.{Entry}
 use Rattle.r10_body.specs.declared.refusal.Refusal.{Refusal}
 use Rattle.r10_body.specs.declared.refusal.Refusal.TheVariants.{NoSuchChannel, MediumFull, OutOfMemory}
@@ -24,14 +25,13 @@ use Rattle.r10_machine.specs.Config.{Config}
 use Rattle.r10_machine.specs.Machine.{Tick, File, Lane, Cursor, is_channel, change_first, waiting_entries, with_entries}
 use Rattle.r10_machine.specs.Room.{area, cost_of}
 use Rattle.r10_machine.specs.Step.{Step, GivesUp, Answers, has_room}
-use Rattle.r10_mux.specs.Follow.{spec_of}
 use Rattle.r10_control.specs.Files.{machine_of, ListsAll, Stands}
 use Rattle.r10_control.specs.Inside.{Agrees}
 use Rattle.r10_control.specs.Kept.{Grows, Kept}
 use Rattle.r10_control.specs.Lanes.{specs_of}
 use Rattle.r10_control.specs.Notes.{LacksFirst, Notes, PumpsLane, first_fits}
 use Rattle.r10_control.specs.Saying.{Lists}
-use Rattle.r10_machine.proofs.Rules.{rules_pass}
+use Rattle.r10_count.proofs.Rules.{rules_pass}
 use Rattle.r10_control.proofs.Places.{IsAt}
 use Rattle.r10_control.proofs.Shown.{shows_more}
 

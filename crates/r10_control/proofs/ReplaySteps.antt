@@ -16,7 +16,7 @@ use Rattle.r10_machine.specs.Calls.{Advances}
 use Rattle.r10_cursor.specs.Cursors.{AdvancesOver}
 use Rattle.r10_control.specs.Files.{files_in, machine_of}
 use Rattle.r10_control.specs.Kept.{Kept}
-use Rattle.r10_machine.proofs.Rules.{rules_pass}
+use Rattle.r10_count.proofs.Rules.{rules_pass}
 
 -- a mounted recorder's files are the one that is kept
 pub files_mounted : (mode : Mode) (image : Image) (k : Kept) → first_broken (mounted_checks mode) ≡ None → files_in mode image (Some k) ≡ k.file ∷ []

@@ -7,7 +7,7 @@ use Rattle.std.proofs.lemmas.List.{take_all}
 use Rattle.std.proofs.lemmas.List.Folds.{list_all_at}
 use Rattle.std.proofs.lemmas.List.Sums.{suffix_len-take_no}
 use Rattle.r10_dirblock.specs.Texts.{is_padding, IsStripped}
-use Rattle.r10_machine.specs.Names.{is_name, is_name_byte, is_within}
+use Rattle.r10_count.specs.Names.{is_name, is_name_byte, is_within}
 use Rattle.r10_count.specs.Checks.{first_broken}
 use Rattle.r10_body.specs.declared.refusal.Refusal.{Refusal}
 use Rattle.r10_body.specs.declared.refusal.Refusal.TheVariants.{Medium, MediumFull, OutOfMemory, NameTaken, Unsealed, DirectoryFull, TooLong, NoTime, BadName}
@@ -30,7 +30,7 @@ use Rattle.r10_control.specs.Inside.{Agrees}
 use Rattle.r10_control.specs.Kept.{Kept, IsFileName}
 use Rattle.r10_control.specs.Notes.{Begins, Lacks}
 use Rattle.r10_control.specs.Saying.{Lists}
-use Rattle.r10_machine.proofs.Rules.{rules_pass}
+use Rattle.r10_count.proofs.Rules.{rules_pass}
 use Rattle.r10_control.proofs.ControlSteps.{lanes_kept}
 
 -- ---- what passed checks say

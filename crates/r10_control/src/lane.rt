@@ -2,8 +2,9 @@
 
 ghost use Rattle.std.specs.Prelude.{◌≡◌, ◌<◌, List, [], take, slice_get, IfOk, IsSomeAnd, MatchOption, Some};
 ghost use Rattle.std.specs.List.{All};
+ghost use Rattle.r10_body.specs.Channels.{spec_of};
 ghost use Rattle.r10_body.specs.declared.spec.ChannelSpec.{ChannelSpec as Spec};
-ghost use Rattle.r10_mux.specs.Follow.{Belongs, spec_of};
+ghost use Rattle.r10_mux.specs.Follow.{Belongs};
 ghost use Rattle.r10_machine.specs.Machine.{waiting_entries};
 
 use r10_body::{Entry, Message};

@@ -16,6 +16,3 @@ mod recording;
 
 pub use formatting::format;
 pub use recorder::Recorder;
-
-#[cfg(test)]
-mod tests;

@@ -7,6 +7,3 @@ mod table;
 
 pub use reader::Reader;
 pub use table::{advance_cursor, check_read, next_entry, open_cursor};
-
-#[cfg(test)]
-mod tests;

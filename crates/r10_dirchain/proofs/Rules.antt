@@ -1,18 +1,7 @@
 -- Rules in order, part by part.
-use Rattle.std.proofs.Common.{◌≡◌, Bool, true, false, List, [], ◌∷◌, ◌++◌, Option, Some, None, refl, ◌∙◌}
+use Rattle.std.proofs.Common.{◌≡◌, Bool, List, ◌++◌, Option, Some, None, ◌∙◌}
 use Rattle.r10_count.specs.Checks.{first_broken}
-
--- rules that hold pass on to those behind them
-pub rules_pass : {F : Type 0} (xs ys : List (Bool × F)) → first_broken xs ≡ None → first_broken (xs ++ ys) ≡ first_broken ys
-rules_pass [] ys all = refl
-rules_pass ((true, f) ∷ xs) ys all = rules_pass xs ys all
-rules_pass ((false, f) ∷ xs) ys all = cc
-
--- the first that doesn't decides
-pub rules_stop : {F : Type 0} (xs ys : List (Bool × F)) (f : F) → first_broken xs ≡ Some f → first_broken (xs ++ ys) ≡ Some f
-rules_stop [] ys f is = cc
-rules_stop ((true, g) ∷ xs) ys f is = rules_stop xs ys f is
-rules_stop ((false, g) ∷ xs) ys f is = is
+use Rattle.r10_count.proofs.Rules.{rules_pass, rules_stop}
 
 -- four lists of rules, of which the first that doesn't hold decides
 module _ {F : Type 0} (a b c d : List (Bool × F)) where

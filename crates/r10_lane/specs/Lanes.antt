@@ -8,25 +8,21 @@ use Rattle.r10_body.specs.declared.message.Message.{Message}
 use Rattle.r10_body.specs.declared.refusal.Refusal.{Refusal}
 use Rattle.r10_body.specs.declared.spec.ChannelSpec.{ChannelSpec}
 use Rattle.r10_machine.specs.Machine.{Lane}
-use Rattle.r10_machine.specs.Checks.{offer_checks, room_checks}
+use Rattle.r10_machine.specs.Checks.{offer_checks, offer_refusal}
 use Rattle.r10_machine.specs.Calls.{accepted, overflowed}
 use Rattle.r10_machine.specs.Sound.{Climbs, count_or_0}
 
 -- ---- offers
 
--- why a lane refuses an offer: the first rule that is broken, of the message, its count and the room
-abbrev pub offer_refusal : Lane → ℕ → Message → Option Refusal
-offer_refusal lane count message = first_broken (offer_checks (Some lane) count message ++ room_checks (Some lane))
-
 -- the lane after an offer that was refused: counted as lost where nothing but the room was lacking, else as it was
-abbrev pub after_refusal : Lane → ℕ → Message → Lane
-after_refusal lane count message = if is_none (first_broken (offer_checks (Some lane) count message)) then overflowed lane else lane
+abbrev pub refused_lane : Lane → ℕ → Message → Lane
+refused_lane lane count message = if is_none (first_broken (offer_checks (Some lane) count message)) then overflowed lane else lane
 
 -- what an offer answers and leaves
 abbrev pub Offers : Lane → ℕ → Message → Result (Unit {0}) Refusal → Lane → Type 0
 Offers old count message result new = MatchResult result
-    (λ _. (offer_refusal old count message ≡ None) × (new ≡ accepted count message old))
-    (λ r. (offer_refusal old count message ≡ Some r) × (new ≡ after_refusal old count message))
+    (λ _. (offer_refusal (Some old) count message ≡ None) × (new ≡ accepted count message old))
+    (λ r. (offer_refusal (Some old) count message ≡ Some r) × (new ≡ refused_lane old count message))
 
 -- ---- what waits
 

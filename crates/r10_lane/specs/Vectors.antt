@@ -8,7 +8,7 @@ use Rattle.r10_body.specs.declared.message.Message.TheVariants.{Uart}
 use Rattle.r10_body.specs.declared.refusal.Refusal.TheVariants.{CountBack, Overflow, BadMessage}
 use Rattle.r10_body.specs.declared.spec.ChannelSpec.{ChannelSpec}
 use Rattle.r10_machine.specs.Machine.{Lane, fresh_lane}
-use Rattle.r10_lane.specs.Lanes.{Offers, Took, Waits, reached, after_refusal}
+use Rattle.r10_lane.specs.Lanes.{Offers, Took, Waits, reached, refused_lane}
 
 abbrev channel : ChannelSpec
 channel = record { id = 5; kind = kinds.Uart; capacity = 2; check = 0; bytes = 524288; number = 65535; bits = 0 }
@@ -53,7 +53,7 @@ a_gap_is_marked : Offers (lane (second ∷ []) (Some 1002) 1 1) 1004 (text 0x44)
 a_gap_is_marked = (refl, refl)
 
 -- the losses stay at the greatest of 64 bits
-losses_stay : after_refusal (lane (first ∷ second ∷ []) (Some 1002) 1 18446744073709551615) 1003 (text 0x43) ≡ lane (first ∷ second ∷ []) (Some 1002) 2 18446744073709551615
+losses_stay : refused_lane (lane (first ∷ second ∷ []) (Some 1002) 1 18446744073709551615) 1003 (text 0x43) ≡ lane (first ∷ second ∷ []) (Some 1002) 2 18446744073709551615
 losses_stay = refl
 
 -- the count is looked at before the room, and the message before the count; none of them is a loss

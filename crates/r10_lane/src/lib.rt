@@ -7,6 +7,3 @@ mod ring_lane;
 
 pub use lane_out::LaneOut;
 pub use ring_lane::RingLane;
-
-#[cfg(test)]
-mod tests;

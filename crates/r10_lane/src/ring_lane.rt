@@ -1,6 +1,6 @@
 //! A lane of one thread.
 
-ghost use Rattle.std.specs.Prelude.{◌≡◌, ◌≤◌, ◌↔◌, [], IfOk, IsTrue, length, option_copied, slice_get};
+ghost use Rattle.std.specs.Prelude.{◌≡◌, ◌≤◌, IfOk, length, option_copied, slice_get};
 ghost use Rattle.r10_machine.specs.Calls.{without};
 ghost use Rattle.r10_machine.specs.Machine.{fresh_lane};
 ghost use Rattle.r10_machine.specs.Sound.{count_or_0};
@@ -100,13 +100,6 @@ impl RingLane {
         ensures room { result ≤ self.now.spec.capacity }
     {
         self.waiting.len()
-    }
-
-    /// Whether nothing waits.
-    pub fn is_empty(&self) -> bool
-        ensures { IsTrue result ↔ (self.now.waiting ≡ []) }
-    {
-        self.waiting.is_empty()
     }
 
     /// The sample that waits at this place, the first at 0. It stays.

@@ -1,4 +1,3 @@
-pub mod Rules
 pub mod Ranges
 pub mod Places
 pub mod Fails

@@ -4,6 +4,7 @@ use Rattle.std.proofs.Common.{lit<, lit≤, arith, inl}
 use Rattle.r10_count.specs.Checks.{first_broken}
 use Rattle.r10_body.specs.declared.entry.Entry.{Entry}
 use Rattle.r10_body.specs.declared.message.Message.{Message}
+use Rattle.r10_body.specs.declared.message.Kind.TheVariants as kinds
 use Rattle.r10_body.specs.declared.message.Message.TheVariants.{Uart, Time}
 use Rattle.r10_body.specs.declared.refusal.Refusal.TheVariants as refusals
 use Rattle.r10_machine.specs.declared.fault.SettingsFault.TheVariants as faults
@@ -11,9 +12,8 @@ use Rattle.r10_machine.specs.declared.event.Event.TheVariants as ask
 use Rattle.r10_machine.specs.declared.reply.Reply.TheVariants as say
 use Rattle.r10_machine.specs.declared.reply.Mode.TheVariants.{Idle, Failed}
 use Rattle.r10_machine.specs.Config.{Config}
-use Rattle.r10_machine.specs.Machine.{Machine, Lane, File, Cursor, with_lane, with_entries}
-use Rattle.r10_machine.specs.Room.{blocks_of, may_fill_index, cost_of, area, room_for}
-use Rattle.r10_machine.specs.Names.{is_name, is_volume}
+use Rattle.r10_machine.specs.Machine.{Machine, Lane, File, Cursor, with_lane, with_entries, rising as in_rising_order}
+use Rattle.r10_machine.specs.Room.{blocks_of, may_fill_index, cost_of, area, fitting, room_for}
 use Rattle.r10_machine.specs.Checks.{refusal, is_setup}
 use Rattle.r10_machine.specs.Limits.{settings_rules}
 use Rattle.r10_machine.specs.Calls.{accepted, overflowed, without, all_waiting, lanes_without, waiting_count}
@@ -134,24 +134,6 @@ mount-failed = refl
 pub refused-uncounted : Step settings filled (ask.Offer 5 1001 (text [])) (say.Refused refusals.CountBack) filled
 refused-uncounted = (lit≤ tt, (refl, refl))
 
-pub name-with-blank : is_name (0x41 ∷ 0x20 ∷ []) ≡ false
-name-with-blank = refl
-
-pub name-of-all-kinds : is_name (0x30 ∷ 0x39 ∷ 0x41 ∷ 0x5A ∷ 0x61 ∷ 0x7A ∷ 0x2E ∷ 0x5F ∷ 0x2D ∷ []) ≡ true
-name-of-all-kinds = refl
-
-pub longest-name : is_name (replicate 56 0x41) ≡ true
-longest-name = refl
-
-pub name-too-long : is_name (replicate 57 0x41) ≡ false
-name-too-long = refl
-
-pub longest-volume : is_volume (replicate 32 0x41) ≡ true
-longest-volume = refl
-
-pub volume-too-long : is_volume (replicate 33 0x41) ≡ false
-volume-too-long = refl
-
 -- ---- cursors
 
 abbrev pub unread : Cursor
@@ -268,6 +250,13 @@ moves-one next (fine, (takes, some, is)) = false-is-true (takes.stops (lit< tt))
     false-is-true : false ≡ true → ⊥
     false-is-true is = cc
 
+-- two blocks have room for two messages of four bytes and an empty one, and an area that is spent has none
+abbrev pub three : List Entry
+three = entry 5 1001 (four_bytes 1) false ∷ entry 5 1002 (four_bytes 2) false ∷ entry 5 1003 (text []) false ∷ []
+
+pub fitting-areas : map (λ area. fitting area 364 three) (363 ∷ 483 ∷ 484 ∷ 512 ∷ 1024 ∷ []) ≡ 0 ∷ 0 ∷ 1 ∷ 1 ∷ 3 ∷ []
+fitting-areas = refl
+
 -- the index of one node may be full from the hundredth packet on
 abbrev pub one_node : Config
 one_node = record settings { nodes = 1 }
@@ -319,6 +308,9 @@ rising = entry 5 2000 (text (0x59 ∷ [])) false ∷ entry 6 2000 (text (0x58 �
 pub waiting-by-channel : all_waiting lanes ≡ rising
 waiting-by-channel = refl
 
+pub rising-channels : in_rising_order (6 ∷ 5 ∷ 9 ∷ 7 ∷ []) ≡ 5 ∷ 6 ∷ 7 ∷ 9 ∷ []
+rising-channels = refl
+
 pub one-left : waiting_count (lanes_without rising lanes) ≡ 1
 one-left = refl
 
@@ -369,6 +361,15 @@ repeated = refl
 pub repeated-later : first_broken (settings_rules (record settings { channels = channel 5 0 ∷ channel 6 4 ∷ channel 5 2 ∷ [] })) ≡ Some (faults.Channel 5)
 repeated-later = refl
 
+pub time-is-event : first_broken (settings_rules (record settings { time = 2 })) ≡ Some (faults.Channel 2)
+time-is-event = refl
+
+pub channel-is-time : first_broken (settings_rules (record settings { channels = channel 5 2 ∷ channel 1 2 ∷ channel 5 2 ∷ [] })) ≡ Some (faults.Channel 1)
+channel-is-time = refl
+
+pub channel-is-zero : first_broken (settings_rules (record settings { nodes = 0; channels = channel 5 2 ∷ channel 0 2 ∷ [] })) ≡ Some (faults.Channel 0)
+channel-is-zero = refl
+
 pub no-channels : first_broken (settings_rules (record settings { channels = []; time = 2 })) ≡ Some (faults.Channel 0)
 no-channels = refl
 
@@ -387,8 +388,18 @@ odd-bytes = refl
 pub number-before-nodes : first_broken (settings_rules (record settings { nodes = 0; channels = record (channel 5 2) { number = 65536 } ∷ [] })) ≡ Some (faults.Number 5)
 number-before-nodes = refl
 
+-- 1 to 31 discretes, and no number of them is asked of another kind
+pub too-many-discretes : first_broken (settings_rules (record settings { nodes = 0; channels = record (channel 5 2) { kind = kinds.Discrete; bits = 31 } ∷ record (channel 6 2) { kind = kinds.Discrete; bits = 32 } ∷ [] })) ≡ Some (faults.Bits 6)
+too-many-discretes = refl
+
+pub no-discretes : first_broken (settings_rules (record settings { channels = record (channel 5 2) { kind = kinds.Message } ∷ record (channel 6 2) { kind = kinds.Discrete } ∷ [] })) ≡ Some (faults.Bits 6)
+no-discretes = refl
+
 pub no-nodes : first_broken (settings_rules (record settings { nodes = 32766; volume = [] })) ≡ Some faults.Nodes
 no-nodes = refl
 
 pub no-volume : first_broken (settings_rules (record settings { volume = [] })) ≡ Some faults.Volume
 no-volume = refl
+
+pub volume-with-blank : first_broken (settings_rules (record settings { volume = 0x41 ∷ 0x20 ∷ 0x42 ∷ [] })) ≡ Some faults.Volume
+volume-with-blank = refl

@@ -15,7 +15,7 @@ use Rattle.r10_machine.specs.declared.reply.Mode.TheVariants as modes
 use Rattle.r10_machine.specs.declared.event.Event.{Event}
 use Rattle.r10_machine.specs.declared.event.Event.TheVariants.{Mount, Tick, Start, Offer, Pump, Stop, Cursor, Advance, Next, Close}
 use Rattle.r10_machine.specs.Config.{Config}
-use Rattle.r10_machine.specs.Names.{is_name}
+use Rattle.r10_count.specs.Names.{is_name}
 use Rattle.r10_machine.specs.Machine.{Machine, Lane, File, Cursor as Reader, lane_of, cursor_of}
 
 -- a condition, and the refusal where it doesn't hold
@@ -128,6 +128,10 @@ offer_checks (Some lane) count message = taking_checks lane.spec lane.last count
 abbrev pub room_checks : Option Lane → List Check
 room_checks None = []
 room_checks (Some lane) = (not (is_full lane), Overflow) ∷ []
+
+-- why a message is refused: the first that applies, of the channel, the message, its count and the room
+abbrev pub offer_refusal : Option Lane → ℕ → Message → Option Refusal
+offer_refusal lane count message = first_broken (offer_checks lane count message ++ room_checks lane)
 
 abbrev pub channel_checks : Option Lane → List Check
 channel_checks lane = (is_some lane, NoSuchChannel) ∷ []

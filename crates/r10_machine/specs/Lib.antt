@@ -1,4 +1,3 @@
-pub mod Names
 pub mod Config
 pub mod Limits
 pub mod Machine

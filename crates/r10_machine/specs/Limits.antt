@@ -4,7 +4,7 @@ use Rattle.std.specs.List.{list_any}
 use Rattle.r10_count.specs.Checks.{first_broken}
 use Rattle.r10_body.specs.declared.message.Kind.TheVariants as kinds
 use Rattle.r10_body.specs.declared.spec.ChannelSpec.{ChannelSpec}
-use Rattle.r10_machine.specs.Names.{is_within, is_volume}
+use Rattle.r10_count.specs.Names.{is_within, is_volume}
 use Rattle.r10_machine.specs.Config.{Config}
 use Rattle.r10_machine.specs.declared.fault.SettingsFault.{SettingsFault}
 use Rattle.r10_machine.specs.declared.fault.SettingsFault.TheVariants as faults

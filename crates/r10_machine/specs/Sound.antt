@@ -1,13 +1,13 @@
 -- What is true of every state that a recorder comes to.
-use Rattle.std.specs.Prelude.{◌≡◌, ℕ, ◌<◌, ◌≤◌, Bool, true, false, not, ◌&&◌, List, [], ◌∷◌, ◌++◌, length, map, filter, Option, Some, None, IfSome, IsSomeAnd, slice_get, find, ◌==◌}
+use Rattle.std.specs.Prelude.{◌≡◌, ℕ, ◌<◌, ◌≤◌, Bool, true, false, not, ◌&&◌, List, [], ◌∷◌, ◌++◌, length, map, filter, Option, Some, None, IfSome, IsSomeAnd, slice_get}
 use Rattle.std.specs.List.{AllByRecursion, flat_map}
 use Rattle.r10_count.specs.Count.{IsCount}
 use Rattle.r10_count.specs.Civil.{IsCivil}
 use Rattle.r10_count.specs.Checks.{first_broken}
+use Rattle.r10_body.specs.Channels.{spec_of}
 use Rattle.r10_body.specs.Files.{on_channel}
 use Rattle.r10_body.specs.declared.entry.Entry.{Entry}
 use Rattle.r10_body.specs.declared.message.Message.TheVariants.{Time}
-use Rattle.r10_body.specs.declared.spec.ChannelSpec.{ChannelSpec}
 use Rattle.r10_machine.specs.declared.reply.Mode.{Mode}
 use Rattle.r10_machine.specs.declared.reply.Mode.TheVariants as modes
 use Rattle.r10_machine.specs.Config.{Config}
@@ -45,14 +45,11 @@ LaneClimbs files lane = Climbs 0 (counts_on lane.spec.id files ++ map (λ x. x.c
 
 -- ---- files
 
-abbrev pub spec_of : Config → ℕ → Option ChannelSpec
-spec_of s channel = find (λ (c : ChannelSpec). c.id == channel) s.channels
-
 -- an entry is a time on the clock's channel, or a message that its channel takes
 abbrev pub IsEntry : Config → Entry → Type 0
 IsEntry s e = IsCount e.count × elim e.message [
   | Time civil ↦ (e.channel ≡ s.time) × IsCivil civil × (e.gap ≡ false)
-  | _ ↦ IsSomeAnd (spec_of s e.channel) (λ spec. first_broken (message_checks spec e.message) ≡ None)
+  | _ ↦ IsSomeAnd (spec_of s.channels e.channel) (λ spec. first_broken (message_checks spec e.message) ≡ None)
 ]
 
 -- a file of this recorder: its first entry is a time and is shown, it fits into its area, and shows all once it is closed

@@ -9,7 +9,7 @@ use r10_body::Refusal;
 use r10_count::{Civil, Count, Parts};
 
 /// A count of 48 bits.
-pub fn check_range(count: u64) -> Result<Count, Refusal>
+pub(crate) fn check_range(count: u64) -> Result<Count, Refusal>
     ensures { MatchResult result (λ c. (c ≡ count) × (first_broken (in_48_bits count ∷ []) ≡ None)) (λ r. first_broken (in_48_bits count ∷ []) ≡ Some r) }
 {
     match Count::of(count) {
@@ -19,7 +19,7 @@ pub fn check_range(count: u64) -> Result<Count, Refusal>
 }
 
 /// A count of 48 bits that isn't below the last one.
-pub fn check_count(last: Option<Count>, count: u64) -> Result<Count, Refusal>
+pub(crate) fn check_count(last: Option<Count>, count: u64) -> Result<Count, Refusal>
     ensures { MatchResult result (λ c. (c ≡ count) × (first_broken (count_checks last count) ≡ None)) (λ r. first_broken (count_checks last count) ≡ Some r) }
 {
     let Some(now) = Count::of(count) else {

@@ -8,7 +8,6 @@ mod files;
 mod laws;
 mod limits;
 mod modes;
-mod names;
 mod offers;
 mod replay;
 mod reply;
@@ -16,7 +15,7 @@ mod room;
 mod settings;
 mod sorting;
 
-pub use counts::{check_count, check_range, check_tick};
+pub use counts::check_tick;
 pub use event::Event;
 pub use fault::SettingsFault;
 pub use files::{check_begin, check_cursor};
@@ -25,13 +24,9 @@ pub use laws::{
     instalments_join, order_is_unique, order_keeps_each, runs_join,
 };
 pub use modes::{check_idle, check_mounted, check_recording, check_unmounted};
-pub use names::{is_name, is_name_byte, is_volume};
 pub use offers::check_offer;
-pub use replay::{in_order, instalment, is_wanted};
+pub use replay::instalment;
 pub use reply::{Mode, Reply, Stopped};
 pub use room::{has_room, how_many_fit};
 pub use settings::Settings;
 pub use sorting::rising;
-
-#[cfg(test)]
-mod tests;

@@ -8,8 +8,8 @@ ghost use Rattle.r10_machine.specs.Config.{config};
 ghost use Rattle.r10_machine.specs.Checks.{Tests};
 
 use crate::fault::SettingsFault;
-use crate::names::is_volume;
 use r10_body::{ChannelSpec, Kind};
+use r10_count::is_volume;
 
 fn has_capacity(channel: &ChannelSpec) -> bool
     ensures { result ≡ has_capacity channel.now }
@@ -145,7 +145,7 @@ fn check_bits(channels: &[ChannelSpec]) -> Result<(), SettingsFault>
 }
 
 /// What each channel is set to.
-#[tactic(auto, using(crate::proofs::Rules::rules_pass, crate::proofs::Rules::rules_stop))]
+#[tactic(auto, using(r10_count::proofs::Rules::rules_pass, r10_count::proofs::Rules::rules_stop))]
 fn check_channels(channels: &[ChannelSpec]) -> Result<(), SettingsFault>
     ensures { Tests (first_broken (channels_rules channels.now)) result }
 {
@@ -170,7 +170,7 @@ fn check_names(nodes: usize, volume: &[u8]) -> Result<(), SettingsFault>
 }
 
 /// All settings, in order.
-#[tactic(auto, using(crate::proofs::Rules::rules_pass, crate::proofs::Rules::rules_stop))]
+#[tactic(auto, using(r10_count::proofs::Rules::rules_pass, r10_count::proofs::Rules::rules_stop))]
 pub(crate) fn check_settings(
     blocks: usize,
     directory: usize,

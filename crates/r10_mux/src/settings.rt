@@ -1,7 +1,7 @@
 //! What a channel is set to.
 
 ghost use Rattle.std.specs.Prelude.{◌≡◌, ◌<◌};
-ghost use Rattle.r10_mux.specs.Follow.{spec_of as settings_of};
+ghost use Rattle.r10_body.specs.Channels.{spec_of as settings_of};
 ghost use Rattle.r10_mux.specs.Packing.{check_of as flags_of, discretes_of as told_discretes};
 
 use r10_body::ChannelSpec;

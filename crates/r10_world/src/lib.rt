@@ -7,6 +7,3 @@ mod world;
 
 pub use steps::run;
 pub use world::World;
-
-#[cfg(test)]
-mod tests;
