@@ -17,8 +17,8 @@ fn counts_and_times_are_printed(rt: HostRuntime) -> Result<(), Fail> {
         second: 7,
         centi: 5,
     };
-    let count = Count::of(281_474_976_710_655).ok_or("no count")?;
-    let time = Civil::of(parts).ok_or("no time")?;
+    let count = Count::of(281_474_976_710_655).expect(&rt, "a count");
+    let time = Civil::of(parts).expect(&rt, "a time");
     let text = format!(in rt.alloc(); "{count} {time}")?;
     assert_eq!(rt; text.as_str(), "281474976710655 0033-04-03 15:00:07.05");
     Ok(())
@@ -41,7 +41,7 @@ fn a_packet_is_framed(rt: HostRuntime) -> Result<(), Fail> {
         sequence: 0,
         flags: 3,
         data_type: 0x50,
-        counter: Count::of(1000).ok_or("no count")?,
+        counter: Count::of(1000).expect(&rt, "a count"),
     };
     let body = [
         0, 0, 0, 0x80, 0xE8, 3, 0, 0, 0, 0, 0, 0, 3, 0, 0, 0, 0x41, 0x42, 0x43, 0, 0xF2, 3, 0, 0,
