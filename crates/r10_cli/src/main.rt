@@ -1,17 +1,10 @@
-//! The program `r10`: runs a script on a recorder in memory, and prints the line of each step's reply.
+//! The program `r10`: the commands over standard input, standard output and standard error.
 #![tactic(auto)]
 
-mod command;
-mod fault;
-mod input;
-#[cfg(test)]
-mod kind_tests;
-mod sim;
-#[cfg(test)]
-mod tests;
-
-use std::alloc::Global;
+use r10_command::Fault;
+use std::alloc::{AllocError, Global};
 use std::io;
+use std::io::BufWriter;
 use std::process::ExitCode;
 use std::rt::Env;
 
@@ -28,17 +21,21 @@ fn main(rt: HostRuntime) -> ExitCode {
     let alloc: Global = rt.alloc();
     let mut reader = rt.reader();
     let stderr = rt.stderr();
-    let mut writer = io::writer(&rt);
     let mut faults = io::writer(&stderr);
-    let status = match words_of(&rt) {
-        Ok(words) => command::run(
-            alloc,
-            words.as_slice(),
-            &mut reader,
-            &mut writer,
-            &mut faults,
-        ),
-        Err(error) => command::report(&mut faults, &fault::Fault::of_words(error)),
+    let words = match words_of(&rt) {
+        Ok(words) => words,
+        Err(error) => {
+            return ExitCode::from(r10_command::report(&mut faults, &Fault::of_words(error)));
+        }
     };
-    ExitCode::from(status)
+    let Ok(mut writer) = BufWriter::new(alloc, io::writer(&rt)) else {
+        return ExitCode::from(r10_command::report(&mut faults, &Fault::Memory(AllocError)));
+    };
+    ExitCode::from(r10_command::run(
+        alloc,
+        words.as_slice(),
+        &mut reader,
+        &mut writer,
+        &mut faults,
+    ))
 }

@@ -1,8 +1,8 @@
 use Rattle.std.proofs.Common.{rules, arith, ◌≡◌, ◌<◌, ◌+◌, ◌++◌, ◌∷◌, [], length, take, string_bytes, ap, sym, ◌∙◌}
 use Rattle.std.proofs.lemmas.List.{take_more, length-take}
 use Rattle.std.specs.Io.KnownBytes.{Appends}
-use Rattle.r10_cli.proofs.Rounds.{one_line, rounds_join}
-use Rattle.r10_cli.proofs.sim.write_lines.Goals as goal
+use Rattle.r10_command.proofs.Rounds.{one_line, rounds_join}
+use Rattle.r10_command.proofs.play.write_lines.Goals as goal
 
 pub loop-reply-preserved : goal.loop-reply-preserved
 loop-reply-preserved g c =

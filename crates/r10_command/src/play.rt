@@ -1,9 +1,10 @@
 //! The command `sim`: runs the steps of a script.
 
-ghost use Rattle.std.specs.Prelude.{◌≡◌, ◌<◌, ◌+◌, ◌^◌, ℕ, [], length, IfOk, OnOk};
+ghost use Rattle.std.specs.Prelude.{◌≡◌, ◌<◌, ◌+◌, ◌^◌, ℕ, [], length, IfOk, IfSome, OnOk};
 ghost use Rattle.r10_machine.specs.Machine.{Machine, fresh};
 ghost use Rattle.r10_control.specs.Files.{IsFormatted};
-ghost use Rattle.r10_cli.specs.Lines.{WritesLines, RunsAndWrites, IsReady};
+ghost use Rattle.r10_command.specs.Lines.{WritesLines, RunsAndWrites, IsReady};
+ghost use Rattle.r10_command.specs.Sim.{Plays, Simulates};
 
 use crate::fault::Fault;
 use crate::input::read_whole;
@@ -14,25 +15,25 @@ use r10_medium::{BlockMedium, Memory};
 use r10_script::{Script, read_script};
 use r10_world::World;
 use std::alloc::{AllocError, Global};
-use std::io::{BufWriter, Read, Write};
+use std::io::{Read, Write};
 
 /// Reads a script, runs its steps on a fresh medium in memory, and writes the line of each reply.
-pub fn sim<R: Read, W: Write>(alloc: Global, reader: &mut R, writer: &mut W) -> Result<(), Fault> {
+pub fn sim<R: Read, W: Write>(alloc: Global, reader: &mut R, writer: &mut W) -> Result<(), Fault>
+    ensures { OnOk result (IfSome (R.remaining reader.old) (λ text. Simulates text (W.contents writer.old) (W.contents writer.new))) }
+{
     let text = read_whole(alloc, reader)?;
-    let script = match read_script(alloc, text.as_slice()) {
-        Ok(script) => script,
-        Err(fault) => return Err(Fault::Script(fault)),
-    };
-    let Ok(mut writer) = BufWriter::new(alloc, writer) else {
-        return Err(Fault::Memory(AllocError));
-    };
-    run_script(alloc, script, &mut writer)?;
-    writer.flush().map_err(Fault::Write)
+    match read_script(alloc, text.as_slice()) {
+        Ok(script) => {
+            let _ = run_script(alloc, script, writer)?;
+            writer.flush().map_err(Fault::Write)
+        }
+        Err(fault) => Err(Fault::Script(fault)),
+    }
 }
 
 /// Runs the steps of a script on a fresh medium, and gives the medium back.
 pub fn run_script<W: Write>(alloc: Global, script: Script, writer: &mut W) -> Result<Memory, Fault>
-    ensures { OnOk result ((failures : ℕ) × (end : Machine) × RunsAndWrites script.settings (fresh script.settings.channels [] failures) script.events.items end (W.contents writer.old) (W.contents writer.new)) }
+    ensures { OnOk result (Plays script.settings script.events.items (W.contents writer.old) (W.contents writer.new)) }
 {
     let Script { settings, events } = script;
     let medium = Memory::new(alloc, settings.blocks())?;

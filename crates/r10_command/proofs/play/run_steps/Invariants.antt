@@ -1,8 +1,8 @@
 use Rattle.std.proofs.Common.{◌≡◌, ◌≤◌, ◌-◌, List, length, take}
 use Rattle.r10_machine.specs.Step.{Run}
 use Rattle.r10_machine.specs.declared.reply.Reply.{Reply}
-use Rattle.r10_cli.specs.Lines.{WritesLines, IsReady}
-use Rattle.r10_cli.proofs.sim.run_steps.Given as goal
+use Rattle.r10_command.specs.Lines.{WritesLines, IsReady}
+use Rattle.r10_command.proofs.play.run_steps.Given as goal
 
 -- the steps so far were run, and their lines are written
 abbrev pub invariant-loop-done : goal.invariant-loop-done

@@ -1,6 +1,6 @@
 use Rattle.std.proofs.Common.{◌≡◌, ◌+◌, take}
-use Rattle.r10_cli.specs.Lines.{WritesLines}
-use Rattle.r10_cli.proofs.sim.write_lines.Given as goal
+use Rattle.r10_command.specs.Lines.{WritesLines}
+use Rattle.r10_command.proofs.play.write_lines.Given as goal
 
 -- the lines so far are written
 abbrev pub invariant-loop-reply : goal.invariant-loop-reply

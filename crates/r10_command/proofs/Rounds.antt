@@ -9,7 +9,7 @@ use Rattle.r10_machine.specs.Step.{Run}
 use Rattle.r10_machine.specs.declared.event.Event.{Event}
 use Rattle.r10_machine.specs.declared.reply.Reply.{Reply}
 use Rattle.r10_lines.specs.Line.{IsReplyLine}
-use Rattle.r10_cli.specs.Lines.{AreLines, WritesLines}
+use Rattle.r10_command.specs.Lines.{AreLines, WritesLines}
 
 lines_join : (done later : ℕ) (rs ss : List Reply) (x y : List ℕ) → later ≡ done + length rs → AreLines done rs x → AreLines later ss y → AreLines done (rs ++ ss) (x ++ y)
 lines_join done later [] ss x y at first second =

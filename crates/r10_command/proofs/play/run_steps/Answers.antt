@@ -1,9 +1,9 @@
 use Rattle.std.proofs.Common.{rules, arith, ◌≡◌, ◌+◌, ◌≤◌, ◌-◌, length, length-drop, take, drop, vec_len}
 use Rattle.std.proofs.lemmas.List.{take_all}
 use Rattle.r10_machine.specs.Step.{Run}
-use Rattle.r10_cli.specs.Lines.{WritesLines, IsReady}
-use Rattle.r10_cli.proofs.Rounds.{round_more}
-use Rattle.r10_cli.proofs.sim.run_steps.Goals as goal
+use Rattle.r10_command.specs.Lines.{WritesLines, IsReady}
+use Rattle.r10_command.proofs.Rounds.{round_more}
+use Rattle.r10_command.proofs.play.run_steps.Goals as goal
 
 pub loop-done-preserved : goal.loop-done-preserved
 loop-done-preserved g c =

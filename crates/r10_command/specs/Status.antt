@@ -1,8 +1,8 @@
 -- The exit status of a command.
 use Rattle.std.specs.Prelude.{◌≡◌, ◌⊎◌, ℕ}
 use Rattle.r10_script.specs.declared.fault.ScriptFault.TheVariants as scripts
-use Rattle.r10_cli.specs.declared.fault.Fault.{Fault}
-use Rattle.r10_cli.specs.declared.fault.Fault.TheVariants as faults
+use Rattle.r10_command.specs.declared.fault.Fault.{Fault}
+use Rattle.r10_command.specs.declared.fault.Fault.TheVariants as faults
 
 -- 2 where the words or the script are wrong, 3 where memory, the reader or the writer failed
 abbrev pub status_of : Fault → ℕ
@@ -16,6 +16,10 @@ status_of faults.Endless = 3
 status_of (faults.Write error) = 3
 status_of (faults.Format refusal) = 3
 
+-- the status of a fault
+abbrev pub IsFailure : ℕ → Type 0
+IsFailure status = (status ≡ 2) ⊎ (status ≡ 3)
+
 -- 0 where the command did its work
 abbrev pub IsStatus : ℕ → Type 0
-IsStatus status = (status ≡ 0) ⊎ (status ≡ 2) ⊎ (status ≡ 3)
+IsStatus status = (status ≡ 0) ⊎ IsFailure status

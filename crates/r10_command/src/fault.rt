@@ -1,7 +1,9 @@
 //! Why a command gives up.
 
 ghost use Rattle.std.specs.Prelude.{◌≡◌};
-ghost use Rattle.r10_cli.specs.Status.{status_of, IsStatus};
+ghost use Rattle.std.specs.IoError.{error_kind};
+ghost use Rattle.r10_command.specs.Status.{status_of, IsFailure};
+ghost use Rattle.r10_command.specs.declared.fault.Fault.TheVariants.{NotText};
 
 use r10_body::Refusal;
 use r10_script::ScriptFault;
@@ -41,7 +43,9 @@ pub enum Fault {
 
 impl Fault {
     /// Why the words of the command line can't be had.
-    pub fn of_words(error: io::Error) -> Fault {
+    pub fn of_words(error: io::Error) -> Fault
+        ensures { error_kind error ≡ ErrorKind.InvalidData → result ≡ NotText }
+    {
         match error.kind() {
             ErrorKind::InvalidData => Fault::NotText,
             ErrorKind::OutOfMemory => Fault::Memory(AllocError),
@@ -52,7 +56,7 @@ impl Fault {
     /// The exit status: 2 for wrong words or a wrong script, 3 for want of memory and for what can't be read or written.
     pub fn status(&self) -> u8
         ensures value { result ≡ status_of self.now }
-        ensures range { IsStatus result }
+        ensures range { IsFailure result }
     {
         match self {
             Fault::NotText | Fault::Usage(_) => 2,

@@ -1,0 +1,7 @@
+//! The command line: what the words of a call ask for.
+#![tactic(auto)]
+
+mod asked;
+mod usage;
+
+pub use asked::{Asked, WordsFault, read_words};

@@ -1,0 +1,98 @@
+//! The command line as `clap` knows it, and what is said of wrong words.
+
+use clap::Command;
+use clap::error::ErrorKind;
+use std::alloc::{AllocError, Global};
+
+/// The version of the program.
+const VERSION: &str = "0.2.0";
+
+const ABOUT: &str = "A solid-state flight recorder that writes IRIG 106-17 Chapter 10 files";
+
+const ABOUT_SIM: &str = "Runs a script on a recorder in memory and prints a line for each step";
+
+const MORE: &str =
+    "Without a command r10 does sim. A script is read from standard input, r10 < SCRIPT,
+and a line for each of its steps goes to standard output. A whole script:
+
+  blocks = 16
+  directory = 2
+  volume = \"VOL\"
+  nodes = 100
+  time = 1
+  event = 2
+  [[channel]]
+  id = 5
+  kind = \"uart\"
+  capacity = 2
+  check = 0
+  bytes = 524288
+  number = 65535
+  [[step]]
+  do = \"mount\"
+  [[step]]
+  do = \"tick\"
+  count = 1000
+  civil = \"2024-02-29 12:34:56.78\"
+  [[step]]
+  do = \"start\"
+  name = \"FLT1\"
+  setup = \"41424344\"
+  [[step]]
+  do = \"offer\"
+  channel = 5
+  count = 1000
+  bytes = \"414243\"
+  [[step]]
+  do = \"pump\"
+  channel = 5
+  k = 2
+  [[step]]
+  do = \"stop\"
+
+What a step may do: mount, tick, start, offer, pump, stop, cursor, advance, next, close.
+docs/FORMAT.md has the keys of scripts, the form of the lines, the format of the
+files and the refusals by number; examples/ has a script for each kind of channel.
+
+Exit status: 0; 2 for a wrong command line or script; 3 where memory,
+reading or writing fails.";
+
+/// Behind a word that is no option.
+const HINT: &str = "; a script comes from standard input: r10 < SCRIPT";
+
+pub(crate) fn command_line<'a>(alloc: Global) -> Result<Command<'a>, AllocError> {
+    let sim = Command::new(alloc, "sim").about(ABOUT_SIM);
+    Command::new(alloc, "r10")
+        .bin_name("r10")?
+        .version(VERSION)
+        .about(ABOUT)
+        .after_help(MORE)
+        .subcommand(sim)
+}
+
+/// The first line of what `clap` says, without its first word, and for a word that looks like a file where a script comes from.
+pub(crate) fn usage_line(alloc: Global, error: &clap::Error) -> Result<String, AllocError> {
+    let text = error.to_string(alloc)?;
+    let line = match text.lines().next() {
+        Some(line) => line,
+        None => "",
+    };
+    let said = match line.strip_prefix("error: ") {
+        Some(rest) => rest,
+        None => line,
+    };
+    let mut line = String::from_str(alloc, said)?;
+    if is_file_like(error.kind(), said) {
+        line.push_str(HINT)?;
+    }
+    Ok(line)
+}
+
+/// Whether a word was not taken that is no option.
+fn is_file_like(kind: ErrorKind, said: &str) -> bool {
+    match kind {
+        ErrorKind::InvalidSubcommand => true,
+        ErrorKind::UnknownArgument => !said.starts_with("unexpected argument '-"),
+        _ => false,
+    }
+}
