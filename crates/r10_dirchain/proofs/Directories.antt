@@ -12,7 +12,7 @@ use Rattle.r10_dirblock.specs.Block.{read_block, has_room, HasRooms, IsBlock}
 use Rattle.r10_dirblock.proofs.Found.{only}
 use Rattle.r10_dirchain.specs.declared.chain.ChainBlock.{ChainBlock}
 use Rattle.r10_dirchain.specs.Chain.{Link, link, Linked, Holds, IsDirectory, blank_block, at}
-use Rattle.r10_dirchain.specs.OnMedium.{SameButIn, Put, PutTwo, Turned}
+use Rattle.r10_dirchain.specs.OnMedium.{SameButIn, Put, PutTwo, IsWritten, Turned}
 use Rattle.r10_dirchain.specs.Steps.{last_place, last_block}
 
 same_ok : (x y : DirBlock) (r : Result DirBlock DirFault) → r ≡ Ok x → r ≡ Ok y → x ≡ y
@@ -118,15 +118,38 @@ but_one n m old new b here put = record {
   others = λ k all. put.others.others k (λ e. All-head (λ (j : ℕ). k ≢ j) n [] all (e ∙ here));
 }
 
+-- the new block alone is written
+written_in : (old new : Image) (chain : List ChainBlock) (i : ℕ) (b : ChainBlock) → IsDirectory old chain → i < length chain → Put old b new
+    → All (IsWritten ((at chain i).number ∷ []) new) (set chain i b)
+written_in old new chain i b is within put = All-from_get_or (IsWritten ((at chain i).number ∷ []) new) (set chain i b) blank_block each
+  where
+    each : (k : ℕ) → k < length (set chain i b) → IsWritten ((at chain i).number ∷ []) new (get_or (set chain i b) k blank_block)
+    each k lt = elim (cases_eq k i) [
+      | inl same ↦ subst (λ (j : ℕ). IsWritten ((at chain i).number ∷ []) new (get_or (set chain i b) j blank_block)) (sym same)
+          (subst (IsWritten ((at chain i).number ∷ []) new) (sym (get_or-set_same chain i b blank_block within)) (inr put.bytes))
+      | inr differs ↦
+          subst (IsWritten ((at chain i).number ∷ []) new) (sym (get_or-set_other chain i k b blank_block differs))
+          (inl (All-cons (λ (n : ℕ). (at chain k).number ≢ n) (at chain i).number []
+          (other_number old chain is i k within (omega (arith, lt, length-set chain i b)) differs) (All-nil (λ (n : ℕ). (at chain k).number ≢ n))))
+    ]
+
 pub turned_in : (old new : Image) (chain : List ChainBlock) (i : ℕ) (b : ChainBlock) → IsDirectory old chain → i < length chain
     → b.number ≡ (at chain i).number → b.block.forward ≡ (at chain i).block.forward → b.block.reverse ≡ (at chain i).block.reverse
     → Put old b new → Turned (set chain i b) ((at chain i).number ∷ []) old new
 turned_in old new chain i b is within here on behind put =
-    record { directory = put_in old new chain i b is within here on behind put; others = but_one (at chain i).number 0 old new b here put }
+    record {
+      directory = put_in old new chain i b is within here on behind put;
+      written = written_in old new chain i b is within put;
+      others = but_one (at chain i).number 0 old new b here put;
+    }
 
 pub turned_alone : (old new : Image) (b : ChainBlock) → b.number ≡ 1 → b.block.forward ≡ 1 → b.block.reverse ≡ 1 → Put old b new
     → Turned (b ∷ []) (1 ∷ []) old new
-turned_alone old new b here on behind put = record { directory = put_alone old new b here on behind put; others = but_one 1 0 old new b here put }
+turned_alone old new b here on behind put = record {
+  directory = put_alone old new b here on behind put;
+  written = All-cons (IsWritten (1 ∷ []) new) b [] (inr put.bytes) (All-nil (IsWritten (1 ∷ []) new));
+  others = but_one 1 0 old new b here put;
+}
 
 -- a chain has a first block
 pub some_block : (image : Image) (chain : List ChainBlock) → IsDirectory image chain → 0 < length chain
@@ -215,4 +238,28 @@ put_behind old new chain i next is long place free on behind put = record {
           (put.others.others (at chain k).number
           (All-cons (λ (n : ℕ). (at chain k).number ≢ n) b.number (next.number ∷ []) (other_number old chain is (last_place chain) k last_within there differs)
           (All-cons (λ (n : ℕ). (at chain k).number ≢ n) next.number [] (free k there) (All-nil (λ (n : ℕ). (at chain k).number ≢ n))))))
+    ]
+
+-- the last block, which now leads on, and the new one are written
+pub written_behind : (old new : Image) (chain : List ChainBlock) (next : ChainBlock) → IsDirectory old chain → last_place chain < length chain
+    → ((k : ℕ) → k < length chain → (at chain k).number ≢ next.number)
+    → PutTwo old next (leading_to next.number chain) new
+    → All (IsWritten ((last_block chain).number ∷ next.number ∷ []) new) (set chain (last_place chain) (leading_to next.number chain) ++ next ∷ [])
+written_behind old new chain next is last_within free put =
+    All-push (IsWritten (b.number ∷ next.number ∷ []) new) (set chain (last_place chain) b) next
+    (All-from_get_or (IsWritten (b.number ∷ next.number ∷ []) new) (set chain (last_place chain) b) blank_block each) (inr put.next_bytes)
+  where
+    b : ChainBlock
+    b = leading_to next.number chain
+
+    each : (k : ℕ) → k < length (set chain (last_place chain) b) → IsWritten (b.number ∷ next.number ∷ []) new (get_or (set chain (last_place chain) b) k blank_block)
+    each k lt = elim (cases_eq k (last_place chain)) [
+      | inl same ↦ subst (λ (j : ℕ). IsWritten (b.number ∷ next.number ∷ []) new (get_or (set chain (last_place chain) b) j blank_block)) (sym same)
+          (subst (IsWritten (b.number ∷ next.number ∷ []) new) (sym (get_or-set_same chain (last_place chain) b blank_block last_within)) (inr put.linking_bytes))
+      | inr differs ↦
+          let there : k < length chain = omega (arith, lt, length-set chain (last_place chain) b) in
+          subst (IsWritten (b.number ∷ next.number ∷ []) new) (sym (get_or-set_other chain (last_place chain) k b blank_block differs))
+          (inl
+          (All-cons (λ (n : ℕ). (at chain k).number ≢ n) b.number (next.number ∷ []) (other_number old chain is (last_place chain) k last_within there differs)
+          (All-cons (λ (n : ℕ). (at chain k).number ≢ n) next.number [] (free k there) (All-nil (λ (n : ℕ). (at chain k).number ≢ n)))))
     ]

@@ -21,6 +21,8 @@ put_two next linking old mid new apart first second = record {
   };
   next_holds = still_holds mid new next first.holds second.others.size (second.others.others next.number apart);
   linking_holds = second.holds;
+  next_bytes = second.others.others next.number apart ∙ first.bytes;
+  linking_bytes = second.bytes;
 }
 
 pub unlinked_moments : (next linking : ChainBlock) (old mid : Disk) → Moves (SameBut next.number) old mid

@@ -1,17 +1,18 @@
 -- A step on a disk, from what its writes do.
 use Rattle.std.proofs.Common.{Bool, false, if◌then◌else◌, ◌≡◌, ◌≢◌, ◌⊎◌, ℕ, ◌<◌, List, [], ◌∷◌, length, set, Result, Ok, Err, OnOk, inl, inr, ⊎_elim, refl, sym, ap, ◌∙◌, subst, arith}
 use Rattle.std.specs.List.{All}
-use Rattle.std.proofs.lemmas.List.Elements.{All-cons, All-nil, All-head}
-use Rattle.r10_medium.specs.Disk.{Disk, Image, MayLeave}
+use Rattle.std.proofs.lemmas.List.Elements.{All-cons, All-nil, All-head, All-from_get_or}
+use Rattle.r10_medium.specs.Disk.{Disk, Image, MayLeave, block_at}
 use Rattle.r10_medium.specs.Stop.{Settled, Leaves, ComesBy, SameBut}
-use Rattle.r10_medium.proofs.Stops.{weakened}
+use Rattle.r10_medium.proofs.Stops.{weakened, reads_now}
 use Rattle.r10_dirchain.specs.declared.chain.ChainBlock.{ChainBlock}
-use Rattle.r10_dirchain.specs.Chain.{IsDirectory, at}
-use Rattle.r10_dirchain.specs.OnMedium.{SameButIn, Put, PutTwo, Turned, Turns, HasNext}
+use Rattle.r10_dirchain.specs.Chain.{IsDirectory, at, blank_block}
+use Rattle.r10_dirchain.specs.OnMedium.{SameButIn, Put, PutTwo, IsWritten, Turned, Turns, HasNext}
+use Rattle.r10_dirblock.specs.Block.{block_bytes}
 use Rattle.r10_dirblock.specs.declared.entry.Entry.{Entry}
 use Rattle.r10_dirblock.specs.declared.block.DirBlock.{DirBlock}
 use Rattle.r10_dirchain.specs.Steps.{formatted, replaced, emptied, with_shutdown, extended, last_place, last_block, next_number, next_block, last_is_full, filled, added, spare}
-use Rattle.r10_dirchain.proofs.Directories.{still_directory, turned_in, turned_alone, put_behind, leading_to, some_block}
+use Rattle.r10_dirchain.proofs.Directories.{still_directory, turned_in, turned_alone, put_behind, written_behind, leading_to, some_block}
 
 pub on_ok : {T E : Type 0} (result : Result T E) (P Q : Type 0) → (P → Q) → OnOk result P → OnOk result Q
 on_ok (Ok x) P Q gives holds = gives holds
@@ -34,7 +35,11 @@ turns_of chain made unlinked changed old new result is none moments reads settle
   moments = moments;
   either = λ here. weakened (λ image. ComesBy (SameButIn unlinked) old image ⊎ Turned made changed old.blocks image) (λ image. IsDirectory image chain ⊎ IsDirectory image made) old new
       (λ image. ⊎_elim (λ from. inl (still_directory from.0 image chain unlinked (here from.0 from.1) from.2 none)) (λ turned. inr turned.directory)) moments;
-  reads = ⊎_elim (λ same. inl (record { directory = still_directory old.blocks new.blocks chain unlinked is same none; others = same })) (λ turned. inr turned) reads;
+  reads = ⊎_elim (λ same. inl (record {
+    directory = still_directory old.blocks new.blocks chain unlinked is same none;
+    written = All-from_get_or (IsWritten unlinked new.blocks) chain blank_block (λ i lt. inl (none i lt));
+    others = same;
+  })) (λ turned. inr turned) reads;
   settled = settled;
 }
 
@@ -140,6 +145,9 @@ turned_on chain entry old new is has put = record {
   directory =
       let some = some_block old chain is in
       put_behind old new chain (last_place chain) (next_block entry chain) is (omega (arith, some)) refl (λ k lt e. absurd (omega (arith, has.in_order k lt, lt, e))) refl refl put;
+  written =
+      let some = some_block old chain is in
+      written_behind old new chain (next_block entry chain) is (omega (arith, some)) (λ k lt e. absurd (omega (arith, has.in_order k lt, lt, e))) put;
   others = put.others;
 }
 
@@ -161,21 +169,34 @@ extended_by chain entry next linking old new result is has a b puts =
     (subst (λ (n : ChainBlock). PutsLinked n linking old new result) a puts))
 
 -- the last block has a place: the step is the one that puts the entry there
-pub in_place : {T E F : Type 0} (x y : T) (chain : List ChainBlock) (entry : Entry) (old new : Disk) → last_is_full chain ≡ false
-    → Turns {T = T} {E = E} chain (filled entry chain) [] ((last_block chain).number ∷ []) old new (Ok x)
-    → Turns {T = T} {E = F} chain (added entry chain) (spare chain) ((last_block chain).number ∷ spare chain) old new (Ok y)
-in_place {T} {E} {F} x y chain entry old new is turns =
-    subst (λ (b : Bool). Turns {T = T} {E = F} chain (if b then extended entry chain else filled entry chain) (if b then next_number chain ∷ [] else [])
-    ((last_block chain).number ∷ (if b then next_number chain ∷ [] else [])) old new (Ok y)) (sym is)
-    (record { moments = turns.moments; either = turns.either; reads = turns.reads; settled = turns.settled })
+pub in_place : {T E : Type 0} (chain : List ChainBlock) (entry : Entry) (old new : Disk) (result : Result T E) → last_is_full chain ≡ false
+    → Turns chain (filled entry chain) [] ((last_block chain).number ∷ []) old new result
+    → Turns chain (added entry chain) (spare chain) ((last_block chain).number ∷ spare chain) old new result
+in_place chain entry old new result is turns =
+    subst (λ (b : Bool). Turns chain (if b then extended entry chain else filled entry chain) (if b then next_number chain ∷ [] else [])
+    ((last_block chain).number ∷ (if b then next_number chain ∷ [] else [])) old new result) (sym is) turns
 
 -- ---- a new directory
+
+turned_new : (volume : List ℕ) (b : ChainBlock) (old image : Image) → b ∷ [] ≡ formatted volume → Put old b image → Turned (formatted volume) (1 ∷ []) old image
+turned_new volume b old image is put =
+    subst (λ (l : List ChainBlock). Turned l (1 ∷ []) old image) is
+    (turned_alone old image b (ap (λ (l : List ChainBlock). (at l 0).number) is) (ap (λ (l : List ChainBlock). (at l 0).block.forward) is)
+    (ap (λ (l : List ChainBlock). (at l 0).block.reverse) is) put)
 
 pub formatted_moments : (volume : List ℕ) (b : ChainBlock) (old new : Disk) → b ∷ [] ≡ formatted volume
     → Leaves (λ image. MayLeave old image ⊎ Put old.blocks b image) old new
     → Leaves (λ image. MayLeave old image ⊎ Turned (formatted volume) (1 ∷ []) old.blocks image) old new
 formatted_moments volume b old new is run =
     weakened (λ image. MayLeave old image ⊎ Put old.blocks b image) (λ image. MayLeave old image ⊎ Turned (formatted volume) (1 ∷ []) old.blocks image) old new
-    (λ image. ⊎_elim (λ was. inl was) (λ put. inr (subst (λ (l : List ChainBlock). Turned l (1 ∷ []) old.blocks image) is
-    (turned_alone old.blocks image b (ap (λ (l : List ChainBlock). (at l 0).number) is) (ap (λ (l : List ChainBlock). (at l 0).block.forward) is)
-    (ap (λ (l : List ChainBlock). (at l 0).block.reverse) is) put)))) run
+    (λ image. ⊎_elim (λ was. inl was) (λ put. inr (turned_new volume b old.blocks image is put))) run
+
+pub formatted_settled : (volume : List ℕ) (b : ChainBlock) (old : Image) (new : Disk) → b ∷ [] ≡ formatted volume → Settled (Put old b) new
+    → Settled (Turned (formatted volume) (1 ∷ []) old) new
+formatted_settled volume b old new is holds image now = turned_new volume b old image is (holds image now)
+
+-- what is read of block 1, where a stop leaves one new block
+pub formatted_bytes : (volume : List ℕ) (b : ChainBlock) (old : Image) (new : Disk) → b ∷ [] ≡ formatted volume → Settled (Put old b) new
+    → block_at new.blocks 1 ≡ block_bytes (at (formatted volume) 0).block
+formatted_bytes volume b old new is holds =
+    subst (λ (l : List ChainBlock). block_at new.blocks (at l 0).number ≡ block_bytes (at l 0).block) is (holds new.blocks (reads_now new)).bytes

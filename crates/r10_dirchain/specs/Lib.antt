@@ -4,5 +4,5 @@ pub mod Steps
 pub mod OnMedium
 pub mod Mount
 pub mod Checked
-pub mod Names
+pub mod Rooms
 pub mod Vectors

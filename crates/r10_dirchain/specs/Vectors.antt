@@ -8,7 +8,7 @@ use Rattle.r10_dirblock.specs.Vectors.{formatted_bytes}
 use Rattle.r10_dirchain.specs.declared.chain.ChainBlock.{ChainBlock}
 use Rattle.r10_dirchain.specs.Chain.{link, Linked, files, at}
 use Rattle.r10_dirchain.specs.Mount.{mount_rules}
-use Rattle.r10_dirchain.specs.Names.{is_volume}
+use Rattle.r10_count.specs.Names.{is_volume}
 use Rattle.r10_dirchain.specs.Steps.{formatted, added, emptied, updated, with_shutdown, spare}
 
 -- `VOL`

@@ -1,16 +1,18 @@
 // Formatting a medium.
 ghost use Rattle.std.specs.Prelude.{◌≡◌, ◌⊎◌, ◌≤◌, ◌+◌, ◌↔◌, [], ◌∷◌, None, false, length, OnOk, IsErrOf};
-ghost use Rattle.std.specs.List.{list_all};
 ghost use Rattle.r10_count.specs.Checks.{first_broken};
-ghost use Rattle.r10_medium.specs.Disk.{MayLeave, Rose};
+ghost use Rattle.r10_count.specs.Names.{is_volume};
+ghost use Rattle.r10_medium.specs.Disk.{block_at, MayLeave, Rose};
 ghost use Rattle.r10_medium.specs.Stop.{Settled, Leaves};
+ghost use Rattle.r10_dirblock.specs.Block.{block_bytes};
+ghost use Rattle.r10_dirchain.specs.Chain.{at};
 ghost use Rattle.r10_dirchain.specs.Mount.{mount_rules};
-ghost use Rattle.r10_dirchain.specs.Names.{is_name_byte, is_volume};
 ghost use Rattle.r10_dirchain.specs.OnMedium.{Turned};
 ghost use Rattle.r10_dirchain.specs.Steps.{formatted};
 
 use crate::ChainBlock;
 use crate::put::put_block;
+use r10_count::is_volume;
 use r10_dirblock::{DirBlock, Entries, pad};
 use r10_medium::BlockMedium;
 
@@ -36,6 +38,8 @@ pub fn format<M: BlockMedium>(
     requires blocks { length (M.disk medium.old).blocks ≤ 16_777_216 }
 
     ensures settled { OnOk result (Settled (Turned (formatted volume.now) (1 ∷ []) (M.disk medium.old).blocks) (M.disk medium.new)) }
+    // Block 1 is byte for byte the one that this recorder writes.
+    ensures bytes { OnOk result (block_at (M.disk medium.new).blocks 1 ≡ block_bytes (at (formatted volume.now) 0).block) }
     // A recorder with these reserved blocks can take it into use.
     ensures usable { first_broken (mount_rules directory (length (M.disk medium.old).blocks) (formatted volume.now)) ≡ None }
     ensures moments { Leaves (λ image. MayLeave (M.disk medium.old) image ⊎ Turned (formatted volume.now) (1 ∷ []) (M.disk medium.old).blocks image)
@@ -69,22 +73,4 @@ fn empty_directory(volume: &[u8]) -> ChainBlock
             entries: Entries::new(),
         },
     }
-}
-
-fn is_volume(name: &[u8]) -> bool
-    ensures { result ≡ is_volume name.now }
-{
-    1 <= name.len() && name.len() <= 32 && has_name_bytes(name)
-}
-
-fn has_name_bytes(name: &[u8]) -> bool
-    ensures { result ≡ list_all is_name_byte name.now }
-{
-    name.iter().all(|byte| is_name_byte(*byte))
-}
-
-fn is_name_byte(byte: u8) -> bool
-    ensures { result ≡ is_name_byte byte }
-{
-    matches!(byte, b'0'..=b'9' | b'A'..=b'Z' | b'a'..=b'z' | b'.' | b'_' | b'-')
 }

@@ -8,13 +8,11 @@ mod formatting;
 mod laws;
 mod put;
 mod read;
+mod room;
 mod steps;
 
 pub use chain::{ChainBlock, Directory, Listed};
 pub use formatting::{FormatError, format};
 pub use laws::{file_lists, kept_entries, one_directory, usable_directories};
 pub use read::{ChainError, read_chain};
-pub use steps::AddError;
-
-#[cfg(test)]
-mod tests;
+pub use room::Room;

@@ -1,26 +1,19 @@
 // The steps of the directory. Each changes one block that the chain has.
-ghost use Rattle.std.specs.Prelude.{◌≡◌, ◌⊎◌, ◌≤◌, ◌<◌, ◌+◌, ◌-◌, [], ◌∷◌, List, length, true, false, IsTrue, ◌↔◌, OnOk, OnErr, IsErrOf};
-ghost use Rattle.r10_medium.specs.Disk.{Counts, Rose};
+ghost use Rattle.std.specs.Prelude.{◌≡◌, ◌⊎◌, ◌≤◌, ◌<◌, ◌+◌, ◌-◌, [], ◌∷◌, List, length, true, false, OnOk, OnErr, IfOk};
+ghost use Rattle.r10_medium.specs.Disk.{Counts};
 ghost use Rattle.r10_medium.specs.Stop.{Settled, Leaves};
 ghost use Rattle.r10_dirblock.specs.Block.{HasRooms, has_room};
 ghost use Rattle.r10_dirchain.specs.declared.chain.ChainBlock.{ChainBlock};
 ghost use Rattle.r10_dirchain.specs.Chain.{IsDirectory, files, at};
 ghost use Rattle.r10_dirchain.specs.OnMedium.{HasNext, Turns};
+ghost use Rattle.r10_dirchain.specs.Rooms.{room_for};
 ghost use Rattle.r10_dirchain.specs.Steps.{added, emptied, extended, filled, last_block, last_is_full, last_listing, last_place, lists_none, next_block, next_number, replaced, spare, updated, with_shutdown};
 
 use crate::put::{put_block, put_linked};
-use crate::{ChainBlock, Directory};
+use crate::{ChainBlock, Directory, Room};
 use r10_dirblock::{DirBlock, Entries, Entry};
 use r10_medium::{BlockMedium, MediumFault};
-
-/// Why a file was not added.
-#[derive(Clone, Copy, Debug, PartialEq, Eq, Drop)]
-pub enum AddError {
-    /// A call of the medium failed.
-    Medium,
-    /// The memory for a block was refused.
-    OutOfMemory,
-}
+use std::alloc::{AllocError, Global};
 
 impl Directory {
     /// Writes the shutdown byte: 0xFF for properly dismounted, 0x00 for not. This makes sure what is
@@ -86,30 +79,36 @@ impl Directory {
         self.rewrite(medium, i, block)
     }
 
+    /// Asks for the memory that adding a file takes, before what the file lists is written.
+    pub fn ready(&self, alloc: Global) -> Result<Room, AllocError>
+        ensures { IfOk result (λ room. length self.now < room_for room) }
+    {
+        Room::of(alloc, self.chain.len() + 1)
+    }
+
     /// Lists one file more: in the last block, or in a new block where that is full. A new block is
     /// written and made sure before the block that links to it.
     ///
-    /// Memory is asked for before the medium is touched.
-    pub fn add<M: BlockMedium>(&mut self, medium: &mut M, entry: Entry) -> Result<(), AddError>
+    /// The memory was asked for by `ready`: nothing but the medium can fail.
+    pub fn add<M: BlockMedium>(
+        &mut self,
+        medium: &mut M,
+        entry: Entry,
+        ready: Room,
+    ) -> Result<(), MediumFault>
         requires stands { IsDirectory (M.disk medium.old).blocks self.old }
         requires next { HasNext (M.disk medium.old).blocks self.old }
         requires room { has_room entry ≡ true }
+        requires ready { length self.old < room_for ready }
         ensures done { OnOk result (self.new ≡ added entry self.old) }
         ensures kept { OnErr result (self.new ≡ self.old) }
         ensures turns { Turns self.old (added entry self.old) (spare self.old) ((last_block self.old).number ∷ spare self.old) (M.disk medium.old) (M.disk medium.new) result }
-        // Memory is asked for a new block alone.
-        ensures memory { IsErrOf result AddError.OutOfMemory → last_is_full self.old ≡ true }
-        ensures untouched { IsErrOf result AddError.OutOfMemory → medium.new ≡ medium.old }
-        ensures no_fewer { (M.disk medium.old).failures ≤ (M.disk medium.new).failures }
-        ensures cause { IsErrOf result AddError.Medium → Rose (M.disk medium.old).failures (M.disk medium.new).failures }
+        ensures counts { Counts (M.disk medium.old) (M.disk medium.new) result }
     {
         if self.last_is_full() {
-            return self.add_block(medium, entry);
+            return self.add_block(medium, entry, ready);
         }
-        match self.add_entry(medium, entry) {
-            Ok(()) => Ok(()),
-            Err(_) => Err(AddError::Medium),
-        }
+        self.add_entry(medium, entry)
     }
 
     // Writes a new last entry into the last block.
@@ -129,26 +128,28 @@ impl Directory {
     }
 
     // Writes a new last block, and then the block that links to it.
-    fn add_block<M: BlockMedium>(&mut self, medium: &mut M, entry: Entry) -> Result<(), AddError>
+    fn add_block<M: BlockMedium>(
+        &mut self,
+        medium: &mut M,
+        entry: Entry,
+        ready: Room,
+    ) -> Result<(), MediumFault>
         requires stands { IsDirectory (M.disk medium.old).blocks self.old }
         requires next { HasNext (M.disk medium.old).blocks self.old }
         requires room { has_room entry ≡ true }
+        requires ready { length self.old < room_for ready }
         ensures done { OnOk result (self.new ≡ extended entry self.old) }
         ensures kept { OnErr result (self.new ≡ self.old) }
         ensures turns { Turns self.old (extended entry self.old) (next_number self.old ∷ []) ((last_block self.old).number ∷ next_number self.old ∷ []) (M.disk medium.old) (M.disk medium.new) result }
-        ensures untouched { IsErrOf result AddError.OutOfMemory → medium.new ≡ medium.old }
-        ensures no_fewer { (M.disk medium.old).failures ≤ (M.disk medium.new).failures }
-        ensures cause { IsErrOf result AddError.Medium → Rose (M.disk medium.old).failures (M.disk medium.new).failures }
+        ensures counts { Counts (M.disk medium.old) (M.disk medium.new) result }
     {
-        if self.chain.reserve(1).is_err() {
-            return Err(AddError::OutOfMemory);
-        }
         let next = self.next_block(entry);
         let linking = self.linking(next.number);
-        if let Err(_fault) = put_linked(medium, &next, &linking) {
-            return Err(AddError::Medium);
+        if let Err(fault) = put_linked(medium, &next, &linking) {
+            return Err(fault);
         }
         let last = self.chain.len() - 1;
+        ready.take_in(&mut self.chain);
         self.chain[last] = linking;
         self.chain.push_reserved(next);
         Ok(())

@@ -2,6 +2,6 @@
 #![tactic(auto)]
 
 #[cfg(test)]
-mod media;
-#[cfg(test)]
 mod directories;
+#[cfg(test)]
+mod media;

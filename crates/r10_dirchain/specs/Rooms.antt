@@ -1,0 +1,7 @@
+-- Memory for a directory that grows.
+use Rattle.std.specs.Prelude.{ℕ, vec_capacity}
+use Rattle.r10_dirchain.specs.declared.room.Room.{Room}
+
+-- for how many blocks there is memory
+abbrev pub room_for : Room → ℕ
+room_for room = vec_capacity room.blocks
