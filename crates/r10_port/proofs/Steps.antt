@@ -11,7 +11,7 @@ use Rattle.r10_machine.specs.Sound.{count_or_0}
 use Rattle.r10_port.specs.declared.item.Item.{Item}
 use Rattle.r10_port.specs.declared.item.Item.TheVariants.{Announce, Entry}
 use Rattle.r10_port.specs.Items.{samples, last_count, MayFollow}
-use Rattle.r10_port.specs.Ends.{Ring, Sending, Receiving, Offered, Took, reached}
+use Rattle.r10_port.specs.Ends.{Ring, Sending, Receiving, Offered, Took}
 use Rattle.r10_port.proofs.Items.{samples_joined, last_pushed, joins}
 
 -- ---- the sending end

@@ -5,7 +5,7 @@ use Rattle.r10_body.specs.declared.entry.Sample.{Sample}
 use Rattle.r10_body.specs.declared.message.Kind.TheVariants as kinds
 use Rattle.r10_body.specs.declared.message.Message.{Message}
 use Rattle.r10_body.specs.declared.message.Message.TheVariants.{Uart, Discrete}
-use Rattle.r10_body.specs.declared.refusal.Refusal.TheVariants.{WrongKind, BadMessage, TooLong, CountBack, Overflow}
+use Rattle.r10_body.specs.declared.refusal.Refusal.TheVariants.{WrongKind, BadMessage, CountBack, Overflow}
 use Rattle.r10_body.specs.declared.spec.ChannelSpec.{ChannelSpec}
 use Rattle.r10_machine.specs.Machine.{fresh_lane}
 use Rattle.r10_port.specs.declared.item.Item.TheVariants.{Announce, Entry}

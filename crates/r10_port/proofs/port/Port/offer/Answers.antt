@@ -1,4 +1,4 @@
-use Rattle.std.proofs.Common.{◌≡◌, Some, Ok, Err, arith, subst}
+use Rattle.std.proofs.Common.{Some, Ok, Err, arith, subst}
 use Rattle.rtrb.specs.Ring.{sent, known_free}
 use Rattle.r10_port.specs.Ends.{Sending, Offered, ring_of}
 use Rattle.r10_body.specs.declared.refusal.Refusal.TheVariants.{Overflow}

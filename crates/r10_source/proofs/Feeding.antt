@@ -1,0 +1,167 @@
+-- What offers and turns come to, one after the other.
+use Rattle.std.proofs.Common.{◌≡◌, ℕ, ◌+◌, ◌-◌, ◌≤◌, Bool, true, false, ◌||◌, cond, List, [], ◌∷◌, ◌++◌, map, length, count_by, is_ok, is_err, nat_lt, Option, Some, None, Result, Ok, Err, MatchOption, MatchResult, refl, sym, ap, subst, ◌∙◌, append_assoc, length-append, arith}
+use Rattle.std.specs.List.{AllByRecursion}
+use Rattle.std.proofs.lemmas.List.{append-nil, map-append}
+use Rattle.std.proofs.lemmas.List.Sums.{sum_by-append, sum_by-cons}
+use Rattle.std.proofs.lemmas.Bool.{lt-ltb}
+use mir.Val.{bool_byte}
+use Rattle.r10_count.specs.Checks.{first_broken}
+use Rattle.r10_body.specs.declared.entry.Timed.{Timed}
+use Rattle.r10_body.specs.declared.refusal.Refusal.{Refusal}
+use Rattle.r10_body.specs.declared.refusal.Refusal.TheVariants.{Overflow}
+use Rattle.r10_machine.specs.Checks.{offer_checks}
+use Rattle.r10_machine.specs.Calls.{accepted, overflowed}
+use Rattle.r10_machine.specs.Machine.{saturated}
+use Rattle.r10_port.specs.Ends.{Sending, Offered, sent}
+use Rattle.r10_source.specs.declared.pump.Pumped.{Pumped}
+use Rattle.r10_source.specs.Pumps.{Tried, Offers, Pumps, is_accepted, is_refused, is_overflow, gap_after, accepted_with, accepted_of}
+
+-- ---- one offer
+
+abbrev pub has_gap : Sending → Bool
+has_gap port = nat_lt 0 port.lane.missed
+
+some_is : {X : Type 0} {a b : X} → Some a ≡ Some b → a ≡ b
+some_is is = cc
+
+none_of : (checks : List (Bool × Refusal)) (r : Refusal) → AllByRecursion (λ c. is_overflow c.1 ≡ false) checks → first_broken checks ≡ Some r → is_overflow r ≡ false
+none_of [] r all is = absurd (cc)
+none_of ((true, f) ∷ checks) r (here, all) is = none_of checks r all is
+none_of ((false, f) ∷ checks) r (here, all) is = subst (λ (r : Refusal). is_overflow r ≡ false) (some_is is) here
+
+or_false : (a b : Bool) → b ≡ false → (a || b) ≡ a
+or_false true b is = refl
+or_false false b is = is
+
+or_true : (a b : Bool) → b ≡ true → (a || b) ≡ true
+or_true true b is = refl
+or_true false b is = is
+
+one_more : (missed : ℕ) → nat_lt 0 (saturated (missed + 1)) ≡ true
+one_more missed = lt-ltb 0 (saturated (missed + 1)) (omega arith)
+
+-- what one offer sends, and the gap that it leaves
+abbrev pub Became : Sending → Timed → Result (Unit {0}) Refusal → Sending → Type 0
+Became old item answer new = (sent new ≡ sent old ++ accepted_with (has_gap old) item answer) × (has_gap new ≡ gap_after (has_gap old) answer)
+
+pub became : (old : Sending) (item : Timed) (answer : Result (Unit {0}) Refusal) (new : Sending) → Offered old item.count item.message answer new → Became old item answer new
+became old item answer new offered = by (first_broken (offer_checks (Some old.lane) item.count item.message)) refl answer offered
+  where
+    stays : (r : Refusal) → is_overflow r ≡ false → new ≡ old → Became old item (Err r) new
+    stays r other same = (ap sent same ∙ sym (append-nil (sent old)), ap has_gap same ∙ sym (or_false (has_gap old) (is_overflow r) other))
+
+    by : (first : Option Refusal) → first_broken (offer_checks (Some old.lane) item.count item.message) ≡ first → (answer : Result (Unit {0}) Refusal)
+        → MatchOption first
+        (MatchResult answer
+        (λ _. (new ≡ record old { lane = accepted item.count item.message old.lane; free = new.free }) × (old.free ≤ new.free + 1))
+        (λ r. (r ≡ Overflow) × (old.free ≡ 0) × (new ≡ record old { lane = overflowed old.lane })))
+        (λ r. (answer ≡ Err r) × (new ≡ old))
+        → Became old item answer new
+    by (Some r) is answer (refused, same) =
+        subst (λ (a : Result (Unit {0}) Refusal). Became old item a new) (sym refused) (stays r (none_of (offer_checks (Some old.lane) item.count item.message) r (refl, (refl, (refl, (refl, (refl, tt))))) is) same)
+    by None is (Ok x) (same, room) = (ap sent same, ap has_gap same)
+    by None is (Err r) (overflow, full, same) = (
+      ap sent same ∙ sym (append-nil (sent old)),
+      ap has_gap same ∙ one_more old.lane.missed ∙ sym (or_true (has_gap old) (is_overflow r) (ap is_overflow overflow)),
+    )
+
+-- ---- offers
+
+pub offers_join : (a b c : Sending) (xs ys : List Tried) → Offers a xs b → Offers b ys c → Offers a (xs ++ ys) c
+offers_join a b c [] ys first second = subst (λ (p : Sending). Offers p ys c) first second
+offers_join a b c (x ∷ xs) ys (next, offered, rest) second = (next, offered, offers_join next b c xs ys rest second)
+
+pub offers_sent : (old new : Sending) (tried : List Tried) → Offers old tried new → sent new ≡ sent old ++ accepted_of (has_gap old) tried
+offers_sent old new [] same = ap sent same ∙ sym (append-nil (sent old))
+offers_sent old new (t ∷ tried) (next, offered, rest) =
+    let one = became old t.item t.answer next offered in
+    let more : sent next ++ accepted_of (has_gap next) tried ≡ (sent old ++ accepted_with (has_gap old) t.item t.answer) ++ accepted_of (gap_after (has_gap old) t.answer) tried =
+    λ i. one.0 i ++ accepted_of (one.1 i) tried in
+    offers_sent next new tried rest ∙ more ∙ append_assoc (sent old) (accepted_with (has_gap old) t.item t.answer) (accepted_of (gap_after (has_gap old) t.answer) tried)
+
+-- ---- turns
+
+abbrev items_of : List Tried → List Timed
+items_of tried = map (λ (t : Tried). t.item) tried
+
+accepted_or_refused : (tried : List Tried) → count_by is_accepted tried + count_by is_refused tried ≡ length tried
+accepted_or_refused [] = refl
+accepted_or_refused (t ∷ tried) =
+    omega (arith, sum_by-cons (λ (t : Tried). cond (is_accepted t) 1 0) t tried, sum_by-cons (λ (t : Tried). cond (is_refused t) 1 0) t tried, one t.answer, accepted_or_refused tried)
+  where
+    one : (a : Result (Unit {0}) Refusal) → cond (is_ok a) 1 0 + cond (is_err a) 1 0 ≡ 1
+    one (Ok x) = refl
+    one (Err r) = refl
+
+-- no more is accepted and refused than there are turns
+pub in_turns : (turns : ℕ) (a b : List Timed) (p q : Sending) (pumped : Pumped) → Pumps turns a b p q pumped → pumped.accepted + pumped.refused ≤ turns
+in_turns turns a b p q pumped pumps = omega (arith, pumps.accepted, pumps.refused, accepted_or_refused pumps.tried, pumps.turns)
+
+-- turns, and then more
+pub pumps_join : (n m : ℕ) (a b c : List Timed) (p q r : Sending) (x y : Pumped) → Pumps n a b p q x → Pumps m b c q r y
+    → Pumps (n + m) a c p r (record { accepted = x.accepted + y.accepted; refused = x.refused + y.refused; ended = y.ended })
+pumps_join n m a b c p q r x y first second =
+    let tried = first.tried ++ second.tried in
+    let offers = offers_join p q r first.tried second.tried first.offers second.offers in
+    record {
+      tried = tried;
+      given = first.given ∙ ap (λ (l : List Timed). items_of first.tried ++ l) second.given ∙ sym (append_assoc (items_of first.tried) (items_of second.tried) c)
+          ∙ ap (λ (l : List Timed). l ++ c) (sym (map-append (λ (t : Tried). t.item) first.tried second.tried));
+      offers = offers;
+      sent = offers_sent p r tried offers;
+      accepted = omega (arith, first.accepted, second.accepted, sum_by-append (λ (t : Tried). cond (is_accepted t) 1 0) first.tried second.tried);
+      refused = omega (arith, first.refused, second.refused, sum_by-append (λ (t : Tried). cond (is_refused t) 1 0) first.tried second.tried);
+      turns = omega (arith, first.turns, second.turns, length-append first.tried second.tried);
+      ended = second.ended;
+    }
+
+-- a turn without a message
+pub pumps_nothing : (turns : ℕ) (a b : List Timed) (p : Sending) (ended : Bool) → b ≡ a → (ended ≡ true → b ≡ []) → Pumps turns a b p p (record { accepted = 0; refused = 0; ended = ended })
+pumps_nothing turns a b p ended same none = record {
+  tried = [];
+  given = sym same;
+  offers = refl;
+  sent = sym (append-nil (sent p));
+  accepted = refl;
+  refused = refl;
+  turns = omega arith;
+  ended = none;
+}
+
+-- more turns may be made
+pub pumps_most : (n m : ℕ) (a b : List Timed) (p q : Sending) (x : Pumped) → n ≤ m → Pumps n a b p q x → Pumps m a b p q x
+pumps_most n m a b p q x less pumps = record {
+  tried = pumps.tried;
+  given = pumps.given;
+  offers = pumps.offers;
+  sent = pumps.sent;
+  accepted = pumps.accepted;
+  refused = pumps.refused;
+  turns = omega (arith, less, pumps.turns);
+  ended = pumps.ended;
+}
+
+pub one_if : (b : Bool) → bool_byte b ≡ cond b 1 0
+one_if true = refl
+one_if false = refl
+
+-- a turn with one
+pub pumps_one : (item : Timed) (answer : Result (Unit {0}) Refusal) (after : List Timed) (p q : Sending) (taken : ℕ) → Offered p item.count item.message answer q → taken ≡ cond (is_ok answer) 1 0
+    → Pumps 1 (item ∷ after) after p q (record { accepted = taken; refused = 1 - taken; ended = false })
+pumps_one item answer after p q taken offered is =
+    let t : Tried = record { item = item; answer = answer } in
+    let offers : Offers p (t ∷ []) q = (q, offered, refl) in
+    record {
+      tried = t ∷ [];
+      given = refl;
+      offers = offers;
+      sent = offers_sent p q (t ∷ []) offers;
+      accepted = omega (arith, is, sum_by-cons (λ (t : Tried). cond (is_accepted t) 1 0) t []);
+      refused = omega (arith, is, others answer, sum_by-cons (λ (t : Tried). cond (is_refused t) 1 0) t []);
+      turns = omega arith;
+      ended = λ e. absurd (cc);
+    }
+  where
+    others : (a : Result (Unit {0}) Refusal) → 1 - cond (is_ok a) 1 0 ≡ cond (is_err a) 1 0
+    others (Ok x) = refl
+    others (Err r) = refl

@@ -1,0 +1,52 @@
+-- What becomes at a port of what a source gives.
+use Rattle.std.specs.Prelude.{◌≡◌, ℕ, ◌≤◌, Bool, true, false, ◌||◌, List, [], ◌∷◌, ◌++◌, map, length, count_by, is_ok, is_err, nat_lt, Result, Ok, Err}
+use Rattle.r10_body.specs.declared.entry.Sample.{Sample}
+use Rattle.r10_body.specs.declared.entry.Timed.{Timed}
+use Rattle.r10_body.specs.declared.refusal.Refusal.{Refusal}
+use Rattle.r10_body.specs.declared.refusal.Refusal.TheVariants.{Overflow}
+use Rattle.r10_port.specs.Ends.{Sending, Offered, sent}
+use Rattle.r10_source.specs.declared.pump.Pumped.{Pumped}
+
+-- a message that was offered, and the answer
+pub record Tried : Type 0 where
+  pub item : Timed
+  pub answer : Result (Unit {0}) Refusal
+
+-- all of them were offered, one after the other
+abbrev pub Offers : Sending → List Tried → Sending → Type 0
+Offers old [] new = new ≡ old
+Offers old (t ∷ tried) new = (next : Sending) × Offered old t.item.count t.item.message t.answer next × Offers next tried new
+
+abbrev pub is_accepted : Tried → Bool
+is_accepted t = is_ok t.answer
+
+abbrev pub is_refused : Tried → Bool
+is_refused t = is_err t.answer
+
+abbrev pub is_overflow : Refusal → Bool
+is_overflow r = elim r [ Overflow ↦ true | _ ↦ false ]
+
+-- whether a message was lost since the last that was accepted
+abbrev pub gap_after : Bool → Result (Unit {0}) Refusal → Bool
+gap_after gap (Ok x) = false
+gap_after gap (Err r) = gap || is_overflow r
+
+abbrev pub accepted_with : Bool → Timed → Result (Unit {0}) Refusal → List Sample
+accepted_with gap item (Ok x) = record { count = item.count; message = item.message; gap = gap } ∷ []
+accepted_with gap item (Err r) = []
+
+-- the accepted ones, each with a gap mark exactly where one was lost since the accepted one before
+abbrev pub accepted_of : Bool → List Tried → List Sample
+accepted_of gap [] = []
+accepted_of gap (t ∷ tried) = accepted_with gap t.item t.answer ++ accepted_of (gap_after gap t.answer) tried
+
+-- so many turns: what was tried, accepted and refused, is the front of what the source had, and the source has the rest
+pub record Pumps (most : ℕ) (before after : List Timed) (old new : Sending) (pumped : Pumped) : Type 0 where
+  pub tried : List Tried
+  pub given : before ≡ map (λ t. t.item) tried ++ after
+  pub offers : Offers old tried new
+  pub sent : sent new ≡ sent old ++ accepted_of (nat_lt 0 old.lane.missed) tried
+  pub accepted : pumped.accepted ≡ count_by is_accepted tried
+  pub refused : pumped.refused ≡ count_by is_refused tried
+  pub turns : length tried ≤ most
+  pub ended : pumped.ended ≡ true → after ≡ []

@@ -1,0 +1,74 @@
+-- A source of three messages, pumped to a port that has room for two.
+use Rattle.std.specs.Prelude.{◌≡◌, ℕ, Bool, true, false, List, [], ◌∷◌, Option, Some, None, Result, Ok, Err, refl}
+use Rattle.std.proofs.Common.{lit≤}
+use Rattle.r10_body.specs.declared.entry.Sample.{Sample}
+use Rattle.r10_body.specs.declared.entry.Timed.{Timed}
+use Rattle.r10_body.specs.declared.message.Kind.TheVariants as kinds
+use Rattle.r10_body.specs.declared.message.Message.TheVariants.{Uart}
+use Rattle.r10_body.specs.declared.refusal.Refusal.{Refusal}
+use Rattle.r10_body.specs.declared.refusal.Refusal.TheVariants.{BadMessage, Overflow}
+use Rattle.r10_body.specs.declared.spec.ChannelSpec.{ChannelSpec}
+use Rattle.r10_port.specs.Ends.{Ring, Sending}
+use Rattle.r10_source.specs.declared.source.Given.TheVariants.{Item, Later, End}
+use Rattle.r10_source.specs.Given.{Gives}
+use Rattle.r10_source.specs.Pumps.{Tried, Pumps, accepted_of}
+
+abbrev channel : ChannelSpec
+channel = record { id = 5; kind = kinds.Uart; capacity = 2; check = 0; bytes = 524288; number = 65535; bits = 0 }
+
+abbrev timed : ℕ → Timed
+timed count = record { count = count; message = Uart false 0 [] }
+
+abbrev sample : ℕ → Bool → Sample
+sample count gap = record { count = count; message = Uart false 0 []; gap = gap }
+
+abbrev port : Ring → List Sample → Option ℕ → ℕ → ℕ → Sending
+port ring sent last lost free = record {
+  ring = ring;
+  lane = record { spec = channel; waiting = sent; last = last; missed = lost; lost = lost; erased = 0 };
+  free = free;
+}
+
+abbrev tried : ℕ → Result (Unit {0}) Refusal → Tried
+tried count answer = record { item = timed count; answer = answer }
+
+-- the first of what is left; nothing yet; nothing at all
+an_item : Gives (Item 1 (Uart false 0 [])) (timed 1 ∷ timed 2 ∷ []) (timed 2 ∷ [])
+an_item = refl
+
+not_yet : Gives Later (timed 2 ∷ []) (timed 2 ∷ [])
+not_yet = refl
+
+the_end : Gives End [] []
+the_end = (refl, refl)
+
+-- in two turns two are accepted
+two_turns : (ring : Ring) → Pumps 2 (timed 1 ∷ timed 2 ∷ timed 3 ∷ []) (timed 3 ∷ []) (port ring [] None 0 2) (port ring (sample 1 false ∷ sample 2 false ∷ []) (Some 2) 0 0) (record { accepted = 2; refused = 0; ended = false })
+two_turns ring = record {
+  tried = tried 1 (Ok tt) ∷ tried 2 (Ok tt) ∷ [];
+  given = refl;
+  offers = (port ring (sample 1 false ∷ []) (Some 1) 0 1, (refl, lit≤ tt), (port ring (sample 1 false ∷ sample 2 false ∷ []) (Some 2) 0 0, (refl, lit≤ tt), refl));
+  sent = refl;
+  accepted = refl;
+  refused = refl;
+  turns = lit≤ tt;
+  ended = λ e. absurd (cc);
+}
+
+-- and in ten the third is refused, and the source ends
+ten_turns : (ring : Ring) → Pumps 10 (timed 3 ∷ []) [] (port ring (sample 1 false ∷ sample 2 false ∷ []) (Some 2) 0 0) (port ring (sample 1 false ∷ sample 2 false ∷ []) (Some 2) 1 0) (record { accepted = 0; refused = 1; ended = true })
+ten_turns ring = record {
+  tried = tried 3 (Err Overflow) ∷ [];
+  given = refl;
+  offers = (port ring (sample 1 false ∷ sample 2 false ∷ []) (Some 2) 1 0, (refl, refl, refl), refl);
+  sent = refl;
+  accepted = refl;
+  refused = refl;
+  turns = lit≤ tt;
+  ended = λ e. refl;
+}
+
+-- only a loss makes a gap, and only of the next that is accepted
+marks : accepted_of false (tried 1 (Err BadMessage) ∷ tried 2 (Ok tt) ∷ tried 3 (Err Overflow) ∷ tried 4 (Err BadMessage) ∷ tried 5 (Ok tt) ∷ tried 6 (Ok tt) ∷ [])
+    ≡ sample 2 false ∷ sample 5 true ∷ sample 6 false ∷ []
+marks = refl
