@@ -1,17 +1,20 @@
 -- Each rule of a file: a packet that keeps it and one that breaks it, behind the first recording's packets.
-use Rattle.std.specs.Prelude.{ℕ, true, false, [], ◌∷◌, ◌++◌, refl}
-use Rattle.std.proofs.Common.{lit<, lit≤, arith, sym, ◌≤◌}
+use Rattle.std.specs.Prelude.{ℕ, true, false, List, [], ◌∷◌, ◌++◌, length, take, replicate, refl}
+use Rattle.std.specs.List.{sum_by}
+use Rattle.std.proofs.Common.{lit<, lit≤, arith, sym, ap, ◌≤◌}
+use Rattle.r10_indexbody.specs.Vectors.{names, stands}
+use Rattle.r10_indexbody.specs.declared.entry.RootEntry.{RootEntry}
 use Rattle.r10_uart.specs.declared.entry.UartEntry.{UartEntry}
-use Rattle.r10_body.specs.Content.{event, uart}
+use Rattle.r10_body.specs.Content.{event, uart, node, root}
 use Rattle.r10_packet.specs.Header.{header_bytes}
 use Rattle.r10_body.specs.Packets.{Packet, packet_bytes, file_bytes}
-use Rattle.r10_body.specs.Rules.{KeepsChecksums, KeepsStart, KeepsChannels, KeepsSequence, KeepsCounts, KeepsCounters, KeepsEvents}
-use Rattle.r10_body.specs.Faults.{IsAtFault, KeepsHeader, KeepsFiller, Reads, BreaksRule, first_packet, rule, no_time}
+use Rattle.r10_body.specs.Rules.{KeepsChecksums, KeepsStart, KeepsChannels, KeepsSequence, KeepsCounts, KeepsIndex, KeepsCounters, KeepsEvents, node_entries}
+use Rattle.r10_body.specs.Faults.{IsAtFault, KeepsHeader, KeepsFiller, Reads, BreaksRule, first_packet, rule, no_time, no_index}
 use Rattle.r10_body.specs.Faults as faults
 use Rattle.r10_body.specs.Foreign.{IsForeignPacket}
 use Rattle.r10_body.specs.declared.fault.FileFault.TheVariants.{Rule}
-use Rattle.r10_body.specs.Vectors.{setup_packet, time_packet, uart_packet, recording}
-use Rattle.r10_body.proofs.Recording.{setup-first, time-second, no}
+use Rattle.r10_body.specs.Vectors.{setup_packet, time_packet, uart_packet, node_packet, root_packet, data_packets, recording}
+use Rattle.r10_body.proofs.Recording.{setup-first, time-second, uart-third, node-fourth, no}
 
 abbrev pub text_at : ℕ → UartEntry
 text_at count = record { count = count; parity = false; sub = 0; bytes = [] }
@@ -32,7 +35,7 @@ pub event-with-checksum : KeepsChecksums (record (event_packet 0 3 0) { check = 
 event-with-checksum keeps = omega (arith, keeps refl)
 
 -- rule 4: one setup packet, and a time packet second
-pub second-setup : KeepsStart recording setup_packet → ⊥
+pub second-setup : KeepsStart data_packets setup_packet → ⊥
 second-setup ((only-first, first), second) = omega (arith, only-first refl)
 
 pub no-setup : KeepsStart [] time_packet → ⊥
@@ -42,62 +45,117 @@ pub no-time-second : KeepsStart (setup_packet ∷ []) uart_packet → ⊥
 no-time-second (start, second) = no (second refl)
 
 -- rule 5: channels
-pub data-on-channel-0 : KeepsChannels recording (record uart_packet { channel = 0 }) → ⊥
+pub data-on-channel-0 : KeepsChannels data_packets (record uart_packet { channel = 0 }) → ⊥
 data-on-channel-0 ((there, back), one-type, flags) = no (back refl)
+
+pub index-on-channel-5 : KeepsChannels data_packets (record node_packet { channel = 5 }) → ⊥
+index-on-channel-5 ((there, back), one-type, flags) = omega (arith, there refl)
 
 pub setup-on-channel-5 : KeepsChannels [] (record setup_packet { channel = 5 }) → ⊥
 setup-on-channel-5 ((there, back), one-type, flags) = omega (arith, there refl)
 
-pub another-type : KeepsChannels recording (record uart_packet { channel = 1 }) → ⊥
+pub another-type : KeepsChannels data_packets (record uart_packet { channel = 1 }) → ⊥
 another-type (place, one-type, flags) = omega (arith, (one-type (lit< tt)).1.0 refl)
 
 pub flagged-time : KeepsChannels (setup_packet ∷ []) (record time_packet { flagged = true }) → ⊥
 flagged-time (place, one-type, flags) = no (sym (flags refl))
 
-pub flagged-event : KeepsChannels recording (record (event_packet 0 3 0) { flagged = true }) → ⊥
+pub flagged-event : KeepsChannels data_packets (record (event_packet 0 3 0) { flagged = true }) → ⊥
 flagged-event (place, one-type, flags) = no (sym (flags refl))
 
 -- rule 6: sequence numbers
-pub numbered : KeepsSequence recording (next_packet 1 1010 1010)
+pub numbered : KeepsSequence data_packets (next_packet 1 1010 1010)
 numbered = refl
 
-pub not-numbered : KeepsSequence recording (next_packet 0 1010 1010) → ⊥
+pub not-numbered : KeepsSequence data_packets (next_packet 0 1010 1010) → ⊥
 not-numbered keeps = omega (arith, keeps)
 
 -- rule 7: counts
-pub counted : KeepsCounts recording (next_packet 1 1010 1001010)
+pub counted : KeepsCounts data_packets (next_packet 1 1010 1001010)
 counted = ((refl, tt), (lit≤ tt, (lit≤ tt, (lit≤ tt, (lit≤ tt, tt)))), (lit≤ tt, (lit≤ tt, tt)))
 
-pub too-far : KeepsCounts recording (next_packet 1 1010 1001011) → ⊥
+pub too-far : KeepsCounts data_packets (next_packet 1 1010 1001011) → ⊥
 too-far (first, rise, (near, (far, end))) = omega (arith, far)
 
-pub falls-back : KeepsCounts recording (next_packet 1 1009 1010) → ⊥
+pub falls-back : KeepsCounts data_packets (next_packet 1 1009 1010) → ⊥
 falls-back (first, (a, (b, (c, d))), near) = omega (arith, c)
 
-pub other-counter : KeepsCounts recording (record (next_packet 1 1010 1010) { counter = 1009 }) → ⊥
+pub other-counter : KeepsCounts data_packets (record (next_packet 1 1010 1010) { counter = 1009 }) → ⊥
 other-counter ((first, end), rise, near) = omega (arith, first)
 
--- rule 9: the counter of the setup packet
+-- rule 8: the index
+pub data-behind-node : KeepsIndex (data_packets ++ node_packet ∷ []) (next_packet 1 1010 1010) → ⊥
+data-behind-node (roots, nodes) = omega (arith, nodes)
+
+pub node-behind-root : KeepsIndex recording node_packet → ⊥
+node-behind-root (roots, entries) = omega (arith, roots)
+
+pub root-without-node : KeepsIndex data_packets root_packet → ⊥
+root-without-node (roots, (named, entries)) = omega (arith, named)
+
+-- a node without the last packet, and one without the setup packet
+pub entry-left-out : KeepsIndex data_packets (record node_packet { content = node (names 0x01 0 0 ∷ names 0x11 1 32 ∷ []) }) → ⊥
+entry-left-out (roots, entries) = omega (arith, ap length entries)
+
+pub setup-left-out : KeepsIndex data_packets (record node_packet { content = node (names 0x11 1 32 ∷ names 0x50 5 68 ∷ []) }) → ⊥
+setup-left-out (roots, entries) = omega (arith, ap length entries)
+
+-- a node of 99 entries where there are 101 packets
+abbrev many : List Packet
+many = setup_packet ∷ time_packet ∷ replicate 99 uart_packet
+
+pub ninety-nine : KeepsIndex many (record node_packet { content = node (take 99 (node_entries 0 many)) }) → ⊥
+ninety-nine (roots, entries) = omega (arith, ap length entries)
+
+-- a root that doesn't name itself, and one that names itself where the node stands
+pub root-not-named : KeepsIndex (data_packets ++ node_packet ∷ []) (record root_packet { content = root (stands 124 ∷ []) }) → ⊥
+root-not-named (roots, (named, entries)) = omega (arith, ap length entries)
+
+pub root-names-another : KeepsIndex (data_packets ++ node_packet ∷ []) (record root_packet { content = root (stands 124 ∷ stands 124 ∷ []) }) → ⊥
+unfolding packet_bytes header_bytes
+root-names-another (roots, (named, entries)) = omega (arith, ap (sum_by (λ (e : RootEntry). e.offset)) entries)
+
+-- rule 9: the counter of the setup packet and of the index
 pub setup-counter : KeepsCounters (record setup_packet { counter = 999 } ∷ []) time_packet → ⊥
-setup-counter first = omega (arith, (first refl).0)
+setup-counter (first, last) = omega (arith, (first refl).0)
+
+pub node-counter : KeepsCounters data_packets (record node_packet { counter = 1010 }) → ⊥
+node-counter (first, last) = omega (arith, last refl)
 
 -- rule 10: how many events of its number came before
-pub first-event : KeepsEvents recording (event_packet 0 3 0)
+pub first-event : KeepsEvents data_packets (event_packet 0 3 0)
 first-event = refl
 
-pub not-first-event : KeepsEvents recording (event_packet 0 3 1) → ⊥
+pub not-first-event : KeepsEvents data_packets (event_packet 0 3 1) → ⊥
 not-first-event keeps = omega (arith, keeps)
 
-pub second-event : KeepsEvents (recording ++ event_packet 0 3 0 ∷ []) (event_packet 1 3 1)
+pub second-event : KeepsEvents (data_packets ++ event_packet 0 3 0 ∷ []) (event_packet 1 3 1)
 second-event = refl
 
-pub other-event : KeepsEvents (recording ++ event_packet 0 3 0 ∷ []) (event_packet 1 4 0)
+pub other-event : KeepsEvents (data_packets ++ event_packet 0 3 0 ∷ []) (event_packet 1 4 0)
 other-event = refl
 
 -- a file that ends behind its setup packet
-pub no-time-at-all : IsAtFault (file_bytes (setup_packet ∷ [])) 32 (Rule 4)
+pub no-time-at-all : IsAtFault (file_bytes (setup_packet ∷ [])) false 32 (Rule 4)
 unfolding packet_bytes header_bytes
-no-time-at-all = record { packets = setup_packet ∷ []; rest = []; bytes_are = refl; offset_is = refl; strict = (setup-first, tt); wrong = no_time refl refl }
+no-time-at-all = record { packets = setup_packet ∷ []; rest = []; bytes_are = refl; offset_is = refl; strict = (setup-first, tt); unclosed = λ _. refl; wrong = no_time refl refl }
+
+-- a file whose directory entry is closed has an index, and the root too
+pub index-missing : IsAtFault (file_bytes data_packets) true 124 (Rule 8)
+unfolding packet_bytes header_bytes
+index-missing = record { packets = data_packets; rest = []; bytes_are = refl; offset_is = refl; strict = (setup-first, (time-second, (uart-third, tt))); unclosed = λ _. refl; wrong = no_index refl (lit≤ tt) refl refl }
+
+pub root-missing : IsAtFault (take 212 (file_bytes recording)) true 212 (Rule 8)
+unfolding packet_bytes header_bytes
+root-missing = record {
+  packets = data_packets ++ node_packet ∷ [];
+  rest = [];
+  bytes_are = refl;
+  offset_is = refl;
+  strict = (setup-first, (time-second, (uart-third, (node-fourth, tt))));
+  unclosed = λ is. absurd (no (sym is));
+  wrong = no_index refl (lit≤ tt) refl refl;
+}
 
 -- a file that begins with its time packet: everything about the packet is right but its place
 pub time-reads : Reads (packet_bytes time_packet) time_packet
@@ -106,7 +164,7 @@ time-reads = (time-second.fits, time-second.checksums, refl)
 
 pub time-is : IsForeignPacket (first_packet (packet_bytes time_packet))
 unfolding packet_bytes header_bytes
-time-is = record { framed = refl; whole = refl; checked = λ _. refl; body = λ _. record { setup = λ e. absurd (omega (arith, e)); event = λ e. absurd (omega (arith, e)); time = λ _. refl; bus = λ e. absurd (omega (arith, e)); discrete = λ e. absurd (omega (arith, e)); message = λ e. absurd (omega (arith, e)); arinc = λ e. absurd (omega (arith, e)); uart = λ e. absurd (omega (arith, e)) } }
+time-is = record { framed = refl; whole = refl; checked = λ _. refl; body = λ _. record { setup = λ e. absurd (omega (arith, e)); event = λ e. absurd (omega (arith, e)); index = λ e. absurd (omega (arith, e)); time = λ _. refl; bus = λ e. absurd (omega (arith, e)); discrete = λ e. absurd (omega (arith, e)); message = λ e. absurd (omega (arith, e)); arinc = λ e. absurd (omega (arith, e)); uart = λ e. absurd (omega (arith, e)) } }
 
 pub time-header : KeepsHeader (packet_bytes time_packet)
 unfolding packet_bytes header_bytes
@@ -116,7 +174,7 @@ pub time-filler : KeepsFiller (packet_bytes time_packet)
 unfolding packet_bytes header_bytes
 time-filler = refl
 
-least-four : (m : ℕ) → BreaksRule [] (packet_bytes time_packet) m → 4 ≤ m
+least-four : (m : ℕ) → BreaksRule [] (packet_bytes time_packet) false m → 4 ≤ m
 least-four m (faults.version breaks) = absurd (breaks time-header)
 least-four m (faults.filler is breaks) = absurd (breaks time-filler)
 least-four m (faults.body breaks) = absurd (breaks (time_packet, time-reads))
@@ -124,8 +182,10 @@ least-four m (faults.start p reads breaks) = lit≤ tt
 least-four m (faults.channels p reads breaks) = lit≤ tt
 least-four m (faults.sequence p reads breaks) = lit≤ tt
 least-four m (faults.counts p reads breaks) = lit≤ tt
+least-four m (faults.index p reads breaks) = lit≤ tt
+least-four m (faults.unclosed p reads index unclosed) = lit≤ tt
 least-four m (faults.counters p reads breaks) = lit≤ tt
 least-four m (faults.events p reads breaks) = lit≤ tt
 
-pub begins-with-time : IsAtFault (packet_bytes time_packet) 0 (Rule 4)
-begins-with-time = record { packets = []; rest = packet_bytes time_packet; bytes_are = refl; offset_is = refl; strict = tt; wrong = rule time-is (faults.start time_packet time-reads no-setup) least-four }
+pub begins-with-time : IsAtFault (packet_bytes time_packet) false 0 (Rule 4)
+begins-with-time = record { packets = []; rest = packet_bytes time_packet; bytes_are = refl; offset_is = refl; strict = tt; unclosed = λ _. refl; wrong = rule time-is (faults.start time_packet time-reads no-setup) least-four }

@@ -1,4 +1,4 @@
-mod Recording
+pub mod Recording
 mod Cases
 pub mod Lone
 mod Discretes

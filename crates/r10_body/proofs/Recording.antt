@@ -1,10 +1,11 @@
 -- The first recording is a file that says its setup and its entries.
-use Rattle.std.specs.Prelude.{◌≡◌, true, false, [], ◌∷◌, refl}
-use Rattle.std.proofs.Common.{lit<, lit≤, arith}
-use Rattle.r10_body.specs.Packets.{file_bytes}
-use Rattle.r10_body.specs.Rules.{MayFollow}
+use Rattle.std.specs.Prelude.{◌≡◌, true, false, [], ◌∷◌, ◌++◌, refl}
+use Rattle.std.proofs.Common.{lit<, lit≤, arith, sym}
+use Rattle.r10_packet.specs.Header.{header_bytes}
+use Rattle.r10_body.specs.Packets.{packet_bytes, file_bytes}
+use Rattle.r10_body.specs.Rules.{MayFollow, IsFile}
 use Rattle.r10_body.specs.Files.{FileSays}
-use Rattle.r10_body.specs.Vectors.{setup_packet, time_packet, uart_packet, recording, recorded}
+use Rattle.r10_body.specs.Vectors.{setup_packet, time_packet, uart_packet, node_packet, root_packet, data_packets, recording, recorded}
 
 pub no : false ≡ true → ⊥
 no e = cc
@@ -17,7 +18,8 @@ setup-first = record {
   channels = ((λ _. refl, λ _. refl), λ _. tt, λ _. refl);
   sequence = refl;
   counts = (tt, tt, tt);
-  counters = λ e. tt;
+  index = (refl, refl);
+  counters = (λ e. tt, λ e. absurd (no e));
   events = tt;
 }
 
@@ -29,7 +31,8 @@ time-second = record {
   channels = ((λ e. absurd (no e), λ e. absurd (omega arith)), λ _. (λ e. absurd (omega arith), tt), λ _. refl);
   sequence = refl;
   counts = ((refl, tt), (lit≤ tt, tt), (lit≤ tt, tt));
-  counters = λ _. (refl, tt);
+  index = (refl, refl);
+  counters = (λ _. (refl, tt), λ e. absurd (no e));
   events = tt;
 }
 
@@ -48,17 +51,79 @@ uart-third = record {
   channels = ((λ e. absurd (no e), λ e. absurd (omega arith)), λ _. (λ e. absurd (omega arith), (λ e. absurd (omega arith), tt)), λ _. refl);
   sequence = refl;
   counts = ((refl, tt), (lit≤ tt, (lit≤ tt, tt)), (lit≤ tt, (lit≤ tt, tt)));
-  counters = λ e. absurd (omega arith);
+  index = (refl, refl);
+  counters = (λ e. absurd (omega arith), λ e. absurd (no e));
   events = tt;
 }
 
-pub recording-says : FileSays (file_bytes recording) (0x41 ∷ 0x42 ∷ 0x43 ∷ 0x44 ∷ []) recorded false
+pub node-fourth : MayFollow data_packets node_packet
+unfolding packet_bytes header_bytes
+node-fourth = record {
+  fits = record {
+    channel = lit< tt;
+    sequence = lit< tt;
+    check = lit< tt;
+    counter = lit< tt;
+    content = record { some = lit< tt; counted = lit< tt; fields = (record { counter = lit< tt; data_type = lit< tt; channel = lit< tt; offset = lit< tt }, (record { counter = lit< tt; data_type = lit< tt; channel = lit< tt; offset = lit< tt }, (record { counter = lit< tt; data_type = lit< tt; channel = lit< tt; offset = lit< tt }, tt))) };
+    short = lit≤ tt;
+  };
+  checksums = λ _. refl;
+  start = ((λ e. absurd (no e), λ e. absurd (omega arith)), λ e. absurd (omega arith));
+  channels = ((λ _. refl, λ _. refl), λ lt. absurd (omega arith), λ _. refl);
+  sequence = refl;
+  counts = (tt, tt, tt);
+  index = (refl, refl);
+  counters = (λ e. absurd (omega arith), λ _. refl);
+  events = tt;
+}
+
+pub root-fifth : MayFollow (data_packets ++ node_packet ∷ []) root_packet
+unfolding packet_bytes header_bytes
+root-fifth = record {
+  fits = record {
+    channel = lit< tt;
+    sequence = lit< tt;
+    check = lit< tt;
+    counter = lit< tt;
+    content = record { some = lit< tt; counted = lit< tt; fields = (record { counter = lit< tt; offset = lit< tt }, (record { counter = lit< tt; offset = lit< tt }, tt)) };
+    short = lit≤ tt;
+  };
+  checksums = λ _. refl;
+  start = ((λ e. absurd (no e), λ e. absurd (omega arith)), λ e. absurd (omega arith));
+  channels = ((λ _. refl, λ _. refl), λ lt. absurd (omega arith), λ _. refl);
+  sequence = refl;
+  counts = (tt, tt, tt);
+  index = (refl, (lit≤ tt, refl));
+  counters = (λ e. absurd (omega arith), λ _. refl);
+  events = tt;
+}
+
+-- the packets of data are an unclosed file
+pub recording-says : FileSays (file_bytes data_packets) (0x41 ∷ 0x42 ∷ 0x43 ∷ 0x44 ∷ []) recorded false
 recording-says = (
+  data_packets,
+  refl,
+  record {
+    file = record { each = (setup-first, (time-second, (uart-third, tt))); start = lit≤ tt; index = λ _. refl };
+    setup_is = refl;
+    entries_are = λ channel. refl;
+    closed_is = refl;
+  },
+)
+
+-- with the index they are a closed one
+pub closed-says : FileSays (file_bytes recording) (0x41 ∷ 0x42 ∷ 0x43 ∷ 0x44 ∷ []) recorded true
+closed-says = (
   recording,
   refl,
   record {
-    file = record { each = (setup-first, (time-second, (uart-third, tt))); start = lit≤ tt };
+    file = record { each = (setup-first, (time-second, (uart-third, (node-fourth, (root-fifth, tt))))); start = lit≤ tt; index = λ e. absurd (no (sym e)) };
     setup_is = refl;
     entries_are = λ channel. refl;
+    closed_is = refl;
   },
 )
+
+-- and without the root none
+pub no-root : IsFile (data_packets ++ node_packet ∷ []) → ⊥
+no-root file = omega (arith, file.index refl)

@@ -1,12 +1,12 @@
 -- The first fault of a file.
-use Rattle.std.specs.Prelude.{◌≡◌, ℕ, ◌<◌, ◌≤◌, ◌⊎◌, true, false, List, [], ◌++◌, length, take, slice_range, Some, None, bit_and}
+use Rattle.std.specs.Prelude.{◌≡◌, ℕ, ◌<◌, ◌≤◌, ◌⊎◌, Bool, true, false, IsTrue, List, [], ◌++◌, length, count_by, take, slice_range, Some, None, bit_and}
 use Rattle.std.specs.List.{AllByRecursion, concat}
 use Rattle.r10_packet.specs.Framing.{framing_fault, header_at, body_at, has_data_checksum}
 use Rattle.r10_packet.specs.Header.{checksum_bits}
 use Rattle.r10_packet.specs.Packet.{filled, least_filler}
 use Rattle.r10_packet.specs.declared.fault.PacketFault.TheVariants as framing
 use Rattle.r10_body.specs.Packets.{Packet, FitsPacket, packet_bytes, file_bytes}
-use Rattle.r10_body.specs.Rules.{KeepsChecksums, KeepsStart, KeepsChannels, KeepsSequence, KeepsCounts, KeepsCounters, KeepsEvents, EachFollows}
+use Rattle.r10_body.specs.Rules.{KeepsChecksums, KeepsStart, KeepsChannels, KeepsSequence, KeepsCounts, KeepsIndex, KeepsCounters, KeepsEvents, EachFollows, is_index, is_closed}
 use Rattle.r10_body.specs.Foreign.{opaque_at, IsForeignBody, IsForeignPacket}
 use Rattle.r10_body.specs.declared.fault.FileFault.{FileFault}
 use Rattle.r10_body.specs.declared.fault.FileFault.TheVariants.{Truncated, Sync, HeaderSum, Length, DataSum, Body, Rule}
@@ -52,29 +52,34 @@ KeepsFiller bytes =
 abbrev pub Reads : List ℕ → Packet → Type 0
 Reads bytes p = FitsPacket p × KeepsChecksums p × (first_packet bytes ≡ packet_bytes p)
 
--- what stands first breaks a rule, behind these packets
-pub data BreaksRule (before : List Packet) (bytes : List ℕ) : ℕ → Type 0 where
-  version : ¬ KeepsHeader bytes → BreaksRule before bytes 1
-  filler : opaque_at bytes ≡ false → ¬ KeepsFiller bytes → BreaksRule before bytes 2
-  body : ¬ ((p : Packet) × Reads bytes p) → BreaksRule before bytes 3
-  start : (p : Packet) → Reads bytes p → ¬ KeepsStart before p → BreaksRule before bytes 4
-  channels : (p : Packet) → Reads bytes p → ¬ KeepsChannels before p → BreaksRule before bytes 5
-  sequence : (p : Packet) → Reads bytes p → ¬ KeepsSequence before p → BreaksRule before bytes 6
-  counts : (p : Packet) → Reads bytes p → ¬ KeepsCounts before p → BreaksRule before bytes 7
-  counters : (p : Packet) → Reads bytes p → ¬ KeepsCounters before p → BreaksRule before bytes 9
-  events : (p : Packet) → Reads bytes p → ¬ KeepsEvents before p → BreaksRule before bytes 10
+-- what stands first breaks a rule, behind these packets of a file whose directory entry is closed or not
+pub data BreaksRule (before : List Packet) (bytes : List ℕ) (closed : Bool) : ℕ → Type 0 where
+  version : ¬ KeepsHeader bytes → BreaksRule before bytes closed 1
+  filler : opaque_at bytes ≡ false → ¬ KeepsFiller bytes → BreaksRule before bytes closed 2
+  body : ¬ ((p : Packet) × Reads bytes p) → BreaksRule before bytes closed 3
+  start : (p : Packet) → Reads bytes p → ¬ KeepsStart before p → BreaksRule before bytes closed 4
+  channels : (p : Packet) → Reads bytes p → ¬ KeepsChannels before p → BreaksRule before bytes closed 5
+  sequence : (p : Packet) → Reads bytes p → ¬ KeepsSequence before p → BreaksRule before bytes closed 6
+  counts : (p : Packet) → Reads bytes p → ¬ KeepsCounts before p → BreaksRule before bytes closed 7
+  index : (p : Packet) → Reads bytes p → ¬ KeepsIndex before p → BreaksRule before bytes closed 8
+  unclosed : (p : Packet) → Reads bytes p → IsTrue (is_index p) → closed ≡ false → BreaksRule before bytes closed 8
+  counters : (p : Packet) → Reads bytes p → ¬ KeepsCounters before p → BreaksRule before bytes closed 9
+  events : (p : Packet) → Reads bytes p → ¬ KeepsEvents before p → BreaksRule before bytes closed 10
 
 -- what is wrong behind these packets, where no fault of framing, data checksum or body comes before a rule, and of rules the least is named
-pub data IsWrongHere (before : List Packet) (rest : List ℕ) : FileFault → Type 0 where
-  packet : {fault : FileFault} → (0 < length rest) ⊎ (length before ≡ 0) → HasFault rest fault → IsWrongHere before rest fault
-  rule : {n : ℕ} → IsForeignPacket (first_packet rest) → BreaksRule before rest n → ((m : ℕ) → BreaksRule before rest m → n ≤ m) → IsWrongHere before rest (Rule n)
-  no_time : length rest ≡ 0 → length before ≡ 1 → IsWrongHere before rest (Rule 4)
+pub data IsWrongHere (before : List Packet) (rest : List ℕ) (closed : Bool) : FileFault → Type 0 where
+  packet : {fault : FileFault} → (0 < length rest) ⊎ (length before ≡ 0) → HasFault rest fault → IsWrongHere before rest closed fault
+  rule : {n : ℕ} → IsForeignPacket (first_packet rest) → BreaksRule before rest closed n → ((m : ℕ) → BreaksRule before rest closed m → n ≤ m) → IsWrongHere before rest closed (Rule n)
+  no_time : length rest ≡ 0 → length before ≡ 1 → IsWrongHere before rest closed (Rule 4)
+  -- nodes or the root are missing
+  no_index : length rest ≡ 0 → 2 ≤ length before → closed ≡ true → is_closed before ≡ false → IsWrongHere before rest closed (Rule 8)
 
--- a file that should be strict is at fault first at an offset: what stands before are packets that follow each other
-pub record IsAtFault (bytes : List ℕ) (offset : ℕ) (fault : FileFault) : Type 0 where
+-- a file that should be strict, with a closed directory entry or an unclosed one, is at fault first at an offset: what stands before are packets that follow each other, without an index where the entry is unclosed
+pub record IsAtFault (bytes : List ℕ) (closed : Bool) (offset : ℕ) (fault : FileFault) : Type 0 where
   pub packets : List Packet
   pub rest : List ℕ
   pub bytes_are : bytes ≡ file_bytes packets ++ rest
   pub offset_is : offset ≡ length (file_bytes packets)
   pub strict : EachFollows [] packets
-  pub wrong : IsWrongHere packets rest fault
+  pub unclosed : closed ≡ false → count_by is_index packets ≡ 0
+  pub wrong : IsWrongHere packets rest closed fault

@@ -7,20 +7,21 @@ use Rattle.r10_packet.specs.declared.header.Header.{Header}
 use Rattle.r10_setup.specs.Setup as setups
 use Rattle.r10_timebody.specs.Time as times
 use Rattle.r10_event.specs.Event as events
+use Rattle.r10_indexbody.specs.Index as indexes
 use Rattle.r10_uart.specs.Uart as uarts
 use Rattle.r10_b1553.specs.Bus as buses
 use Rattle.r10_a429.specs.Arinc as arincs
 use Rattle.r10_discrete.specs.Discrete as discretes
 use Rattle.r10_message.specs.Message as messages
 
--- the data types that are read: setup, event, time, MIL-STD-1553, discrete, message, ARINC 429 and UART
+-- the data types that are read: setup, event, index, time, MIL-STD-1553, discrete, message, ARINC 429 and UART
 abbrev pub known_types : List ℕ
-known_types = 0x01 ∷ 0x02 ∷ 0x11 ∷ 0x19 ∷ 0x29 ∷ 0x30 ∷ 0x38 ∷ 0x50 ∷ []
+known_types = 0x01 ∷ 0x02 ∷ 0x03 ∷ 0x11 ∷ 0x19 ∷ 0x29 ∷ 0x30 ∷ 0x38 ∷ 0x50 ∷ []
 
 -- the channel specific word of a body selects a form that isn't read; a body without a whole word selects nothing
 abbrev pub selects_other : ℕ → List ℕ → Bool
 selects_other type body =
-    (type == 0x01 && setups.is_opaque body) || (type == 0x02 && events.is_opaque body) || (type == 0x11 && times.is_opaque body)
+    (type == 0x01 && setups.is_opaque body) || (type == 0x02 && events.is_opaque body) || (type == 0x03 && indexes.is_opaque body) || (type == 0x11 && times.is_opaque body)
     || (type == 0x30 && messages.is_opaque body) || (type == 0x50 && uarts.is_opaque body)
 
 -- a packet with a secondary header or with another intra-packet time than the counter's, of another type, or of a form that isn't read
@@ -33,6 +34,7 @@ is_opaque h body =
 pub record IsForeignBody (type : ℕ) (body : List ℕ) : Type 0 where
   pub setup : type ≡ 0x01 → setups.IsForeignSetup body
   pub event : type ≡ 0x02 → events.IsForeignEvents body
+  pub index : type ≡ 0x03 → indexes.IsForeignIndex body
   pub time : type ≡ 0x11 → times.IsForeignTime body
   pub bus : type ≡ 0x19 → buses.IsForeignBus body
   pub discrete : type ≡ 0x29 → discretes.IsForeignDiscrete body

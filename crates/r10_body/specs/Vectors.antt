@@ -6,7 +6,9 @@ use Rattle.r10_count.specs.declared.civil.Parts.{Parts}
 use Rattle.r10_uart.specs.declared.entry.UartEntry.{UartEntry}
 use Rattle.r10_a429.specs.declared.entry.ArincEntry.{ArincEntry}
 use Rattle.r10_body.specs.Bodies.{content_of, message_type}
-use Rattle.r10_body.specs.Content.{body_of, setup, time, uart, arinc}
+use Rattle.r10_body.specs.Content.{body_of, setup, time, uart, arinc, node, root}
+use Rattle.r10_indexbody.specs.Vectors.{at_1000, names, stands}
+use Rattle.r10_body.specs.Rules.{node_entries}
 use Rattle.r10_body.specs.Packets.{Packet, packet_bytes, file_bytes, file_entries}
 use Rattle.r10_body.specs.Cost.{message_cost, file_cost}
 use Rattle.r10_body.specs.Messages.{alone_len, channel_refusal, is_in_range, is_kind}
@@ -211,12 +213,46 @@ event-ranges = refl
 
 -- ---- a file
 
-abbrev pub recording : List Packet
-recording = setup_packet ∷ time_packet ∷ uart_packet ∷ []
+-- setup, time and data
+abbrev pub data_packets : List Packet
+data_packets = setup_packet ∷ time_packet ∷ uart_packet ∷ []
 
-pub recording-len : length (file_bytes recording) ≡ 124
+pub data-len : length (file_bytes data_packets) ≡ 124
+unfolding packet_bytes header_bytes
+data-len = refl
+
+-- what names them, and what names that
+abbrev pub node_packet : Packet
+node_packet = record { channel = 0; sequence = 1; flagged = false; check = 0; counter = 1000; content = node (names 0x01 0 0 ∷ names 0x11 1 32 ∷ names 0x50 5 68 ∷ []) }
+
+abbrev pub root_packet : Packet
+root_packet = record { channel = 0; sequence = 2; flagged = false; check = 0; counter = 1000; content = root (stands 124 ∷ stands 212 ∷ []) }
+
+pub node-bytes : packet_bytes node_packet ≡
+    (0x25 ∷ 0xEB ∷ 0x00 ∷ 0x00 ∷ 0x58 ∷ 0x00 ∷ 0x00 ∷ 0x00 ∷ 0x40 ∷ 0x00 ∷ 0x00 ∷ 0x00 ∷ 0x08 ∷ 0x01 ∷ 0x00 ∷ 0x03 ∷ 0xE8 ∷ 0x03 ∷ 0x00 ∷ 0x00 ∷ 0x00 ∷ 0x00 ∷ 0xAD ∷ 0xF3 ∷ [])
+    ++ (0x03 ∷ 0x00 ∷ 0x00 ∷ 0x80 ∷ [])
+    ++ at_1000 ++ (0x00 ∷ 0x00 ∷ 0x01 ∷ 0x00 ∷ 0 ∷ 0 ∷ 0 ∷ 0 ∷ 0 ∷ 0 ∷ 0 ∷ 0 ∷ [])
+    ++ at_1000 ++ (0x01 ∷ 0x00 ∷ 0x11 ∷ 0x00 ∷ 32 ∷ 0 ∷ 0 ∷ 0 ∷ 0 ∷ 0 ∷ 0 ∷ 0 ∷ [])
+    ++ at_1000 ++ (0x05 ∷ 0x00 ∷ 0x50 ∷ 0x00 ∷ 68 ∷ 0 ∷ 0 ∷ 0 ∷ 0 ∷ 0 ∷ 0 ∷ 0 ∷ [])
+unfolding packet_bytes header_bytes
+node-bytes = refl
+
+pub root-bytes : packet_bytes root_packet ≡
+    (0x25 ∷ 0xEB ∷ 0x00 ∷ 0x00 ∷ 0x3C ∷ 0x00 ∷ 0x00 ∷ 0x00 ∷ 0x24 ∷ 0x00 ∷ 0x00 ∷ 0x00 ∷ 0x08 ∷ 0x02 ∷ 0x00 ∷ 0x03 ∷ 0xE8 ∷ 0x03 ∷ 0x00 ∷ 0x00 ∷ 0x00 ∷ 0x00 ∷ 0x75 ∷ 0xF4 ∷ [])
+    ++ (0x02 ∷ 0x00 ∷ 0x00 ∷ 0x00 ∷ []) ++ at_1000 ++ (124 ∷ 0 ∷ 0 ∷ 0 ∷ 0 ∷ 0 ∷ 0 ∷ 0 ∷ []) ++ at_1000 ++ (212 ∷ 0 ∷ 0 ∷ 0 ∷ 0 ∷ 0 ∷ 0 ∷ 0 ∷ [])
+unfolding packet_bytes header_bytes
+root-bytes = refl
+
+abbrev pub recording : List Packet
+recording = data_packets ++ node_packet ∷ root_packet ∷ []
+
+pub recording-len : length (file_bytes recording) ≡ 272
 unfolding packet_bytes header_bytes
 recording-len = refl
+
+-- a setup, a time and 257 packets more are named by nodes of 100, 100 and 59 entries
+pub node-counts : map (λ k. length (take 100 (drop (100 * k) (node_entries 0 (setup_packet ∷ time_packet ∷ replicate 257 uart_packet))))) (0 ∷ 1 ∷ 2 ∷ 3 ∷ []) ≡ 100 ∷ 100 ∷ 59 ∷ 0 ∷ []
+node-counts = refl
 
 abbrev pub entry : ℕ → ℕ → List ℕ → Entry
 entry channel count bytes = record { channel = channel; count = count; message = Uart false 0 bytes; gap = false }
@@ -227,6 +263,7 @@ time_entry = record { channel = 1; count = 1000; message = Time leap_day; gap = 
 abbrev pub recorded : List Entry
 recorded = time_entry ∷ entry 5 1000 (0x41 ∷ 0x42 ∷ 0x43 ∷ []) ∷ entry 5 1010 [] ∷ []
 
+-- an index says no entry
 pub recording-entries : file_entries recording ≡ recorded
 recording-entries = refl
 
@@ -299,9 +336,9 @@ pub other-cut : HasFault (take 41 other) Truncated
 other-cut = refl
 
 -- the recording with a changed header checksum is at fault at its begin
-pub changed : IsFaulty (take 22 (file_bytes recording) ++ 0 ∷ drop 23 (file_bytes recording)) 0 HeaderSum
+pub changed : IsFaulty (take 22 (file_bytes data_packets) ++ 0 ∷ drop 23 (file_bytes data_packets)) 0 HeaderSum
 unfolding packet_bytes header_bytes
-changed = ([], take 22 (file_bytes recording) ++ 0 ∷ drop 23 (file_bytes recording), refl, refl, tt, inr refl, refl)
+changed = ([], take 22 (file_bytes data_packets) ++ 0 ∷ drop 23 (file_bytes data_packets), refl, refl, tt, inr refl, refl)
 
 -- no bytes are truncated
 pub empty : IsFaulty [] 0 Truncated
@@ -314,12 +351,15 @@ three-bytes = refl
 pub day-of-year : is_opaque (record { channel = 1; packet_len = 36; data_len = 12; version = 8; sequence = 0; flags = 0; data_type = 0x11; counter = 0 }) (replicate 12 0) ≡ true
 day-of-year = refl
 
--- segments of messages, and events with data headers, are opaque
+-- segments of messages, events with data headers, and an index with the size of the file, are opaque
 pub segments : is_opaque (record { channel = 1; packet_len = 28; data_len = 4; version = 8; sequence = 0; flags = 0; data_type = 0x30; counter = 0 }) (1 ∷ 0 ∷ 1 ∷ 0 ∷ []) ≡ true
 segments = refl
 
 pub with-data-headers : is_opaque (record { channel = 1; packet_len = 28; data_len = 4; version = 8; sequence = 0; flags = 0; data_type = 0x02; counter = 0 }) (1 ∷ 0 ∷ 0 ∷ 0x80 ∷ []) ≡ true
 with-data-headers = refl
+
+pub with-file-size : is_opaque (record { channel = 0; packet_len = 28; data_len = 4; version = 8; sequence = 0; flags = 0; data_type = 0x03; counter = 0 }) (1 ∷ 0 ∷ 0 ∷ 0xC0 ∷ []) ≡ true
+with-file-size = refl
 
 -- a bus packet of this recorder is one of any recorder
 pub bus-read : opaque_at (packet_bytes bus_packet) ≡ false

@@ -29,6 +29,7 @@ fn is_known(data_type: u8) -> bool
 {
     data_type == 0x01
         || data_type == 0x02
+        || data_type == 0x03
         || data_type == 0x11
         || data_type == 0x19
         || data_type == 0x29
@@ -43,6 +44,7 @@ fn selects_other(data_type: u8, body: &[u8]) -> bool
 {
     (data_type == 0x01 && SetupBody::is_opaque(body))
         || (data_type == 0x02 && EventBody::is_opaque(body))
+        || (data_type == 0x03 && r10_indexbody::is_opaque(body))
         || (data_type == 0x11 && TimeBody::is_opaque(body))
         || (data_type == 0x30 && MessageBody::is_opaque(body))
         || (data_type == 0x50 && UartBody::is_opaque(body))

@@ -32,7 +32,7 @@ use Rattle.r10_control.proofs.PumpSteps.{stands_more}
 says_file : (image : Image) (k : Kept) → Shows image k → SaysFile image k.file
 says_file image k shows = record {
   inside = shows.inside;
-  says = subst (λ (b : List ℕ). FileSays b k.file.setup (shown_entries k.file) k.file.closed) (sym shows.bytes) shows.says;
+  says = subst (λ (b : List ℕ). FileSays b k.file.setup (shown_entries k.file) false) (sym shows.bytes) shows.says;
 }
 
 pub stands_says : (image : Image) (d : DirBlock) (k : Option Kept) → Stands image d k → MediumSays image (kept_files k)
@@ -103,9 +103,9 @@ shows_begun s image later k name setup e d count same whole whole_later reserved
     record {
       inside = subst (λ (n : ℕ). k.file.first_block + blocks_of n ≤ length later) (sym size) (omega (arith, inside, same));
       bytes = ap (λ (n : ℕ). bytes_from later k.file.first_block n) size ∙ ap (λ (n : ℕ). bytes_from later n (length k.bytes)) first ∙ all_bytes ∙ sym front ∙ ap (λ (n : ℕ). take n k.bytes) (sym size);
-      says = subst (λ (n : ℕ). FileSays (take n k.bytes) k.file.setup (shown_entries k.file) k.file.closed) (sym size)
-          (subst (λ (b : List ℕ). FileSays b k.file.setup (shown_entries k.file) k.file.closed) (sym front)
-          (subst (λ (f : File). FileSays k.bytes f.setup (shown_entries f) f.closed) (sym is) (subst (λ (f : File). FileSays k.bytes f.setup f.entries false) is is_open.says)));
+      says = subst (λ (n : ℕ). FileSays (take n k.bytes) k.file.setup (shown_entries k.file) false) (sym size)
+          (subst (λ (b : List ℕ). FileSays b k.file.setup (shown_entries k.file) false) (sym front)
+          (subst (λ (f : File). FileSays k.bytes f.setup (shown_entries f) false) (sym is) (subst (λ (f : File). FileSays k.bytes f.setup f.entries false) is is_open.says)));
     }
 
 -- what a start leaves, whether the medium failed or not
@@ -121,9 +121,6 @@ begun_says s image later k name setup e d new count same whole whole_later reser
     (stands_says later new (Some k) (record { reads = shows.reads; root = root stands.root; lists = lists; shows = shows_begun s image later k name setup e new count same whole whole_later reserved is is_open shows }))
 
 -- ---- a file that is closed
-
-shut : (bytes text : List ℕ) (entries : List Spoken) (closed other : Bool) → FileSays bytes text entries closed → FileSays bytes text entries other
-shut bytes text entries closed other (packets, is, says) = (packets, is, record { file = says.file; setup_is = says.setup_is; entries_are = says.entries_are })
 
 -- the bytes of a file from the block on in which the first stands that isn't shown
 abbrev pub unshown : Kept → List ℕ
@@ -146,8 +143,8 @@ shows_closed s image later l d count same whole whole_later reserved is_open sho
     record {
       inside = omega (arith, inside, same);
       bytes = all_bytes ∙ sym front;
-      says = subst (λ (b : List ℕ). FileSays b l.file.setup (take (length l.file.entries) l.file.entries) true) (sym front)
-          (subst (λ (es : List Spoken). FileSays l.bytes l.file.setup es true) (sym entries) (shut l.bytes l.file.setup l.file.entries false true is_open.says));
+      says = subst (λ (b : List ℕ). FileSays b l.file.setup (take (length l.file.entries) l.file.entries) false) (sym front)
+          (subst (λ (es : List Spoken). FileSays l.bytes l.file.setup es false) (sym entries) is_open.says);
     }
 
 -- what a stop leaves that failed

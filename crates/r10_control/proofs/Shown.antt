@@ -1,5 +1,5 @@
 -- What a file takes in changes nothing that the medium shows of it.
-use Rattle.std.proofs.Common.{◌≡◌, ◌⊎◌, inl, inr, ℕ, ◌+◌, ◌≤◌, Ok, List, ◌++◌, length, take, sym, ap, ◌∙◌, subst}
+use Rattle.std.proofs.Common.{◌≡◌, false, ◌⊎◌, inl, inr, ℕ, ◌+◌, ◌≤◌, Ok, List, ◌++◌, length, take, sym, ap, ◌∙◌, subst}
 use Rattle.std.proofs.lemmas.List.{take-append-le}
 use Rattle.r10_body.specs.Files.{FileSays}
 use Rattle.r10_body.specs.declared.entry.Entry.{Entry as Spoken}
@@ -20,9 +20,9 @@ shows_more image k l entries same grows shown size shows =
     record {
       inside = subst (λ (f : File). f.first_block + blocks_of f.size ≤ length image) (sym same) shows.inside;
       bytes = subst (λ (f : File). bytes_from image f.first_block f.size ≡ take f.size l.bytes) (sym same) (shows.bytes ∙ sym bytes);
-      says = subst (λ (f : File). FileSays (take f.size l.bytes) f.setup (shown_entries f) f.closed) (sym same)
-          (subst (λ (b : List ℕ). FileSays b k.file.setup (take k.file.shown (k.file.entries ++ entries)) k.file.closed) (sym bytes)
-          (subst (λ (es : List Spoken). FileSays (take k.file.size k.bytes) k.file.setup es k.file.closed) (sym (take-append-le k.file.shown k.file.entries entries shown)) shows.says));
+      says = subst (λ (f : File). FileSays (take f.size l.bytes) f.setup (shown_entries f) false) (sym same)
+          (subst (λ (b : List ℕ). FileSays b k.file.setup (take k.file.shown (k.file.entries ++ entries)) false) (sym bytes)
+          (subst (λ (es : List Spoken). FileSays (take k.file.size k.bytes) k.file.setup es false) (sym (take-append-le k.file.shown k.file.entries entries shown)) shows.says));
     }
 
 -- what is read of the directory block

@@ -1,5 +1,5 @@
 -- The files of a recorder that keeps one file in memory, as its medium's directory block reads.
-use Rattle.std.specs.Prelude.{◌≡◌, ◌+◌, ◌≤◌, ℕ, List, [], ◌∷◌, length, map, take, Option, Some, None, Ok, Err, if◌then◌else◌}
+use Rattle.std.specs.Prelude.{◌≡◌, false, ◌+◌, ◌≤◌, ℕ, List, [], ◌∷◌, length, map, take, Option, Some, None, Ok, Err, if◌then◌else◌}
 use Rattle.r10_dirblock.specs.Block.{read_block, is_closed}
 use Rattle.r10_dirblock.specs.Texts.{padded}
 use Rattle.r10_dirblock.specs.declared.block.DirBlock.{DirBlock}
@@ -57,11 +57,11 @@ abbrev pub ListsAll : List Entry → Option Kept → Type 0
 ListsAll entries None = entries ≡ []
 ListsAll entries (Some k) = (e : Entry) × (entries ≡ e ∷ []) × Lists k.file e
 
--- the medium has the first bytes of a file that is kept, and they say the entries that it shows
+-- the medium has the first bytes of a file that is kept, and they say the entries that it shows; no index is written yet, so that closed stands in the directory alone
 pub record Shows (image : Image) (k : Kept) : Type 0 where
   pub inside : k.file.first_block + blocks_of k.file.size ≤ length image
   pub bytes : bytes_from image k.file.first_block k.file.size ≡ take k.file.size k.bytes
-  pub says : FileSays (take k.file.size k.bytes) k.file.setup (shown_entries k.file) k.file.closed
+  pub says : FileSays (take k.file.size k.bytes) k.file.setup (shown_entries k.file) false
 
 abbrev pub ShowsAll : Image → Option Kept → Type 0
 ShowsAll image None = Unit {0}

@@ -1,5 +1,5 @@
 -- What a medium says: a directory, and in each file of it a setup text and entries.
-use Rattle.std.specs.Prelude.{◌≡◌, ◌+◌, ◌≤◌, ℕ, List, [], ◌∷◌, length, take, drop, Ok}
+use Rattle.std.specs.Prelude.{◌≡◌, false, ◌+◌, ◌≤◌, ℕ, List, [], ◌∷◌, length, take, drop, Ok}
 use Rattle.std.specs.List.{concat}
 use Rattle.r10_body.specs.Files.{FileSays}
 use Rattle.r10_dirblock.specs.Block.{read_block, is_closed}
@@ -27,10 +27,10 @@ pub record Lists (f : File) (e : Entry) : Type 0 where
   pub size : e.size ≡ f.size
   pub closed : is_closed e ≡ f.closed
 
--- a file lies on the medium, and its bytes there are strict packets that say its setup text and the entries that it shows
+-- a file lies on the medium, and its bytes there are strict packets that say its setup text and the entries that it shows; no index is written yet, so that closed stands in the directory alone
 pub record SaysFile (image : Image) (f : File) : Type 0 where
   pub inside : f.first_block + blocks_of f.size ≤ length image
-  pub says : FileSays (bytes_from image f.first_block f.size) f.setup (shown_entries f) f.closed
+  pub says : FileSays (bytes_from image f.first_block f.size) f.setup (shown_entries f) false
 
 -- these are the directory's files, in order, and each is said
 abbrev pub SaysEach : Image → List Entry → List File → Type 0

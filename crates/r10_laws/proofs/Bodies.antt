@@ -1,6 +1,6 @@
 -- Bodies that are read back in one way only.
 use Rattle.std.proofs.Common.{◌≡◌, ℕ, ◌+◌, ◌*◌, ◌/◌, ◌%◌, ◌^◌, ◌<◌, Bool, true, false, List, [], ◌++◌, length, drop, take, refl, sym, ap, subst, ◌∙◌, arith, append_assoc}
-use Rattle.std.specs.List.{AllByRecursion}
+use Rattle.std.specs.List.{AllByRecursion, flat_map}
 use Rattle.r10_count.specs.Bytes.{le_bytes, flag_at}
 use Rattle.r10_count.specs.Count.{stamp}
 use Rattle.r10_count.specs.Civil.{IsCivil}
@@ -16,7 +16,10 @@ use Rattle.r10_a429.proofs.Bodies.{one_arinc_body}
 use Rattle.r10_a429.specs.Arinc.{arinc_body, FitsPacket as FitsArincBody}
 use Rattle.r10_discrete.proofs.Bodies.{one_discrete_body}
 use Rattle.r10_message.proofs.Bodies.{one_message_body}
-use Rattle.r10_body.specs.Content.{Content, setup, time, event, uart, bus, arinc, discrete, message, type_of, body_of, FitsContent}
+use Rattle.r10_indexbody.specs.Index.{node_entry, root_entry}
+use Rattle.r10_indexbody.proofs.Nodes.{one_node_body}
+use Rattle.r10_indexbody.proofs.Roots.{one_root_body}
+use Rattle.r10_body.specs.Content.{Content, setup, time, event, uart, bus, arinc, discrete, message, node, root, type_of, body_of, FitsContent}
 use Rattle.r10_laws.proofs.Lists.{same_front, IsOneWay, one_list}
 use Rattle.r10_laws.proofs.CivilParts.{in_range, day_below}
 
@@ -102,4 +105,12 @@ one_content m n (discrete bits es) (discrete others fs) counters f g k e =
     let same = one_discrete_body bits others es fs f g e in
     ap (λ x. discrete x es) same.0 ∙ ap (λ x. discrete others x) same.1
 one_content m n (message es) (message fs) counters f g k e = ap (λ x. message x) (one_message_body es fs f.fields g.fields e)
+one_content m n (node es) (node fs) counters f g k e = ap (λ x. node x) (one_node_body es fs f.fields g.fields e)
+one_content m n (root es) (root fs) counters f g k e = ap (λ x. root x) (one_root_body es fs f.fields g.fields e)
+one_content m n (node es) (root fs) counters f g k e =
+    let words = same_u32 (2147483648 + length es) (length fs) (flat_map node_entry es) (flat_map root_entry fs) (omega (arith, f.counted)) (omega (arith, g.counted)) e in
+    absurd (omega (arith, words.0, g.counted))
+one_content m n (root es) (node fs) counters f g k e =
+    let words = same_u32 (length es) (2147483648 + length fs) (flat_map root_entry es) (flat_map node_entry fs) (omega (arith, f.counted)) (omega (arith, g.counted)) e in
+    absurd (omega (arith, words.0, f.counted))
 one_content m n c d counters f g k e = absurd (omega arith)

@@ -7,4 +7,5 @@ pub mod Rules
 pub mod Channels
 pub mod Meaning
 pub mod Sums
+pub mod Indexes
 pub mod Lengths

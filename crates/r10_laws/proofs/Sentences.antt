@@ -6,7 +6,7 @@ use Rattle.r10_packet.specs.Header.{FitsHeader, header_bytes, checksum_bits}
 use Rattle.r10_packet.specs.Packet.{IsPacket, filled, least_filler}
 use Rattle.r10_packet.proofs.Lengths.{least_length}
 use Rattle.r10_body.proofs.Lone.{packet-length}
-use Rattle.r10_body.specs.Content.{Content, setup, time, event, uart, bus, arinc, discrete, message, type_of}
+use Rattle.r10_body.specs.Content.{Content, setup, time, event, uart, bus, arinc, discrete, message, node, root, type_of}
 use Rattle.r10_body.specs.Packets.{Packet, FitsPacket, packet_body, packet_rest, packet_bytes, header_of}
 
 -- the overflow flag doesn't touch the checksum's width
@@ -31,7 +31,7 @@ flags_fit : (b : Bool) (check : ℕ) → check < 4 → flag_at 4 b + check < 2 ^
 flags_fit true check h = omega arith
 flags_fit false check h = omega arith
 
-type_fits : (c : Content) → type_of c < 2 ^ 8
+pub type_fits : (c : Content) → type_of c < 2 ^ 8
 type_fits (setup text) = omega arith
 type_fits (time civil) = omega arith
 type_fits (event e) = omega arith
@@ -40,6 +40,8 @@ type_fits (bus entries) = omega arith
 type_fits (arinc entries) = omega arith
 type_fits (discrete bits entries) = omega arith
 type_fits (message entries) = omega arith
+type_fits (node entries) = omega arith
+type_fits (root entries) = omega arith
 
 pub header_fits : (p : Packet) → FitsPacket p → FitsHeader (header_of p)
 header_fits p fits = record {

@@ -1,8 +1,7 @@
 -- Packets of entries written out, by the settings of their channels.
 use Rattle.std.specs.Prelude.{◌≡◌, ℕ, Bool, true, false, List, [], ◌∷◌, ◌++◌, drop, replicate, take, refl}
 use Rattle.r10_packet.specs.Header.{header_bytes}
-use Rattle.r10_body.specs.Content.{setup}
-use Rattle.r10_body.specs.Packets.{Packet, packet_bytes, file_bytes}
+use Rattle.r10_body.specs.Packets.{packet_bytes, file_bytes}
 use Rattle.r10_body.specs.Vectors.{setup_packet, time_packet, uart_packet, bus_packet, bus_message, channel_of}
 use Rattle.r10_body.specs.declared.entry.Entry.{Entry}
 use Rattle.r10_body.specs.declared.message.Kind.TheVariants as kinds

@@ -1,0 +1,174 @@
+//! Entries of index packets.
+
+ghost use Rattle.std.specs.Prelude.{◌≡◌, ◌+◌, ◌*◌, ◌^◌};
+
+use r10_count::{Count, split_u32, split_u64};
+use r10_entries::{BodyEntry, append_all};
+use std::alloc::{AllocError, Global};
+
+/// What a node says of a packet.
+#[derive(Clone, Copy, Debug, PartialEq, Eq)]
+pub struct NodeEntry {
+    /// The counter of its header, in units of 100 ns.
+    pub counter: Count,
+    /// Its data type.
+    pub data_type: u8,
+    /// Its channel ID.
+    pub channel: u16,
+    /// Where it begins, in bytes from the start of the file.
+    pub offset: u64,
+}
+
+/// What a root says of a node, or of a root.
+#[derive(Clone, Copy, Debug, PartialEq, Eq)]
+pub struct RootEntry {
+    /// The counter of its header, in units of 100 ns.
+    pub counter: Count,
+    /// Where it begins, in bytes from the start of the file.
+    pub offset: u64,
+}
+
+/// A data type, and a channel below it.
+fn packet_word(data_type: u8, channel: u16) -> u32
+    ensures { result ≡ 2 ^ 16 * data_type + channel }
+{
+    0x1_0000 * u32::from(data_type) + u32::from(channel)
+}
+
+impl BodyEntry for NodeEntry {
+    ghost use Rattle.r10_indexbody.specs.Entry.{node_form};
+
+    ghost form = { node_form };
+
+    fn front() -> usize {
+        20
+    }
+
+    fn told(front: &[u8]) -> Option<usize> {
+        let _ = front;
+        Some(20)
+    }
+
+    fn word(setting: u32, count: usize) -> u32 {
+        let _ = setting;
+        0x8000_0000 + (count % 0x1_0000) as u32
+    }
+
+    fn agrees(word: u32, count: usize) -> bool {
+        word / 0x8000_0000 == 1 && (word % 0x1_0000) as usize == count
+    }
+
+    fn count(&self) -> u64 {
+        self.counter.get()
+    }
+
+    fn opens(&self, counter: u64) -> bool {
+        let _ = counter;
+        true
+    }
+
+    fn suits(&self, setting: u32) -> bool {
+        let _ = setting;
+        true
+    }
+
+    fn size(&self, before: u64) -> usize {
+        let _ = before;
+        20
+    }
+
+    fn encode_into(&self, before: u64, out: &mut Vec<u8>) -> Result<(), AllocError> {
+        let _ = before;
+        let stamp = self.counter.stamp();
+        let packet = packet_word(self.data_type, self.channel).to_le_bytes();
+        let offset = self.offset.to_le_bytes();
+        append_all(out, &[&stamp, &packet, &offset])
+    }
+
+    fn read(alloc: Global, before: u64, bytes: &[u8]) -> Result<Option<NodeEntry>, AllocError> {
+        let _ = (alloc, before);
+        let Some((counter, rest)) = Count::of_stamp(bytes) else {
+            return Ok(None);
+        };
+        let Some((packet, rest)) = split_u32(rest) else {
+            return Ok(None);
+        };
+        let Some((offset, rest)) = split_u64(rest) else {
+            return Ok(None);
+        };
+        if packet >= 0x100_0000 || !rest.is_empty() {
+            return Ok(None);
+        }
+        Ok(Some(NodeEntry {
+            counter,
+            data_type: (packet / 0x1_0000) as u8,
+            channel: (packet % 0x1_0000) as u16,
+            offset,
+        }))
+    }
+}
+
+impl BodyEntry for RootEntry {
+    ghost use Rattle.r10_indexbody.specs.Entry.{root_form};
+
+    ghost form = { root_form };
+
+    fn front() -> usize {
+        16
+    }
+
+    fn told(front: &[u8]) -> Option<usize> {
+        let _ = front;
+        Some(16)
+    }
+
+    fn word(setting: u32, count: usize) -> u32 {
+        let _ = setting;
+        (count % 0x1_0000) as u32
+    }
+
+    fn agrees(word: u32, count: usize) -> bool {
+        let told = (word % 0x1_0000) as usize;
+        word / 0x8000_0000 == 0 && (told == count || told + 1 == count)
+    }
+
+    fn count(&self) -> u64 {
+        self.counter.get()
+    }
+
+    fn opens(&self, counter: u64) -> bool {
+        let _ = counter;
+        true
+    }
+
+    fn suits(&self, setting: u32) -> bool {
+        let _ = setting;
+        true
+    }
+
+    fn size(&self, before: u64) -> usize {
+        let _ = before;
+        16
+    }
+
+    fn encode_into(&self, before: u64, out: &mut Vec<u8>) -> Result<(), AllocError> {
+        let _ = before;
+        let stamp = self.counter.stamp();
+        let offset = self.offset.to_le_bytes();
+        append_all(out, &[&stamp, &offset])
+    }
+
+    fn read(alloc: Global, before: u64, bytes: &[u8]) -> Result<Option<RootEntry>, AllocError> {
+        let _ = (alloc, before);
+        let Some((counter, rest)) = Count::of_stamp(bytes) else {
+            return Ok(None);
+        };
+        let Some((offset, rest)) = split_u64(rest) else {
+            return Ok(None);
+        };
+        if !rest.is_empty() {
+            return Ok(None);
+        }
+        Ok(Some(RootEntry { counter, offset }))
+    }
+}
