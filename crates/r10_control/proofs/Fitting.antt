@@ -7,7 +7,7 @@ use Rattle.std.proofs.lemmas.Bool.{leb-true}
 use Rattle.std.proofs.lemmas.List.Elements.{All-append, All-cons, All-nil}
 use Rattle.std.proofs.lemmas.List.Sums.{sum_by-cons, sum_by-append}
 use Rattle.std.specs.List.{All, AllByRecursion, sum_by}
-use Rattle.r10_body.specs.Cost.{entry_cost, message_cost}
+use Rattle.r10_body.specs.Cost.{each_entry, entry_cost, message_cost}
 use Rattle.r10_body.specs.Files.{FileSays, on_channel}
 use Rattle.r10_body.specs.Rules.{Rise}
 use Rattle.r10_body.specs.declared.entry.Entry.{Entry}
@@ -60,10 +60,10 @@ taken_belong channels spec (x ∷ waiting) some known taken =
 
 -- the first that waits is the first that is asked for
 pub first_is : (area cost id most : ℕ) (waiting : List Sample) (m : Message) → IsSomeAnd (slice_get waiting 0) (λ s. s.message ≡ m) → 0 < most
-    → nat_le (cost + (104 + message_cost m)) area ≡ first_fits area cost (take most (map (entry_of id) waiting))
+    → nat_le (cost + (each_entry + message_cost m)) area ≡ first_fits area cost (take most (map (entry_of id) waiting))
 first_is area cost id zero waiting m here some = absurd (omega arith)
 first_is area cost id (suc most) [] m here some = absurd here
-first_is area cost id (suc most) (x ∷ waiting) m here some = ap (λ (n : Message). nat_le (cost + (104 + message_cost n)) area) (sym here)
+first_is area cost id (suc most) (x ∷ waiting) m here some = ap (λ (n : Message). nat_le (cost + (each_entry + message_cost n)) area) (sym here)
 
 -- ---- a file that took entries in
 
@@ -107,7 +107,7 @@ pumped s lane after most k l n room taken here is count first is_open dropped fo
       open_more s k l taken is_open follows cost,
     )
 
-pub noted : (s : Config) (k l : Kept) (entry e : Entry) (room : ℕ) → entry ≡ e → room ≡ area s k.file → nat_le (cost_of k.file + (104 + message_cost entry.message)) room ≡ true → IsOpen s k
+pub noted : (s : Config) (k l : Kept) (entry e : Entry) (room : ℕ) → entry ≡ e → room ≡ area s k.file → nat_le (cost_of k.file + (each_entry + message_cost entry.message)) room ≡ true → IsOpen s k
     → Follows s k l (entry ∷ []) → Notes s (Some k) e (Ok tt) (Some l)
 noted s k l entry e room same here has is_open follows =
     let fine : nat_le (cost_of k.file + entry_cost entry) (area s k.file) ≡ true = subst (λ (a : ℕ). nat_le (cost_of k.file + entry_cost entry) a ≡ true) here has in
