@@ -101,3 +101,13 @@ fn each_choice_of_a_stop(rt: HostRuntime) -> Result<(), Fail> {
     }
     Ok(())
 }
+
+#[test]
+fn the_image_of_an_image(rt: HostRuntime) -> Result<(), Fail> {
+    let mut bytes = [65; 1024];
+    bytes[1023] = 66;
+    let medium = Memory::of_image(rt.alloc(), &bytes)?;
+    let image = medium.image(rt.alloc())?;
+    assert_eq!(rt; ends(&image), [65, 65, 65, 66, 255, 255, 255]);
+    Ok(())
+}
