@@ -5,3 +5,5 @@
 mod directories;
 #[cfg(test)]
 mod media;
+#[cfg(test)]
+mod outputs;
