@@ -9,3 +9,4 @@ pub mod Meaning
 pub mod Sums
 pub mod Indexes
 pub mod Lengths
+mod Cases

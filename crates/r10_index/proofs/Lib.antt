@@ -1,0 +1,2 @@
+pub mod Behind
+mod Spelled
