@@ -13,6 +13,7 @@ use Rattle.r10_machine.specs.Checks.{offer_checks}
 use Rattle.r10_machine.specs.Calls.{accepted, overflowed}
 use Rattle.r10_machine.specs.Machine.{saturated}
 use Rattle.r10_port.specs.Ends.{Sending, Offered, sent}
+use Rattle.r10_port.proofs.Offers.{offered_same}
 use Rattle.r10_source.specs.declared.pump.Pumped.{Pumped}
 use Rattle.r10_source.specs.Pumps.{Tried, Offers, Pumps, is_accepted, is_refused, is_overflow, gap_after, accepted_with, accepted_of}
 
@@ -79,6 +80,13 @@ offers_sent old new (t ∷ tried) (next, offered, rest) =
     λ i. one.0 i ++ accepted_of (one.1 i) tried in
     offers_sent next new tried rest ∙ more ∙ append_assoc (sent old) (accepted_with (has_gap old) t.item t.answer) (accepted_of (gap_after (has_gap old) t.answer) tried)
 
+pub offers_same : (old new : Sending) (tried : List Tried) → Offers old tried new → (new.ring ≡ old.ring) × (new.lane.spec ≡ old.lane.spec)
+offers_same old new [] is = (ap (λ (p : Sending). p.ring) is, ap (λ (p : Sending). p.lane.spec) is)
+offers_same old new (t ∷ tried) (next, offered, rest) =
+    let one = offered_same old t.item.count t.item.message t.answer next offered in
+    let others = offers_same next new tried rest in
+    (others.0 ∙ one.0, others.1 ∙ one.1)
+
 -- ---- turns
 
 abbrev items_of : List Tried → List Timed
@@ -108,6 +116,7 @@ pumps_join n m a b c p q r x y first second =
       given = first.given ∙ ap (λ (l : List Timed). items_of first.tried ++ l) second.given ∙ sym (append_assoc (items_of first.tried) (items_of second.tried) c)
           ∙ ap (λ (l : List Timed). l ++ c) (sym (map-append (λ (t : Tried). t.item) first.tried second.tried));
       offers = offers;
+      same = offers_same p r tried offers;
       sent = offers_sent p r tried offers;
       accepted = omega (arith, first.accepted, second.accepted, sum_by-append (λ (t : Tried). cond (is_accepted t) 1 0) first.tried second.tried);
       refused = omega (arith, first.refused, second.refused, sum_by-append (λ (t : Tried). cond (is_refused t) 1 0) first.tried second.tried);
@@ -121,6 +130,7 @@ pumps_nothing turns a b p ended same none = record {
   tried = [];
   given = sym same;
   offers = refl;
+  same = (refl, refl);
   sent = sym (append-nil (sent p));
   accepted = refl;
   refused = refl;
@@ -134,6 +144,7 @@ pumps_most n m a b p q x less pumps = record {
   tried = pumps.tried;
   given = pumps.given;
   offers = pumps.offers;
+  same = pumps.same;
   sent = pumps.sent;
   accepted = pumps.accepted;
   refused = pumps.refused;
@@ -155,6 +166,7 @@ pumps_one item answer after p q taken offered is =
       tried = t ∷ [];
       given = refl;
       offers = offers;
+      same = offers_same p q (t ∷ []) offers;
       sent = offers_sent p q (t ∷ []) offers;
       accepted = omega (arith, is, sum_by-cons (λ (t : Tried). cond (is_accepted t) 1 0) t []);
       refused = omega (arith, is, others answer, sum_by-cons (λ (t : Tried). cond (is_refused t) 1 0) t []);

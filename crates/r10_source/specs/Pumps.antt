@@ -40,11 +40,13 @@ abbrev pub accepted_of : Bool → List Tried → List Sample
 accepted_of gap [] = []
 accepted_of gap (t ∷ tried) = accepted_with gap t.item t.answer ++ accepted_of (gap_after gap t.answer) tried
 
--- so many turns: what was tried, accepted and refused, is the front of what the source had, and the source has the rest
+-- so many turns: what was tried, accepted and refused, is the front of what the source had, and the source has the rest;
+-- the port stays on its ring and on its channel
 pub record Pumps (most : ℕ) (before after : List Timed) (old new : Sending) (pumped : Pumped) : Type 0 where
   pub tried : List Tried
   pub given : before ≡ map (λ t. t.item) tried ++ after
   pub offers : Offers old tried new
+  pub same : (new.ring ≡ old.ring) × (new.lane.spec ≡ old.lane.spec)
   pub sent : sent new ≡ sent old ++ accepted_of (nat_lt 0 old.lane.missed) tried
   pub accepted : pumped.accepted ≡ count_by is_accepted tried
   pub refused : pumped.refused ≡ count_by is_refused tried
