@@ -1,0 +1,43 @@
+// A lane, with both ends in one thread.
+
+use crate::made::{CHANNEL, count, empty};
+use r10_body::{Refusal, Sample};
+use r10_lane::LaneOut;
+use r10_port::{Port, lane};
+use std::alloc::Global;
+use std::test::Fail;
+
+fn offer(port: &mut Port, alloc: Global, units: u32) -> Result<(), Refusal> {
+    port.offer(count(units), empty(alloc))
+}
+
+/// The count and the gap mark.
+fn marks(taken: Option<Sample>) -> Option<(u64, bool)> {
+    let Sample { count, gap, .. } = taken?;
+    Some((count.get(), gap))
+}
+
+#[test]
+fn a_full_lane_loses_a_message_and_marks_the_gap(rt: HostRuntime) -> Result<(), Fail> {
+    let alloc = rt.alloc();
+    let (mut port, mut outlet) = lane(alloc, CHANNEL)?;
+    let mut answers = [Ok(()); 4];
+    for (place, units) in [1, 2, 3].into_iter().enumerate() {
+        answers[place] = offer(&mut port, alloc, units);
+    }
+    let first = marks(outlet.take());
+    answers[3] = offer(&mut port, alloc, 4);
+    let taken = [
+        first,
+        marks(outlet.take()),
+        marks(outlet.take()),
+        marks(outlet.take()),
+    ];
+    assert_eq!(rt; answers, [Ok(()), Ok(()), Err(Refusal::Overflow), Ok(())]);
+    assert_eq!(rt;
+        taken,
+        [Some((1, false)), Some((2, false)), Some((4, true)), None]
+    );
+    assert_eq!(rt; (port.sent(), port.lost()), (3, 1));
+    Ok(())
+}

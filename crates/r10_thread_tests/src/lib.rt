@@ -1,0 +1,11 @@
+//! Lanes and sources between threads called once each, and what their contracts do not say.
+#![tactic(auto)]
+
+#[cfg(test)]
+mod crossing;
+#[cfg(test)]
+mod lanes;
+#[cfg(test)]
+mod made;
+#[cfg(test)]
+mod sources;
