@@ -85,3 +85,78 @@ impl fmt::Display for Figures {
         self.write_row("lane and builder", self.packing, f)
     }
 }
+
+/// What was measured of a lane: how many messages were accepted and taken, and the processor time of both.
+#[derive(Clone, Copy, Debug, Default)]
+pub struct Handing {
+    pub accepted: u64,
+    pub taken: u64,
+    pub offering: Duration,
+    pub taking: Duration,
+}
+
+impl Handing {
+    /// Adds a batch, of which so many were accepted and taken: the times before the offers, behind them and behind the takes.
+    pub fn add(&mut self, times: [Duration; 3], accepted: u64, taken: u64)
+        ensures accepted { self.new.accepted ≡ min (self.old.accepted + accepted) u64.MAX }
+        ensures taken { self.new.taken ≡ min (self.old.taken + taken) u64.MAX }
+    {
+        let [start, middle, end] = times;
+        self.accepted = self.accepted.saturating_add(accepted);
+        self.taken = self.taken.saturating_add(taken);
+        self.offering = self.offering.saturating_add(middle.saturating_sub(start));
+        self.taking = self.taking.saturating_add(end.saturating_sub(middle));
+    }
+}
+
+/// What was measured of lanes of one thread and between threads.
+#[derive(Clone, Copy, Debug, Default)]
+pub struct LaneFigures {
+    pub lane: Handing,
+    pub ports: Handing,
+    pub offered: u64,
+    pub accepted: u64,
+    /// The time that passed while messages went from one thread to another.
+    pub crossing: Duration,
+}
+
+fn write_times<W: fmt::Write>(
+    name: &str,
+    number: u64,
+    time: Duration,
+    f: &mut fmt::Formatter<W>,
+) -> fmt::Result {
+    let millis = time.as_millis();
+    let messages = a_second(number, time);
+    writeln!(f, "{name:24} {millis:>6} ms {messages:>12} messages/s")
+}
+
+impl fmt::Display for LaneFigures {
+    fn fmt<W: fmt::Write>(&self, f: &mut fmt::Formatter<W>) -> fmt::Result {
+        write_times(
+            "offers to a lane",
+            self.lane.accepted,
+            self.lane.offering,
+            f,
+        )?;
+        write_times("takes from a lane", self.lane.taken, self.lane.taking, f)?;
+        write_times(
+            "offers to a port",
+            self.ports.accepted,
+            self.ports.offering,
+            f,
+        )?;
+        write_times(
+            "takes from an outlet",
+            self.ports.taken,
+            self.ports.taking,
+            f,
+        )?;
+        write_times("from thread to thread", self.accepted, self.crossing, f)?;
+        let (accepted, offered) = (self.accepted, self.offered);
+        writeln!(
+            f,
+            "of {offered} messages between threads {accepted} were accepted"
+        )
+    }
+}

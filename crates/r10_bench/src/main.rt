@@ -1,11 +1,12 @@
 //! The program `r10_bench`, run by hand: how many small UART messages a second go through a lane and a builder, beside a
-//! plain copy of the same bytes.
+//! plain copy of the same bytes, and how many go through lanes of one thread and between two.
 #![tactic(auto)]
 
 mod bench;
 mod copy;
 mod fault;
 mod figures;
+mod lanes;
 mod messages;
 mod path;
 
@@ -29,5 +30,7 @@ fn main(rt: HostRuntime) -> Result<ExitCode, Fault> {
     };
     let figures = bench::run(&rt, rt.alloc(), number)?;
     print!(rt; "{figures}")?;
+    let lanes = lanes::run(&rt, rt.alloc(), number)?;
+    print!(rt; "{lanes}")?;
     Ok(ExitCode::SUCCESS)
 }

@@ -1,0 +1,180 @@
+//! Lanes of one thread and between two, for messages without bytes.
+
+use crate::fault::Fault;
+use crate::figures::{Handing, LaneFigures};
+use r10_body::{ChannelSpec, Kind, Message};
+use r10_count::{Count, Items};
+use r10_lane::{LaneOut, RingLane};
+use r10_port::{Outlet, Port, lane};
+use std::alloc::Global;
+use std::sync::Wait;
+use std::sync::atomic::{AtomicBool, Ordering};
+use std::thread;
+use std::thread::Threads;
+use std::time::{Clock, CpuClock, Duration, Instant};
+
+/// How many messages go through a lane at once.
+const BATCH: u32 = 1024;
+
+/// A UART channel.
+const CHANNEL: ChannelSpec = ChannelSpec {
+    id: 1,
+    kind: Kind::Uart,
+    capacity: BATCH as usize,
+    check: 0,
+    bytes: 524_288,
+    number: 65_535,
+    bits: 0,
+};
+
+/// Where messages are offered.
+trait Inlet {
+    /// Offers a message, and says whether it was accepted.
+    fn accepts(&mut self, count: Count, message: Message) -> bool;
+}
+
+impl Inlet for RingLane {
+    fn accepts(&mut self, count: Count, message: Message) -> bool {
+        self.offer(count, message).is_ok()
+    }
+}
+
+impl Inlet for Port {
+    fn accepts(&mut self, count: Count, message: Message) -> bool {
+        self.offer(count, message).is_ok()
+    }
+}
+
+/// Offers the message of this number, and says whether it was accepted.
+fn offer<I: Inlet>(inlet: &mut I, alloc: Global, number: u32) -> bool {
+    let Some(count) = Count::of(u64::from(number)) else {
+        unreachable!()
+    };
+    let message = Message::Uart {
+        parity: false,
+        sub: 0,
+        bytes: Items::of(Vec::new(alloc)),
+    };
+    inlet.accepts(count, message)
+}
+
+/// Offers the messages of these numbers, and answers how many were accepted.
+fn offer_all<I: Inlet>(inlet: &mut I, alloc: Global, first: u32, next: u32) -> u64 {
+    let mut accepted = 0u64;
+    for number in first..next {
+        if offer(inlet, alloc, number) {
+            accepted = accepted.wrapping_add(1);
+        }
+    }
+    accepted
+}
+
+/// Takes what waits, and answers how many that was.
+fn take_all<L: LaneOut>(lane: &mut L) -> u64 {
+    let mut taken = 0u64;
+    for _ in 0..lane.held() {
+        if lane.take().is_some() {
+            taken = taken.wrapping_add(1);
+        }
+    }
+    taken
+}
+
+/// Sends so many messages through a lane of one thread, a batch at a time.
+fn through_lane<R: CpuClock>(rt: &R, alloc: Global, number: u32) -> Result<Handing, Fault> {
+    let mut lane = RingLane::new(alloc, CHANNEL)?;
+    let mut handing = Handing::default();
+    for first in (0..number).step_by(BATCH as usize) {
+        let next = number.min(first.saturating_add(BATCH));
+        let start = rt.thread_cpu_time()?;
+        let accepted = offer_all(&mut lane, alloc, first, next);
+        let middle = rt.thread_cpu_time()?;
+        let taken = take_all(&mut lane);
+        handing.add([start, middle, rt.thread_cpu_time()?], accepted, taken);
+    }
+    Ok(handing)
+}
+
+/// The same through a lane between threads, with both ends in this one.
+fn through_ports<R: CpuClock>(rt: &R, alloc: Global, number: u32) -> Result<Handing, Fault> {
+    let (mut port, mut outlet) = lane(alloc, CHANNEL)?;
+    let mut handing = Handing::default();
+    for first in (0..number).step_by(BATCH as usize) {
+        let next = number.min(first.saturating_add(BATCH));
+        let start = rt.thread_cpu_time()?;
+        let accepted = offer_all(&mut port, alloc, first, next);
+        let middle = rt.thread_cpu_time()?;
+        let taken = take_all(&mut outlet);
+        handing.add([start, middle, rt.thread_cpu_time()?], accepted, taken);
+    }
+    Ok(handing)
+}
+
+/// Offers all messages, and answers how many were accepted.
+fn send(alloc: Global, port: Port, number: u32, done: &AtomicBool) -> u64 {
+    let mut port = port;
+    let accepted = offer_all(&mut port, alloc, 0, number);
+    done.store(true, Ordering::SeqCst);
+    accepted
+}
+
+/// Takes what comes until all was offered and nothing is left, and answers how many that was.
+fn receive(rt: &impl Wait, outlet: Outlet, done: &AtomicBool) -> u64 {
+    let mut outlet = outlet;
+    let mut taken = 0u64;
+    for _ in rt.forever() {
+        let last = done.load(Ordering::SeqCst);
+        let number = take_all(&mut outlet);
+        taken = taken.wrapping_add(number);
+        if number == 0 {
+            if last {
+                break;
+            }
+            thread::yield_now();
+        }
+    }
+    taken
+}
+
+/// Sends so many messages from one thread to another, and answers how many were accepted and taken.
+fn cross<R: Threads + Wait + Sync>(
+    rt: &R,
+    alloc: Global,
+    number: u32,
+) -> Result<(u64, u64), Fault> {
+    let spec = ChannelSpec {
+        capacity: 65_536,
+        ..CHANNEL
+    };
+    let (port, outlet) = lane(alloc, spec)?;
+    let done = AtomicBool::new(false);
+    let flag = &done;
+    Ok(thread::join(
+        rt,
+        move || send(alloc, port, number, flag),
+        move || receive(rt, outlet, flag),
+    ))
+}
+
+/// Sends so many messages through lanes of each kind.
+pub fn run<R: CpuClock + Clock + Threads + Wait + Sync>(
+    rt: &R,
+    alloc: Global,
+    number: u32,
+) -> Result<LaneFigures, Fault> {
+    let lane = through_lane(rt, alloc, number)?;
+    let ports = through_ports(rt, alloc, number)?;
+    let start = Instant::now(rt)?;
+    let (accepted, taken) = cross(rt, alloc, number)?;
+    let crossing = start.elapsed(rt)?;
+    if accepted != taken {
+        return Err(Fault::Lost);
+    }
+    Ok(LaneFigures {
+        lane,
+        ports,
+        offered: u64::from(number),
+        accepted,
+        crossing,
+    })
+}
