@@ -1,0 +1,44 @@
+-- What a case comes to, and how it is printed.
+use Rattle.std.specs.Prelude.{◌≡◌, ℕ, ◌==◌, List, [], ◌∷◌, ◌++◌, Option, Some, codes, drop, map, string_bytes, take, if◌then◌else◌}
+use Rattle.std.specs.Fmt.{decimal}
+use Rattle.std.specs.Io.KnownBytes.{Appends}
+use Rattle.r10_words.specs.Words.{AsksSim}
+use Rattle.r10_command.specs.Sim.{Simulates}
+use Rattle.r10_command.specs.Status.{IsStatus}
+use Rattle.r10_rows.specs.Case.{case_length, head_text, spelled, IsCase, IsInput}
+use Rattle.r10_rows.specs.declared.answer.Answer.{Answer}
+use Rattle.r10_rows.specs.declared.case.Case.{Case}
+
+-- the command of the case did its work on the case's input: where it asks for a run, the lines are those of the run
+abbrev pub IsAnswer : Case → Answer → Type 0
+IsAnswer case answer = (input : List ℕ) × IsInput case input × IsStatus answer.status
+    × (AsksSim (map string_bytes case.words.items) → answer.status ≡ 0 → Simulates input (Some []) (Some answer.lines.items))
+
+-- the line of the words, and the line of the status: with the wanted one where that is another
+abbrev pub front_text : List (List ℕ) → ℕ → ℕ → List ℕ
+front_text words status wanted =
+    if status == wanted then (head_text words ++ (10 ∷ decimal status ++ (10 ∷ [])))
+    else (head_text words ++ (10 ∷ decimal status ++ (codes ", not " ++ (decimal wanted ++ (10 ∷ [])))))
+
+-- these two lines, what the command printed, and its fault
+abbrev pub printed : Case → Answer → List ℕ
+printed case answer = front_text (map string_bytes case.words.items) answer.status case.wanted ++ answer.lines.items ++ answer.said.items
+
+-- the first bytes of the text are a case, and what it came to was printed
+abbrev pub AnswersFirst : List ℕ → ℕ → Option (List ℕ) → Option (List ℕ) → Type 0
+AnswersFirst text count old new = (count ≡ case_length text) × (case : Case) × IsCase case × (take count text ≡ spelled case)
+    × (answer : Answer) × IsAnswer case answer × Appends old new (printed case answer)
+
+-- the text is these cases, end to end
+abbrev pub AreCases : List ℕ → List Case → Type 0
+AreCases text [] = text ≡ []
+AreCases text (case ∷ cases) = IsCase case × (take (case_length text) text ≡ spelled case) × AreCases (drop (case_length text) text) cases
+
+-- what the cases came to, printed in their order
+abbrev pub ArePrinted : List Case → List ℕ → Type 0
+ArePrinted [] text = text ≡ []
+ArePrinted (case ∷ cases) text = (answer : Answer) × (rest : List ℕ) × IsAnswer case answer × ArePrinted cases rest × (text ≡ printed case answer ++ rest)
+
+-- the text is cases, and what each came to was printed
+abbrev pub AnswersAll : List ℕ → Option (List ℕ) → Option (List ℕ) → Type 0
+AnswersAll text old new = (cases : List Case) × AreCases text cases × (out : List ℕ) × ArePrinted cases out × Appends old new out
