@@ -25,6 +25,8 @@ fn a_full_lane_loses_a_message_and_marks_the_gap(rt: HostRuntime) -> Result<(), 
     for (place, units) in [1, 2, 3].into_iter().enumerate() {
         answers[place] = offer(&mut port, alloc, units);
     }
+    let held = outlet.held();
+    let lent = outlet.front().map(|first| first.count.get());
     let first = marks(outlet.take());
     answers[3] = offer(&mut port, alloc, 4);
     let taken = [
@@ -38,6 +40,6 @@ fn a_full_lane_loses_a_message_and_marks_the_gap(rt: HostRuntime) -> Result<(), 
         taken,
         [Some((1, false)), Some((2, false)), Some((4, true)), None]
     );
-    assert_eq!(rt; (port.sent(), port.lost()), (3, 1));
+    assert_eq!(rt; (held, lent, port.sent(), port.lost()), (2, Some(1), 3, 1));
     Ok(())
 }
