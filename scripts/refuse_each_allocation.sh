@@ -1,24 +1,15 @@
 #!/usr/bin/env bash
-# Refuses one allocation after the other, and looks at what the recorder makes of it. Run by hand:
+# Refuses one allocation after the other of a run over examples/first.toml, and looks at what the program makes of it.
+# Run by hand:
 #
-#     scripts/refuse_each_allocation.sh tests [FIRST [LAST]]
-#     scripts/refuse_each_allocation.sh program [FIRST [LAST]]
+#     scripts/refuse_each_allocation.sh [FIRST [LAST]]
 #
 # Each number is a build of its own without proofs, which takes a minute or so.
 #
-# tests: two tests of r10_world do the first recording. `a_step_without_memory_is_done_again` asks for a refused step
-# once more, and compares every reply and the file's bytes: a refused step left the recorder as it was.
-# `a_run_goes_on_from_the_number_that_it_answered` goes on behind a run that ended early. Both pass whatever is refused
-# inside the recorder, and end with the error of an allocation where what is refused is the test's own, or the making
-# of the recorder. Without LAST the script ends when six numbers in a row refuse nothing in any test.
-#
-# program: runs examples/first.toml. It ends with the message "r10: out of memory" and status 3, behind no line or
-# right lines; or one step's line is "K refused 30 OutOfMemory" and the lines before it are right; or all lines are
-# right, as where it goes on from the number that a run answered. Without LAST the script ends after six of these
-# in a row.
+# The program ends with the message "r10: out of memory" and status 3, behind no line or right lines; or one step's line
+# is "K refused 30 OutOfMemory" and the lines before it are right; or all lines are right, as where it goes on from the
+# number that a run answered. Without LAST the script ends after six of these in a row.
 set -u
-
-readonly tests='a_step_without_memory_is_done_again a_run_goes_on_from_the_number_that_it_answered'
 
 usage() {
     sed -n '2,5p' "$0" | cut -c 3-
@@ -30,26 +21,7 @@ is_front() {
     head -n "$(wc -l <"$1")" "$expected" | cmp -s - "$1"
 }
 
-# Says what a test made of it; fails where it neither passed nor ended with the error of an allocation of its own.
-judge_test() {
-    grep -q "^test tests::$1 ... ok\$" "$work/lines" && echo "$1: ok" && return 0
-    awk -v head="test tests::$1 ... FAILED" '$0 == head { on = 1; next } /^test / { on = 0 } on' "$work/lines" >"$work/why"
-    grep -q '^ *error: AllocError$' "$work/why" || return 1
-    grep -q -e assertion -e 'killed by' "$work/why" && return 1
-    echo "$1: its own allocation"
-}
-
-judge_tests() {
-    local name
-    (cd "$top/crates/r10_world" && rt try --test --fail-alloc "$1") >"$work/lines" 2>"$work/notes"
-    grep -q '^run=ended' "$work/notes" || return 1
-    grep -q '^test result: ok' "$work/lines" && echo untouched && return 0
-    for name in $tests; do
-        judge_test "$name" || return 1
-    done
-}
-
-judge_program() {
+judge() {
     local status
     (cd "$top/crates/r10_cli" && rt try --fail-alloc "$1" -- sim <"$top/examples/first.toml") >"$work/lines" 2>"$work/notes"
     status=$?
@@ -69,13 +41,9 @@ judge_program() {
     grep ' refused 30 OutOfMemory$' "$work/lines"
 }
 
-[ $# -ge 1 ] && [ $# -le 3 ] || usage
-case $1 in
-tests | program) what=$1 ;;
-*) usage ;;
-esac
-number=${2:-1}
-last=${3:-}
+[ $# -le 2 ] || usage
+number=${1:-1}
+last=${2:-}
 top=$(cd "$(dirname "${BASH_SOURCE[0]}")/.." && pwd)
 expected=$top/examples/first.expected
 work=$(mktemp -d)
@@ -83,7 +51,7 @@ trap 'rm -rf "$work"' EXIT
 
 untouched=0
 while [ "$untouched" -lt 6 ] && { [ -z "$last" ] || [ "$number" -le "$last" ]; }; do
-    if ! seen=$("judge_$what" "$number"); then
+    if ! seen=$(judge "$number"); then
         echo "$number: NOT AS IT SHOULD BE"
         cat "$work/lines" "$work/notes"
         exit 1
