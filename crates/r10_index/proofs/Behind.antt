@@ -103,7 +103,7 @@ part_fits n entries fits =
 
 -- ---- the nodes
 
-nodes_length : (counter : ℕ) (entries : List NodeEntry) (n : ℕ) → length (first_nodes counter entries n) ≡ n
+pub nodes_length : (counter : ℕ) (entries : List NodeEntry) (n : ℕ) → length (first_nodes counter entries n) ≡ n
 nodes_length counter entries zero = refl
 nodes_length counter entries (suc n) = omega (arith, nodes_length counter entries n, length-append (first_nodes counter entries n) (node_packet counter entries n ∷ []))
 

@@ -1,2 +1,3 @@
 pub mod Behind
 mod Spelled
+mod Roots

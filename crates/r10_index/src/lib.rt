@@ -4,6 +4,7 @@
 mod book;
 mod header;
 mod laws;
+mod root;
 
 pub use book::IndexBook;
 pub use laws::written_index;
