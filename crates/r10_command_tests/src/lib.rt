@@ -1,0 +1,5 @@
+//! Commands whose reader or whose writers fail: what no contract says, and no case of `r10_rows` can.
+#![tactic(auto)]
+
+#[cfg(test)]
+mod failing;
