@@ -7,3 +7,5 @@ mod base;
 mod bodies;
 #[cfg(test)]
 mod contents;
+#[cfg(test)]
+mod indexes;
