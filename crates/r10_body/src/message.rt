@@ -2,9 +2,10 @@
 
 ghost use Rattle.std.specs.Prelude.{◌≡◌, IfOk};
 ghost use Rattle.r10_body.specs.Bodies.{message_type};
-ghost use Rattle.r10_body.specs.Messages.{kind_type, has_only as only_states, is_kind, is_in_range as in_range, is_short as short, spelling_len as spelled_len};
+ghost use Rattle.r10_body.specs.Messages.{kind_type, is_kind, is_in_range as in_range, is_short as short, spelling_len as spelled_len};
 
 use r10_count::{Civil, Items};
+use r10_discrete::has_only;
 use std::alloc::{AllocError, Global};
 
 /// The bits of the block status of a MIL-STD-1553 message that have a name.
@@ -115,14 +116,6 @@ impl Kind {
             Message::Time { .. } | Message::Event { .. } => false,
         }
     }
-}
-
-/// Whether there are 1 to 31 discretes, and no state stands at or above their number.
-#[tactic(auto, using(crate::proofs::Discretes::no_state))]
-fn has_only(bits: usize, states: u32) -> bool
-    ensures { result ≡ only_states bits states }
-{
-    0 < bits && bits < 32 && states >> bits == 0
 }
 
 impl Message {

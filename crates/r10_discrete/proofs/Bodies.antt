@@ -1,5 +1,5 @@
 -- The body of a discrete packet is a body of its form.
-use Rattle.std.proofs.Common.{◌≡◌, ℕ, true, ◌+◌, ◌*◌, ◌/◌, ◌%◌, ◌^◌, ◌<◌, ◌≤◌, List, [], ◌∷◌, ◌++◌, length, nat_eq, nat_lt, refl, sym, ap, ◌∙◌, arith}
+use Rattle.std.proofs.Common.{◌≡◌, ℕ, Bool, true, false, ◌+◌, ◌*◌, ◌/◌, ◌%◌, ◌^◌, ◌<◌, ◌≤◌, List, [], ◌∷◌, ◌++◌, length, nat_eq, nat_lt, refl, sym, ap, ◌∙◌, arith}
 use Rattle.std.proofs.lemmas.Bool.{eq-eqb, eqb-true, lt-ltb, ltb-true, and_from, and_parts}
 use Rattle.std.proofs.lemmas.Nat.{pow_pos}
 use Rattle.std.proofs.Math.Nat.{div-eq_of_lt, div-lt_iff_lt-mul}
@@ -30,22 +30,34 @@ below states bits e =
     let lt : states < 1 * 2 ^ bits = (div-lt_iff_lt-mul (pow_pos bits)).0 (omega (arith, none)) in
     omega (arith, lt)
 
+same_truth : (b c : Bool) → (b ≡ true → c ≡ true) → (c ≡ true → b ≡ true) → b ≡ c
+same_truth true c there back = sym (there refl)
+same_truth false true there back = back refl
+same_truth false false there back = refl
+
+-- states that have no bit left when they are shifted are below the power of two
+pub no_state : (states bits : ℕ) → nat_eq (states / 2 ^ bits) 0 ≡ nat_lt states (2 ^ bits)
+no_state states bits =
+    same_truth (nat_eq (states / 2 ^ bits) 0) (nat_lt states (2 ^ bits))
+    (λ e. lt-ltb states (2 ^ bits) (below states bits e))
+    (λ e. no_bit states bits (ltb-true states (2 ^ bits) e))
+
 -- no state of 32 bits is beyond 32 discretes or more
 pub within : (states bits : ℕ) → states < 2 ^ 32 → 32 ≤ bits → states < 2 ^ bits
 within states bits lt most = let up : 2 ^ 32 ≤ 2 ^ bits = pow_mono most in omega (arith, lt, up)
 
-pub only_is : (bits : ℕ) (e : DiscreteEntry) → 1 ≤ bits → bits ≤ 31 → FitsDiscrete bits e → has_only bits e ≡ true
+pub only_is : (bits : ℕ) (e : DiscreteEntry) → 1 ≤ bits → bits ≤ 31 → FitsDiscrete bits e → has_only bits e.states ≡ true
 only_is bits e some most fits =
     let few : nat_lt 0 bits && nat_lt bits 32 ≡ true = and_from (nat_lt 0 bits) (nat_lt bits 32) (lt-ltb 0 bits (omega (arith, some))) (lt-ltb bits 32 (omega (arith, most))) in
-    and_from (nat_lt 0 bits && nat_lt bits 32) (nat_eq (e.states / 2 ^ bits) 0) few (no_bit e.states bits fits.1)
+    and_from (nat_lt 0 bits && nat_lt bits 32) (nat_lt e.states (2 ^ bits)) few (lt-ltb e.states (2 ^ bits) fits.1)
 
-pub is_only : (bits : ℕ) (e : DiscreteEntry) → IsCount e.count → has_only bits e ≡ true → (1 ≤ bits) × (bits ≤ 31) × FitsDiscrete bits e
+pub is_only : (bits : ℕ) (e : DiscreteEntry) → IsCount e.count → has_only bits e.states ≡ true → (1 ≤ bits) × (bits ≤ 31) × FitsDiscrete bits e
 is_only bits e count is =
-    let both = and_parts (nat_lt 0 bits && nat_lt bits 32) (nat_eq (e.states / 2 ^ bits) 0) is in
+    let both = and_parts (nat_lt 0 bits && nat_lt bits 32) (nat_lt e.states (2 ^ bits)) is in
     let few = and_parts (nat_lt 0 bits) (nat_lt bits 32) both.0 in
     let some : 0 < bits = ltb-true 0 bits few.0 in
     let most : bits < 32 = ltb-true bits 32 few.1 in
-    (omega (arith, some), omega (arith, most), (count, below e.states bits both.1))
+    (omega (arith, some), omega (arith, most), (count, ltb-true e.states (2 ^ bits) both.1))
 
 -- 31 discretes at most are states of 32 bits
 states-fit : (states bits : ℕ) → bits ≤ 31 → states < 2 ^ bits → states < 2 ^ 32

@@ -32,9 +32,9 @@ entry-one e d fe fd same =
     let second = same_u32 e.states d.states [] [] fe.states fd.states first.1 in
     same_fields e.count d.count e.states d.states first.0 second.0
 
--- there are 1 to 31 discretes, and a state shifted by their number has no bit left
-abbrev pub has_only : ℕ → DiscreteEntry → Bool
-has_only bits e = nat_lt 0 bits && nat_lt bits 32 && e.states / 2 ^ bits == 0
+-- there are 1 to 31 discretes, and no other state is set
+abbrev pub has_only : ℕ → ℕ → Bool
+has_only bits states = nat_lt 0 bits && nat_lt bits 32 && nat_lt states (2 ^ bits)
 
 abbrev pub discrete_form : Form DiscreteEntry
 discrete_form = record {
@@ -45,7 +45,7 @@ discrete_form = record {
   size = λ e. 12;
   Fits = λ before e. FitsFields e;
   opens = λ counter e. true;
-  suits = has_only;
+  suits = λ bits e. has_only bits e.states;
   word = λ setting n. 8 * (setting % 32);
   agrees = λ word n. true;
   some = lit< tt;

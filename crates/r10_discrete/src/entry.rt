@@ -3,6 +3,7 @@
 ghost use Rattle.std.specs.Prelude.{◌↔◌, IsTrue};
 ghost use Rattle.r10_discrete.specs.Discrete.{FitsDiscrete};
 
+use crate::states::has_only;
 use r10_count::{Count, split_u32};
 use r10_entries::{BodyEntry, append_all};
 use std::alloc::{AllocError, Global};
@@ -61,7 +62,7 @@ impl BodyEntry for DiscreteEntry {
     }
 
     fn suits(&self, setting: u32) -> bool {
-        0 < setting && setting < 32 && self.states >> setting == 0
+        has_only(setting as usize, self.states)
     }
 
     fn size(&self, before: u64) -> usize {

@@ -4,6 +4,8 @@
 
 mod body;
 mod entry;
+mod states;
 
 pub use body::DiscreteBody;
 pub use entry::DiscreteEntry;
+pub use states::has_only;

@@ -2,6 +2,7 @@
 use Rattle.std.specs.Prelude.{◌≡◌, ◌≢◌, ◌≤◌, ℕ, ◌+◌, ◌%◌, Bool, true, not, ◌&&◌, ◌||◌, List, [], ◌∷◌, ◌++◌, length, map, None, ◌==◌}
 use Rattle.std.specs.List.{list_any}
 use Rattle.r10_count.specs.Checks.{first_broken}
+use Rattle.r10_packet.specs.Header.{is_check_width}
 use Rattle.r10_body.specs.declared.message.Kind.TheVariants as kinds
 use Rattle.r10_body.specs.declared.spec.ChannelSpec.{ChannelSpec}
 use Rattle.r10_count.specs.Names.{is_within, is_volume}
@@ -26,7 +27,7 @@ abbrev pub has_capacity : ChannelSpec → Bool
 has_capacity c = is_within 1 65536 c.capacity
 
 abbrev pub has_check : ChannelSpec → Bool
-has_check c = c.check == 0 || c.check == 8 || c.check == 16 || c.check == 32
+has_check c = is_check_width c.check
 
 abbrev pub has_bytes : ChannelSpec → Bool
 has_bytes c = is_within 128 524288 c.bytes && c.bytes % 4 == 0
