@@ -16,7 +16,6 @@ use std::alloc::{AllocError, Global};
 fn flags_of(gap: bool, check: u8) -> u8
     requires { check < 4 }
     ensures value { result ≡ flag_at 4 gap + check }
-    ensures plain { result < 128 }
 {
     if gap { 16 + check } else { check }
 }

@@ -1,6 +1,6 @@
 //! Whole packets.
 
-ghost use Rattle.std.specs.Prelude.{◌≡◌, ◌+◌, ◌/◌, ◌<◌, ◌≤◌, ◌++◌, ◌↔◌, Some, None, length, drop, IfOk, OnOk, IfErr, IsTrue};
+ghost use Rattle.std.specs.Prelude.{◌≡◌, ◌+◌, ◌/◌, ◌≤◌, ◌++◌, ◌↔◌, Some, None, length, drop, IfOk, OnOk, IfErr, IsTrue};
 ghost use Rattle.std.specs.Str.{bytes_eq};
 ghost use Rattle.r10_packet.specs.Sums.{data_checksum};
 ghost use Rattle.r10_packet.specs.Header.{bits_of, checksum_bits};
@@ -19,11 +19,10 @@ pub struct Packet;
 
 impl Packet {
     /// The packet of a body. Its lengths are those of the body, and not the header's; its data
-    /// checksum is the one that the header's flags tell. A secondary header, which bit 7 of the
-    /// flags tells, is never written.
+    /// checksum is the one that the header's flags tell. No secondary header is added: where bit 7 of
+    /// the flags tells one, it is the first bytes of `body`, which stand right behind the header.
     pub fn frame(alloc: Global, header: &Header, body: &[u8]) -> Result<Vec<u8>, AllocError>
         requires short { length body.now + checksum_bits header.now.flags / 8 ≤ 524_264 }
-        requires plain { header.now.flags < 128 }
         ensures bytes { IfOk result (λ v. v.items ≡ framed_bytes header.now body.now) }
         ensures sentence { IfOk result (λ v. IsPacket v.items (framed header.now body.now) body.now) }
         ensures lengths { IsTrue (has_lengths (framed header.now body.now)) }

@@ -7,7 +7,7 @@ use Rattle.r10_mux.proofs.packet.encode_entry.Goals as goal
 pub frame-requires : goal.frame-requires
 frame-requires c =
     let spelled = ap (λ (b : List ℕ). length b) (c.deref.ensures.value ∙ c.in_ok-body.ensures.body) in
-    record { short = omega (arith, spelled, body_short c.args.bits c.args.entry.now.count c.flags_of.result c.args.entry.now.message c.requires.fits); plain = c.flags_of.ensures.plain }
+    record { short = omega (arith, spelled, body_short c.args.bits c.args.entry.now.count c.flags_of.result c.args.entry.now.message c.requires.fits) }
 
 pub returns : goal.returns
 returns c = IfOk-weaker c.frame.result _ _
