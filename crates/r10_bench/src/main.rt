@@ -1,8 +1,10 @@
 //! The program `r10_bench`, run by hand: how many small UART messages a second go through a lane and a builder, beside a
-//! plain copy of the same bytes, and how many go through lanes of one thread and between two.
+//! plain copy of the same bytes, how many go through lanes of one thread and between two, and how long searches in the book
+//! of a file's packets take, and its index.
 #![tactic(auto)]
 
 mod bench;
+mod book;
 mod copy;
 mod fault;
 mod figures;
@@ -32,5 +34,7 @@ fn main(rt: HostRuntime) -> Result<ExitCode, Fault> {
     print!(rt; "{figures}")?;
     let lanes = lanes::run(&rt, rt.alloc(), number)?;
     print!(rt; "{lanes}")?;
+    let book = book::run(&rt, rt.alloc(), number)?;
+    print!(rt; "{book}")?;
     Ok(ExitCode::SUCCESS)
 }

@@ -1,3 +1,4 @@
 pub mod Padding
 pub mod Showing
 pub mod Carrying
+pub mod Joining

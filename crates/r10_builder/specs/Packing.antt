@@ -3,6 +3,7 @@ use Rattle.std.specs.Prelude.{◌≡◌, ℕ, ◌+◌, ◌*◌, ◌/◌, ◌<◌
 use Rattle.std.specs.List.{AllByRecursion, sum_by}
 use Rattle.r10_count.specs.Checks.{first_broken}
 use Rattle.r10_packet.specs.Header.{bits_of, check_of_bits, checksum_bits}
+use Rattle.r10_body.specs.Bodies.{bits_of as told_bits}
 use Rattle.r10_body.specs.Content.{type_of}
 use Rattle.r10_body.specs.Messages.{kind_type, spelling_len}
 use Rattle.r10_body.specs.Packets.{Packet, FitsPacket, header_of, packet_body, packet_entries}
@@ -80,6 +81,7 @@ pub record IsClosed (spec : ChannelSpec) (samples : List Sample) (closed : Close
   pub sequence : packet.sequence ≡ 0
   pub check : checksum_bits packet.check ≡ spec.check
   pub type_is : type_of packet.content ≡ kind_type spec.kind
+  pub bits_are : spec.kind ≡ kinds.Discrete → told_bits packet.content ≡ spec.bits
   -- the counter is the first entry's count, counts don't fall, and none is more than a tenth of a second later
   pub counter : packet.counter ≡ first_count samples
   pub rise : Rise packet.counter (packet_entries packet)

@@ -17,7 +17,7 @@ use Rattle.r10_machine.specs.Machine.{File, Lane, entry_of, waiting_entries, wit
 use Rattle.r10_machine.specs.Calls.{without}
 use Rattle.r10_machine.specs.Config.{Config}
 use Rattle.r10_machine.specs.Room.{area, cost_of, fitting}
-use Rattle.r10_mux.specs.Follow.{Belongs, CanFollow}
+use Rattle.r10_packing.specs.Follow.{Belongs, CanFollow}
 use Rattle.r10_lane.specs.Lanes.{IsTaken}
 use Rattle.r10_control.specs.Notes.{Notes, PumpsLane, first_fits}
 use Rattle.r10_control.specs.Inside.{IsOpen}

@@ -12,7 +12,7 @@ use Rattle.r10_body.specs.declared.spec.ChannelSpec.{ChannelSpec}
 use Rattle.r10_machine.specs.Calls.{front_of, lanes_without, without}
 use Rattle.r10_machine.specs.Machine.{Lane, is_channel, lane_in, waiting_entries}
 use Rattle.r10_machine.specs.Limits.{channel_ids, IsChannel}
-use Rattle.r10_mux.specs.Follow.{Belongs}
+use Rattle.r10_packing.specs.Follow.{Belongs}
 use Rattle.r10_control.specs.Lanes.{specs_of}
 use Rattle.r10_control.proofs.Places.{IsAt}
 use Rattle.r10_control.proofs.PumpSteps.{known}

@@ -8,7 +8,7 @@ use Rattle.r10_machine.specs.declared.reply.Mode.{Mode}
 use Rattle.r10_machine.specs.declared.reply.Mode.TheVariants.{Unmounted, Idle, Recording, Failed}
 use Rattle.r10_machine.specs.Config.{Config}
 use Rattle.r10_machine.specs.Room.{area, cost_of}
-use Rattle.r10_mux.specs.Follow.{Belongs}
+use Rattle.r10_packing.specs.Follow.{Belongs}
 use Rattle.r10_control.specs.Files.{Stands}
 use Rattle.r10_control.specs.Kept.{Kept}
 

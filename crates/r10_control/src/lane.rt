@@ -4,7 +4,7 @@ ghost use Rattle.std.specs.Prelude.{◌≡◌, ◌<◌, List, [], take, slice_ge
 ghost use Rattle.std.specs.List.{All};
 ghost use Rattle.r10_body.specs.Channels.{spec_of};
 ghost use Rattle.r10_body.specs.declared.spec.ChannelSpec.{ChannelSpec as Spec};
-ghost use Rattle.r10_mux.specs.Follow.{Belongs};
+ghost use Rattle.r10_packing.specs.Follow.{Belongs};
 ghost use Rattle.r10_machine.specs.Machine.{waiting_entries};
 
 use r10_body::{Entry, Message};

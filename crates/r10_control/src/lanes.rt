@@ -6,7 +6,7 @@ ghost use Rattle.r10_body.specs.Rules.{entry_on};
 ghost use Rattle.r10_machine.specs.Calls.{all_waiting, front_of, lanes_without, waiting_count};
 ghost use Rattle.r10_machine.specs.Limits.{IsChannel};
 ghost use Rattle.r10_machine.specs.Machine.{fresh_lane, is_channel, lane_in};
-ghost use Rattle.r10_mux.specs.Follow.{Belongs};
+ghost use Rattle.r10_packing.specs.Follow.{Belongs};
 ghost use Rattle.r10_control.specs.Lanes.{OffersTo, specs_of};
 
 use crate::lane::{belong, front};

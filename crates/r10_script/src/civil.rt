@@ -1,6 +1,6 @@
 //! Civil times as text.
 
-ghost use Rattle.std.specs.Prelude.{◌≡◌, ◌<◌, ◌∷◌, ◌++◌, ℕ, List, IfSome, IfNone};
+ghost use Rattle.std.specs.Prelude.{◌≡◌, ◌<◌, ◌+◌, ◌∷◌, ◌++◌, ℕ, List, IfSome, IfNone};
 ghost use Rattle.r10_lines.specs.Civil.{two_digits, civil_text};
 ghost use Rattle.r10_script.specs.Civil.{HasText};
 
@@ -33,18 +33,27 @@ pub fn parts_of(text: &[u8]) -> Option<Parts>
     })
 }
 
+/// The decimal digit at the front, and the bytes behind it.
+fn split_digit(bytes: &[u8]) -> Option<(u16, &[u8])>
+    ensures found { IfSome result (λ x. bytes.now ≡ (48 + x.0) ∷ x.1.now) }
+    ensures range { IfSome result (λ x. x.0 < 10) }
+    ensures none { IfNone result ((n : ℕ) (rest : List ℕ) → n < 10 → bytes.now ≡ (48 + n) ∷ rest → ⊥) }
+{
+    match bytes {
+        [digit @ b'0'..=b'9', rest @ ..] => Some((u16::from(digit - b'0'), rest)),
+        _ => None,
+    }
+}
+
 /// The number of two decimal digits at the front, and the bytes behind it.
 fn split_pair(bytes: &[u8]) -> Option<(u16, &[u8])>
     ensures found { IfSome result (λ x. bytes.now ≡ two_digits x.0 ++ x.1.now) }
     ensures range { IfSome result (λ x. x.0 < 100) }
     ensures none { IfNone result ((n : ℕ) (rest : List ℕ) → n < 100 → bytes.now ≡ two_digits n ++ rest → ⊥) }
 {
-    match bytes {
-        [tens @ b'0'..=b'9', ones @ b'0'..=b'9', rest @ ..] => {
-            Some((u16::from(tens - b'0') * 10 + u16::from(ones - b'0'), rest))
-        }
-        _ => None,
-    }
+    let (tens, rest) = split_digit(bytes)?;
+    let (ones, rest) = split_digit(rest)?;
+    Some((10 * tens + ones, rest))
 }
 
 /// The number of two decimal digits behind a mark at the front, and the bytes behind it.

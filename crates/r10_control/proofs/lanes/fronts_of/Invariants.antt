@@ -2,7 +2,7 @@ use Rattle.std.proofs.Common.{◌≡◌, ◌<◌, take}
 use Rattle.std.specs.List.{All, AllByRecursion, flat_map}
 use Rattle.r10_machine.specs.Calls.{front_of}
 use Rattle.r10_machine.specs.Machine.{lane_in}
-use Rattle.r10_mux.specs.Follow.{Belongs}
+use Rattle.r10_packing.specs.Follow.{Belongs}
 use Rattle.r10_control.specs.Lanes.{specs_of}
 use Rattle.r10_control.proofs.lanes.fronts_of.Given as goal
 

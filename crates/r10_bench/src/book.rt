@@ -1,0 +1,118 @@
+//! The book of a file's packets: searches in it, and the index that it writes.
+
+use crate::fault::Fault;
+use r10_count::Count;
+use r10_index::IndexBook;
+use r10_indexbody::NodeEntry;
+use std::alloc::Global;
+use std::fmt;
+use std::time::{CpuClock, Duration};
+
+/// How many packets a book has at most.
+const MOST: u32 = 1_000_000;
+
+/// How many counts a packet begins behind the one before it.
+const STEP: u64 = 20_000;
+
+/// What was measured.
+#[derive(Clone, Copy, Debug, Default)]
+pub struct BookFigures {
+    /// How many packets the book has, and how often it was searched for what one of them has.
+    pub packets: u32,
+    pub candidates: u64,
+    /// The bytes of the index.
+    pub bytes: u64,
+    pub searching: Duration,
+    pub writing: Duration,
+}
+
+/// What a node says of the packet of this number, on one of four channels.
+fn entry(number: u32) -> NodeEntry {
+    let Some(counter) = Count::of(STEP * u64::from(number)) else {
+        unreachable!()
+    };
+    NodeEntry {
+        counter,
+        data_type: 0x50,
+        channel: 1 + (number % 4) as u16,
+        offset: 64 * u64::from(number),
+    }
+}
+
+/// A book of so many packets.
+fn fill(alloc: Global, packets: u32) -> Result<IndexBook, Fault> {
+    let mut book = IndexBook::new(alloc);
+    for number in 0..packets {
+        book.add(entry(number))?;
+    }
+    Ok(book)
+}
+
+/// How many candidates there are for a count on a channel.
+fn count_candidates(book: &IndexBook, sought: NodeEntry) -> u64 {
+    let mut left = book.candidates(Some(sought.channel), sought.counter, sought.counter);
+    let mut number = 0u64;
+    for _ in 0..MOST {
+        if left.next().is_none() {
+            break;
+        }
+        number = number.wrapping_add(1);
+    }
+    number
+}
+
+/// Searches for what each packet begins with, here and there in the file, and answers how many candidates that gave.
+fn search(book: &IndexBook, packets: u32) -> u64 {
+    let mut found = 0u64;
+    for number in 0..packets {
+        let place = number.wrapping_mul(7919) % packets;
+        found = found.wrapping_add(count_candidates(book, entry(place)));
+    }
+    found
+}
+
+/// Writes nodes and root into one buffer, one after the other, and answers how many bytes they have.
+fn write_index(alloc: Global, book: &IndexBook) -> Result<u64, Fault> {
+    let counter = entry(0).counter;
+    let mut buffer = Vec::with_capacity(alloc, 2028)?;
+    let mut bytes = 0u64;
+    for before in 0..book.nodes() {
+        book.write_node(counter, before, &mut buffer)?;
+        bytes = bytes.wrapping_add(buffer.len() as u64);
+    }
+    if book.entries().len() <= 3_276_000 {
+        book.write_root(counter, 64, &mut buffer)?;
+        bytes = bytes.wrapping_add(buffer.len() as u64);
+    }
+    Ok(bytes)
+}
+
+/// Searches in the book of so many packets, and writes the index of it.
+pub fn run<R: CpuClock>(rt: &R, alloc: Global, number: u32) -> Result<BookFigures, Fault> {
+    let packets = number.min(MOST);
+    let book = fill(alloc, packets)?;
+    let start = rt.thread_cpu_time()?;
+    let candidates = search(&book, packets);
+    let middle = rt.thread_cpu_time()?;
+    let bytes = write_index(alloc, &book)?;
+    let end = rt.thread_cpu_time()?;
+    Ok(BookFigures {
+        packets,
+        candidates,
+        bytes,
+        searching: middle.saturating_sub(start),
+        writing: end.saturating_sub(middle),
+    })
+}
+
+impl fmt::Display for BookFigures {
+    fn fmt<W: fmt::Write>(&self, f: &mut fmt::Formatter<W>) -> fmt::Result {
+        let (packets, candidates, bytes) = (self.packets, self.candidates, self.bytes);
+        let (searching, writing) = (self.searching.as_micros(), self.writing.as_micros());
+        writeln!(
+            f,
+            "{packets} searches for one of as many packets: {candidates} candidates in {searching} us"
+        )?;
+        writeln!(f, "their index: {bytes} bytes in {writing} us")
+    }
+}
