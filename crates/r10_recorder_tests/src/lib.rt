@@ -4,6 +4,8 @@
 #[cfg(test)]
 mod builder;
 #[cfg(test)]
+mod builders;
+#[cfg(test)]
 mod parts;
 #[cfg(test)]
 mod recorder;

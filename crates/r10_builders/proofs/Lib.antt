@@ -1,0 +1,4 @@
+pub mod Places
+pub mod Taking
+pub mod First
+pub mod Steps

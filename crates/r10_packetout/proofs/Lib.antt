@@ -1,0 +1,5 @@
+pub mod Table
+pub mod Summing
+pub mod Framing
+pub mod Having
+pub mod Indexing

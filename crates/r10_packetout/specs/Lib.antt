@@ -1,0 +1,5 @@
+pub mod Numbers
+pub mod Places
+pub mod Ending
+pub mod Packets
+pub mod Output

@@ -1,0 +1,61 @@
+//! What stands behind a packet's body.
+
+ghost use Rattle.std.specs.Prelude.{◌≡◌, ◌+◌, ◌/◌, ◌≤◌, ◌∷◌, ◌++◌, length, take};
+ghost use Rattle.r10_packet.specs.Header.{bits_of};
+ghost use Rattle.r10_packet.specs.Packet.{least_filler};
+ghost use Rattle.r10_packet.specs.Sums.{data_checksum};
+
+use r10_packet::{Check, sum8, sum16, sum32};
+
+/// Filler and data checksum: at most 3 bytes and at most 4.
+#[derive(Clone, Copy, Debug)]
+pub(crate) struct Ending {
+    bytes: [u8; 7],
+    start: usize,
+    end: usize,
+    ghost within: { start ≤ end },
+    ghost few: { end ≤ 7 },
+}
+
+impl Ending {
+    ghost use Rattle.r10_packetout.specs.Ending.{said};
+
+    /// What stands behind a body.
+    pub(crate) fn of(check: Check, body: &[u8]) -> Ending
+        requires { length body.now ≤ 524_264 }
+        ensures { let filler = least_filler (bits_of check) body.now in said result ≡ filler ++ data_checksum (bits_of check) (body.now ++ filler) }
+    {
+        let width = check.width();
+        let filler = (4 - (body.len() + width) % 4) % 4;
+        Ending {
+            bytes: checksum(check, body),
+            start: 3 - filler,
+            end: 3 + width,
+        }
+    }
+
+    /// Its bytes.
+    pub(crate) fn as_slice(&self) -> &[u8]
+        ensures { result.now ≡ said self.now }
+    {
+        &self.bytes[self.start..self.end]
+    }
+}
+
+/// Three zeros and the data checksum of a body, to which filler adds nothing, and zeros behind it.
+fn checksum(check: Check, body: &[u8]) -> [u8; 7]
+    ensures { take (3 + bits_of check / 8) result ≡ 0 ∷ 0 ∷ 0 ∷ data_checksum (bits_of check) body.now }
+{
+    match check {
+        Check::Nothing => [0; 7],
+        Check::Sum8 => [0, 0, 0, sum8(body), 0, 0, 0],
+        Check::Sum16 => {
+            let [a, b] = sum16(body).to_le_bytes();
+            [0, 0, 0, a, b, 0, 0]
+        }
+        Check::Sum32 => {
+            let [a, b, c, d] = sum32(body).to_le_bytes();
+            [0, 0, 0, a, b, c, d]
+        }
+    }
+}

@@ -1,0 +1,54 @@
+//! The sequence numbers of channels.
+
+ghost use Rattle.std.specs.Prelude.{◌≡◌, ◌+◌, ◌%◌, ◌<◌, ◌≤◌, ◌==◌, ℕ, cond, length, vec_capacity};
+ghost use Rattle.r10_packetout.specs.Numbers.{next_of};
+ghost use Rattle.r10_packetout.specs.Places.{IsPlace};
+
+/// A channel, and the sequence number of its next packet.
+#[derive(Clone, Copy, Debug, PartialEq, Eq)]
+pub(crate) struct Number {
+    pub(crate) channel: u16,
+    pub(crate) next: u8,
+}
+
+/// The place of a channel, or the length where it has none.
+fn place(numbers: &[Number], channel: u16) -> usize
+    ensures { IsPlace channel numbers.now result }
+{
+    for (i, number) in numbers.iter().enumerate() {
+        if number.channel == channel {
+            return i;
+        }
+    }
+    numbers.len()
+}
+
+/// The number of a channel's next packet: 0 where it has had none.
+pub(crate) fn next_number(numbers: &[Number], channel: u16) -> u8
+    ensures { result ≡ next_of channel numbers.now }
+{
+    let i = place(numbers, channel);
+    if i < numbers.len() {
+        numbers[i].next
+    } else {
+        0
+    }
+}
+
+/// Counts a packet of a channel: its next number is one more, and behind 255 comes 0. There is
+/// memory for a channel more.
+pub(crate) fn count_packet(numbers: &mut Vec<Number>, channel: u16)
+    requires { length numbers.old.items < vec_capacity numbers.old }
+    ensures next { (other : ℕ) → next_of other numbers.new.items ≡ cond (channel == other) ((next_of channel numbers.old.items + 1) % 256) (next_of other numbers.old.items) }
+    ensures one { length numbers.new.items ≤ length numbers.old.items + 1 }
+    ensures room { vec_capacity numbers.old ≤ vec_capacity numbers.new }
+{
+    let i = place(numbers.as_slice(), channel);
+    if i < numbers.len() {
+        let next = numbers[i].next.wrapping_add(1);
+        numbers[i] = Number { channel, next };
+    } else {
+        // there is memory for it
+        let _ = numbers.push(Number { channel, next: 1 });
+    }
+}
