@@ -1,3 +1,6 @@
 pub mod Behind
 mod Spelled
-mod Roots
+pub mod Roots
+mod Found
+mod Sought
+mod Cases
