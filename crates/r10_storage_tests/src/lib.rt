@@ -4,6 +4,10 @@
 #[cfg(test)]
 mod directories;
 #[cfg(test)]
+mod inputs;
+#[cfg(test)]
 mod media;
 #[cfg(test)]
 mod outputs;
+#[cfg(test)]
+mod packets;
