@@ -1,14 +1,14 @@
 // Whole bodies and whole files.
 
 ghost use Rattle.std.specs.Prelude.{◌≡◌};
-ghost use Rattle.r10_mux.specs.Follow.{IsTimeEntry};
+ghost use Rattle.r10_packing.specs.Follow.{IsTimeEntry};
 
 use r10_body::{
     ChannelSpec, Entry, FileFault, Glance, Message, Refusal, Sample, Timed, decode, encode,
 };
 use r10_count::{Civil, Count, Items, Parts};
 use r10_entries::Reading;
-use r10_mux::Mux;
+use r10_packing::Mux;
 use std::alloc::{AllocError, Global};
 use std::test::Fail;
 

@@ -9,3 +9,7 @@ mod bodies;
 mod contents;
 #[cfg(test)]
 mod indexes;
+#[cfg(test)]
+mod strict;
+#[cfg(test)]
+mod tracks;

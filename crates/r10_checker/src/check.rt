@@ -1,0 +1,68 @@
+//! Files on their own, without a directory.
+
+ghost use Rattle.std.specs.Prelude.{◌≡◌, ℕ, List, true, IfOk};
+ghost use Rattle.r10_foreign.specs.Tracks.{Stands as StandsForeign};
+ghost use Rattle.r10_judge.specs.Judged.{Stands};
+ghost use Rattle.r10_checker.specs.Verdict.{IsVerdict};
+ghost use Rattle.r10_checker.specs.declared.check.Verdict.TheVariants as verdicts;
+
+use r10_body::FileFault;
+use r10_foreign::{Fault, ForeignTrack};
+use r10_judge::Judge;
+use std::alloc::{AllocError, Global};
+
+/// What is said of a file.
+#[derive(Clone, Copy, Debug, PartialEq, Eq)]
+pub enum Verdict {
+    /// It keeps every rule of this recorder's files, with an index or without.
+    Strict,
+    /// Any recorder may have written it (IRIG 106-17, chapter 11). So many of its packets are opaque:
+    /// they are told apart, and passed over unread.
+    Lenient { opaque: u64 },
+    /// The packet at this offset, in bytes from the start, is at fault: the first one that is.
+    Faulty { offset: u64, fault: FileFault },
+}
+
+/// The verdict on a file's bytes. A fault is never one of the rules of this recorder's files: a file
+/// that breaks them is lenient.
+pub fn check_file(alloc: Global, bytes: &[u8]) -> Result<Verdict, AllocError>
+    ensures { IfOk result (IsVerdict bytes.now) }
+{
+    let mut track = ForeignTrack::new();
+    let mut judge = Judge::new(alloc, true);
+    let mut rest = bytes;
+    while !rest.is_empty() {
+        let packet = match track.take(rest) {
+            Ok(packet) => packet,
+            Err(at) => return Ok(faulty(&at)),
+        };
+        judge.take(alloc, &rest[..packet.length])?;
+        rest = &rest[packet.length..];
+    }
+    Ok(judged(&track, &judge))
+}
+
+/// The verdict on a file whose packets were all taken.
+fn judged(track: &ForeignTrack, judge: &Judge) -> Verdict
+    ensures { (bytes : List ℕ) → StandsForeign track.now bytes → Stands judge.now bytes → judge.now.closed ≡ true → IsVerdict bytes result }
+{
+    match track.end() {
+        Err(at) => faulty(&at),
+        Ok(opaque) => {
+            if judge.is_strict() {
+                Verdict::Strict
+            } else {
+                Verdict::Lenient { opaque }
+            }
+        }
+    }
+}
+
+fn faulty(at: &Fault) -> Verdict
+    ensures { result ≡ verdicts.Faulty at.now.offset at.now.fault }
+{
+    Verdict::Faulty {
+        offset: at.offset,
+        fault: at.fault,
+    }
+}

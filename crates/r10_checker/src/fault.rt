@@ -1,0 +1,29 @@
+//! Files that should be strict, under their directory entries.
+
+ghost use Rattle.std.specs.Prelude.{IfOk, MatchOption};
+ghost use Rattle.r10_body.specs.Faults.{IsAtFault};
+ghost use Rattle.r10_judge.specs.Judged.{SaysClosed};
+
+use r10_foreign::{Fault, ForeignTrack};
+use r10_judge::Judge;
+use std::alloc::{AllocError, Global};
+
+/// Where and how a file is at fault whose directory entry is closed or not: the first packet that is none
+/// of any recorder's or breaks a rule of this recorder's files, and the least such rule. `None` where it is a
+/// strict file with that closing.
+pub fn find_fault(alloc: Global, bytes: &[u8], closed: bool) -> Result<Option<Fault>, AllocError>
+    ensures { IfOk result (λ found. MatchOption found (SaysClosed bytes.now closed) (λ at. IsAtFault bytes.now closed at.offset at.fault)) }
+{
+    let mut track = ForeignTrack::new();
+    let mut judge = Judge::new(alloc, closed);
+    let mut rest = bytes;
+    while !rest.is_empty() {
+        let packet = match track.take(rest) {
+            Ok(packet) => packet,
+            Err(at) => return Ok(Some(judge.fault_behind(at.fault))),
+        };
+        judge.take(alloc, &rest[..packet.length])?;
+        rest = &rest[packet.length..];
+    }
+    Ok(judge.end())
+}

@@ -1,0 +1,130 @@
+-- What a judge says of a whole file under its directory entry.
+use Rattle.std.proofs.Common.{◌≡◌, ◌↔◌, ℕ, ◌+◌, ◌<◌, ◌≤◌, Bool, true, false, IsTrue, List, [], ◌∷◌, ◌++◌, length, take, map, count_by, Option, Some, None, ◌⊎◌, inl, inr, slice_range, bit_and, refl, sym, ap, ◌∙◌, subst, arith, true≢false}
+use Rattle.std.proofs.lemmas.List.{append-nil, length-append}
+use Rattle.r10_packet.specs.Framing.{header_at, body_at, framing_fault}
+use Rattle.r10_packet.specs.Header.{checksum_bits}
+use Rattle.r10_packet.specs.Packet.{filled, least_filler}
+use Rattle.r10_packet.specs.declared.header.Header.{Header}
+use Rattle.r10_body.proofs.Lone.{packet-length}
+use Rattle.r10_body.specs.Content.{setup}
+use Rattle.r10_body.specs.Files.{FileSays, PacketsSay}
+use Rattle.r10_body.specs.Foreign.{IsForeignPacket, opaque_at}
+use Rattle.r10_body.specs.Packets.{Packet, packet_bytes, file_bytes, file_entries}
+use Rattle.r10_body.specs.Rules.{EachFollows, EndsIndex, is_index, is_closed}
+use Rattle.r10_body.specs.Faults.{HasFault, KeepsHeader, KeepsFiller, Reads, BreaksRule, IsWrongHere, IsAtFault, first_packet}
+use Rattle.r10_body.specs.Faults as faults
+use Rattle.r10_body.specs.declared.fault.FileFault.{FileFault}
+use Rattle.r10_body.specs.declared.fault.FileFault.TheVariants.{Truncated, Rule}
+use Rattle.r10_foreign.proofs.Fronts.{range_front, stays}
+use Rattle.r10_foreign.proofs.Ways.{first_again, packet_long}
+use Rattle.r10_foreign.specs.declared.file.Fault.{Fault}
+use Rattle.r10_laws.proofs.Indexes.{not_closed}
+use Rattle.r10_tracks.specs.declared.tracks.Tracks.{Tracks}
+use Rattle.r10_judge.specs.Judged.{KeepRules, GoesOn, BreaksAt, SaysClosed, MayMiss}
+use Rattle.r10_judge.proofs.Judging.{begins, whole_first}
+
+-- ---- what stands behind a packet changes no rule of it
+
+abbrev IsFilled : Header → List ℕ → List ℕ → Type 0
+IsFilled h body bytes = slice_range bytes 24 h.packet_len ≡ filled (checksum_bits h.flags) body (least_filler (checksum_bits h.flags) body)
+
+same_filler : (packet more : List ℕ) → IsForeignPacket packet → KeepsFiller (packet ++ more) ↔ KeepsFiller packet
+same_filler packet more foreign =
+    let s = stays packet more foreign.framed in
+    let h = header_at packet in
+    let body = body_at packet in
+    let range : slice_range (packet ++ more) 24 h.packet_len ≡ slice_range packet 24 h.packet_len = range_front packet more 24 h.packet_len (packet_long packet foreign) (omega (arith, foreign.whole)) in (
+      (λ k. sym range ∙ subst (λ (b : List ℕ). IsFilled h b (packet ++ more)) s.body_is (subst (λ (g : Header). IsFilled g (body_at (packet ++ more)) (packet ++ more)) s.header k)),
+      (λ k. subst (λ (g : Header). IsFilled g (body_at (packet ++ more)) (packet ++ more)) (sym s.header) (subst (λ (b : List ℕ). IsFilled h b (packet ++ more)) (sym s.body_is) (range ∙ k))),
+    )
+
+same_header : (packet more : List ℕ) → IsForeignPacket packet → header_at (packet ++ more) ≡ header_at packet
+same_header packet more foreign = (stays packet more foreign.framed).header
+
+abbrev IsOwn : Header → Type 0
+IsOwn h = (h.version ≡ 8) × (bit_and h.flags 0xEC ≡ 0) × (h.packet_len ≤ 524288)
+
+reads_more : (packet more : List ℕ) (p : Packet) → IsForeignPacket packet → Reads packet p → Reads (packet ++ more) p
+reads_more packet more p foreign reads = (reads.0, reads.1, first_again packet more foreign ∙ sym (whole_first packet foreign) ∙ reads.2)
+
+reads_less : (packet more : List ℕ) (p : Packet) → IsForeignPacket packet → Reads (packet ++ more) p → Reads packet p
+reads_less packet more p foreign reads = (reads.0, reads.1, whole_first packet foreign ∙ sym (first_again packet more foreign) ∙ reads.2)
+
+breaks_more : (before : List Packet) (packet more : List ℕ) (closed : Bool) (n : ℕ) → IsForeignPacket packet → BreaksRule before packet closed n → BreaksRule before (packet ++ more) closed n
+breaks_more before packet more closed n foreign (faults.version b) = faults.version (λ k. b (subst IsOwn (same_header packet more foreign) k))
+breaks_more before packet more closed n foreign (faults.filler is b) = faults.filler ((stays packet more foreign.framed).opaque ∙ is) (λ k. b ((same_filler packet more foreign).0 k))
+breaks_more before packet more closed n foreign (faults.body b) = faults.body (λ (p, reads). b (p, reads_less packet more p foreign reads))
+breaks_more before packet more closed n foreign (faults.start p reads b) = faults.start p (reads_more packet more p foreign reads) b
+breaks_more before packet more closed n foreign (faults.channels p reads b) = faults.channels p (reads_more packet more p foreign reads) b
+breaks_more before packet more closed n foreign (faults.sequence p reads b) = faults.sequence p (reads_more packet more p foreign reads) b
+breaks_more before packet more closed n foreign (faults.counts p reads b) = faults.counts p (reads_more packet more p foreign reads) b
+breaks_more before packet more closed n foreign (faults.index p reads b) = faults.index p (reads_more packet more p foreign reads) b
+breaks_more before packet more closed n foreign (faults.unclosed p reads i o) = faults.unclosed p (reads_more packet more p foreign reads) i o
+breaks_more before packet more closed n foreign (faults.counters p reads b) = faults.counters p (reads_more packet more p foreign reads) b
+breaks_more before packet more closed n foreign (faults.events p reads b) = faults.events p (reads_more packet more p foreign reads) b
+
+breaks_less : (before : List Packet) (packet more : List ℕ) (closed : Bool) (n : ℕ) → IsForeignPacket packet → BreaksRule before (packet ++ more) closed n → BreaksRule before packet closed n
+breaks_less before packet more closed n foreign (faults.version b) = faults.version (λ k. b (subst IsOwn (sym (same_header packet more foreign)) k))
+breaks_less before packet more closed n foreign (faults.filler is b) = faults.filler (sym (stays packet more foreign.framed).opaque ∙ is) (λ k. b ((same_filler packet more foreign).1 k))
+breaks_less before packet more closed n foreign (faults.body b) = faults.body (λ (p, reads). b (p, reads_more packet more p foreign reads))
+breaks_less before packet more closed n foreign (faults.start p reads b) = faults.start p (reads_less packet more p foreign reads) b
+breaks_less before packet more closed n foreign (faults.channels p reads b) = faults.channels p (reads_less packet more p foreign reads) b
+breaks_less before packet more closed n foreign (faults.sequence p reads b) = faults.sequence p (reads_less packet more p foreign reads) b
+breaks_less before packet more closed n foreign (faults.counts p reads b) = faults.counts p (reads_less packet more p foreign reads) b
+breaks_less before packet more closed n foreign (faults.index p reads b) = faults.index p (reads_less packet more p foreign reads) b
+breaks_less before packet more closed n foreign (faults.unclosed p reads i o) = faults.unclosed p (reads_less packet more p foreign reads) i o
+breaks_less before packet more closed n foreign (faults.counters p reads b) = faults.counters p (reads_less packet more p foreign reads) b
+breaks_less before packet more closed n foreign (faults.events p reads b) = faults.events p (reads_less packet more p foreign reads) b
+
+-- ---- the end
+
+-- a packet breaks a rule
+pub broken_at_fault : (closed : Bool) (at : Fault) (bytes : List ℕ) → BreaksAt closed at bytes → IsAtFault bytes closed at.offset at.fault
+broken_at_fault closed at bytes b = subst (λ (f : Fault). IsAtFault bytes closed f.offset f.fault) (sym b.at_is) (record {
+  packets = b.packets;
+  rest = b.packet ++ b.more;
+  bytes_are = b.bytes_are;
+  offset_is = refl;
+  strict = b.keep.strict;
+  unclosed = b.keep.unclosed;
+  wrong = faults.rule (subst IsForeignPacket (sym (first_again b.packet b.more b.foreign)) b.foreign) (breaks_more b.packets b.packet b.more closed b.number b.foreign b.broken)
+      (λ m broken. b.least m (breaks_less b.packets b.packet b.more closed m b.foreign broken));
+})
+
+-- what stands behind packets that keep the rules has another fault
+pub fault_at_fault : (closed : Bool) (tracks : Tracks) (before rest : List ℕ) (fault : FileFault) (goes : GoesOn closed tracks before) → (0 < length rest) ⊎ (length before ≡ 0) → HasFault rest fault
+    → IsAtFault (before ++ rest) closed (length before) fault
+fault_at_fault closed tracks before rest fault goes some has = record {
+  packets = goes.packets;
+  rest = rest;
+  bytes_are = ap (λ (l : List ℕ). l ++ rest) goes.bytes_are;
+  offset_is = ap length goes.bytes_are;
+  strict = goes.keep.strict;
+  unclosed = goes.keep.unclosed;
+  wrong = faults.packet (elim some [ inl more ↦ inl more | inr none ↦ inr (no_packets goes.packets (sym (ap length goes.bytes_are) ∙ none)) ]) has;
+}
+  where
+    no_packets : (packets : List Packet) → length (file_bytes packets) ≡ 0 → length packets ≡ 0
+    no_packets [] none = refl
+    no_packets (p ∷ ps) none = absurd (omega (arith, none, packet-length p, length-append (packet_bytes p) (file_bytes ps)))
+
+-- something is missing
+ends : (closed : Bool) (tracks : Tracks) (bytes : List ℕ) (fault : FileFault) (goes : GoesOn closed tracks bytes) → IsWrongHere goes.packets [] closed fault → IsAtFault bytes closed (length bytes) fault
+ends closed tracks bytes fault goes wrong = record {
+  packets = goes.packets;
+  rest = [];
+  bytes_are = goes.bytes_are ∙ sym (append-nil (file_bytes goes.packets));
+  offset_is = ap length goes.bytes_are;
+  strict = goes.keep.strict;
+  unclosed = goes.keep.unclosed;
+  wrong = wrong;
+}
+
+pub missing_at_fault : (closed : Bool) (tracks : Tracks) (bytes : List ℕ) (fault : FileFault) (goes : GoesOn closed tracks bytes) → MayMiss closed goes.packets (Some fault) → IsAtFault bytes closed (length bytes) fault
+missing_at_fault closed tracks bytes fault goes missing = ends closed tracks bytes fault goes (missing)
+
+-- nothing is missing
+pub nothing_missing : (closed : Bool) (tracks : Tracks) (bytes : List ℕ) (goes : GoesOn closed tracks bytes) → MayMiss closed goes.packets None → SaysClosed bytes closed
+nothing_missing closed tracks bytes goes (some, same, ends) =
+    let told = begins goes.packets goes.keep.strict (omega (arith, some)) in
+    (told.0, file_entries goes.packets, (goes.packets, goes.bytes_are, record { file = record { each = goes.keep.strict; start = some; index = ends }; setup_is = told.1; entries_are = λ channel. refl; closed_is = same }))

@@ -1,0 +1,79 @@
+-- How far a file is judged: its packets keep the rules so far, or one of them breaks a rule.
+use Rattle.std.specs.Prelude.{◌≡◌, ℕ, ◌≤◌, Bool, false, IsTrue, List, [], ◌++◌, length, count_by, min, Option, Some, None}
+use Rattle.r10_body.specs.Packets.{Packet, file_bytes}
+use Rattle.r10_body.specs.Files.{FileSays}
+use Rattle.r10_body.specs.Rules.{EachFollows, EndsIndex, MayFollow, is_closed, is_index}
+use Rattle.r10_body.specs.Foreign.{IsForeignPacket}
+use Rattle.r10_body.specs.Faults.{BreaksRule, IsWrongHere}
+use Rattle.r10_body.specs.declared.entry.Entry.{Entry}
+use Rattle.r10_body.specs.declared.fault.FileFault.{FileFault}
+use Rattle.r10_body.specs.declared.fault.FileFault.TheVariants.{Rule}
+use Rattle.r10_foreign.specs.declared.file.Fault.{Fault}
+use Rattle.r10_tracks.specs.Broken.{Breaks}
+use Rattle.r10_tracks.specs.Tracks.{IsTracked}
+use Rattle.r10_tracks.specs.declared.tracks.Tracks.{Tracks}
+use Rattle.r10_judge.specs.declared.judge.Judge.{Judge}
+
+-- packets that keep the rules of a file whose directory entry is closed or not
+pub record KeepRules (closed : Bool) (packets : List Packet) : Type 0 where
+  pub strict : EachFollows [] packets
+  pub unclosed : closed ≡ false → count_by is_index packets ≡ 0
+
+-- all bytes so far are packets that keep the rules, and these are their tracks
+pub record GoesOn (closed : Bool) (tracks : Tracks) (bytes : List ℕ) : Type 0 where
+  pub packets : List Packet
+  pub bytes_are : bytes ≡ file_bytes packets
+  pub keep : KeepRules closed packets
+  pub tracked : IsTracked tracks packets
+
+-- behind packets that keep the rules a packet of any recorder breaks one, and of those that it breaks this is the least
+pub record BreaksAt (closed : Bool) (at : Fault) (bytes : List ℕ) : Type 0 where
+  pub packets : List Packet
+  pub packet : List ℕ
+  pub more : List ℕ
+  pub bytes_are : bytes ≡ file_bytes packets ++ (packet ++ more)
+  pub keep : KeepRules closed packets
+  pub foreign : IsForeignPacket packet
+  pub number : ℕ
+  pub at_is : at ≡ record { offset = length (file_bytes packets); fault = Rule number }
+  pub broken : BreaksRule packets packet closed number
+  pub least : (m : ℕ) → BreaksRule packets packet closed m → number ≤ m
+
+-- where a judge stands behind these bytes of packets
+abbrev pub StandsAt : Option Fault → Bool → Tracks → List ℕ → Type 0
+StandsAt None closed tracks bytes = GoesOn closed tracks bytes
+StandsAt (Some at) closed tracks bytes = BreaksAt closed at bytes
+
+abbrev pub Stands : Judge → List ℕ → Type 0
+Stands j bytes = StandsAt j.broken j.closed j.tracks bytes
+
+-- ---- one packet more
+
+-- a packet breaks this rule behind these, in a file whose directory entry is closed or not
+pub data BreaksIn (closed : Bool) (before : List Packet) (p : Packet) : ℕ → Type 0 where
+  broken_rule : {n : ℕ} → Breaks before p n → BreaksIn closed before p n
+  in_open_file : IsTrue (is_index p) → closed ≡ false → BreaksIn closed before p 8
+
+-- it may come next, or this is the least of the rules from 4 on that it breaks
+abbrev pub BreaksFirst : Bool → List Packet → Packet → Option ℕ → Type 0
+BreaksFirst closed before p None = MayFollow before p × (closed ≡ false → is_index p ≡ false)
+BreaksFirst closed before p (Some n) = BreaksIn closed before p n × ((m : ℕ) → BreaksIn closed before p m → n ≤ m)
+
+abbrev pub stopped_at : List Packet → ℕ → Fault
+stopped_at packets n = record { offset = length (file_bytes packets); fault = Rule n }
+
+-- the least rule that an index packet of an unclosed file breaks, where these are those that it breaks beside
+abbrev pub least_of_index : Option ℕ → ℕ
+least_of_index None = 8
+least_of_index (Some n) = min n 8
+
+-- ---- the end of a file
+
+-- the bytes are a strict file with this closing
+abbrev pub SaysClosed : List ℕ → Bool → Type 0
+SaysClosed bytes closed = (text : List ℕ) × (entries : List Entry) × FileSays bytes text entries closed
+
+-- nothing is missing behind packets that keep the rules, or what is missing makes the file end with this fault
+abbrev pub MayMiss : Bool → List Packet → Option FileFault → Type 0
+MayMiss closed packets None = (2 ≤ length packets) × (is_closed packets ≡ closed) × EndsIndex packets
+MayMiss closed packets (Some fault) = IsWrongHere packets [] closed fault

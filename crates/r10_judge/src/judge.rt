@@ -1,0 +1,230 @@
+//! Whether a file keeps the rules, packet by packet.
+
+ghost use Rattle.std.specs.Prelude.{◌≡◌, ◌↔◌, ◌⊎◌, ◌+◌, ◌<◌, ◌≤◌, ◌^◌, ◌++◌, ℕ, List, [], length, true, false, IsTrue, MatchOption, OnOk, OnErr, None, Some};
+ghost use Rattle.r10_packet.specs.Framing.{framing_fault, body_at};
+ghost use Rattle.r10_body.specs.Faults.{HasFault, IsAtFault};
+ghost use Rattle.r10_body.specs.Files.{IsStrict};
+ghost use Rattle.r10_body.specs.Foreign.{IsForeignPacket};
+ghost use Rattle.r10_body.specs.Packets.{Packet, FitsPacket, packet_body, packet_bytes};
+ghost use Rattle.r10_body.specs.Rules.{EndsIndex, KeepsChecksums};
+ghost use Rattle.r10_body.specs.Rules.{is_index as is_index_packet};
+ghost use Rattle.r10_judge.specs.Judged.{Stands, GoesOn, BreaksFirst, MayMiss, SaysClosed, least_of_index, stopped_at};
+ghost use Rattle.r10_strict.specs.Facts.{Tells, kind_of};
+ghost use Rattle.r10_tracks.specs.Tracks.{IsTracked};
+
+use r10_body::FileFault;
+use r10_foreign::Fault;
+use r10_strict::{Facts, PacketKind, StrictReading, read_strict};
+use r10_tracks::Tracks;
+use std::alloc::{AllocError, Global};
+
+/// How far a file is judged.
+///
+/// It takes the packets of a file one after the other, each whole, and keeps none of them.
+#[derive(Drop)]
+pub struct Judge {
+    tracks: Tracks,
+    /// Whether the file's directory entry is closed.
+    closed: bool,
+    /// Where a packet first breaks a rule, if one does.
+    broken: Option<Fault>,
+}
+
+impl Judge {
+    /// The start of a file whose directory entry is closed or not.
+    pub fn new(alloc: Global, closed: bool) -> Judge
+        ensures stands { Stands result [] }
+        ensures closed { result.closed ≡ closed }
+    {
+        Judge {
+            tracks: Tracks::new(alloc),
+            closed,
+            broken: None,
+        }
+    }
+
+    /// Takes the next packet, whoever wrote it. Where memory is refused, it isn't taken.
+    pub fn take(&mut self, alloc: Global, packet: &[u8]) -> Result<(), AllocError>
+        ensures taken { (before : List ℕ) → Stands self.old before → IsForeignPacket packet.now → length (before ++ packet.now) < 2 ^ 63 → OnOk result (Stands self.new (before ++ packet.now)) }
+        ensures kept { (before : List ℕ) → Stands self.old before → OnErr result (Stands self.new before) }
+        ensures closed { self.new.closed ≡ self.old.closed }
+    {
+        if self.broken.is_some() {
+            return Ok(());
+        }
+        match read_strict(alloc, packet) {
+            Ok(StrictReading::Strict(facts)) => self.take_strict(&facts, body_of(packet)),
+            Ok(StrictReading::Breaks(rule)) => {
+                self.stop(rule);
+                Ok(())
+            }
+            Err(error) => Err(error),
+        }
+    }
+
+    /// Whether the packets so far are a strict file, whatever its directory entry is: closed by an
+    /// index, or without index packets.
+    pub fn is_strict(&self) -> bool
+        ensures { (bytes : List ℕ) → Stands self.now bytes → self.now.closed ≡ true → (IsTrue result ↔ IsStrict bytes) }
+    {
+        match self.broken {
+            None => self.is_whole(),
+            Some(_) => false,
+        }
+    }
+
+    /// Where and how the file that ends here is at fault under its directory entry; `None` where it is a
+    /// strict file with that closing.
+    pub fn end(&self) -> Option<Fault>
+        ensures { (bytes : List ℕ) → Stands self.now bytes → MatchOption result (SaysClosed bytes self.now.closed) (λ at. IsAtFault bytes self.now.closed at.offset at.fault) }
+    {
+        match self.first_broken() {
+            Some(at) => Some(at),
+            None => self.end_of_packets(),
+        }
+    }
+
+    /// Where and how the file is at fault whose next packet has this fault of framing, checksum or body: there,
+    /// or where a packet before it breaks a rule.
+    pub fn fault_behind(&self, fault: FileFault) -> Fault
+        ensures { (before rest : List ℕ) → Stands self.now before → (0 < length rest) ⊎ (length before ≡ 0) → HasFault rest fault
+            → IsAtFault (before ++ rest) self.now.closed result.offset result.fault }
+    {
+        match self.first_broken() {
+            Some(at) => at,
+            None => {
+                let offset = self.tracks.bytes();
+                Fault { offset, fault }
+            }
+        }
+    }
+
+    fn first_broken(&self) -> Option<Fault>
+        ensures { result ≡ self.now.broken }
+    {
+        self.broken
+    }
+
+    /// The fault of a file whose packets keep the rules.
+    fn end_of_packets(&self) -> Option<Fault>
+        ensures { (bytes : List ℕ) → GoesOn self.now.closed self.now.tracks bytes → MatchOption result (SaysClosed bytes self.now.closed) (λ at. IsAtFault bytes self.now.closed at.offset at.fault) }
+    {
+        let offset = self.tracks.bytes();
+        match self.missing() {
+            Some(fault) => Some(Fault { offset, fault }),
+            None => None,
+        }
+    }
+
+    /// What is missing behind packets that keep the rules: a first packet, a time, or the index.
+    fn missing(&self) -> Option<FileFault>
+        ensures { (bytes : List ℕ) (goes : GoesOn self.now.closed self.now.tracks bytes) → MayMiss self.now.closed goes.packets result }
+    {
+        let packets = self.tracks.packets();
+        if packets == 0 {
+            return Some(FileFault::Truncated);
+        }
+        if packets == 1 {
+            return Some(FileFault::Rule(4));
+        }
+        self.missing_index()
+    }
+
+    /// That the index is missing, of a file with setup and time whose directory entry is closed.
+    fn missing_index(&self) -> Option<FileFault>
+        ensures { (bytes : List ℕ) (goes : GoesOn self.now.closed self.now.tracks bytes) → 2 ≤ length goes.packets → MayMiss self.now.closed goes.packets result }
+    {
+        if !self.closed {
+            return None;
+        }
+        if self.tracks.is_closed() {
+            return None;
+        }
+        Some(FileFault::Rule(8))
+    }
+
+    /// What is kept of the packets that keep the rules.
+    pub fn tracks(&self) -> &Tracks
+        ensures { result.now ≡ self.now.tracks }
+    {
+        &self.tracks
+    }
+
+    /// Whether the packets are two at least, and the last is a root where any is an index packet.
+    fn is_whole(&self) -> bool
+        ensures { (packets : List Packet) → IsTracked self.now.tracks packets → (IsTrue result ↔ ((2 ≤ length packets) × EndsIndex packets)) }
+    {
+        2 <= self.tracks.packets() && (self.tracks.is_closed() || !self.tracks.has_index())
+    }
+
+    /// Takes the next packet, which keeps the first three rules: it is added, or breaks another one.
+    fn take_strict(&mut self, facts: &Facts, body: &[u8]) -> Result<(), AllocError>
+        requires { self.old.broken ≡ None }
+        ensures taken { (before : List ℕ) (p : Packet) → GoesOn self.old.closed self.old.tracks before → KeepsChecksums p → Tells facts.now p → body.now ≡ packet_body p → FitsPacket p
+            → length (before ++ packet_bytes p) < 2 ^ 63 → OnOk result (Stands self.new (before ++ packet_bytes p)) }
+        ensures kept { (before : List ℕ) → Stands self.old before → OnErr result (Stands self.new before) }
+        ensures closed { self.new.closed ≡ self.old.closed }
+    {
+        match self.rule(facts, body) {
+            Some(rule) => {
+                self.stop(rule);
+                Ok(())
+            }
+            None => self.tracks.add(facts),
+        }
+    }
+
+    /// The least of the rules from 4 on that the next packet breaks.
+    fn rule(&self, facts: &Facts, body: &[u8]) -> Option<u8>
+        ensures { (packets : List Packet) (p : Packet) → IsTracked self.now.tracks packets → FitsPacket p → KeepsChecksums p → Tells facts.now p → body.now ≡ packet_body p
+            → BreaksFirst self.now.closed packets p result }
+    {
+        let rule = self.tracks.rule(facts, body);
+        if self.closed {
+            return rule;
+        }
+        if !is_index(&facts.kind) {
+            return rule;
+        }
+        Some(index_rule(rule))
+    }
+
+    /// Stops at the rule that the next packet breaks.
+    fn stop(&mut self, rule: u8)
+        ensures tracks { self.new.tracks ≡ self.old.tracks }
+        ensures closed { self.new.closed ≡ self.old.closed }
+        ensures broken { (packets : List Packet) → IsTracked self.old.tracks packets → self.new.broken ≡ Some (stopped_at packets rule) }
+    {
+        let offset = self.tracks.bytes();
+        let fault = FileFault::Rule(rule);
+        self.broken = Some(Fault { offset, fault });
+    }
+}
+
+/// The least rule that an index packet of an unclosed file breaks, beside those of the packets before it.
+fn index_rule(rule: Option<u8>) -> u8
+    ensures { result ≡ least_of_index rule }
+{
+    match rule {
+        Some(rule) => rule.min(8),
+        None => 8,
+    }
+}
+
+fn is_index(kind: &PacketKind) -> bool
+    ensures { (p : Packet) → kind.now ≡ kind_of p.content → result ≡ is_index_packet p }
+{
+    matches!(*kind, PacketKind::Node | PacketKind::Root)
+}
+
+/// The body of a packet without a fault of framing.
+fn body_of(packet: &[u8]) -> &[u8]
+    ensures { framing_fault packet.now ≡ None → result.now ≡ body_at packet.now }
+{
+    if packet.len() < 24 {
+        return &[];
+    }
+    let size = u32::from_le_bytes([packet[8], packet[9], packet[10], packet[11]]) as usize;
+    let rest = &packet[24..];
+    &rest[..size.min(rest.len())]
+}

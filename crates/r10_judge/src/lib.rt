@@ -1,0 +1,9 @@
+//! A file's packets are judged one after the other: they keep the rules so far, or the first packet that breaks one is known,
+//! and the least rule that it breaks.
+#![tactic(auto)]
+
+mod judge;
+mod laws;
+
+pub use judge::Judge;
+pub use laws::next_packet;

@@ -1,0 +1,7 @@
+pub mod Spelled
+pub mod First
+pub mod Findings
+pub mod Tallies
+pub mod Telling
+pub mod Scanned
+pub mod Glances

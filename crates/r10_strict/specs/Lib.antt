@@ -1,0 +1,5 @@
+pub mod Facts
+pub mod Header
+pub mod Tally
+pub mod Strict
+pub mod Glance

@@ -1,0 +1,99 @@
+-- The least rule that is broken, and all of what is kept.
+use Rattle.std.proofs.Common.{◌≡◌, ℕ, ◌+◌, ◌<◌, ◌≤◌, Bool, true, false, not, cond, ◌==◌, IsTrue, List, [], ◌∷◌, refl, sym, ◌∙◌, arith}
+use Rattle.std.specs.Prelude.{◌↔◌, nat_eq, count_by}
+use Rattle.std.proofs.lemmas.Bool.{eqb-true}
+use Rattle.r10_body.specs.Packets.{Packet}
+use Rattle.r10_body.specs.Rules.{KeepsStart, KeepsChannels, KeepsSequence, KeepsCounts, KeepsIndex, KeepsCounters, is_index, is_node, is_root}
+use Rattle.r10_laws.proofs.Indexes.{Part, datum, node_here, root_here, part_of, counted_first, counted_yes, counted_no}
+use Rattle.r10_tracks.specs.Broken.{Breaks, start, channels, sequence, counts, index, counters, events}
+use Rattle.r10_tracks.proofs.Either.{no}
+
+pub not_kept : (A : Type 0) (b : Bool) → b ≡ false → IsTrue b ↔ A → A → ⊥
+not_kept A b is decides kept = no (sym is ∙ decides.1 kept)
+
+pub least_4 : (before : List Packet) (p : Packet) (m : ℕ) → Breaks before p m → 4 ≤ m
+least_4 before p m (start broken) = omega arith
+least_4 before p m (channels broken) = omega arith
+least_4 before p m (sequence broken) = omega arith
+least_4 before p m (counts broken) = omega arith
+least_4 before p m (index broken) = omega arith
+least_4 before p m (counters broken) = omega arith
+least_4 before p m (events broken) = omega arith
+
+pub least_5 : (before : List Packet) (p : Packet) (m : ℕ) → KeepsStart before p → Breaks before p m → 5 ≤ m
+least_5 before p m k4 (start broken) = absurd (broken k4)
+least_5 before p m k4 (channels broken) = omega arith
+least_5 before p m k4 (sequence broken) = omega arith
+least_5 before p m k4 (counts broken) = omega arith
+least_5 before p m k4 (index broken) = omega arith
+least_5 before p m k4 (counters broken) = omega arith
+least_5 before p m k4 (events broken) = omega arith
+
+pub least_6 : (before : List Packet) (p : Packet) (m : ℕ) → KeepsStart before p → KeepsChannels before p → Breaks before p m → 6 ≤ m
+least_6 before p m k4 k5 (start broken) = absurd (broken k4)
+least_6 before p m k4 k5 (channels broken) = absurd (broken k5)
+least_6 before p m k4 k5 (sequence broken) = omega arith
+least_6 before p m k4 k5 (counts broken) = omega arith
+least_6 before p m k4 k5 (index broken) = omega arith
+least_6 before p m k4 k5 (counters broken) = omega arith
+least_6 before p m k4 k5 (events broken) = omega arith
+
+pub least_7 : (before : List Packet) (p : Packet) (m : ℕ) → KeepsStart before p → KeepsChannels before p → KeepsSequence before p → Breaks before p m → 7 ≤ m
+least_7 before p m k4 k5 k6 (start broken) = absurd (broken k4)
+least_7 before p m k4 k5 k6 (channels broken) = absurd (broken k5)
+least_7 before p m k4 k5 k6 (sequence broken) = absurd (broken k6)
+least_7 before p m k4 k5 k6 (counts broken) = omega arith
+least_7 before p m k4 k5 k6 (index broken) = omega arith
+least_7 before p m k4 k5 k6 (counters broken) = omega arith
+least_7 before p m k4 k5 k6 (events broken) = omega arith
+
+pub least_8 : (before : List Packet) (p : Packet) (m : ℕ) → KeepsStart before p → KeepsChannels before p → KeepsSequence before p → KeepsCounts before p → Breaks before p m → 8 ≤ m
+least_8 before p m k4 k5 k6 k7 (start broken) = absurd (broken k4)
+least_8 before p m k4 k5 k6 k7 (channels broken) = absurd (broken k5)
+least_8 before p m k4 k5 k6 k7 (sequence broken) = absurd (broken k6)
+least_8 before p m k4 k5 k6 k7 (counts broken) = absurd (broken k7)
+least_8 before p m k4 k5 k6 k7 (index broken) = omega arith
+least_8 before p m k4 k5 k6 k7 (counters broken) = omega arith
+least_8 before p m k4 k5 k6 k7 (events broken) = omega arith
+
+pub least_9 : (before : List Packet) (p : Packet) (m : ℕ) → KeepsStart before p → KeepsChannels before p → KeepsSequence before p → KeepsCounts before p → KeepsIndex before p → Breaks before p m → 9 ≤ m
+least_9 before p m k4 k5 k6 k7 k8 (start broken) = absurd (broken k4)
+least_9 before p m k4 k5 k6 k7 k8 (channels broken) = absurd (broken k5)
+least_9 before p m k4 k5 k6 k7 k8 (sequence broken) = absurd (broken k6)
+least_9 before p m k4 k5 k6 k7 k8 (counts broken) = absurd (broken k7)
+least_9 before p m k4 k5 k6 k7 k8 (index broken) = absurd (broken k8)
+least_9 before p m k4 k5 k6 k7 k8 (counters broken) = omega arith
+least_9 before p m k4 k5 k6 k7 k8 (events broken) = omega arith
+
+pub least_10 : (before : List Packet) (p : Packet) (m : ℕ) → KeepsStart before p → KeepsChannels before p → KeepsSequence before p → KeepsCounts before p → KeepsIndex before p → KeepsCounters before p → Breaks before p m → 10 ≤ m
+least_10 before p m k4 k5 k6 k7 k8 k9 (start broken) = absurd (broken k4)
+least_10 before p m k4 k5 k6 k7 k8 k9 (channels broken) = absurd (broken k5)
+least_10 before p m k4 k5 k6 k7 k8 k9 (sequence broken) = absurd (broken k6)
+least_10 before p m k4 k5 k6 k7 k8 k9 (counts broken) = absurd (broken k7)
+least_10 before p m k4 k5 k6 k7 k8 k9 (index broken) = absurd (broken k8)
+least_10 before p m k4 k5 k6 k7 k8 k9 (counters broken) = absurd (broken k9)
+least_10 before p m k4 k5 k6 k7 k8 k9 (events broken) = omega arith
+
+-- index packets are nodes and roots
+index_at : (p : Packet) (ps : List Packet) → Part p → count_by is_index ps ≡ count_by is_node ps + count_by is_root ps → count_by is_index (p ∷ ps) ≡ count_by is_node (p ∷ ps) + count_by is_root (p ∷ ps)
+index_at p ps (datum i n r len) rest =
+    omega (arith, rest, counted_first is_index p ps, counted_first is_node p ps, counted_first is_root p ps, counted_no is_index p i, counted_no is_node p n, counted_no is_root p r)
+index_at p ps (node_here es e i n r len) rest =
+    omega (arith, rest, counted_first is_index p ps, counted_first is_node p ps, counted_first is_root p ps, counted_yes is_index p i, counted_yes is_node p n, counted_no is_root p r)
+index_at p ps (root_here es e i n r len) rest =
+    omega (arith, rest, counted_first is_index p ps, counted_first is_node p ps, counted_first is_root p ps, counted_yes is_index p i, counted_no is_node p n, counted_yes is_root p r)
+
+pub index_packets : (ps : List Packet) → count_by is_index ps ≡ count_by is_node ps + count_by is_root ps
+index_packets [] = refl
+index_packets (p ∷ ps) = index_at p ps (part_of p) (index_packets ps)
+
+not_zero : (n : ℕ) (b : Bool) → n == 0 ≡ b → 0 < n → not b ≡ true
+not_zero n true is some = absurd (omega (arith, eqb-true n 0 is, some))
+not_zero n false is some = refl
+
+pub some_nodes : (nodes count : ℕ) → 0 < nodes → 0 < count → IsTrue (not (nat_eq nodes 0)) ↔ (0 < count)
+some_nodes nodes count some more = (λ e. more, λ e. not_zero nodes (nodes == 0) refl some)
+
+pub closed_root : (closed : Bool) (roots count : ℕ) → roots ≡ cond closed 1 0 → count ≡ roots → IsTrue closed ↔ (0 < count)
+closed_root true roots count is same = (λ e. omega (arith, is, same), λ e. refl)
+closed_root false roots count is same = (λ e. absurd (no e), λ some. absurd (omega (arith, is, same, some)))

@@ -1,0 +1,10 @@
+mod Alike
+mod OnChannels
+mod Either
+mod OnTimes
+mod OnEvents
+mod Fronts
+mod Named
+mod OnIndex
+mod Least
+mod Joins

@@ -1,0 +1,19 @@
+-- The least rule that a packet breaks behind others.
+use Rattle.std.specs.Prelude.{ℕ, ◌≤◌, List, Option, Some, None}
+use Rattle.r10_body.specs.Packets.{Packet}
+use Rattle.r10_body.specs.Rules.{KeepsStart, KeepsChannels, KeepsSequence, KeepsCounts, KeepsIndex, KeepsCounters, KeepsEvents, MayFollow}
+
+-- a packet breaks this rule behind these
+pub data Breaks (before : List Packet) (p : Packet) : ℕ → Type 0 where
+  start : ¬ KeepsStart before p → Breaks before p 4
+  channels : ¬ KeepsChannels before p → Breaks before p 5
+  sequence : ¬ KeepsSequence before p → Breaks before p 6
+  counts : ¬ KeepsCounts before p → Breaks before p 7
+  index : ¬ KeepsIndex before p → Breaks before p 8
+  counters : ¬ KeepsCounters before p → Breaks before p 9
+  events : ¬ KeepsEvents before p → Breaks before p 10
+
+-- it may come next, or this is the least rule that it breaks
+abbrev pub BreaksFirst : List Packet → Packet → Option ℕ → Type 0
+BreaksFirst before p None = MayFollow before p
+BreaksFirst before p (Some n) = Breaks before p n × ((m : ℕ) → Breaks before p m → n ≤ m)

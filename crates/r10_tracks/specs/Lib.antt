@@ -1,0 +1,9 @@
+pub mod Kinds
+pub mod Channels
+pub mod Events
+pub mod Times
+pub mod Totals
+pub mod Names
+pub mod Index
+pub mod Tracks
+pub mod Broken
