@@ -1,3 +1,5 @@
+pub mod Command
 pub mod Lines
 pub mod Sim
 pub mod Status
+pub mod Written

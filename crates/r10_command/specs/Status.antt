@@ -1,13 +1,16 @@
 -- The exit status of a command.
 use Rattle.std.specs.Prelude.{◌≡◌, ◌⊎◌, ℕ}
 use Rattle.r10_script.specs.declared.fault.ScriptFault.TheVariants as scripts
+use Rattle.r10_images.specs.declared.listing.Outcome.{Outcome}
+use Rattle.r10_images.specs.declared.listing.Outcome.TheVariants.{Done, Refused}
 use Rattle.r10_command.specs.declared.fault.Fault.{Fault}
 use Rattle.r10_command.specs.declared.fault.Fault.TheVariants as faults
 
--- 2 where the words or the script are wrong, 3 where memory, the reader or the writer failed
+-- 2 where the words, their values or the script are wrong, 3 where memory, the reader or the writer failed
 abbrev pub status_of : Fault → ℕ
 status_of faults.NotText = 2
 status_of (faults.Usage said) = 2
+status_of (faults.Limit limit) = 2
 status_of (faults.Script (scripts.Wrong place wrong)) = 2
 status_of (faults.Script (scripts.OutOfMemory error)) = 3
 status_of (faults.Memory error) = 3
@@ -20,6 +23,11 @@ status_of (faults.Format refusal) = 3
 abbrev pub IsFailure : ℕ → Type 0
 IsFailure status = (status ≡ 2) ⊎ (status ≡ 3)
 
--- 0 where the command did its work
-abbrev pub IsStatus : ℕ → Type 0
-IsStatus status = (status ≡ 0) ⊎ IsFailure status
+-- 0 where the command did its work, 1 where an image refused it
+abbrev pub outcome_status : Outcome → ℕ
+outcome_status Done = 0
+outcome_status Refused = 1
+
+-- the command ended so, and what it did has P; or it failed
+abbrev pub Ends : ℕ → (Outcome → Type 0) → Type 0
+Ends status P = ((outcome : Outcome) × (status ≡ outcome_status outcome) × P outcome) ⊎ IsFailure status

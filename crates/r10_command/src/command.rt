@@ -1,18 +1,20 @@
 //! What the words of the command line ask for.
 
-ghost use Rattle.std.specs.Prelude.{◌≡◌, IfSome, OnOk, map, string_bytes};
+ghost use Rattle.std.specs.Prelude.{◌≡◌, IfOk, OnOk, map, string_bytes};
 ghost use Rattle.std.specs.Io.KnownBytes.{Appends};
-ghost use Rattle.r10_words.specs.Words.{AsksSim};
-ghost use Rattle.r10_command.specs.Sim.{Simulates};
-ghost use Rattle.r10_command.specs.Status.{status_of, IsStatus, IsFailure};
+ghost use Rattle.r10_command.specs.Command.{Does};
+ghost use Rattle.r10_command.specs.Status.{status_of, Ends, IsFailure};
+ghost use Rattle.r10_command.specs.Written.{WritesFormatted};
 
 use crate::fault::Fault;
 use crate::play::sim;
-use r10_words::{Asked, WordsFault, read_words};
+use r10_images::{Outcome, check_format, list_files, write_formatted};
+use r10_words::{Asked, FormatWords, WordsFault, read_words};
 use std::alloc::Global;
 use std::io::{Read, Write};
 
-/// Runs the command that the words name, the program's own name first, and answers the exit status.
+/// Runs the command that the words name, the program's own name first, and answers the exit status: 0, 1 where an image
+/// refused it, 2 for wrong words or a wrong script, 3 for want of memory and for what can't be read or written.
 /// A fault goes to `faults`, as one line.
 pub fn run<R: Read, W: Write, E: Write>(
     alloc: Global,
@@ -21,11 +23,11 @@ pub fn run<R: Read, W: Write, E: Write>(
     writer: &mut W,
     faults: &mut E,
 ) -> u8
-    ensures status { IsStatus result }
-    ensures done { AsksSim (map string_bytes words.now) → result ≡ 0 → IfSome (R.remaining reader.old) (λ text. Simulates text (W.contents writer.old) (W.contents writer.new)) }
+    ensures { Ends result (Does (map string_bytes words.now) (R.remaining reader.old) (W.contents writer.old) (W.contents writer.new)) }
 {
     match perform(alloc, words, reader, writer) {
-        Ok(()) => 0,
+        Ok(Outcome::Done) => 0,
+        Ok(Outcome::Refused) => 1,
         Err(fault) => report(faults, &fault),
     }
 }
@@ -44,15 +46,39 @@ fn perform<R: Read, W: Write>(
     words: &[String],
     reader: &mut R,
     writer: &mut W,
-) -> Result<(), Fault>
-    ensures { AsksSim (map string_bytes words.now) → OnOk result (IfSome (R.remaining reader.old) (λ text. Simulates text (W.contents writer.old) (W.contents writer.new))) }
+) -> Result<Outcome, Fault>
+    ensures { IfOk result (Does (map string_bytes words.now) (R.remaining reader.old) (W.contents writer.old) (W.contents writer.new)) }
 {
     match read_words(alloc, words) {
-        Ok(Asked::Sim) => sim(alloc, reader, writer),
-        Ok(Asked::Text(text)) => print_text(writer, text.as_str()),
+        Ok(Asked::Sim) => {
+            sim(alloc, reader, writer)?;
+            Ok(Outcome::Done)
+        }
+        Ok(Asked::Files) => Ok(list_files(alloc, reader, writer)?),
+        Ok(Asked::Format(format)) => {
+            write_medium(&format, writer)?;
+            Ok(Outcome::Done)
+        }
+        Ok(Asked::Text(text)) => {
+            print_text(writer, text.as_str())?;
+            Ok(Outcome::Done)
+        }
         Err(WordsFault::Memory(error)) => Err(Fault::Memory(error)),
         Err(WordsFault::Wrong(line)) => Err(Fault::Usage(line)),
     }
+}
+
+/// Writes the image of a medium that is formatted so, if it may be.
+fn write_medium<W: Write>(format: &FormatWords, writer: &mut W) -> Result<(), Fault>
+    ensures { OnOk result (WritesFormatted format.now (W.contents writer.old) (W.contents writer.new)) }
+{
+    let (blocks, directory) = (format.blocks, format.directory);
+    let volume = format.volume.as_bytes();
+    if let Err(limit) = check_format(blocks, directory, volume) {
+        return Err(Fault::Limit(limit));
+    }
+    write_formatted(blocks, directory, volume, writer)?;
+    Ok(())
 }
 
 fn print_text<W: Write>(writer: &mut W, text: &str) -> Result<(), Fault>

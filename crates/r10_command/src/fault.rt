@@ -6,6 +6,7 @@ ghost use Rattle.r10_command.specs.Status.{status_of, IsFailure};
 ghost use Rattle.r10_command.specs.declared.fault.Fault.TheVariants.{NotText};
 
 use r10_body::Refusal;
+use r10_images::{Limit, StreamFault};
 use r10_script::ScriptFault;
 use std::alloc::AllocError;
 use std::io;
@@ -30,6 +31,9 @@ pub enum Fault {
     /// The medium in memory could not be formatted.
     #[error("cannot format the medium: {0}")]
     Format(Refusal),
+    /// No medium is formatted so.
+    #[error("{0}")]
+    Limit(Limit),
     /// A word of the command line is not UTF-8.
     #[error("an argument is not UTF-8")]
     NotText,
@@ -39,6 +43,22 @@ pub enum Fault {
     /// The script is wrong.
     #[error("{0}")]
     Script(ScriptFault),
+}
+
+impl From<StreamFault> for Fault {
+    ghost use Rattle.std.specs.Prelude.{◌≡◌};
+    ghost use Rattle.r10_command.specs.Status.{status_of};
+
+    ghost from_gives = { λ _ fault. status_of fault ≡ 3 };
+
+    fn from(fault: StreamFault) -> Fault {
+        match fault {
+            StreamFault::Memory(error) => Fault::Memory(error),
+            StreamFault::Read(error) => Fault::Read(error),
+            StreamFault::Endless => Fault::Endless,
+            StreamFault::Write(error) => Fault::Write(error),
+        }
+    }
 }
 
 impl Fault {
@@ -53,13 +73,13 @@ impl Fault {
         }
     }
 
-    /// The exit status: 2 for wrong words or a wrong script, 3 for want of memory and for what can't be read or written.
+    /// The exit status: 2 for wrong words, values beyond their limits or a wrong script, 3 for want of memory and for what can't be read or written.
     pub fn status(&self) -> u8
         ensures value { result ≡ status_of self.now }
         ensures range { IsFailure result }
     {
         match self {
-            Fault::NotText | Fault::Usage(_) => 2,
+            Fault::NotText | Fault::Usage(_) | Fault::Limit(_) => 2,
             Fault::Script(ScriptFault::Wrong { .. }) => 2,
             Fault::Script(ScriptFault::OutOfMemory(_)) => 3,
             Fault::Memory(_) | Fault::Read(_) | Fault::Endless => 3,

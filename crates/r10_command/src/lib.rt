@@ -3,10 +3,8 @@
 
 mod command;
 mod fault;
-mod input;
 mod play;
 
 pub use command::{report, run};
 pub use fault::Fault;
-pub use input::read_whole;
 pub use play::{run_script, sim};

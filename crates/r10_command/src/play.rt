@@ -7,8 +7,8 @@ ghost use Rattle.r10_command.specs.Lines.{WritesLines, RunsAndWrites, IsReady};
 ghost use Rattle.r10_command.specs.Sim.{Plays, Simulates};
 
 use crate::fault::Fault;
-use crate::input::read_whole;
 use r10_body::Refusal;
+use r10_images::read_whole;
 use r10_lines::reply_line;
 use r10_machine::{Event, Reply, Settings};
 use r10_medium::{BlockMedium, Memory};

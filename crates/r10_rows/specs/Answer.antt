@@ -2,17 +2,16 @@
 use Rattle.std.specs.Prelude.{◌≡◌, ℕ, ◌==◌, List, [], ◌∷◌, ◌++◌, Option, Some, codes, drop, map, string_bytes, take, if◌then◌else◌}
 use Rattle.std.specs.Fmt.{decimal}
 use Rattle.std.specs.Io.KnownBytes.{Appends}
-use Rattle.r10_words.specs.Words.{AsksSim}
-use Rattle.r10_command.specs.Sim.{Simulates}
-use Rattle.r10_command.specs.Status.{IsStatus}
+use Rattle.r10_command.specs.Command.{Does}
+use Rattle.r10_command.specs.Status.{Ends}
 use Rattle.r10_rows.specs.Case.{case_length, head_text, spelled, IsCase, IsInput}
 use Rattle.r10_rows.specs.declared.answer.Answer.{Answer}
 use Rattle.r10_rows.specs.declared.case.Case.{Case}
 
--- the command of the case did its work on the case's input: where it asks for a run, the lines are those of the run
+-- the command of the case ended so, and did its work on the case's input, or failed
 abbrev pub IsAnswer : Case → Answer → Type 0
-IsAnswer case answer = (input : List ℕ) × IsInput case input × IsStatus answer.status
-    × (AsksSim (map string_bytes case.words.items) → answer.status ≡ 0 → Simulates input (Some []) (Some answer.lines.items))
+IsAnswer case answer = (input : List ℕ) × IsInput case input
+    × Ends answer.status (Does (map string_bytes case.words.items) (Some input) (Some []) (Some answer.lines.items))
 
 -- the line of the words, and the line of the status: with the wanted one where that is another
 abbrev pub front_text : List (List ℕ) → ℕ → ℕ → List ℕ

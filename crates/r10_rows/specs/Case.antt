@@ -1,7 +1,7 @@
 -- What a case is.
-use Rattle.std.specs.Prelude.{◌≡◌, ◌≢◌, ℕ, ◌+◌, ◌==◌, Bool, true, false, List, [], ◌∷◌, ◌++◌, Ok, All, EachIndex, MatchBool, codes, filter, map, not, nat_eq, slice_index, string_bytes, if◌then◌else◌}
+use Rattle.std.specs.Prelude.{◌≡◌, ◌≢◌, ℕ, ◌+◌, ◌==◌, Bool, true, false, List, [], ◌∷◌, ◌++◌, Ok, All, EachIndex, MatchBool, codes, map, nat_eq, replicate, slice_index, string_bytes, if◌then◌else◌}
 use Rattle.std.specs.Fmt.{decimal}
-use Rattle.std.specs.List.{starts_with}
+use Rattle.std.specs.List.{flat_map, starts_with}
 use Rattle.hex.specs.Hex.{decode_of}
 use Rattle.r10_rows.specs.declared.case.Case.{Case}
 
@@ -35,10 +35,10 @@ spelled case = head_text (map string_bytes case.words.items) ++ (10 ∷ decimal 
 abbrev pub IsCase : Case → Type 0
 IsCase case = All (λ word. IsWord (string_bytes word)) case.words.items
 
--- not the end of a line
-abbrev pub is_mark : ℕ → Bool
-is_mark b = not (b == 10)
+-- the hex digits that a byte stands for: the end of a line for none, a dot for those of 32 bytes of zeros
+abbrev pub marks : ℕ → List ℕ
+marks b = if b == 10 then [] else if b == 46 then replicate 64 48 else b ∷ []
 
 -- the bytes that the hex digits of the lines stand for, or the lines themselves
 abbrev pub IsInput : Case → List ℕ → Type 0
-IsInput case input = MatchBool case.is_hex (decode_of (filter is_mark (string_bytes case.body)) ≡ Ok input) (input ≡ string_bytes case.body)
+IsInput case input = MatchBool case.is_hex (decode_of (flat_map marks (string_bytes case.body)) ≡ Ok input) (input ≡ string_bytes case.body)

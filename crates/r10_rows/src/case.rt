@@ -1,8 +1,9 @@
 //! Reading a case.
 
-ghost use Rattle.std.specs.Prelude.{◌≡◌, IsTrue, IfOk, All, Ok, map, string_bytes, filter};
+ghost use Rattle.std.specs.Prelude.{◌≡◌, ◌++◌, IsTrue, IfOk, OnOk, All, Ok, map, string_bytes};
+ghost use Rattle.std.specs.List.{flat_map};
 ghost use Rattle.hex.specs.Hex.{decode_of};
-ghost use Rattle.r10_rows.specs.Case.{head_text, spelled, is_mark, IsCase, IsWord, IsInput};
+ghost use Rattle.r10_rows.specs.Case.{head_text, spelled, marks, IsCase, IsWord, IsInput};
 
 use crate::fault::RowsFault;
 use std::alloc::{AllocError, Global};
@@ -72,19 +73,40 @@ pub fn head_line(alloc: Global, words: &[String]) -> Result<String, AllocError>
     Ok(line)
 }
 
+/// The bytes that the hex digits stand for.
 fn hex_input(alloc: Global, at: usize, body: &[u8]) -> Result<Vec<u8>, RowsFault>
-    ensures { IfOk result (λ input. decode_of (filter is_mark body.now) ≡ Ok input.items) }
+    ensures { IfOk result (λ input. decode_of (flat_map marks body.now) ≡ Ok input.items) }
 {
-    let digits: Vec<u8> = body
-        .iter()
-        .copied()
-        .filter(|byte| *byte != b'\n')
-        .collect(alloc)?;
+    let digits = digits_of(alloc, body)?;
     match hex::decode(alloc, digits.as_slice()) {
         Ok(input) => Ok(input),
         Err(hex::FromHexError::OutOfMemory) => Err(RowsFault::Memory(AllocError)),
         Err(_) => Err(RowsFault::NoHex { at }),
     }
+}
+
+fn digits_of(alloc: Global, body: &[u8]) -> Result<Vec<u8>, AllocError>
+    ensures { IfOk result (λ digits. digits.items ≡ flat_map marks body.now) }
+{
+    let mut digits = Vec::new(alloc);
+    for byte in body {
+        push_marks(&mut digits, *byte)?;
+    }
+    Ok(digits)
+}
+
+/// Adds the digits that one byte of the body stands for: the end of a line for none, a dot for 32 bytes of zeros.
+fn push_marks(digits: &mut Vec<u8>, byte: u8) -> Result<(), AllocError>
+    ensures { OnOk result (digits.new.items ≡ digits.old.items ++ marks byte) }
+{
+    if byte == b'\n' {
+        return Ok(());
+    }
+    if byte == b'.' {
+        return digits.extend_from_slice(&[b'0'; 64]);
+    }
+    digits.push(byte)?;
+    Ok(())
 }
 
 /// What the bytes may spell: only a case whose spelling they are is taken.

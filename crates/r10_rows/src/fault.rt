@@ -1,6 +1,6 @@
 //! Why a run over cases ends early.
 
-use r10_command::Fault;
+use r10_images::StreamFault;
 use std::alloc::AllocError;
 use std::io;
 use thiserror::Error;
@@ -16,7 +16,7 @@ pub enum RowsFault {
     Io(#[from] io::Error),
     /// The cases can't be read.
     #[error("{0}")]
-    Input(#[from] Fault),
+    Input(#[from] StreamFault),
     /// What begins at this byte of the input is no case.
     #[error("no case at byte {at}")]
     NoCase { at: usize },

@@ -16,7 +16,7 @@ use std::process::ExitCode;
 
 fn run<R: Input + Print + AllocGlobal>(rt: &R) -> Result<(), RowsFault> {
     let alloc: Global = rt.alloc();
-    let text = r10_command::read_whole(alloc, &mut rt.reader())?;
+    let text = r10_images::read_whole(alloc, &mut rt.reader())?;
     let mut writer = BufWriter::new(alloc, io::writer(rt))?;
     rows::answer_all(alloc, text.as_slice(), &mut writer)?;
     writer.flush()?;

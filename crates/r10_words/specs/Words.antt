@@ -1,7 +1,9 @@
 -- What words ask for.
-use Rattle.std.specs.Prelude.{◌≡◌, ℕ, List, [], ◌∷◌, codes}
+use Rattle.std.specs.Prelude.{◌≡◌, ◌⊎◌, ℕ, ◌+◌, ◌<◌, List, [], ◌∷◌, ◌++◌, codes, length, slice_index_or, string_bytes}
+use Rattle.std.specs.Fmt.{decimal}
 use Rattle.r10_words.specs.declared.asked.Asked.{Asked}
-use Rattle.r10_words.specs.declared.asked.Asked.TheVariants.{Sim, Text}
+use Rattle.r10_words.specs.declared.asked.Asked.TheVariants.{Sim, Files, Format, Text}
+use Rattle.r10_words.specs.declared.asked.FormatWords.{FormatWords}
 
 -- behind the program's own name nothing, or the word `sim`
 abbrev pub AsksSim : List (List ℕ) → Type 0
@@ -10,7 +12,30 @@ AsksSim (name ∷ []) = Unit {0}
 AsksSim (name ∷ word ∷ []) = word ≡ codes "sim"
 AsksSim (name ∷ word ∷ other ∷ words) = ⊥
 
--- help, or the version
-abbrev pub IsText : Asked → Type 0
-IsText Sim = ⊥
-IsText (Text text) = Unit {0}
+-- behind the program's own name the word `files`
+abbrev pub AsksFiles : List (List ℕ) → Type 0
+AsksFiles [] = ⊥
+AsksFiles (name ∷ []) = ⊥
+AsksFiles (name ∷ word ∷ []) = word ≡ codes "files"
+AsksFiles (name ∷ word ∷ other ∷ words) = ⊥
+
+abbrev pub word_at : List (List ℕ) → ℕ → List ℕ
+word_at words i = slice_index_or words i []
+
+-- behind the program's own name an option and its value: two words in a row, or one with `=` between them
+abbrev pub GivesOption : List (List ℕ) → List ℕ → List ℕ → Type 0
+GivesOption words option value = (i : ℕ) × (i + 1 < length words)
+    × ((word_at words (i + 1) ≡ option ++ 61 ∷ value) ⊎ ((word_at words i ≡ option) × (word_at words (i + 1) ≡ value)))
+
+-- the options of `format`, numbers in decimal
+pub record GivesAll (words : List (List ℕ)) (format : FormatWords) : Type 0 where
+  pub blocks : GivesOption words (codes "--blocks") (decimal format.blocks)
+  pub directory : GivesOption words (codes "--directory") (decimal format.directory)
+  pub volume : GivesOption words (codes "--volume") (string_bytes format.volume)
+
+-- a formatted medium as the options say, or help or the version
+abbrev pub AsksOther : List (List ℕ) → Asked → Type 0
+AsksOther words Sim = ⊥
+AsksOther words Files = ⊥
+AsksOther words (Format format) = GivesAll words format
+AsksOther words (Text text) = Unit {0}

@@ -1,7 +1,7 @@
 //! The command line as `clap` knows it, and what is said of wrong words.
 
-use clap::Command;
 use clap::error::ErrorKind;
+use clap::{Arg, Command, value_parser};
 use std::alloc::{AllocError, Global};
 
 /// The version of the program.
@@ -10,6 +10,22 @@ const VERSION: &str = "0.2.0";
 const ABOUT: &str = "A solid-state flight recorder that writes IRIG 106-17 Chapter 10 files";
 
 const ABOUT_SIM: &str = "Runs a script on a recorder in memory and prints a line for each step";
+
+const ABOUT_FORMAT: &str = "Writes the image of a formatted medium";
+
+const MORE_FORMAT: &str =
+    "A medium has 2 blocks more than its directory at least, and 16777216 at most; a directory
+1 to 64; a volume's name is 1 to 32 letters, digits, '.', '_' and '-'. An example:
+
+  r10 format --blocks 64 --directory 2 --volume VOL > medium.img";
+
+const ABOUT_FILES: &str = "Reads an image and prints a line for each of its files";
+
+const MORE_FILES: &str =
+    "An image is read from standard input. A line has the file's number, name, size in bytes, blocks, and 1
+where it is closed or else 0. An image without a directory is refused, with status 1. An example:
+
+  r10 format --blocks 64 --directory 2 --volume VOL | r10 files";
 
 const MORE: &str =
     "Without a command r10 does sim. A script is read from standard input, r10 < SCRIPT,
@@ -54,23 +70,58 @@ What a step may do: mount, tick, start, offer, pump, stop, cursor, advance, next
 docs/FORMAT.md has the keys of scripts, the form of the lines, the format of the
 files and the refusals by number; examples/ has a script for each kind of channel.
 
-Exit status: 0; 2 for a wrong command line or script; 3 where memory,
-reading or writing fails.";
+Exit status: 0; 1 where an image is refused; 2 for a wrong command line or script;
+3 where memory, reading or writing fails.";
 
 /// Behind a word that is no option.
 const HINT: &str = "; a script comes from standard input: r10 < SCRIPT";
 
 pub(crate) fn command_line<'a>(alloc: Global) -> Result<Command<'a>, AllocError> {
     let sim = Command::new(alloc, "sim").about(ABOUT_SIM);
+    let format = Command::new(alloc, "format")
+        .about(ABOUT_FORMAT)
+        .after_help(MORE_FORMAT)
+        .arg(number(
+            alloc,
+            "blocks",
+            "The blocks of the medium, of 512 bytes each",
+        ))?
+        .arg(number(alloc, "directory", "The blocks reserved for the directory"))?
+        .arg(volume(alloc))?;
+    let files = Command::new(alloc, "files")
+        .about(ABOUT_FILES)
+        .after_help(MORE_FILES);
     Command::new(alloc, "r10")
         .bin_name("r10")?
         .version(VERSION)
         .about(ABOUT)
         .after_help(MORE)
-        .subcommand(sim)
+        .subcommand(sim)?
+        .subcommand(format)?
+        .subcommand(files)
 }
 
-/// The first line of what `clap` says, without its first word, and for a word that looks like a file where a script comes from.
+/// An option with a number, which must be given.
+fn number<'a>(alloc: Global, name: &'a str, help: &'a str) -> Arg<'a> {
+    Arg::new(alloc, name)
+        .long(name)
+        .value_name("N")
+        .value_parser(value_parser!(usize))
+        .required(true)
+        .help(help)
+}
+
+/// The option with the volume's name, which must be given.
+fn volume<'a>(alloc: Global) -> Arg<'a> {
+    Arg::new(alloc, "volume")
+        .long("volume")
+        .value_name("NAME")
+        .required(true)
+        .help("The volume's name")
+}
+
+/// The first line of what `clap` says, without its first word; behind it the options that are missing, and for a word that looks
+/// like a file where a script comes from.
 pub(crate) fn usage_line(alloc: Global, error: &clap::Error) -> Result<String, AllocError> {
     let text = error.to_string(alloc)?;
     let line = match text.lines().next() {
@@ -85,7 +136,25 @@ pub(crate) fn usage_line(alloc: Global, error: &clap::Error) -> Result<String, A
     if is_file_like(error.kind(), said) {
         line.push_str(HINT)?;
     }
+    if is_missing(error.kind()) {
+        push_options(&mut line, text.as_str())?;
+    }
     Ok(line)
+}
+
+fn is_missing(kind: ErrorKind) -> bool {
+    matches!(kind, ErrorKind::MissingRequiredArgument)
+}
+
+/// Adds the lines of the text that are options.
+fn push_options(line: &mut String, text: &str) -> Result<(), AllocError> {
+    for part in text.lines() {
+        if part.starts_with("  --") {
+            line.push_str(" ")?;
+            line.push_str(part.trim_start())?;
+        }
+    }
+    Ok(())
 }
 
 /// Whether a word was not taken that is no option.

@@ -1,5 +1,5 @@
 use Rattle.std.specs.Io.KnownBytes.{Consumes}
-use Rattle.r10_command.proofs.input.read_whole.Given as goal
+use Rattle.r10_images.proofs.input.read_whole.Given as goal
 
 -- what the reader has given is what was added
 abbrev pub invariant-loop : goal.invariant-loop

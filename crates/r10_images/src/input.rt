@@ -2,7 +2,7 @@
 
 ghost use Rattle.std.specs.Prelude.{◌≡◌, IfOk, IfSome};
 
-use crate::fault::Fault;
+use crate::fault::StreamFault;
 use std::alloc::Global;
 use std::io::{ErrorKind, Read};
 
@@ -10,7 +10,7 @@ use std::io::{ErrorKind, Read};
 const MOST_CALLS: u64 = 1 << 34;
 
 /// Every byte that the reader has left.
-pub fn read_whole<R: Read>(alloc: Global, reader: &mut R) -> Result<Vec<u8>, Fault>
+pub fn read_whole<R: Read>(alloc: Global, reader: &mut R) -> Result<Vec<u8>, StreamFault>
     ensures { IfOk result (λ all. IfSome (R.remaining reader.old) (λ left. all.items ≡ left)) }
 {
     let mut all = Vec::new(alloc);
@@ -21,10 +21,10 @@ pub fn read_whole<R: Read>(alloc: Global, reader: &mut R) -> Result<Vec<u8>, Fau
             Ok(count) => all.extend_from_slice(&piece[..count])?,
             Err(error) => {
                 if error.kind() != ErrorKind::Interrupted {
-                    return Err(Fault::Read(error));
+                    return Err(StreamFault::Read(error));
                 }
             }
         }
     }
-    Err(Fault::Endless)
+    Err(StreamFault::Endless)
 }

@@ -1,0 +1,5 @@
+pub mod Formatted
+pub mod Image
+pub mod ImageDisk
+pub mod Listing
+pub mod Vectors

@@ -1,0 +1,52 @@
+-- The lines of an image's files.
+use Rattle.std.specs.Prelude.{◌≡◌, ℕ, ◌+◌, Bool, true, false, List, [], ◌∷◌, ◌++◌, Option, codes, map, if◌then◌else◌}
+use Rattle.std.specs.Fmt.{decimal}
+use Rattle.std.specs.Io.KnownBytes.{Appends}
+use Rattle.r10_count.specs.Names.{is_name_byte}
+use Rattle.r10_medium.specs.Disk.{Image}
+use Rattle.r10_dirblock.specs.Block.{is_closed}
+use Rattle.r10_dirblock.specs.Texts.{stripped}
+use Rattle.r10_dirblock.specs.declared.entry.Entry.{Entry}
+use Rattle.r10_dirchain.specs.Bad.{IsBad}
+use Rattle.r10_dirchain.specs.Chain.{files, IsDirectory}
+use Rattle.r10_dirchain.specs.declared.chain.ChainBlock.{ChainBlock}
+use Rattle.r10_images.specs.declared.listing.Outcome.{Outcome}
+use Rattle.r10_images.specs.declared.listing.Outcome.TheVariants.{Done, Refused}
+
+-- `?` in place of a byte that no name has
+abbrev pub shown_byte : ℕ → ℕ
+shown_byte b = if is_name_byte b then b else 0x3F
+
+-- a name as it is printed, without the zero bytes and spaces behind it
+abbrev pub shown_name : Entry → List ℕ
+shown_name e = map shown_byte (stripped e.name)
+
+-- a truth value
+abbrev pub flag_text : Bool → List ℕ
+flag_text true = codes "1"
+flag_text false = codes "0"
+
+-- `file`, the file's number, its name, its size in bytes, its blocks, and whether it is closed
+abbrev pub file_line : ℕ → Entry → List ℕ
+file_line n e =
+    (codes "file " ++ (decimal n ++ codes " "))
+    ++ (shown_name e
+    ++ (codes " " ++ (decimal e.size ++ (codes " " ++ (decimal e.block_count ++ (codes " " ++ (flag_text (is_closed e) ++ codes "\n")))))))
+
+-- the lines of the files from number n on
+abbrev pub file_lines : ℕ → List Entry → List ℕ
+file_lines n [] = []
+file_lines n (e ∷ entries) = file_line n e ++ file_lines (n + 1) entries
+
+-- the first block of the chain that can't be taken
+abbrev pub refusal_line : ℕ → List ℕ
+refusal_line block = codes "refused 26 BadDirectory " ++ (decimal block ++ codes "\n")
+
+-- the lines of the files of the medium's directory, or the refusal where it has none
+abbrev pub Prints : Image → Outcome → List ℕ → Type 0
+Prints image Done text = (chain : List ChainBlock) × IsDirectory image chain × (text ≡ file_lines 0 (files chain))
+Prints image Refused text = (block : ℕ) × IsBad image block × (text ≡ refusal_line block)
+
+-- a writer was given them
+abbrev pub Lists : Image → Outcome → Option (List ℕ) → Option (List ℕ) → Type 0
+Lists image outcome old new = (text : List ℕ) × Prints image outcome text × Appends old new text

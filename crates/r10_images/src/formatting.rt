@@ -1,0 +1,59 @@
+//! Writing the image of a formatted medium.
+
+ghost use Rattle.std.specs.Prelude.{◌≡◌, None, OnOk, replicate, length, ◌≤◌};
+ghost use Rattle.std.specs.List.{concat};
+ghost use Rattle.std.specs.Io.KnownBytes.{Appends};
+ghost use Rattle.r10_count.specs.Checks.{first_broken};
+ghost use Rattle.r10_medium.specs.Memory.{zeros};
+ghost use Rattle.r10_images.specs.Formatted.{format_rules, formatted_block, formatted_image};
+
+use crate::fault::StreamFault;
+use r10_dirblock::{DirBlock, Entries, encode, pad};
+use std::io::Write;
+
+/// Writes the image of a medium of so many blocks that is formatted for so many reserved directory
+/// blocks and this volume: block 1 is the directory's (IRIG 106-17, chapter 10), every other one is
+/// zeros. No more than a block of it is held.
+pub fn write_formatted<W: Write>(
+    blocks: usize,
+    directory: usize,
+    volume: &[u8],
+    writer: &mut W,
+) -> Result<(), StreamFault>
+    requires { first_broken (format_rules blocks directory volume.now) ≡ None }
+    ensures { OnOk result (Appends (W.contents writer.old) (W.contents writer.new) (concat (formatted_image blocks volume.now))) }
+{
+    let _ = directory;
+    write_zeros(1, writer)?;
+    write_block(&formatted_block(volume), writer)?;
+    write_zeros(blocks - 2, writer)?;
+    writer.flush().map_err(StreamFault::Write)
+}
+
+fn write_zeros<W: Write>(count: usize, writer: &mut W) -> Result<(), StreamFault>
+    ensures { OnOk result (Appends (W.contents writer.old) (W.contents writer.new) (concat (replicate count zeros))) }
+{
+    for done in 0..count {
+        write_block(&[0; 512], writer)?;
+    }
+    Ok(())
+}
+
+fn write_block<W: Write>(block: &[u8; 512], writer: &mut W) -> Result<(), StreamFault>
+    ensures { OnOk result (Appends (W.contents writer.old) (W.contents writer.new) block.now) }
+{
+    writer.write_all(block).map_err(StreamFault::Write)
+}
+
+fn formatted_block(volume: &[u8]) -> [u8; 512]
+    requires { length volume.now ≤ 32 }
+    ensures { result ≡ formatted_block volume.now }
+{
+    encode(&DirBlock {
+        shutdown: 0xFF,
+        volume: pad(volume),
+        forward: 1,
+        reverse: 1,
+        entries: Entries::new(),
+    })
+}
