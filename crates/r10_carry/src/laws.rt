@@ -13,7 +13,7 @@ ghost use Rattle.r10_follow.specs.Grows.{all_held};
 ghost use Rattle.r10_follow.specs.Next.{numbered};
 ghost use Rattle.r10_builders.specs.Packed.{HandsOn, TakesIn};
 ghost use Rattle.r10_packetout.specs.Output.{Has, Writing};
-ghost use Rattle.r10_mux.specs.Carries.{Carries, Recording, Says, StandApart};
+ghost use Rattle.r10_carry.specs.Carries.{Carries, Recording, Says, StandApart};
 
 /// Entries that go into a builder, without a packet, are carried.
 pub fn samples_are_carried()

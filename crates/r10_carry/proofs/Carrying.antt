@@ -23,7 +23,7 @@ use Rattle.r10_follow.proofs.Growing.{cost_more}
 use Rattle.r10_builders.specs.Packed.{HandsOn, TakesIn}
 use Rattle.r10_builders.proofs.Places.{all_more}
 use Rattle.r10_packetout.specs.Output.{Has, Writing}
-use Rattle.r10_mux.specs.Carries.{Carries, Recording, Says, StandApart}
+use Rattle.r10_carry.specs.Carries.{Carries, Recording, Says, StandApart}
 
 -- ---- entries and cost
 
