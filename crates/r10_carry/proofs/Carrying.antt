@@ -23,29 +23,30 @@ use Rattle.r10_follow.proofs.Growing.{cost_more}
 use Rattle.r10_builders.specs.Packed.{HandsOn, TakesIn}
 use Rattle.r10_builders.proofs.Places.{all_more}
 use Rattle.r10_packetout.specs.Output.{Has, Writing}
-use Rattle.r10_carry.specs.Carries.{Carries, Recording, Says, StandApart}
+use Rattle.r10_carry.specs.Carries.{Carries, HasNoEvents, Recording, Says, StandApart}
+use Rattle.r10_carry.proofs.Events.{counted_on, held_closed, held_joined, no_events}
 
 -- ---- entries and cost
 
-entries_more : (packets packets' : List Packet) (builders builders' : List State) (entries more : List Entry) → ((channel : ℕ) → on_channel channel (taken_in packets builders) ≡ on_channel channel entries)
+pub entries_more : (packets packets' : List Packet) (builders builders' : List State) (entries more : List Entry) → ((channel : ℕ) → on_channel channel (taken_in packets builders) ≡ on_channel channel entries)
     → Grows packets builders more packets' builders' → (channel : ℕ) → on_channel channel (taken_in packets' builders') ≡ on_channel channel (entries ++ more)
 entries_more packets packets' builders builders' entries more are grows channel =
     grows channel ∙ ap (λ (es : List Entry). es ++ on_channel channel more) (are channel) ∙ sym (filter-append (is_on channel) entries more)
 
-costs_more : (text : List ℕ) (packets packets' : List Packet) (builders builders' : List State) (more : List Entry) (cost : ℕ) → cost ≡ file_cost text (taken_in packets builders)
+pub costs_more : (text : List ℕ) (packets packets' : List Packet) (builders builders' : List State) (more : List Entry) (cost : ℕ) → cost ≡ file_cost text (taken_in packets builders)
     → Grows packets builders more packets' builders' → cost + sum_by entry_cost more ≡ file_cost text (taken_in packets' builders')
 costs_more text packets packets' builders builders' more cost is grows =
     ap (λ n. n + sum_by entry_cost more) is ∙ sym (cost_more text packets builders more packets' builders' grows)
 
 -- ---- one packet more
 
-last_same : (counter : ℕ) (packets : List Packet) (p : Packet) → is_time p ≡ false → last_time counter (packets ++ p ∷ []) ≡ last_time counter packets
+pub last_same : (counter : ℕ) (packets : List Packet) (p : Packet) → is_time p ≡ false → last_time counter (packets ++ p ∷ []) ≡ last_time counter packets
 last_same counter [] p off = rw off refl
 last_same counter (q ∷ packets) p off = last_same (cond (is_time q) q.counter counter) packets p off
 
-not_time_at : (type : ℕ) (b : Bool) → type == 0x11 ≡ b → 0x11 + 1 ≤ type → type == 0x11 ≡ false
-not_time_at type true e lt = absurd (omega (arith, eqb-true type 0x11 e))
-not_time_at type false e lt = e
+not_at : (type n : ℕ) (b : Bool) → type == n ≡ b → n + 1 ≤ type → type == n ≡ false
+not_at type n true e lt = absurd (omega (arith, lt, eqb-true type n e))
+not_at type n false e lt = e
 
 type_more : (channel type : ℕ) (packets : List Packet) (p : Packet) (builders : List State) → HasType channel type packets → HasNone channel builders → (HasNone p.channel builders → ⊥) → HasType channel type (packets ++ p ∷ [])
 type_more channel type packets p builders has none on =
@@ -54,8 +55,8 @@ type_more channel type packets p builders has none on =
 -- ---- the laws
 
 pub samples_carried : (r : Recording) (image : Image) (text : List ℕ) (entries more : List Entry) (builders : List State) (carried : Carries r image text entries)
-    → TakesIn carried.packets r.builders more None builders → Carries (record r { builders = builders; cost = r.cost + sum_by entry_cost more }) image text (entries ++ more)
-samples_carried r image text entries more builders carried takes =
+    → HasNoEvents more → TakesIn carried.packets r.builders more None builders → Carries (record r { builders = builders; cost = r.cost + sum_by entry_cost more }) image text (entries ++ more)
+samples_carried r image text entries more builders carried plain takes =
     let says = carried.says in
     record {
       packets = carried.packets;
@@ -67,31 +68,38 @@ samples_carried r image text entries more builders carried takes =
         setup_is = says.setup_is;
         entries_are = entries_more carried.packets carried.packets r.builders builders entries more says.entries_are takes.1;
         clock_is = says.clock_is;
+        messages = held_joined carried.packets r.builders builders more says.messages plain takes.1;
+        counts_are = counted_on r.counts entries more says.counts_are plain;
         cost_is = costs_more text carried.packets carried.packets r.builders builders more r.cost says.cost_is takes.1;
       };
     }
 
-pub packets_carried : (r : Recording) (image : Image) (text : List ℕ) (entries more : List Entry) (builders : List State) (carried : Carries r image text entries) → StandApart r
-    → (closed : Closed) (hands : HandsOn closed carried.packets r.builders more builders) (out : Writing) (later : Image) → Has out later (carried.packets ++ numbered carried.packets hands.packet ∷ [])
-    → Carries (record r { builders = builders; out = out; cost = r.cost + sum_by entry_cost more }) later text (entries ++ more)
-packets_carried r image text entries more builders carried apart closed hands out later has =
-    let says = carried.says in
-    let packets : List Packet = carried.packets in
+pub packet_said : (r : Recording) (packets : List Packet) (text : List ℕ) (entries more : List Entry) (builders : List State) → Says r packets text entries → StandApart r → HasNoEvents more
+    → (closed : Closed) (hands : HandsOn closed packets r.builders more builders) (out : Writing)
+    → Says (record r { builders = builders; out = out; cost = r.cost + sum_by entry_cost more }) (packets ++ numbered packets hands.packet ∷ []) text (entries ++ more)
+packet_said r packets text entries more builders says apart plain closed hands out =
     let p : Packet = numbered packets hands.packet in
     let two : 2 ≤ length packets = says.packed.growing.start in
     record {
-      packets = packets ++ p ∷ [];
-      has = has;
-      says = record {
-        packed = hands.packed;
-        times = type_more r.time 0x11 packets p r.builders says.times apart.time hands.on;
-        events = type_more r.event 0x02 packets p r.builders says.events apart.event hands.on;
-        setup_is = ap (λ (ps : List Packet). map (λ (q : Packet). q.content) ps) (take-append-le 1 packets (p ∷ []) (omega (arith, two))) ∙ says.setup_is;
-        entries_are = entries_more packets (packets ++ p ∷ []) r.builders builders entries more says.entries_are hands.grows;
-        clock_is = last_same 0 packets p (not_time_at (type_of hands.packet.content) (type_of hands.packet.content == 0x11) refl (omega (arith, hands.data_type))) ∙ says.clock_is;
-        cost_is = costs_more text packets (packets ++ p ∷ []) r.builders builders more r.cost says.cost_is hands.grows;
-      };
+      packed = hands.packed;
+      times = type_more r.time 0x11 packets p r.builders says.times apart.time hands.on;
+      events = type_more r.event 0x02 packets p r.builders says.events apart.event hands.on;
+      setup_is = ap (λ (ps : List Packet). map (λ (q : Packet). q.content) ps) (take-append-le 1 packets (p ∷ []) (omega (arith, two))) ∙ says.setup_is;
+      entries_are = entries_more packets (packets ++ p ∷ []) r.builders builders entries more says.entries_are hands.grows;
+      clock_is = last_same 0 packets p (not_at (type_of hands.packet.content) 0x11 (type_of hands.packet.content == 0x11) refl (omega (arith, hands.data_type))) ∙ says.clock_is;
+      messages = held_closed packets r.builders builders more p says.messages plain (no_events p (not_at (type_of hands.packet.content) 2 (type_of hands.packet.content == 2) refl (omega (arith, hands.data_type)))) hands.grows;
+      counts_are = counted_on r.counts entries more says.counts_are plain;
+      cost_is = costs_more text packets (packets ++ p ∷ []) r.builders builders more r.cost says.cost_is hands.grows;
     }
+
+pub packets_carried : (r : Recording) (image : Image) (text : List ℕ) (entries more : List Entry) (builders : List State) (carried : Carries r image text entries) → StandApart r
+    → HasNoEvents more → (closed : Closed) (hands : HandsOn closed carried.packets r.builders more builders) (out : Writing) (later : Image) → Has out later (carried.packets ++ numbered carried.packets hands.packet ∷ [])
+    → Carries (record r { builders = builders; out = out; cost = r.cost + sum_by entry_cost more }) later text (entries ++ more)
+packets_carried r image text entries more builders carried apart plain closed hands out later has = record {
+  packets = carried.packets ++ numbered carried.packets hands.packet ∷ [];
+  has = has;
+  says = packet_said r carried.packets text entries more builders carried.says apart plain closed hands out;
+}
 
 pub flushed_says : (r : Recording) (packets : List Packet) (text : List ℕ) (entries : List Entry) → Says r packets text entries → all_held r.builders ≡ [] → PacketsSay packets text entries false
 flushed_says r packets text entries says none =

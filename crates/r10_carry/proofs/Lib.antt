@@ -1,1 +1,6 @@
 mod Carrying
+mod Events
+mod Own
+mod Begin
+mod Closing
+mod Room
