@@ -10,6 +10,8 @@ mod contents;
 #[cfg(test)]
 mod indexes;
 #[cfg(test)]
+mod judging;
+#[cfg(test)]
 mod strict;
 #[cfg(test)]
 mod tracks;

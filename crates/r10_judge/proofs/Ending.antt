@@ -1,26 +1,21 @@
 -- What a judge says of a whole file under its directory entry.
-use Rattle.std.proofs.Common.{◌≡◌, ◌↔◌, ℕ, ◌+◌, ◌<◌, ◌≤◌, Bool, true, false, IsTrue, List, [], ◌∷◌, ◌++◌, length, take, map, count_by, Option, Some, None, ◌⊎◌, inl, inr, slice_range, bit_and, refl, sym, ap, ◌∙◌, subst, arith, true≢false}
+use Rattle.std.proofs.Common.{◌≡◌, ◌↔◌, ℕ, ◌<◌, ◌≤◌, Bool, List, [], ◌∷◌, ◌++◌, length, Some, None, ◌⊎◌, inl, inr, slice_range, bit_and, refl, sym, ap, ◌∙◌, subst, arith}
 use Rattle.std.proofs.lemmas.List.{append-nil, length-append}
-use Rattle.r10_packet.specs.Framing.{header_at, body_at, framing_fault}
+use Rattle.r10_packet.specs.Framing.{header_at, body_at}
 use Rattle.r10_packet.specs.Header.{checksum_bits}
 use Rattle.r10_packet.specs.Packet.{filled, least_filler}
 use Rattle.r10_packet.specs.declared.header.Header.{Header}
 use Rattle.r10_body.proofs.Lone.{packet-length}
-use Rattle.r10_body.specs.Content.{setup}
-use Rattle.r10_body.specs.Files.{FileSays, PacketsSay}
-use Rattle.r10_body.specs.Foreign.{IsForeignPacket, opaque_at}
+use Rattle.r10_body.specs.Foreign.{IsForeignPacket}
 use Rattle.r10_body.specs.Packets.{Packet, packet_bytes, file_bytes, file_entries}
-use Rattle.r10_body.specs.Rules.{EachFollows, EndsIndex, is_index, is_closed}
 use Rattle.r10_body.specs.Faults.{HasFault, KeepsHeader, KeepsFiller, Reads, BreaksRule, IsWrongHere, IsAtFault, first_packet}
 use Rattle.r10_body.specs.Faults as faults
 use Rattle.r10_body.specs.declared.fault.FileFault.{FileFault}
-use Rattle.r10_body.specs.declared.fault.FileFault.TheVariants.{Truncated, Rule}
 use Rattle.r10_foreign.proofs.Fronts.{range_front, stays}
 use Rattle.r10_foreign.proofs.Ways.{first_again, packet_long}
 use Rattle.r10_foreign.specs.declared.file.Fault.{Fault}
-use Rattle.r10_laws.proofs.Indexes.{not_closed}
 use Rattle.r10_tracks.specs.declared.tracks.Tracks.{Tracks}
-use Rattle.r10_judge.specs.Judged.{KeepRules, GoesOn, BreaksAt, SaysClosed, MayMiss}
+use Rattle.r10_judge.specs.Judged.{GoesOn, BreaksAt, SaysClosed, MayMiss}
 use Rattle.r10_judge.proofs.Judging.{begins, whole_first}
 
 -- ---- what stands behind a packet changes no rule of it

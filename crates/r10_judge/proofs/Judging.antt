@@ -46,7 +46,7 @@ cannot_break before bytes p n reads may (faults.counters q read breaks) = breaks
 cannot_break before bytes p n reads may (faults.events q read breaks) = breaks (subst (λ x. MayFollow before x) (same_read bytes p q reads read) may).events
 
 -- a broken rule of a packet is one of its bytes, and the other way round
-to_bytes : (closed : Bool) (before : List Packet) (bytes : List ℕ) (p : Packet) (n : ℕ) → Reads bytes p → BreaksIn closed before p n → BreaksRule before bytes closed n
+pub to_bytes : (closed : Bool) (before : List Packet) (bytes : List ℕ) (p : Packet) (n : ℕ) → Reads bytes p → BreaksIn closed before p n → BreaksRule before bytes closed n
 to_bytes closed before bytes p n reads (broken_rule (broken.start b)) = faults.start p reads b
 to_bytes closed before bytes p n reads (broken_rule (broken.channels b)) = faults.channels p reads b
 to_bytes closed before bytes p n reads (broken_rule (broken.sequence b)) = faults.sequence p reads b
@@ -56,7 +56,7 @@ to_bytes closed before bytes p n reads (broken_rule (broken.counters b)) = fault
 to_bytes closed before bytes p n reads (broken_rule (broken.events b)) = faults.events p reads b
 to_bytes closed before bytes p n reads (in_open_file index open_file) = faults.unclosed p reads index open_file
 
-from_bytes : (closed : Bool) (before : List Packet) (bytes : List ℕ) (p : Packet) (n : ℕ) → Reads bytes p → BreaksRule before bytes closed n → BreaksIn closed before p n
+pub from_bytes : (closed : Bool) (before : List Packet) (bytes : List ℕ) (p : Packet) (n : ℕ) → Reads bytes p → BreaksRule before bytes closed n → BreaksIn closed before p n
 from_bytes closed before bytes p n reads (faults.version breaks) = absurd (breaks (framed bytes p reads).keeps)
 from_bytes closed before bytes p n reads (faults.filler is breaks) = absurd (breaks (framed bytes p reads).filler)
 from_bytes closed before bytes p n reads (faults.body breaks) = absurd (breaks (p, reads))
@@ -70,7 +70,7 @@ from_bytes closed before bytes p n reads (faults.counters q read b) = subst (λ 
 from_bytes closed before bytes p n reads (faults.events q read b) = subst (λ x. BreaksIn closed before x 10) (same_read bytes q p read reads) (broken_rule (broken.events b))
 
 -- what may follow breaks none of the rules from 4 on
-may_break_none : (before : List Packet) (p : Packet) (n : ℕ) → MayFollow before p → Breaks before p n → ⊥
+pub may_break_none : (before : List Packet) (p : Packet) (n : ℕ) → MayFollow before p → Breaks before p n → ⊥
 may_break_none before p n may (broken.start b) = b may.start
 may_break_none before p n may (broken.channels b) = b may.channels
 may_break_none before p n may (broken.sequence b) = b may.sequence

@@ -6,4 +6,4 @@ mod judge;
 mod laws;
 
 pub use judge::Judge;
-pub use laws::next_packet;
+pub use laws::{fault_or_strict, next_packet, one_first_fault};

@@ -1,5 +1,4 @@
-use Rattle.std.proofs.Common.{◌≡◌, ℕ, ◌<◌, ◌^◌, ◌++◌, List, length, take, ap, ◌∙◌, arith}
-use Rattle.std.proofs.lemmas.List.{length-append, length-take}
+use Rattle.std.proofs.Common.{◌^◌, ◌++◌, take, ◌∙◌, arith}
 use Rattle.r10_foreign.proofs.Standing.{walked}
 use Rattle.r10_checker.proofs.Parts.{shorter}
 use Rattle.r10_checker.proofs.check.check_file.Goals as goal

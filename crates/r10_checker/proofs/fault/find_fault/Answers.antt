@@ -1,5 +1,4 @@
-use Rattle.std.proofs.Common.{◌≡◌, ℕ, ◌+◌, ◌-◌, ◌<◌, ◌≤◌, ◌^◌, ◌++◌, List, length, take, drop, inl, MatchOption, ap, sym, subst, ◌∙◌, arith}
-use Rattle.std.proofs.lemmas.List.{length-append, length-take}
+use Rattle.std.proofs.Common.{◌≡◌, ℕ, ◌^◌, ◌++◌, List, take, inl, MatchOption, sym, subst, ◌∙◌, arith}
 use Rattle.r10_foreign.proofs.Standing.{walked}
 use Rattle.r10_body.specs.Faults.{IsAtFault}
 use Rattle.r10_judge.specs.Judged.{SaysClosed}

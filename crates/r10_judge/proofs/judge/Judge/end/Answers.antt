@@ -1,5 +1,5 @@
-use Rattle.std.proofs.Common.{◌≡◌, ◌∙◌, sym}
-use Rattle.r10_judge.proofs.Judging.{at_none, at_some}
+use Rattle.std.proofs.Common.{◌∙◌, sym}
+use Rattle.r10_judge.proofs.Judging.{at_some}
 use Rattle.r10_judge.proofs.Ending.{broken_at_fault}
 use Rattle.r10_judge.proofs.judge.Judge.end.Goals as goal
 

@@ -1,4 +1,4 @@
-use Rattle.std.proofs.Common.{◌≡◌, ◌∙◌, Some, None, length, sym, subst, ap}
+use Rattle.std.proofs.Common.{◌∙◌, length, sym, subst, ap}
 use Rattle.r10_body.specs.Faults.{IsAtFault}
 use Rattle.r10_judge.specs.Judged.{MayMiss}
 use Rattle.r10_judge.proofs.Ending.{missing_at_fault, nothing_missing}

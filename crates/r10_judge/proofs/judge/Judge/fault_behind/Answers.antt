@@ -1,4 +1,4 @@
-use Rattle.std.proofs.Common.{◌≡◌, ◌∙◌, ◌++◌, length, ap, sym, subst}
+use Rattle.std.proofs.Common.{◌∙◌, ◌++◌, length, ap, sym, subst}
 use Rattle.r10_body.specs.Faults.{IsAtFault}
 use Rattle.r10_judge.specs.Judged.{GoesOn}
 use Rattle.r10_judge.proofs.Judging.{at_none, at_some, breaks_on}

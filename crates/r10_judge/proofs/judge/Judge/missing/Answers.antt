@@ -1,4 +1,4 @@
-use Rattle.std.proofs.Common.{◌≡◌, inr, refl, arith}
+use Rattle.std.proofs.Common.{inr, refl, arith}
 use Rattle.r10_body.specs.Faults as faults
 use Rattle.r10_judge.proofs.judge.Judge.missing.Goals as goal
 

@@ -1,0 +1,143 @@
+-- Under its directory entry a file is at fault, or it is strict with that closing: it can't be neither.
+use Rattle.std.proofs.Common.{◌≡◌, ℕ, zero, suc, ◌<◌, ◌≤◌, inl, inr, Bool, true, false, List, [], ◌∷◌, ◌++◌, length, drop, Option, Some, None, refl, sym, ap, ◌∙◌, arith, append_assoc, true≢false}
+use Rattle.std.proofs.lemmas.Bool.{cases_lt}
+use Rattle.std.proofs.lemmas.List.{append-nil, length-append}
+use Rattle.r10_packet.specs.Framing.{header_at, has_data_checksum, framing_fault}
+use Rattle.r10_packet.specs.declared.fault.PacketFault.{PacketFault}
+use Rattle.r10_body.proofs.Lone.{packet-length}
+use Rattle.r10_body.specs.Foreign.{opaque_at, IsForeignPacket}
+use Rattle.r10_body.specs.Packets.{Packet, packet_bytes, file_bytes, file_entries}
+use Rattle.r10_body.specs.Rules.{MayFollow, EndsIndex, is_index, is_closed}
+use Rattle.r10_body.specs.Faults.{HasFault, Reads, BreaksRule, IsWrongHere, IsAtFault, first_packet}
+use Rattle.r10_body.specs.Faults as faults
+use Rattle.r10_body.specs.declared.fault.FileFault.{FileFault}
+use Rattle.r10_body.specs.declared.fault.FileFault.TheVariants.{Truncated, DataSum, Body, Rule}
+use Rattle.r10_foreign.specs.Tracks.{named}
+use Rattle.r10_foreign.proofs.Faults.{framing_is}
+use Rattle.r10_foreign.proofs.Fronts.{first_joined, is_foreign}
+use Rattle.r10_laws.proofs.Indexes.{counted, counted_no, not_closed}
+use Rattle.r10_laws.proofs.Rules.{follows_more, bytes_more}
+use Rattle.r10_judge.specs.Judged.{KeepRules, SaysClosed}
+use Rattle.r10_judge.proofs.Judging.{begins}
+
+-- ---- what stands behind packets that keep the rules
+
+-- nothing is wrong there
+abbrev NothingWrong : Bool → List Packet → List ℕ → Type 0
+NothingWrong closed before rest = (fault : FileFault) → IsWrongHere before rest closed fault → ⊥
+
+-- where no rule is the least that is broken, none is broken
+at_least : (m k : ℕ) → (k < m → ⊥) → m ≤ k
+at_least m k none = elim (cases_lt k m) [ inl lower ↦ absurd (none lower) | inr upper ↦ upper ]
+
+none_below : (before : List Packet) (rest : List ℕ) (closed : Bool) (n m : ℕ) → IsForeignPacket (first_packet rest) → NothingWrong closed before rest → m < n → BreaksRule before rest closed m → ⊥
+none_below before rest closed zero m foreign right less breaks = omega (arith, less)
+none_below before rest closed (suc n) m foreign right less breaks = elim (cases_lt m n) [
+  | inl under ↦ none_below before rest closed n m foreign right under breaks
+  | inr over ↦ right (Rule m) (faults.rule foreign breaks (λ k other. at_least m k (λ lower. none_below before rest closed n k foreign right (omega (arith, lower, less)) other)))
+]
+
+no_rule : (before : List Packet) (rest : List ℕ) (closed : Bool) (m : ℕ) → IsForeignPacket (first_packet rest) → NothingWrong closed before rest → BreaksRule before rest closed m → ⊥
+no_rule before rest closed m foreign right breaks = none_below before rest closed (suc m) m foreign right (omega arith) breaks
+
+-- a packet of any recorder stands first there
+framed : (before : List Packet) (rest : List ℕ) (closed : Bool) → 0 < length rest → NothingWrong closed before rest → framing_fault rest ≡ None
+framed before rest closed some right = by (framing_fault rest) refl where
+  by : (o : Option PacketFault) → framing_fault rest ≡ o → framing_fault rest ≡ None
+  by None is = is
+  by (Some fault) is = absurd (right (named fault) (faults.packet (inl some) (framing_is rest fault is)))
+
+first_foreign : (before : List Packet) (rest : List ℕ) (closed : Bool) → 0 < length rest → NothingWrong closed before rest → (IsForeignPacket (first_packet rest) → ⊥) → ⊥
+first_foreign before rest closed some right none = by (opaque_at rest) (has_data_checksum rest) refl refl where
+  sound : framing_fault rest ≡ None
+  sound = framed before rest closed some right
+
+  by : (opaque sum : Bool) → opaque_at rest ≡ opaque → has_data_checksum rest ≡ sum → ⊥
+  by true sum is told = none (is_foreign rest sound (λ clear. absurd (true≢false (sym is ∙ clear))))
+  by false false is told = right DataSum (faults.packet (inl some) (sound, is, told))
+  by false true is told = right Body (faults.packet (inl some) (sound, is, told, λ body. none (is_foreign rest sound (λ _. (told, body)))))
+
+-- ---- packet by packet
+
+-- this packet may come next, also where the directory entry is unclosed
+abbrev MayStand : Bool → List Packet → Packet → Type 0
+MayStand closed before p = MayFollow before p × (closed ≡ false → is_index p ≡ false)
+
+not_here : (before : List Packet) (rest : List ℕ) (closed : Bool) (p : Packet) → Reads rest p → ((m : ℕ) → BreaksRule before rest closed m → ⊥) → closed ≡ false → is_index p ≡ false
+not_here before rest closed p reads right open_file = by (is_index p) refl where
+  by : (b : Bool) → is_index p ≡ b → is_index p ≡ false
+  by false is = is
+  by true is = absurd (right 8 (faults.unclosed p reads is open_file))
+
+may_stand : (before : List Packet) (rest : List ℕ) (closed : Bool) (p : Packet) → Reads rest p → ((m : ℕ) → BreaksRule before rest closed m → ⊥) → (MayStand closed before p → ⊥) → ⊥
+may_stand before rest closed p reads right none =
+    right 4 (faults.start p reads (λ start. right 5 (faults.channels p reads (λ channels. right 6 (faults.sequence p reads (λ sequence. right 7 (faults.counts p reads (λ counts.
+    right 8 (faults.index p reads (λ index. right 9 (faults.counters p reads (λ counters. right 10 (faults.events p reads (λ events.
+    none (record { fits = reads.0; checksums = reads.1; start = start; channels = channels; sequence = sequence; counts = counts; index = index; counters = counters; events = events }, not_here before rest closed p reads right)))))))))))))))
+
+abbrev behind : List ℕ → List ℕ
+behind rest = drop (header_at rest).packet_len rest
+
+same_bytes : (bytes : List ℕ) (before : List Packet) (rest : List ℕ) (p : Packet) → Reads rest p → bytes ≡ file_bytes before ++ rest → bytes ≡ file_bytes (before ++ p ∷ []) ++ behind rest
+same_bytes bytes before rest p reads is =
+    is ∙ ap (λ (t : List ℕ). file_bytes before ++ t) (sym (first_joined rest) ∙ ap (λ (t : List ℕ). t ++ behind rest) reads.2)
+    ∙ sym (append_assoc (file_bytes before) (packet_bytes p) (behind rest)) ∙ ap (λ (t : List ℕ). t ++ behind rest) (sym (bytes_more before p))
+
+shorter : (rest : List ℕ) (p : Packet) (n : ℕ) → Reads rest p → length rest ≤ suc n → length (behind rest) ≤ n
+shorter rest p n reads le =
+    omega (arith, le, ap (λ (t : List ℕ). length t) (first_joined rest), length-append (first_packet rest) (behind rest), ap (λ (t : List ℕ). length t) reads.2, packet-length p)
+
+keep_more : (closed : Bool) (before : List Packet) (p : Packet) → KeepRules closed before → MayStand closed before p → KeepRules closed (before ++ p ∷ [])
+keep_more closed before p keep may = record {
+  strict = follows_more [] before p keep.strict may.0;
+  unclosed = λ open_file. omega (arith, counted is_index before p, keep.unclosed open_file, counted_no is_index p (may.1 open_file));
+}
+
+-- ---- at the end
+
+says : (bytes : List ℕ) (packets : List Packet) (closed : Bool) → KeepRules closed packets → bytes ≡ file_bytes packets → 2 ≤ length packets → is_closed packets ≡ closed → EndsIndex packets → SaysClosed bytes closed
+says bytes packets closed keep is two same ends =
+    let told = begins packets keep.strict (omega (arith, two)) in
+    (told.0, file_entries packets, (packets, is, record { file = record { each = keep.strict; start = two; index = ends }; setup_is = told.1; entries_are = λ channel. refl; closed_is = same }))
+
+whole : (bytes : List ℕ) (packets : List Packet) (closed : Bool) → KeepRules closed packets → bytes ≡ file_bytes packets → 2 ≤ length packets → NothingWrong closed packets [] → (SaysClosed bytes closed → ⊥) → ⊥
+whole bytes packets false keep is two right none = none (says bytes packets false keep is two (not_closed packets (keep.unclosed refl)) (λ _. keep.unclosed refl))
+whole bytes packets true keep is two right none = by (is_closed packets) refl where
+  by : (b : Bool) → is_closed packets ≡ b → ⊥
+  by true shut = none (says bytes packets true keep is two shut (λ open_end. absurd (true≢false (sym shut ∙ open_end))))
+  by false open_end = right (Rule 8) (faults.no_index refl two refl open_end)
+
+ended : (bytes : List ℕ) (packets : List Packet) (closed : Bool) → KeepRules closed packets → bytes ≡ file_bytes packets → NothingWrong closed packets [] → (SaysClosed bytes closed → ⊥) → ⊥
+ended bytes packets closed keep is right none = elim (cases_lt (length packets) 2) [
+  | inr two ↦ whole bytes packets closed keep is two right none
+  | inl few ↦
+      elim (cases_lt (length packets) 1) [
+        | inl empty ↦ right Truncated (faults.packet (inr (omega (arith, empty))) refl)
+        | inr one ↦ right (Rule 4) (faults.no_time refl (omega (arith, few, one)))
+      ]
+]
+
+-- ---- all of it
+
+none_wrong : (bytes : List ℕ) (closed : Bool) (before : List Packet) (rest : List ℕ) → ((offset : ℕ) (fault : FileFault) → IsAtFault bytes closed offset fault → ⊥) → KeepRules closed before → bytes ≡ file_bytes before ++ rest
+    → NothingWrong closed before rest
+none_wrong bytes closed before rest right keep is =
+    λ fault wrong. right (length (file_bytes before)) fault (record { packets = before; rest = rest; bytes_are = is; offset_is = refl; strict = keep.strict; unclosed = keep.unclosed; wrong = wrong })
+
+-- a packet of any recorder that stands first there is this recorder's, and may stand there
+may_come : (before : List Packet) (rest : List ℕ) (closed : Bool) → IsForeignPacket (first_packet rest) → NothingWrong closed before rest → ((p : Packet) → Reads rest p → MayStand closed before p → ⊥) → ⊥
+may_come before rest closed foreign right none =
+    no_rule before rest closed 3 foreign right (faults.body (λ (p, reads). may_stand before rest closed p reads (λ m. no_rule before rest closed m foreign right) (none p reads)))
+
+walk : (bytes : List ℕ) (closed : Bool) (n : ℕ) (before : List Packet) (rest : List ℕ) → ((offset : ℕ) (fault : FileFault) → IsAtFault bytes closed offset fault → ⊥) → (SaysClosed bytes closed → ⊥)
+    → KeepRules closed before → bytes ≡ file_bytes before ++ rest → length rest ≤ n → ⊥
+walk bytes closed n before [] right none keep is le = ended bytes before closed keep (is ∙ append-nil (file_bytes before)) (none_wrong bytes closed before [] right keep is) none
+walk bytes closed zero before (x ∷ xs) right none keep is le = omega (arith, le)
+walk bytes closed (suc n) before (x ∷ xs) right none keep is le =
+    let rest : List ℕ = x ∷ xs in
+    let sound : NothingWrong closed before rest = none_wrong bytes closed before rest right keep is in
+    first_foreign before rest closed (omega arith) sound (λ foreign. may_come before rest closed foreign sound (λ p reads may.
+    walk bytes closed n (before ++ p ∷ []) (behind rest) right none (keep_more closed before p keep may) (same_bytes bytes before rest p reads is) (shorter rest p n reads le)))
+
+pub either : (bytes : List ℕ) (closed : Bool) → ((offset : ℕ) (fault : FileFault) → IsAtFault bytes closed offset fault → ⊥) → (SaysClosed bytes closed → ⊥) → ⊥
+either bytes closed right none = walk bytes closed (length bytes) [] bytes right none (record { strict = tt; unclosed = λ _. refl }) refl (omega arith)
