@@ -2,7 +2,7 @@
 
 ghost use Rattle.std.specs.Prelude.{◌≡◌, ◌<◌, ◌+◌, ◌∷◌, ◌++◌, ℕ, List, IfSome, IfNone};
 ghost use Rattle.r10_lines.specs.Civil.{two_digits, civil_text};
-ghost use Rattle.r10_script.specs.Civil.{HasText};
+ghost use Rattle.r10_script.specs.Civil.{date_text, HasText};
 
 use r10_count::Parts;
 
@@ -11,10 +11,7 @@ pub fn parts_of(text: &[u8]) -> Option<Parts>
     ensures found { IfSome result (λ parts. text.now ≡ civil_text parts) }
     ensures none { IfNone result ((parts : Parts) → HasText parts → text.now ≡ civil_text parts → ⊥) }
 {
-    let (century, rest) = split_pair(text)?;
-    let (year, rest) = split_pair(rest)?;
-    let (month, rest) = split_marked(b'-', rest)?;
-    let (day, rest) = split_marked(b'-', rest)?;
+    let (year, month, day, rest) = split_date(text)?;
     let (hour, rest) = split_marked(b' ', rest)?;
     let (minute, rest) = split_marked(b':', rest)?;
     let (second, rest) = split_marked(b':', rest)?;
@@ -23,7 +20,7 @@ pub fn parts_of(text: &[u8]) -> Option<Parts>
         return None;
     }
     Some(Parts {
-        year: century * 100 + year,
+        year,
         month,
         day,
         hour,
@@ -31,6 +28,19 @@ pub fn parts_of(text: &[u8]) -> Option<Parts>
         second,
         centi,
     })
+}
+
+/// The date `YYYY-MM-DD` at the front as year, month and day, and the bytes behind it.
+fn split_date(bytes: &[u8]) -> Option<(u16, u16, u16, &[u8])>
+    ensures found { IfSome result (λ x. bytes.now ≡ date_text x.0 x.1 x.2 x.3.now) }
+    ensures range { IfSome result (λ x. (x.0 < 10000) × (x.1 < 100) × (x.2 < 100)) }
+    ensures none { IfNone result ((year month day : ℕ) (rest : List ℕ) → year < 10000 → month < 100 → day < 100 → bytes.now ≡ date_text year month day rest → ⊥) }
+{
+    let (century, rest) = split_pair(bytes)?;
+    let (year, rest) = split_pair(rest)?;
+    let (month, rest) = split_marked(b'-', rest)?;
+    let (day, rest) = split_marked(b'-', rest)?;
+    Some((century * 100 + year, month, day, rest))
 }
 
 /// The decimal digit at the front, and the bytes behind it.

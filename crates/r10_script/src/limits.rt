@@ -3,6 +3,7 @@
 use crate::fault::{Place, ScriptFault, Wrong};
 use crate::table::Fields;
 use r10_machine::SettingsFault;
+use toml::Value;
 
 pub const BLOCKS: &str = "a whole number from `directory` + 2 to 16777216";
 
@@ -29,36 +30,57 @@ const OTHER_ID: &str = "another number than `time`, `event` and the channels abo
 /// The fault of a setting outside its limits.
 pub fn limit_fault(top: Fields<'_>, fault: SettingsFault) -> ScriptFault {
     match fault {
-        SettingsFault::Blocks => top.refused("blocks", BLOCKS),
-        SettingsFault::Directory => top.refused("directory", DIRECTORY),
         SettingsFault::Channel(0) => zero_fault(top),
         SettingsFault::Channel(id) => twice_fault(top, id),
-        SettingsFault::Capacity(id) => channel_with(top, id, 0).refused("capacity", CAPACITY),
-        SettingsFault::Check(id) => channel_with(top, id, 0).refused("check", CHECK),
-        SettingsFault::Bytes(id) => channel_with(top, id, 0).refused("bytes", BYTES),
-        SettingsFault::Number(id) => channel_with(top, id, 0).refused("number", NUMBER),
-        SettingsFault::Bits(id) => channel_with(top, id, 0).refused("bits", BITS),
-        SettingsFault::Nodes => top.refused("nodes", NODES),
-        SettingsFault::Volume => top.refused("volume", VOLUME),
+        other => {
+            let (id, key, wanted) = limit_of(other);
+            let fields = match id {
+                Some(id) => channel_with(top, id, 0),
+                None => top,
+            };
+            fields.refused(key, wanted)
+        }
+    }
+}
+
+/// The channel whose setting is outside its limits, if it is a channel's, its key, and what is wanted.
+fn limit_of(fault: SettingsFault) -> (Option<u16>, &'static str, &'static str) {
+    match fault {
+        SettingsFault::Blocks => (None, "blocks", BLOCKS),
+        SettingsFault::Directory => (None, "directory", DIRECTORY),
+        SettingsFault::Channel(id) => (Some(id), "id", ID),
+        SettingsFault::Capacity(id) => (Some(id), "capacity", CAPACITY),
+        SettingsFault::Check(id) => (Some(id), "check", CHECK),
+        SettingsFault::Bytes(id) => (Some(id), "bytes", BYTES),
+        SettingsFault::Number(id) => (Some(id), "number", NUMBER),
+        SettingsFault::Bits(id) => (Some(id), "bits", BITS),
+        SettingsFault::Nodes => (None, "nodes", NODES),
+        SettingsFault::Volume => (None, "volume", VOLUME),
+    }
+}
+
+/// The channel tables, none where there is no array of them.
+fn channel_tables<'a>(top: Fields<'a>) -> &'a [Value] {
+    match top.tables("channel") {
+        Ok(values) => values,
+        Err(_) => &[],
     }
 }
 
 /// The fault of a number of channel tables, or else of an ID 0.
 fn zero_fault(top: Fields<'_>) -> ScriptFault {
-    let count = match top.tables("channel") {
-        Ok(values) => values.len(),
-        Err(_) => 0,
-    };
+    let count = channel_tables(top).len();
     if count == 0 || count > 64 {
         return top.of_place(Place::Text).fault(Wrong::Tables { count });
     }
-    if top.is_number("time", 0) {
-        return top.refused("time", ID);
-    }
-    if top.is_number("event", 0) {
-        return top.refused("event", ID);
-    }
-    channel_with(top, 0, 0).refused("id", ID)
+    let (fields, key) = if top.is_number("time", 0) {
+        (top, "time")
+    } else if top.is_number("event", 0) {
+        (top, "event")
+    } else {
+        (channel_with(top, 0, 0), "id")
+    };
+    fields.refused(key, ID)
 }
 
 /// The fault of an ID that is there before.
@@ -73,14 +95,11 @@ fn twice_fault(top: Fields<'_>, id: u16) -> ScriptFault {
 
 /// The channel table with this ID behind so many others with it, or else the keys above the tables.
 fn channel_with<'a>(top: Fields<'a>, id: u16, before: usize) -> Fields<'a> {
-    let Ok(values) = top.tables("channel") else {
-        return top;
-    };
     let mut number = 0usize;
     let mut left = before;
-    for value in values {
+    for value in channel_tables(top) {
         number = number.saturating_add(1);
-        let Ok(fields) = top.table_of(value, "channel", Place::Channel(number)) else {
+        let Some(fields) = top.table_in(value, Place::Channel(number)) else {
             return top;
         };
         if fields.is_number("id", id) {

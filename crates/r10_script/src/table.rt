@@ -49,6 +49,16 @@ impl<'a> Fields<'a> {
         }
     }
 
+    /// The table that a value is, if it is one.
+    pub fn table_in(&self, value: &'a Value, place: Place) -> Option<Fields<'a>>
+        ensures { IfSome result (λ fields. as_table (view value.now) ≡ Some (table_view fields.table.now)) }
+    {
+        match value.as_table() {
+            Some(table) => Some(Fields::new(self.alloc, table, place)),
+            None => None,
+        }
+    }
+
     /// The table that a value of an array of tables is.
     pub fn table_of(
         &self,
@@ -58,8 +68,8 @@ impl<'a> Fields<'a> {
     ) -> Result<Fields<'a>, ScriptFault>
         ensures { IfOk result (λ fields. as_table (view value.now) ≡ Some (table_view fields.table.now)) }
     {
-        match value.as_table() {
-            Some(table) => Ok(Fields::new(self.alloc, table, place)),
+        match self.table_in(value, place) {
+            Some(fields) => Ok(fields),
             None => Err(self.mistaken(key, TABLES, value)),
         }
     }
