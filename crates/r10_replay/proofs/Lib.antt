@@ -1,1 +1,4 @@
+pub mod Places
+pub mod Searching
 pub mod Standing
+pub mod Ticks

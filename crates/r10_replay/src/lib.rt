@@ -1,9 +1,13 @@
-//! What the entries of a file's packets are, read from the medium that shows them into a buffer that is kept; nothing on
-//! the medium changes.
+//! What a file's entries are, read from the medium that shows them: only the packets that may have what is wanted are
+//! read, each into a buffer that is kept, and nothing on the medium changes.
 #![tactic(auto)]
 
+mod count;
 mod fault;
 mod packet;
+mod search;
 
+pub use count::count_at;
 pub use fault::ReplayFault;
 pub use packet::read_packet;
+pub use search::find;
