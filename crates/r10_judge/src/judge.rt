@@ -14,7 +14,7 @@ ghost use Rattle.r10_tracks.specs.Tracks.{IsTracked};
 
 use r10_body::FileFault;
 use r10_foreign::Fault;
-use r10_strict::{Facts, PacketKind, StrictReading, read_strict};
+use r10_strict::{Facts, PacketKind, StrictReading, read_checked};
 use r10_tracks::Tracks;
 use std::alloc::{AllocError, Global};
 
@@ -52,7 +52,7 @@ impl Judge {
         if self.broken.is_some() {
             return Ok(());
         }
-        match read_strict(alloc, packet) {
+        match read_checked(alloc, packet) {
             Ok(StrictReading::Strict(facts)) => self.take_strict(&facts, body_of(packet)),
             Ok(StrictReading::Breaks(rule)) => {
                 self.stop(rule);

@@ -1,12 +1,12 @@
 -- What each answer of the strict reading says.
-use Rattle.std.proofs.Common.{◌≡◌, ◌↔◌, ℕ, ◌+◌, ◌-◌, ◌%◌, ◌<◌, ◌≤◌, Bool, true, false, IsTrue, List, length, drop, refl, sym, subst, ap, ◌∙◌, Some, None, arith, lit≤}
-use Rattle.std.proofs.lemmas.List.{length-take, length-take-le}
+use Rattle.std.proofs.Common.{◌≡◌, ◌↔◌, ℕ, ◌+◌, ◌%◌, ◌<◌, ◌≤◌, Bool, true, false, IsTrue, List, length, sym, subst, ap, ◌∙◌, Some, None, arith, lit≤}
+use Rattle.std.proofs.lemmas.List.{length-take-le}
 use Rattle.r10_count.specs.Bytes.{flag_at}
 use Rattle.r10_packet.specs.Framing.{framing_fault, header_at, body_at, has_data_checksum}
 use Rattle.r10_packet.specs.declared.header.Header.{Header}
 use Rattle.r10_packet.specs.declared.fault.PacketFault.{PacketFault}
 use Rattle.r10_packet.proofs.Fields.{AreBytes}
-use Rattle.r10_packet.proofs.Kept.{lengths_of, whole_of}
+use Rattle.r10_packet.proofs.Kept.{whole_of}
 use Rattle.r10_body.specs.Bodies.{IsBodyOf}
 use Rattle.r10_body.specs.Content.{Content, FitsContent, body_of, type_of}
 use Rattle.r10_body.specs.Packets.{Packet, packet_bytes}
@@ -16,7 +16,7 @@ use Rattle.r10_body.specs.Faults as faults
 use Rattle.r10_body.specs.Foreign.{is_opaque, opaque_at}
 use Rattle.r10_strict.specs.Header.{IsCheckedRight, IsOwnHeader, TellsOf, packet_of, goes_unchecked}
 use Rattle.r10_strict.specs.declared.facts.Facts.{Facts}
-use Rattle.r10_strict.specs.Strict.{Finds, BreaksFirst}
+use Rattle.r10_strict.specs.Strict.{Finds}
 use Rattle.r10_strict.specs.declared.strict.StrictReading.TheVariants.{Strict, Breaks}
 use Rattle.r10_strict.proofs.First.{foreign_first}
 use Rattle.r10_strict.proofs.Spelled.{framed, reads_made}
@@ -124,13 +124,6 @@ is_not_filled bytes r iff not filled = (let is : r ≡ true = iff.1 filled in le
 
 pub opaque_told : (bytes : List ℕ) (h : Header) (b : List ℕ) (r told : Bool) → h ≡ header_at bytes → b ≡ body_at bytes → r ≡ is_opaque h b → r ≡ told → opaque_at bytes ≡ told
 opaque_told bytes h b r told eh eb is told_is = sym (is ∙ ap (λ (g : Header). is_opaque g b) eh ∙ ap (is_opaque (header_at bytes)) eb) ∙ told_is
-
-pub short_body : (bytes b : List ℕ) → framing_fault bytes ≡ None → b ≡ body_at bytes → IsOwnHeader (header_at bytes) → length b ≤ 524288
-short_body bytes b sound eb own =
-    let h = header_at bytes in
-    let lengths = lengths_of h (whole_of bytes sound).sound.lengths in
-    let size : length (body_at bytes) ≤ 24 + h.data_len - 24 = omega (arith, length-take (24 + h.data_len - 24) (drop 24 bytes)) in
-    omega (arith, ap (λ (t : List ℕ). length t) eb, size, lengths.inside, lengths.least, own.2)
 
 low_flag : (b : Bool) (check : ℕ) → check < 4 → (flag_at 4 b + check) % 4 ≡ check
 low_flag true check lt = omega arith

@@ -1,5 +1,5 @@
 -- What stands in the packet that stands first, and what stands in all bytes.
-use Rattle.std.proofs.Common.{◌≡◌, ℕ, ◌+◌, ◌-◌, ◌<◌, ◌≤◌, ◌⊎◌, inl, inr, Bool, false, true, List, ◌++◌, length, take, drop, get_or, sym, subst, ap, ◌∙◌, None, arith, append_assoc, take_all}
+use Rattle.std.proofs.Common.{◌≡◌, ℕ, ◌+◌, ◌-◌, ◌<◌, ◌≤◌, inl, inr, false, true, List, ◌++◌, length, take, drop, sym, subst, ap, ◌∙◌, None, arith, append_assoc, take_all}
 use Rattle.std.specs.Prelude.{slice_range}
 use Rattle.std.proofs.lemmas.Bool.{cases_lt}
 use Rattle.std.proofs.lemmas.List.{take-append-drop, take-append-le, drop-append-le, get_or-take, length-append, get_or_past, length-take, length-drop}

@@ -1,5 +1,6 @@
 pub mod Spelled
 pub mod First
+pub mod Parts
 pub mod Findings
 pub mod Tallies
 pub mod Telling

@@ -1,28 +1,27 @@
 -- A packet of the recorder's is framed, and what is framed so is a packet of the recorder's.
-use Rattle.std.proofs.Common.{◌≡◌, ◌↔◌, ℕ, zero, suc, ◌+◌, ◌-◌, ◌*◌, ◌/◌, ◌%◌, ◌^◌, ◌<◌, ◌≤◌, ◌⊎◌, inl, inr, Bool, true, false, IsTrue, not, ◌==◌, ◌&&◌, ◌||◌, List, [], ◌∷◌, ◌++◌, length, take, drop, refl, sym, subst, ap, ◌∙◌, None, arith, replicate}
-use Rattle.std.specs.Prelude.{slice_range, slice_index, bit_and, nat_le}
+use Rattle.std.proofs.Common.{◌≡◌, ◌↔◌, ℕ, zero, suc, ◌+◌, ◌-◌, ◌/◌, ◌%◌, ◌^◌, ◌<◌, ◌≤◌, inl, inr, Bool, true, false, IsTrue, not, ◌==◌, ◌&&◌, ◌||◌, List, [], ◌∷◌, ◌++◌, length, take, drop, refl, sym, subst, ap, ◌∙◌, None, arith, replicate}
+use Rattle.std.specs.Prelude.{slice_range, slice_index, bit_and}
 use Rattle.std.proofs.lemmas.Bool.{cases_lt, le-leb, leb-true, eq-eqb, eqb-true}
-use Rattle.std.proofs.lemmas.List.{take-append-drop, drop-take, drop_at, take_at, length-append, length-drop, length-take-le}
+use Rattle.std.proofs.lemmas.List.{take-append-drop, drop-take, drop_at, length-append, length-drop, length-take-le}
 use Rattle.std.specs.Str.{bytes_eq}
 use Rattle.std.proofs.lemmas.Slice.Eq.{bytes_eq-Decides}
 use Rattle.std.proofs.Math.Seq.{take-append_seam}
 use Rattle.r10_count.specs.Bytes.{flag_at, bit_of}
 use Rattle.r10_packet.specs.Sums.{data_checksum}
 use Rattle.r10_packet.specs.Header.{header_bytes, checksum_bits}
-use Rattle.r10_packet.specs.Packet.{filled, least_filler, IsPacketWith}
+use Rattle.r10_packet.specs.Packet.{filled, least_filler}
 use Rattle.r10_packet.specs.Framing.{framing_fault, header_at, body_at, has_lengths, has_room, is_right, has_data_checksum}
 use Rattle.r10_packet.specs.declared.header.Header.{Header}
 use Rattle.r10_packet.proofs.Fields.{AreBytes}
 use Rattle.r10_packet.proofs.Kept.{both, whole_of, lengths_of}
-use Rattle.r10_packet.proofs.Lengths.{header_length, checksum_length, filled_length}
+use Rattle.r10_packet.proofs.Lengths.{header_length, filled_length}
 use Rattle.r10_packet.proofs.Whole.{read_whole, found_whole, filler_at}
-use Rattle.r10_body.proofs.Lone.{packet-length}
 use Rattle.r10_body.specs.Bodies.{IsBodyOf}
-use Rattle.r10_body.specs.Content.{Content, type_of}
+use Rattle.r10_body.specs.Content.{Content}
 use Rattle.r10_body.specs.Packets.{Packet, FitsPacket, packet_body, packet_rest, packet_bytes, header_of}
 use Rattle.r10_body.specs.Rules.{KeepsChecksums}
 use Rattle.r10_body.specs.Faults.{KeepsHeader, KeepsFiller, Reads}
-use Rattle.r10_laws.proofs.Sentences.{packet_sentence, rest_words, bits_of_flags}
+use Rattle.r10_laws.proofs.Sentences.{packet_sentence, rest_words}
 use Rattle.r10_strict.specs.Header.{packet_of}
 
 -- ---- lists

@@ -1,6 +1,6 @@
 -- What messages come to is what a packet's entries come to.
-use Rattle.std.proofs.Common.{◌≡◌, ◌↔◌, ℕ, ◌+◌, ◌*◌, ◌<◌, ◌≤◌, Bool, true, false, ◌&&◌, IsTrue, List, [], ◌∷◌, length, map, refl, sym, subst, ap, ◌∙◌, Option, Some, None, arith}
-use Rattle.std.specs.Prelude.{max, nat_le}
+use Rattle.std.proofs.Common.{◌≡◌, ◌↔◌, ℕ, ◌+◌, ◌*◌, ◌≤◌, Bool, true, false, ◌&&◌, IsTrue, List, [], ◌∷◌, length, map, refl, sym, subst, ap, ◌∙◌, Some, None, arith}
+use Rattle.std.specs.Prelude.{nat_le}
 use Rattle.std.specs.List.{AllByRecursion, fold, sum_by}
 use Rattle.std.proofs.lemmas.Bool.{leb-true, le-leb}
 use Rattle.std.proofs.lemmas.List.Sums.{sum_by-cons}
@@ -13,7 +13,7 @@ use Rattle.r10_discrete.proofs.Bodies.{body-length as discrete_length}
 use Rattle.r10_message.specs.Message.{entry_size as message_size}
 use Rattle.r10_message.proofs.Bodies.{body-length as message_length}
 use Rattle.r10_body.specs.Content.{Content, setup, time, event, uart, bus, arinc, discrete, message, node, root, type_of, body_of, timed, messages_of}
-use Rattle.r10_body.specs.Cost.{entry_cost, message_cost}
+use Rattle.r10_body.specs.Cost.{entry_cost}
 use Rattle.r10_body.specs.Packets.{packet_bytes, with_gaps}
 use Rattle.r10_body.specs.Rules.{Rise}
 use Rattle.r10_body.specs.declared.entry.Timed.{Timed}
@@ -21,10 +21,10 @@ use Rattle.r10_body.specs.declared.message.Message.TheVariants as messages
 use Rattle.r10_laws.specs.Channels.{last_count}
 use Rattle.r10_count.specs.Bytes.{bit_of}
 use Rattle.r10_packet.specs.declared.header.Header.{Header}
-use Rattle.r10_strict.specs.Facts.{Spans, Tells, TellsCounts, kind_of}
+use Rattle.r10_strict.specs.Facts.{Tells, TellsCounts, kind_of}
 use Rattle.r10_strict.specs.Header.{packet_of}
 use Rattle.r10_strict.specs.declared.facts.PacketKind.{PacketKind}
-use Rattle.r10_strict.specs.Tally.{nothing, spread_behind, tally_behind, tally_of, timed_cost, with_message}
+use Rattle.r10_strict.specs.Tally.{nothing, spread_behind, tally_of, timed_cost, with_message}
 use Rattle.r10_strict.specs.declared.facts.Spread.{Spread}
 use Rattle.r10_strict.specs.declared.tally.Tally.{Tally}
 

@@ -11,4 +11,4 @@ mod strict;
 mod tally;
 
 pub use facts::{Facts, PacketKind, Spread};
-pub use strict::{StrictReading, read_strict};
+pub use strict::{StrictReading, read_checked, read_strict};

@@ -1,8 +1,9 @@
 //! Strict packets.
 
-ghost use Rattle.std.specs.Prelude.{◌≡◌, ◌↔◌, true, IsTrue, IfOk, None};
+ghost use Rattle.std.specs.Prelude.{◌≡◌, ◌↔◌, ◌≤◌, true, length, IsTrue, IsSomeAnd, IfSome, IfOk, None};
 ghost use Rattle.r10_packet.specs.Framing.{framing_fault, has_data_checksum, header_at, body_at, data_sum_of};
-ghost use Rattle.r10_body.specs.Faults.{KeepsFiller};
+ghost use Rattle.r10_body.specs.Faults.{KeepsFiller, first_packet};
+ghost use Rattle.r10_body.specs.Foreign.{IsForeignPacket};
 ghost use Rattle.r10_strict.specs.Header.{IsCheckedRight, IsOwnHeader, goes_unchecked as has_no_checksum};
 ghost use Rattle.r10_strict.specs.Strict.{Finds};
 
@@ -10,7 +11,7 @@ use crate::body::read_body;
 use crate::facts::Facts;
 use crate::filler::is_least;
 use r10_body::is_opaque;
-use r10_packet::{DataSum, Header, Packet, PacketView};
+use r10_packet::{DataSum, Header, Packet, PacketView, decode_header};
 use std::alloc::{AllocError, Global};
 
 /// What the strict reading of the packet that stands first finds.
@@ -57,30 +58,48 @@ fn is_filled(view: &PacketView<'_>, bytes: &[u8]) -> bool
     }
 }
 
-/// What the strict reading of a packet without a fault of framing finds.
-fn read_view(
+/// The header and the body of the packet that stands first. Its data checksum isn't looked at.
+fn parts(bytes: &[u8]) -> Option<(Header, &[u8])>
+    ensures whole { framing_fault bytes.now ≡ None → IsSomeAnd result (λ x. (x.0 ≡ header_at bytes.now) × (x.1.now ≡ body_at bytes.now)) }
+    ensures short { IfSome result (λ x. length x.1.now ≤ x.0.packet_len) }
+{
+    let Some((front, rest)) = bytes.split_first_chunk::<24>() else {
+        return None;
+    };
+    let Ok(header) = decode_header(front) else {
+        return None;
+    };
+    let length = header.data_len as usize;
+    if rest.len() < length {
+        return None;
+    }
+    Some((header, &rest[..length]))
+}
+
+/// What the strict reading finds of the packet that stands first and has this header and this body. It is told whether the
+/// data checksum is right, and stands behind the least filler.
+fn find(
     alloc: Global,
-    view: &PacketView<'_>,
+    header: &Header,
+    body: &[u8],
+    filled: bool,
     bytes: &[u8],
 ) -> Result<StrictReading, AllocError>
-    requires framed { framing_fault bytes.now ≡ None }
-    requires header { view.now.header ≡ header_at bytes.now }
-    requires body { view.now.body.now ≡ body_at bytes.now }
-    requires data_sum { view.now.data_sum ≡ data_sum_of (header_at bytes.now) bytes.now }
-    ensures { IfOk result (Finds bytes.now) }
+    requires short { length body.now ≤ header.now.packet_len }
+    ensures { header.now ≡ header_at bytes.now → body.now ≡ body_at bytes.now → framing_fault bytes.now ≡ None
+        → (IsTrue filled ↔ ((has_data_checksum bytes.now ≡ true) × KeepsFiller bytes.now)) → IfOk result (Finds bytes.now) }
 {
-    let header = &view.header;
     if !is_own(header) {
         return Ok(StrictReading::Breaks(1));
     }
-    if !is_filled(view, bytes) {
-        let rule = if is_opaque(header, view.body) { 3 } else { 2 };
+    if !filled {
+        let rule = if is_opaque(header, body) { 3 } else { 2 };
         return Ok(StrictReading::Breaks(rule));
     }
     if !keeps_checksum(header) {
         return Ok(StrictReading::Breaks(3));
     }
-    match read_body(alloc, header, view.body)? {
+    match read_body(alloc, header, body)? {
         Some(facts) => Ok(StrictReading::Strict(facts)),
         None => Ok(StrictReading::Breaks(3)),
     }
@@ -93,7 +112,24 @@ pub fn read_strict(alloc: Global, bytes: &[u8]) -> Result<StrictReading, AllocEr
     ensures { IfOk result (Finds bytes.now) }
 {
     match Packet::read(bytes) {
-        Ok((view, _)) => read_view(alloc, &view, bytes),
+        Ok((view, _)) => {
+            let filled = is_filled(&view, bytes);
+            find(alloc, &view.header, view.body, filled, bytes)
+        }
         Err(_) => Ok(StrictReading::Breaks(3)),
     }
+}
+
+/// Reads the packet that stands first in bytes and that any recorder may have written, as `read_strict` does. Where it
+/// isn't opaque its data checksum is known to be right, and isn't computed again.
+pub fn read_checked(alloc: Global, bytes: &[u8]) -> Result<StrictReading, AllocError>
+    ensures { IsForeignPacket (first_packet bytes.now) → IfOk result (Finds bytes.now) }
+{
+    let Some((header, body)) = parts(bytes) else {
+        return read_strict(alloc, bytes);
+    };
+    if is_opaque(&header, body) {
+        return read_strict(alloc, bytes);
+    }
+    find(alloc, &header, body, is_least(&header, bytes), bytes)
 }

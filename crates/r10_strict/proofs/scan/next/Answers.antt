@@ -1,4 +1,4 @@
-use Rattle.std.proofs.Common.{◌≡◌, rules, length, take, ap, ◌∙◌, arith}
+use Rattle.std.proofs.Common.{◌≡◌, length, take, ap, ◌∙◌, arith}
 use Rattle.r10_strict.proofs.Scanned.{begins_with}
 use Rattle.r10_strict.proofs.scan.next.Goals as goal
 

@@ -15,7 +15,7 @@ returns-then-is_some-clause-taken c = λ before stands foreign short.
 pub returns-in-Ok-Strict-clause-taken : goal.returns-in-Ok-Strict-clause-taken
 returns-in-Ok-Strict-clause-taken c = λ before stands foreign short.
     let goes : GoesOn c.args.self.now.closed c.args.self.now.tracks before = at_none c.args.self.now.broken c.args.self.now.closed c.args.self.now.tracks before (not_some c.args.self.now.broken (sym c.is_some.ensures ∙ c.if-is_some.false)) stands in
-    let found : Finds c.args.packet.now (Strict c.in-Ok-Strict.facts) = subst (λ r. Finds c.args.packet.now r) c.in-Ok-Strict.field-0-is c.in-Ok-Strict.ensures in
+    let found : Finds c.args.packet.now (Strict c.in-Ok-Strict.facts) = subst (λ r. Finds c.args.packet.now r) c.in-Ok-Strict.field-0-is (c.in-Ok-Strict.ensures (subst IsForeignPacket (sym (whole_first c.args.packet.now foreign)) foreign)) in
     let p = found.0 in
     let reads = found.1 in
     let is = framed c.args.packet.now p reads in
@@ -26,7 +26,8 @@ returns-in-Ok-Strict-clause-taken c = λ before stands foreign short.
 pub returns-in-Ok-Breaks-clause-taken : goal.returns-in-Ok-Breaks-clause-taken
 returns-in-Ok-Breaks-clause-taken c = λ before stands foreign short.
     let goes : GoesOn c.args.self.now.closed c.args.self.now.tracks before = at_none c.args.self.now.broken c.args.self.now.closed c.args.self.now.tracks before (not_some c.args.self.now.broken (sym c.is_some.ensures ∙ c.if-is_some.false)) stands in
-    let found : Finds c.args.packet.now (Breaks c.in-Ok-Breaks.rule) = subst (λ r. Finds c.args.packet.now r) c.in-Ok-Breaks.field-0-is c.in-Ok-Breaks.ensures in
-    let first = found.1 (subst IsForeignPacket (sym (whole_first c.args.packet.now foreign)) foreign) in
+    let known = subst IsForeignPacket (sym (whole_first c.args.packet.now foreign)) foreign in
+    let found : Finds c.args.packet.now (Breaks c.in-Ok-Breaks.rule) = subst (λ r. Finds c.args.packet.now r) c.in-Ok-Breaks.field-0-is (c.in-Ok-Breaks.ensures known) in
+    let first = found.1 known in
     some_stands c.stop.new.self.broken _ c.args.self.now.closed c.stop.new.self.closed c.stop.new.self.tracks (before ++ c.args.packet.now) (c.stop.ensures.broken goes.packets goes.tracked) c.stop.ensures.closed
     (stops c.args.self.now.closed c.args.self.now.tracks before c.args.packet.now c.in-Ok-Breaks.rule goes foreign (first.broken goes.packets c.args.self.now.closed) (first.least goes.packets c.args.self.now.closed))
