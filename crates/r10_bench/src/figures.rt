@@ -39,7 +39,7 @@ pub struct Figures {
 }
 
 /// How many of these there are in a second, where there are so many in this time.
-fn a_second(amount: u64, time: Duration) -> u128
+pub fn a_second(amount: u64, time: Duration) -> u128
     ensures { result ≡ amount * 1_000_000_000 / max 1 (as_nanos time) }
 {
     u128::from(amount) * 1_000_000_000 / time.as_nanos().max(1)

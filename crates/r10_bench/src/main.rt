@@ -1,10 +1,11 @@
 //! The program `r10_bench`, run by hand: how many small UART messages a second go through a lane and a builder, beside a
-//! plain copy of the same bytes, how many go through lanes of one thread and between two, and how long searches in the book
-//! of a file's packets take, and its index.
+//! plain copy of the same bytes, how many go through lanes of one thread and between two, how long searches in the book
+//! of a file's packets take, and its index, and how many bytes of a file are judged in a second.
 #![tactic(auto)]
 
 mod bench;
 mod book;
+mod check;
 mod copy;
 mod fault;
 mod figures;
@@ -36,5 +37,9 @@ fn main(rt: HostRuntime) -> Result<ExitCode, Fault> {
     print!(rt; "{lanes}")?;
     let book = book::run(&rt, rt.alloc(), number)?;
     print!(rt; "{book}")?;
+    for shape in &check::SHAPES {
+        let figures = check::run(&rt, rt.alloc(), shape, number)?;
+        print!(rt; "{figures}")?;
+    }
     Ok(ExitCode::SUCCESS)
 }
