@@ -1,0 +1,22 @@
+//! What keeps an entry out of a file.
+
+use r10_body::Sample;
+use r10_medium::MediumFault;
+
+/// Why a sample was not taken in.
+#[derive(Debug, Drop)]
+pub enum TakeFault {
+    /// There is no memory for it. It comes back, and the file is as it was.
+    Memory(Sample),
+    /// The medium failed. The file can't go on.
+    Medium(MediumFault),
+}
+
+/// What an entry has no room in.
+#[derive(Clone, Copy, Debug, PartialEq, Eq)]
+pub enum Full {
+    /// The index: the entry needs a packet more than it may name.
+    Index,
+    /// The file's part of the medium: the file with the entry would cost more.
+    Medium,
+}

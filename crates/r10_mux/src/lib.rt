@@ -1,0 +1,10 @@
+//! The multiplexer of a file that is written: whatever text and entries the file carried over a medium,
+//! it carries those that are taken in too, in packets on the medium or in its channels' builders.
+#![tactic(auto)]
+
+mod fault;
+mod mux;
+mod put;
+
+pub use fault::{Full, TakeFault};
+pub use mux::Mux;
