@@ -1,5 +1,6 @@
 pub mod Next
 pub mod Judging
+pub mod Finished
 pub mod Ending
 pub mod Places
 pub mod Either

@@ -1,7 +1,7 @@
 -- How far a file is judged: its packets keep the rules so far, or one of them breaks a rule.
 use Rattle.std.specs.Prelude.{◌≡◌, ℕ, ◌≤◌, Bool, false, IsTrue, List, [], ◌++◌, length, count_by, min, Option, Some, None}
 use Rattle.r10_body.specs.Packets.{Packet, file_bytes}
-use Rattle.r10_body.specs.Files.{FileSays}
+use Rattle.r10_body.specs.Files.{FileSays, PacketsSay}
 use Rattle.r10_body.specs.Rules.{EachFollows, EndsIndex, MayFollow, is_closed, is_index}
 use Rattle.r10_body.specs.Foreign.{IsForeignPacket}
 use Rattle.r10_body.specs.Faults.{BreaksRule, IsWrongHere}
@@ -72,6 +72,15 @@ least_of_index (Some n) = min n 8
 -- the bytes are a strict file with this closing
 abbrev pub SaysClosed : List ℕ → Bool → Type 0
 SaysClosed bytes closed = (text : List ℕ) × (entries : List Entry) × FileSays bytes text entries closed
+
+-- the bytes are a strict file with this closing, and these are the tracks of its packets
+pub record IsKept (closed : Bool) (tracks : Tracks) (bytes : List ℕ) : Type 0 where
+  pub text : List ℕ
+  pub entries : List Entry
+  pub packets : List Packet
+  pub bytes_are : bytes ≡ file_bytes packets
+  pub say : PacketsSay packets text entries closed
+  pub tracked : IsTracked tracks packets
 
 -- nothing is missing behind packets that keep the rules, or what is missing makes the file end with this fault
 abbrev pub MayMiss : Bool → List Packet → Option FileFault → Type 0

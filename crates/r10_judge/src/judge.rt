@@ -1,6 +1,6 @@
 //! Whether a file keeps the rules, packet by packet.
 
-ghost use Rattle.std.specs.Prelude.{◌≡◌, ◌↔◌, ◌⊎◌, ◌+◌, ◌<◌, ◌≤◌, ◌^◌, ◌++◌, ℕ, List, [], length, true, false, IsTrue, MatchOption, OnOk, OnErr, None, Some};
+ghost use Rattle.std.specs.Prelude.{◌≡◌, ◌↔◌, ◌⊎◌, ◌+◌, ◌<◌, ◌≤◌, ◌^◌, ◌++◌, ℕ, List, [], length, true, false, IsTrue, MatchOption, MatchResult, OnOk, OnErr, None, Some};
 ghost use Rattle.r10_packet.specs.Framing.{framing_fault, body_at};
 ghost use Rattle.r10_body.specs.Faults.{HasFault, IsAtFault};
 ghost use Rattle.r10_body.specs.Files.{IsStrict};
@@ -8,7 +8,7 @@ ghost use Rattle.r10_body.specs.Foreign.{IsForeignPacket};
 ghost use Rattle.r10_body.specs.Packets.{Packet, FitsPacket, packet_body, packet_bytes};
 ghost use Rattle.r10_body.specs.Rules.{EndsIndex, KeepsChecksums};
 ghost use Rattle.r10_body.specs.Rules.{is_index as is_index_packet};
-ghost use Rattle.r10_judge.specs.Judged.{Stands, GoesOn, BreaksFirst, MayMiss, SaysClosed, least_of_index, stopped_at};
+ghost use Rattle.r10_judge.specs.Judged.{Stands, GoesOn, BreaksFirst, IsKept, MayMiss, SaysClosed, least_of_index, stopped_at};
 ghost use Rattle.r10_strict.specs.Facts.{Tells, kind_of};
 ghost use Rattle.r10_tracks.specs.Tracks.{IsTracked};
 
@@ -81,6 +81,27 @@ impl Judge {
         match self.first_broken() {
             Some(at) => Some(at),
             None => self.end_of_packets(),
+        }
+    }
+
+    /// What is kept of the packets of a strict file with the closing of its directory entry; else where and
+    /// how the file is at fault that ends here.
+    pub fn finish(self) -> Result<Tracks, Fault>
+        ensures { (bytes : List ℕ) → Stands self bytes → MatchResult result (λ tracks. IsKept self.closed tracks bytes) (λ at. IsAtFault bytes self.closed at.offset at.fault) }
+    {
+        match self.first_broken() {
+            Some(at) => Err(at),
+            None => self.finish_packets(),
+        }
+    }
+
+    /// What is kept of packets that keep the rules, or the fault of the file that ends behind them.
+    fn finish_packets(self) -> Result<Tracks, Fault>
+        ensures { (bytes : List ℕ) → GoesOn self.closed self.tracks bytes → MatchResult result (λ tracks. IsKept self.closed tracks bytes) (λ at. IsAtFault bytes self.closed at.offset at.fault) }
+    {
+        match self.end_of_packets() {
+            Some(at) => Err(at),
+            None => Ok(self.tracks),
         }
     }
 

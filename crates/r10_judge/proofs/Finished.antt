@@ -1,0 +1,18 @@
+-- What is kept of a file that is judged to its end.
+use Rattle.std.proofs.Common.{ℕ, Bool, List, sym, ◌∙◌, subst}
+use Rattle.r10_body.specs.Packets.{Packet}
+use Rattle.r10_laws.proofs.Meaning.{one_list}
+use Rattle.r10_tracks.specs.Tracks.{IsTracked}
+use Rattle.r10_tracks.specs.declared.tracks.Tracks.{Tracks}
+use Rattle.r10_judge.specs.Judged.{GoesOn, IsKept, SaysClosed}
+
+-- the packets that were taken are those of the file
+pub kept_file : (closed : Bool) (tracks : Tracks) (bytes : List ℕ) → GoesOn closed tracks bytes → SaysClosed bytes closed → IsKept closed tracks bytes
+kept_file closed tracks bytes goes (text, entries, (packets, are, say)) = record {
+  text = text;
+  entries = entries;
+  packets = packets;
+  bytes_are = are;
+  say = say;
+  tracked = subst (λ (ps : List Packet). IsTracked tracks ps) (one_list goes.packets packets goes.keep.strict say.file.each (sym goes.bytes_are ∙ are)) goes.tracked;
+}
