@@ -1,0 +1,10 @@
+//! Where a file stands.
+
+/// Where a file stands on a medium.
+#[derive(Clone, Copy, Debug, PartialEq, Eq)]
+pub struct Extent {
+    /// The number of its first block.
+    pub first: usize,
+    /// How many bytes it has.
+    pub size: usize,
+}
