@@ -4,6 +4,8 @@
 #[cfg(test)]
 mod directories;
 #[cfg(test)]
+mod files;
+#[cfg(test)]
 mod inputs;
 #[cfg(test)]
 mod media;
