@@ -100,7 +100,7 @@ impl Judge {
         ensures { (bytes : List ℕ) → GoesOn self.closed self.tracks bytes → MatchResult result (λ tracks. IsKept self.closed tracks bytes) (λ at. IsAtFault bytes self.closed at.offset at.fault) }
     {
         match self.end_of_packets() {
-            Some(at) => Err(at),
+            Some(missing) => Err(missing),
             None => Ok(self.tracks),
         }
     }
