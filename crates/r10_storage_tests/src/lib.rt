@@ -13,3 +13,5 @@ mod media;
 mod outputs;
 #[cfg(test)]
 mod packets;
+#[cfg(test)]
+mod replays;
