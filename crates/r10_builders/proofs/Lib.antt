@@ -2,3 +2,4 @@ pub mod Places
 pub mod Taking
 pub mod First
 pub mod Steps
+mod Ready

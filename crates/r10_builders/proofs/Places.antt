@@ -49,7 +49,7 @@ none_other : (p : Packet) (builders : List State) → HasNone p.channel builders
 none_other p [] none = tt
 none_other p (b ∷ builders) none = (λ e. absurd (none.0 (sym e)), none_other p builders none.1)
 
-not_first : (b d : State) (builders : List State) (i : ℕ) → i < length builders → AllByRecursion (λ (c : State). c.spec.id ≡ b.spec.id → ⊥) builders → (get_or builders i d).spec.id ≡ b.spec.id → ⊥
+pub not_first : (b d : State) (builders : List State) (i : ℕ) → i < length builders → AllByRecursion (λ (c : State). c.spec.id ≡ b.spec.id → ⊥) builders → (get_or builders i d).spec.id ≡ b.spec.id → ⊥
 not_first b d [] i lt apart same = absurd (omega arith)
 not_first b d (c ∷ builders) zero lt apart same = apart.0 same
 not_first b d (c ∷ builders) (suc i) lt apart same = not_first b d builders i (omega arith) apart.1 same

@@ -10,7 +10,7 @@ use Rattle.r10_body.specs.declared.entry.Sample.{Sample}
 use Rattle.r10_body.specs.declared.message.Kind.TheVariants as kinds
 use Rattle.r10_body.specs.declared.spec.ChannelSpec.{ChannelSpec}
 use Rattle.r10_builder.specs.Packing.{IsLimited, last_count, reason, tenth}
-use Rattle.r10_builder.specs.State.{State}
+use Rattle.r10_builder.specs.State.{IsReady, IsReadyWith, State}
 use Rattle.r10_builder.specs.declared.closed.Closed.{Closed}
 
 abbrev pub specs_of : List State → List ChannelSpec
@@ -40,6 +40,10 @@ Joins channel s builders = IsSomeAnd (find (is_of channel) builders) (λ b. (0 <
 abbrev pub handed : Option Closed → ℕ
 handed None = 0
 handed (Some closed) = 1
+
+-- all are ready but the one of a channel that handed a packet out, which is once the packet's room is given back
+abbrev pub AreReadyWith : ℕ → Closed → List State → Type 0
+AreReadyWith channel closed builders = AllByRecursion (λ (b : State). (b.spec.id ≡ channel → IsReadyWith closed b) × ((b.spec.id ≡ channel → ⊥) → IsReady b)) builders
 
 -- a packet of a channel with these settings
 pub record KeepsSpec (spec : ChannelSpec) (p : Packet) : Type 0 where
