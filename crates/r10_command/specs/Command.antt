@@ -1,12 +1,13 @@
 -- What a command does that did not fail.
 use Rattle.std.specs.Prelude.{◌≡◌, ◌⊎◌, ℕ, List, Option, IfSome}
 use Rattle.std.specs.Io.KnownBytes.{Appends}
-use Rattle.r10_words.specs.Words.{AsksSim, AsksFiles, GivesAll}
+use Rattle.r10_words.specs.Words.{AsksSim, AsksFiles, AsksCheck, GivesAll}
 use Rattle.r10_words.specs.declared.asked.FormatWords.{FormatWords}
 use Rattle.r10_images.specs.Image.{image_blocks}
 use Rattle.r10_images.specs.Listing.{Lists}
 use Rattle.r10_images.specs.declared.listing.Outcome.{Outcome}
 use Rattle.r10_images.specs.declared.listing.Outcome.TheVariants.{Done}
+use Rattle.r10_verdicts.specs.Checked.{Checks}
 use Rattle.r10_command.specs.Sim.{Simulates}
 use Rattle.r10_command.specs.Written.{WritesFormatted}
 
@@ -24,5 +25,7 @@ pub record Does (words : List (List ℕ)) (input old new : Option (List ℕ)) (o
   pub sim : AsksSim words → (outcome ≡ Done) × IfSome input (λ text. Simulates text old new)
   -- a list: of the image that was read
   pub files : AsksFiles words → IfSome input (λ bytes. Lists (image_blocks bytes) outcome old new)
+  -- a verdict: on the recording that was read
+  pub check : AsksCheck words → IfSome input (λ bytes. Checks bytes outcome old new)
   -- all else
-  pub other : (AsksSim words → ⊥) → (AsksFiles words → ⊥) → (outcome ≡ Done) × (Formats words old new ⊎ Says old new)
+  pub other : (AsksSim words → ⊥) → (AsksFiles words → ⊥) → (AsksCheck words → ⊥) → (outcome ≡ Done) × (Formats words old new ⊎ Says old new)

@@ -23,7 +23,7 @@ status_of (faults.Format refusal) = 3
 abbrev pub IsFailure : ℕ → Type 0
 IsFailure status = (status ≡ 2) ⊎ (status ≡ 3)
 
--- 0 where the command did its work, 1 where an image refused it
+-- 0 where the command did its work, 1 where an image refused it or a recording is faulty
 abbrev pub outcome_status : Outcome → ℕ
 outcome_status Done = 0
 outcome_status Refused = 1

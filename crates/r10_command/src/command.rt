@@ -9,12 +9,13 @@ ghost use Rattle.r10_command.specs.Written.{WritesFormatted};
 use crate::fault::Fault;
 use crate::play::sim;
 use r10_images::{Outcome, check_format, list_files, write_formatted};
+use r10_verdicts::check_input;
 use r10_words::{Asked, FormatWords, WordsFault, read_words};
 use std::alloc::Global;
 use std::io::{Read, Write};
 
 /// Runs the command that the words name, the program's own name first, and answers the exit status: 0, 1 where an image
-/// refused it, 2 for wrong words or a wrong script, 3 for want of memory and for what can't be read or written.
+/// refused it or a recording is faulty, 2 for wrong words or a wrong script, 3 for want of memory and for what can't be read or written.
 /// A fault goes to `faults`, as one line.
 pub fn run<R: Read, W: Write, E: Write>(
     alloc: Global,
@@ -55,6 +56,7 @@ fn perform<R: Read, W: Write>(
             Ok(Outcome::Done)
         }
         Ok(Asked::Files) => Ok(list_files(alloc, reader, writer)?),
+        Ok(Asked::Check) => Ok(check_input(alloc, reader, writer)?),
         Ok(Asked::Format(format)) => {
             write_medium(&format, writer)?;
             Ok(Outcome::Done)

@@ -1,17 +1,43 @@
 -- What a case comes to, and how it is printed.
-use Rattle.std.specs.Prelude.{◌≡◌, ℕ, ◌==◌, List, [], ◌∷◌, ◌++◌, Option, Some, codes, drop, map, string_bytes, take, if◌then◌else◌}
+use Rattle.std.specs.Prelude.{◌≡◌, ℕ, ◌==◌, Bool, true, false, List, [], ◌∷◌, ◌++◌, Option, Some, codes, drop, map, string_bytes, take, if◌then◌else◌}
 use Rattle.std.specs.Fmt.{decimal}
 use Rattle.std.specs.Io.KnownBytes.{Appends}
+use Rattle.r10_images.specs.declared.listing.Outcome.{Outcome}
+use Rattle.r10_verdicts.specs.Checked.{Judges}
 use Rattle.r10_command.specs.Command.{Does}
-use Rattle.r10_command.specs.Status.{Ends}
+use Rattle.r10_command.specs.Status.{outcome_status, Ends}
 use Rattle.r10_rows.specs.Case.{case_length, head_text, spelled, IsCase, IsInput}
 use Rattle.r10_rows.specs.declared.answer.Answer.{Answer}
 use Rattle.r10_rows.specs.declared.case.Case.{Case}
 
--- the command of the case ended so, and did its work on the case's input, or failed
+abbrev pub AreBoth : List ℕ → List ℕ → List ℕ → Type 0
+AreBoth closing word other = (word ≡ codes "judge") × (other ≡ closing)
+
+-- behind the case's name the word `judge`, and this closing
+abbrev pub AsksJudge : List ℕ → List (List ℕ) → Type 0
+AsksJudge closing [] = ⊥
+AsksJudge closing (name ∷ []) = ⊥
+AsksJudge closing (name ∷ word ∷ []) = ⊥
+AsksJudge closing (name ∷ word ∷ other ∷ []) = AreBoth closing word other
+AsksJudge closing (name ∷ word ∷ other ∷ more ∷ words) = ⊥
+
+-- the first fault of the input was printed, as of a file whose directory entry is closed or not
+abbrev pub IsJudged : Bool → List ℕ → Answer → Type 0
+IsJudged closed input answer = (outcome : Outcome) × (answer.status ≡ outcome_status outcome) × Judges input closed outcome (Some []) (Some answer.lines.items)
+
+-- the command ended so, and did its work on the input, or failed
+abbrev pub IsCommanded : List (List ℕ) → List ℕ → Answer → Type 0
+IsCommanded words input answer = Ends answer.status (Does words (Some input) (Some []) (Some answer.lines.items))
+
+-- what a case with these words and this input came to
+pub record Answers (words : List (List ℕ)) (input : List ℕ) (answer : Answer) : Type 0 where
+  pub closed : AsksJudge (codes "closed") words → IsJudged true input answer
+  pub unclosed : (AsksJudge (codes "closed") words → ⊥) → AsksJudge (codes "unclosed") words → IsJudged false input answer
+  pub command : (AsksJudge (codes "closed") words → ⊥) → (AsksJudge (codes "unclosed") words → ⊥) → IsCommanded words input answer
+
+-- the case came to this
 abbrev pub IsAnswer : Case → Answer → Type 0
-IsAnswer case answer = (input : List ℕ) × IsInput case input
-    × Ends answer.status (Does (map string_bytes case.words.items) (Some input) (Some []) (Some answer.lines.items))
+IsAnswer case answer = (input : List ℕ) × IsInput case input × Answers (map string_bytes case.words.items) input answer
 
 -- the line of the words, and the line of the status: with the wanted one where that is another
 abbrev pub front_text : List (List ℕ) → ℕ → ℕ → List ℕ

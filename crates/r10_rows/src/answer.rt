@@ -1,11 +1,13 @@
 //! What a case comes to.
 
-ghost use Rattle.std.specs.Prelude.{◌≡◌, IfOk, OnOk, map, string_bytes};
+ghost use Rattle.std.specs.Prelude.{◌≡◌, ◌↔◌, IsTrue, IfOk, OnOk, map, string_bytes};
 ghost use Rattle.std.specs.Io.KnownBytes.{Appends};
-ghost use Rattle.r10_rows.specs.Answer.{IsAnswer, front_text, printed};
+ghost use Rattle.r10_rows.specs.Answer.{Answers, AreBoth, AsksJudge, IsAnswer, IsCommanded, IsJudged, front_text, printed};
 
 use crate::case::{Case, head_line};
 use crate::fault::RowsFault;
+use r10_images::Outcome;
+use r10_verdicts::judge_closing;
 use std::alloc::{AllocError, Global};
 use std::io::Write;
 
@@ -20,25 +22,74 @@ pub struct Answer {
     pub said: Vec<u8>,
 }
 
-/// Runs the case through the commands; `at` is where it begins in the input.
+/// Runs the case through the commands, or judges its input if the words ask for that; `at` is where it begins in the input.
 pub fn answer_case(alloc: Global, at: usize, case: &Case) -> Result<Answer, RowsFault>
     ensures { IfOk result (λ a. IsAnswer case.now a) }
 {
     let input = case.input(alloc, at)?;
-    let mut reader = input.as_slice();
+    let answer = answer_words(alloc, case.words.as_slice(), input.as_slice())?;
+    Ok(answer)
+}
+
+fn answer_words(alloc: Global, words: &[String], input: &[u8]) -> Result<Answer, RowsFault>
+    ensures { IfOk result (λ a. Answers (map string_bytes words.now) input.now a) }
+{
+    if asks_judge(words, "closed") {
+        return judge(alloc, input, true);
+    }
+    if asks_judge(words, "unclosed") {
+        return judge(alloc, input, false);
+    }
+    Ok(answer_command(alloc, words, input))
+}
+
+fn answer_command(alloc: Global, words: &[String], input: &[u8]) -> Answer
+    ensures { IsCommanded (map string_bytes words.now) input.now result }
+{
+    let mut reader = input;
     let mut lines = Vec::new(alloc);
     let mut said = Vec::new(alloc);
-    let status = r10_command::run(
-        alloc,
-        case.words.as_slice(),
-        &mut reader,
-        &mut lines,
-        &mut said,
-    );
-    Ok(Answer {
+    let status = r10_command::run(alloc, words, &mut reader, &mut lines, &mut said);
+    Answer {
         status,
         lines,
         said,
+    }
+}
+
+/// Whether the words ask for the first fault of a file with this closing.
+fn asks_judge(words: &[String], closing: &str) -> bool
+    ensures { IsTrue result ↔ AsksJudge closing.now (map string_bytes words.now) }
+{
+    match words {
+        [_, first, second] => are_both(first, second, closing),
+        _ => false,
+    }
+}
+
+fn are_both(first: &String, second: &String, closing: &str) -> bool
+    ensures { IsTrue result ↔ AreBoth closing.now (string_bytes first.now) (string_bytes second.now) }
+{
+    if first.as_str() == "judge" {
+        second.as_str() == closing
+    } else {
+        false
+    }
+}
+
+/// What the first fault of these bytes comes to, which should be a strict file with this closing.
+fn judge(alloc: Global, bytes: &[u8], closed: bool) -> Result<Answer, RowsFault>
+    ensures { IfOk result (λ a. IsJudged closed bytes.now a) }
+{
+    let mut lines = Vec::new(alloc);
+    let status = match judge_closing(alloc, bytes, closed, &mut lines)? {
+        Outcome::Done => 0,
+        Outcome::Refused => 1,
+    };
+    Ok(Answer {
+        status,
+        lines,
+        said: Vec::new(alloc),
     })
 }
 

@@ -2,7 +2,7 @@
 use Rattle.std.proofs.Common.{◌≡◌, ℕ, ◌+◌, ◌-◌, Bool, IsTrue, map, string_bytes, ◌<◌, ◌≤◌, length, List, [], ◌∷◌, ◌++◌, get_or, codes, String, Global, inl, inr, arith, ap, sym, ◌∙◌}
 use Rattle.std.proofs.lemmas.List.{get_or-map, length-map}
 use Rattle.std.specs.Bool.{Decides}
-use Rattle.r10_words.specs.Words.{AsksSim, AsksFiles, GivesOption, word_at}
+use Rattle.r10_words.specs.Words.{AsksSim, AsksOnly, GivesOption, word_at}
 
 pub second_word : (words : List (String Global)) (word : String Global) (r : Bool) → word ≡ get_or words 1 word → 2 ≤ length words → length words < 3
     → Decides r (string_bytes word ≡ codes "sim") → (IsTrue r → AsksSim (map string_bytes words)) × (AsksSim (map string_bytes words) → IsTrue r)
@@ -13,14 +13,14 @@ second_word (name ∷ other ∷ []) word r is two within decides =
     (λ yes. sym same ∙ decides.0 yes, λ asks. decides.1 (same ∙ asks))
 second_word (name ∷ other ∷ third ∷ words) word r is two within decides = absurd (omega (arith, within))
 
-pub second_word_files : (words : List (String Global)) (word : String Global) (r : Bool) → word ≡ get_or words 1 word → 2 ≤ length words → length words < 3
-    → Decides r (string_bytes word ≡ codes "files") → (IsTrue r → AsksFiles (map string_bytes words)) × (AsksFiles (map string_bytes words) → IsTrue r)
-second_word_files [] word r is two within decides = absurd (omega (arith, two))
-second_word_files (name ∷ []) word r is two within decides = absurd (omega (arith, two))
-second_word_files (name ∷ other ∷ []) word r is two within decides =
+pub only_word : (words : List (String Global)) (word : String Global) (command : List ℕ) (r : Bool) → word ≡ get_or words 1 word → 2 ≤ length words → length words < 3
+    → Decides r (string_bytes word ≡ command) → (IsTrue r → AsksOnly command (map string_bytes words)) × (AsksOnly command (map string_bytes words) → IsTrue r)
+only_word [] word command r is two within decides = absurd (omega (arith, two))
+only_word (name ∷ []) word command r is two within decides = absurd (omega (arith, two))
+only_word (name ∷ other ∷ []) word command r is two within decides =
     let same : string_bytes word ≡ string_bytes other = ap string_bytes is in
     (λ yes. sym same ∙ decides.0 yes, λ asks. decides.1 (same ∙ asks))
-second_word_files (name ∷ other ∷ third ∷ words) word r is two within decides = absurd (omega (arith, within))
+only_word (name ∷ other ∷ third ∷ words) word command r is two within decides = absurd (omega (arith, within))
 
 word_is : (words : List (String Global)) (j : ℕ) (word : String Global) → j < length words → word ≡ get_or words j word → word_at (map string_bytes words) j ≡ string_bytes word
 word_is words j word lt is = get_or-map string_bytes words j word [] lt ∙ ap string_bytes (sym is)

@@ -2,7 +2,7 @@
 use Rattle.std.specs.Prelude.{◌≡◌, ◌⊎◌, ℕ, ◌+◌, ◌<◌, List, [], ◌∷◌, ◌++◌, codes, length, slice_index_or, string_bytes}
 use Rattle.std.specs.Fmt.{decimal}
 use Rattle.r10_words.specs.declared.asked.Asked.{Asked}
-use Rattle.r10_words.specs.declared.asked.Asked.TheVariants.{Sim, Files, Format, Text}
+use Rattle.r10_words.specs.declared.asked.Asked.TheVariants.{Sim, Files, Check, Format, Text}
 use Rattle.r10_words.specs.declared.asked.FormatWords.{FormatWords}
 
 -- behind the program's own name nothing, or the word `sim`
@@ -12,12 +12,18 @@ AsksSim (name ∷ []) = Unit {0}
 AsksSim (name ∷ word ∷ []) = word ≡ codes "sim"
 AsksSim (name ∷ word ∷ other ∷ words) = ⊥
 
--- behind the program's own name the word `files`
+-- behind the program's own name this word alone
+abbrev pub AsksOnly : List ℕ → List (List ℕ) → Type 0
+AsksOnly command [] = ⊥
+AsksOnly command (name ∷ []) = ⊥
+AsksOnly command (name ∷ word ∷ []) = word ≡ command
+AsksOnly command (name ∷ word ∷ other ∷ words) = ⊥
+
 abbrev pub AsksFiles : List (List ℕ) → Type 0
-AsksFiles [] = ⊥
-AsksFiles (name ∷ []) = ⊥
-AsksFiles (name ∷ word ∷ []) = word ≡ codes "files"
-AsksFiles (name ∷ word ∷ other ∷ words) = ⊥
+AsksFiles words = AsksOnly (codes "files") words
+
+abbrev pub AsksCheck : List (List ℕ) → Type 0
+AsksCheck words = AsksOnly (codes "check") words
 
 abbrev pub word_at : List (List ℕ) → ℕ → List ℕ
 word_at words i = slice_index_or words i []
@@ -37,5 +43,6 @@ pub record GivesAll (words : List (List ℕ)) (format : FormatWords) : Type 0 wh
 abbrev pub AsksOther : List (List ℕ) → Asked → Type 0
 AsksOther words Sim = ⊥
 AsksOther words Files = ⊥
+AsksOther words Check = ⊥
 AsksOther words (Format format) = GivesAll words format
 AsksOther words (Text text) = Unit {0}

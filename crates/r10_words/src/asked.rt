@@ -2,8 +2,8 @@
 
 ghost use Rattle.std.specs.Prelude.{◌≡◌, ◌↔◌, IsTrue, Ok, IfOk, map, string_bytes};
 ghost use Rattle.std.specs.Fmt.{decimal};
-ghost use Rattle.r10_words.specs.Words.{AsksSim, AsksFiles, AsksOther, GivesOption, GivesAll};
-ghost use Rattle.r10_words.specs.declared.asked.Asked.TheVariants.{Sim, Files};
+ghost use Rattle.r10_words.specs.Words.{AsksSim, AsksFiles, AsksCheck, AsksOnly, AsksOther, GivesOption, GivesAll};
+ghost use Rattle.r10_words.specs.declared.asked.Asked.TheVariants.{Sim, Files, Check};
 
 use crate::usage::{command_line, usage_line};
 use clap::ArgMatches;
@@ -18,6 +18,8 @@ pub enum Asked {
     Sim,
     /// List the files of an image that is read from standard input.
     Files,
+    /// Say the verdict on a recording that is read from standard input.
+    Check,
     /// Write the image of a formatted medium.
     Format(FormatWords),
     /// Print this text: help, or the version.
@@ -47,17 +49,21 @@ pub enum WordsFault {
 }
 
 /// What the words ask for, the program's own name first: a run for no word behind it or for `sim` alone, a list for `files`
-/// alone, and else what the command line says.
+/// alone, a verdict for `check` alone, and else what the command line says.
 pub fn read_words(alloc: Global, words: &[String]) -> Result<Asked, WordsFault>
     ensures sim { AsksSim (map string_bytes words.now) → result ≡ Ok Sim }
     ensures files { AsksFiles (map string_bytes words.now) → result ≡ Ok Files }
-    ensures other { (AsksSim (map string_bytes words.now) → ⊥) → (AsksFiles (map string_bytes words.now) → ⊥) → IfOk result (AsksOther (map string_bytes words.now)) }
+    ensures check { AsksCheck (map string_bytes words.now) → result ≡ Ok Check }
+    ensures other { (AsksSim (map string_bytes words.now) → ⊥) → (AsksFiles (map string_bytes words.now) → ⊥) → (AsksCheck (map string_bytes words.now) → ⊥) → IfOk result (AsksOther (map string_bytes words.now)) }
 {
     if asks_sim(words) {
         return Ok(Asked::Sim);
     }
-    if asks_files(words) {
+    if asks_only(words, "files") {
         return Ok(Asked::Files);
+    }
+    if asks_only(words, "check") {
+        return Ok(Asked::Check);
     }
     read_other(alloc, words)
 }
@@ -72,11 +78,12 @@ fn asks_sim(words: &[String]) -> bool
     }
 }
 
-fn asks_files(words: &[String]) -> bool
-    ensures { IsTrue result ↔ AsksFiles (map string_bytes words.now) }
+/// Whether this command is the one word behind the program's own name.
+fn asks_only(words: &[String], command: &str) -> bool
+    ensures { IsTrue result ↔ AsksOnly command.now (map string_bytes words.now) }
 {
     match words {
-        [_, word] => word.as_str() == "files",
+        [_, word] => word.as_str() == command,
         _ => false,
     }
 }

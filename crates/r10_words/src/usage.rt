@@ -27,6 +27,18 @@ where it is closed or else 0. An image without a directory is refused, with stat
 
   r10 format --blocks 64 --directory 2 --volume VOL | r10 files";
 
+const ABOUT_CHECK: &str = "Reads a recording and prints the verdict on it";
+
+const MORE_CHECK: &str =
+    "A recording is read from standard input. Printed is strict where this recorder may have written it;
+lenient N where any recorder may have, and N of its packets are passed over unread; else faulty
+OFFSET FAULT, with status 1: where the first packet at fault begins, in bytes, and what is wrong
+there. An example, a recording of a setup and a time packet, which is strict:
+
+  echo 25eb00001c0000000400000008000001e8030000000035f00c000000 \\
+    25eb0100240000000c00000008000011e803000000004600010300007856341229022420 |
+    xxd -r -p | r10 check";
+
 const MORE: &str =
     "Without a command r10 does sim. A script is read from standard input, r10 < SCRIPT,
 and a line for each of its steps goes to standard output. A whole script:
@@ -70,8 +82,8 @@ What a step may do: mount, tick, start, offer, pump, stop, cursor, advance, next
 docs/FORMAT.md has the keys of scripts, the form of the lines, the format of the
 files and the refusals by number; examples/ has a script for each kind of channel.
 
-Exit status: 0; 1 where an image is refused; 2 for a wrong command line or script;
-3 where memory, reading or writing fails.";
+Exit status: 0; 1 where an image is refused or a recording is faulty; 2 for a wrong
+command line or script; 3 where memory, reading or writing fails.";
 
 /// Behind a word that is no option.
 const HINT: &str = "; a script comes from standard input: r10 < SCRIPT";
@@ -91,6 +103,9 @@ pub(crate) fn command_line<'a>(alloc: Global) -> Result<Command<'a>, AllocError>
     let files = Command::new(alloc, "files")
         .about(ABOUT_FILES)
         .after_help(MORE_FILES);
+    let check = Command::new(alloc, "check")
+        .about(ABOUT_CHECK)
+        .after_help(MORE_CHECK);
     Command::new(alloc, "r10")
         .bin_name("r10")?
         .version(VERSION)
@@ -98,7 +113,8 @@ pub(crate) fn command_line<'a>(alloc: Global) -> Result<Command<'a>, AllocError>
         .after_help(MORE)
         .subcommand(sim)?
         .subcommand(format)?
-        .subcommand(files)
+        .subcommand(files)?
+        .subcommand(check)
 }
 
 /// An option with a number, which must be given.

@@ -1,7 +1,7 @@
-use Rattle.std.proofs.Common.{rules, ◌≡◌, IsTrue, codes, map, string_bytes}
+use Rattle.std.proofs.Common.{codes, map, string_bytes}
 use Rattle.std.proofs.lemmas.Result.{IfOk-weaker}
 use Rattle.std.specs.Fmt.{decimal}
-use Rattle.r10_words.specs.Words.{GivesOption, GivesAll}
+use Rattle.r10_words.specs.Words.{GivesOption}
 use Rattle.r10_words.proofs.asked.gives_all.Goals as goal
 
 pub returns : goal.returns

@@ -1,0 +1,331 @@
+#!/usr/bin/env python3
+"""Makes the rows of `r10 check`, and of what a file's first fault is under its directory entry.
+
+    scripts/check_cases.py cases          # what stands in crates/r10_rows/stdin from `== check-first` on
+    scripts/check_cases.py answers        # the same of crates/r10_rows/stdout
+    scripts/check_cases.py run PROGRAM    # runs PROGRAM check over each file of these rows, and says what does not answer as wanted
+
+The wanted answers are stated here beside the files, as docs/FORMAT.md gives them; scripts/judge_recording.py, which is written from the
+same rules, has to agree with each. Of the thousand files at the end, which are random bytes and the first recording with one byte
+changed, that script alone says the answer. Nothing is taken from the recorder.
+"""
+import hashlib
+import subprocess
+import sys
+
+from judge_recording import ARINC, EVENT, INDEX, SETUP, TIME, UART, first_fault, verdict
+
+CIVIL = bytes.fromhex('010300007856341229022420')
+FOREIGN = 0x68
+
+
+def number(value, size):
+    return value.to_bytes(size, 'little')
+
+
+def packet(channel, sequence, kind, counter, body, flags=0, version=8, filler=None):
+    """A packet without a data checksum, with the least filler or the given one."""
+    filler = bytes(-len(body) % 4) if filler is None else filler
+    front = b'\x25\xeb' + number(channel, 2) + number(24 + len(body) + len(filler), 4) + number(len(body), 4)
+    front += bytes((version, sequence, flags, kind)) + number(counter, 6)
+    total = sum(int.from_bytes(front[k:k + 2], 'little') for k in range(0, 22, 2))
+    return front + number(total % 65536, 2) + body + filler
+
+
+# ---- the first recording
+
+def recording():
+    """The setup, time and UART packets of the first recording, its node and its root."""
+    parts = [packet(0, 0, SETUP, 1000, bytes.fromhex('0c000000') + b'ABCD'), packet(1, 0, TIME, 1000, CIVIL),
+             packet(5, 0, UART, 1000, number(1 << 31, 4) + letters(1000, b'ABC') + letters(1010, b''))]
+    return parts + index_of(parts, 1000, 1)
+
+
+def index_of(parts, counter, sequence, size=100):
+    """Node packets of a hundred entries for these packets, and their root."""
+    places = [(sum(map(len, parts[:k])), part) for k, part in enumerate(parts)]
+    end, nodes = sum(map(len, parts)), []
+    for first in range(0, len(places), size):
+        some = places[first:first + size]
+        nodes.append(packet(0, (sequence + len(nodes)) % 256, INDEX, counter, number(1 << 31 | len(some), 4) + b''.join(
+            part[16:22] + bytes(2) + part[2:4] + part[15:16] + bytes(1) + number(at, 8) for at, part in some)))
+    return nodes + [root_of(nodes, end, counter, (sequence + len(nodes)) % 256)]
+
+
+def root_of(nodes, end, counter, sequence, own=None):
+    ends = [end + sum(map(len, nodes[:k])) for k in range(len(nodes) + 1)]
+    own = counter if own is None else own
+    body = number(len(ends), 4) + b''.join(number(counter, 8) + number(at, 8) for at in ends[:-1])
+    return packet(0, sequence, INDEX, own, body + number(own, 8) + number(ends[-1], 8))
+
+
+def letters(count, text, head=0):
+    """An entry of a UART packet."""
+    return number(count, 8) + number(head | len(text), 4) + text + bytes(len(text) % 2)
+
+
+def uart(sequence, count, text=b'A', channel=5, **more):
+    return packet(channel, sequence, UART, more.pop('counter', count), number(1 << 31, 4) + letters(count, text), **more)
+
+
+def event(sequence, count, occurrence, **more):
+    return packet(2, sequence, EVENT, count, number(1, 4) + number(count, 8) + number(1 << 28 | occurrence << 12 | 3, 4), **more)
+
+
+FIRST = b''.join(recording())
+STARTS = (0, 32, 68, 124, 212)
+NAMES = ('setup', 'time', 'uart', 'node', 'root')
+OPAQUE = packet(9, 0, FOREIGN, 1000, bytes(8), flags=0x80, filler=bytes(12))
+
+
+def flipped(data, at, by):
+    return data[:at] + bytes([data[at] ^ by]) + data[at + 1:]
+
+
+# ---- whole files and their verdicts
+
+def verdicts():
+    yield 'check-first', FIRST, 'strict'
+    yield 'check-opaque-behind', FIRST + OPAQUE, 'lenient 1'
+    yield 'check-opaque-behind-cut', (FIRST + OPAQUE)[:-3], 'faulty 272 Truncated'
+    yield 'check-byte-22', flipped(FIRST, 22, 1), 'faulty 0 HeaderSum'
+    yield 'check-word-of-no-events', FIRST[:124] + packet(9, 0, 0, 1000, bytes(4)), 'lenient 1'
+    yield 'check-no-sync', b'\x00' * 512, 'faulty 0 Sync'
+    yield 'check-length-of-22', remade(4, b'\x16\x00\x00\x00'), 'faulty 68 Length'
+    yield 'check-data-longer-than-packet', remade(8, b'\x21\x00\x00\x00'), 'faulty 68 Length'
+    yield 'check-no-room-for-a-checksum', remade(14, b'\x03'), 'faulty 68 DataSum'
+    yield 'check-longer-message', flipped(FIRST, 68 + 24 + 12, 0x40), 'faulty 68 Body'
+    yield 'check-flagged', b''.join(lost()), 'strict'
+    yield 'check-report-of-another-recorder', b''.join(lost()[:3] + [REPORT]), 'lenient 1'
+    yield 'check-three-nodes', b''.join(MANY + index_of(MANY, 1000, 1)), 'strict'
+    yield 'check-two-roots', b''.join(two_roots()), 'lenient 0'
+    for size in range(273):
+        yield 'check-cut-to-%d' % size, FIRST[:size], cut(size)
+    for name, start in zip(NAMES, STARTS):
+        for at in range(24):
+            fault = 'Sync' if at < 2 else 'HeaderSum'
+            yield 'check-%s-header-byte-%d' % (name, at), flipped(FIRST, start + at, 1), 'faulty %d %s' % (start, fault)
+
+
+def cut(size):
+    """The verdict on the first bytes of the first recording."""
+    if size in (68, 124, 272):
+        return 'strict'
+    if size in (32, 212):
+        return 'lenient 0'
+    return 'faulty %d Truncated' % max(start for start in STARTS if start <= size)
+
+
+def remade(at, field):
+    """The first recording with another field in the header of its UART packet, and the right sum of that header."""
+    head = FIRST[68:68 + at] + field + FIRST[68 + at + len(field):90]
+    total = sum(int.from_bytes(head[k:k + 2], 'little') for k in range(0, 22, 2)) % 65536
+    return FIRST[:68] + head + number(total, 2) + FIRST[92:]
+
+
+# ---- files that break a rule
+
+OPENING = [recording()[0], recording()[1]]
+ONE = OPENING + [uart(0, 1001)]
+TWO = OPENING + [event(0, 1001, 0)]
+CLOSED = ONE + index_of(ONE, 1000, 1)
+LONG = OPENING + [packet(1, k, TIME, 1000 + k, CIVIL) for k in range(1, 100)]
+LONG_INDEX = index_of(LONG, 1099, 1)
+
+
+def wrong_second_node():
+    """A file of two nodes, of which the second names a place four bytes too far."""
+    return LONG + [LONG_INDEX[0], LONG_INDEX[1][:-8] + number(int.from_bytes(LONG_INDEX[1][-8:], 'little') + 4, 8)]
+
+
+def lost():
+    """Two messages in a packet, a lost one, and a flagged packet behind it, with the index."""
+    pair = packet(5, 0, UART, 1001, number(1 << 31, 4) + letters(1001, b'A') + letters(1002, b'B'))
+    parts = OPENING + [pair, uart(1, 1004, b'D', flags=0x10)]
+    return parts + index_of(parts, 1000, 1)
+
+
+MANY = OPENING + [uart(k % 256, 1000 + k, b'x', channel=6) for k in range(257)]
+REPORT = packet(0, 1, 0, 1000, bytes(4) + b'LOSS' + bytes.fromhex('050000000100000000000000'))
+
+
+def two_roots():
+    """A root behind each node, each naming the root before it: no form of this recorder's."""
+    places = [(100, LONG[:100]), (1, LONG[100:])]
+    counter, at, out, before = 1099, size(LONG), [], None
+    for sequence, (count, parts) in zip((1, 3), places):
+        starts = [size(LONG[:k]) for k, part in enumerate(LONG) if any(part is one for one in parts)]
+        node = packet(0, sequence, INDEX, counter, number(1 << 31 | count, 4) + b''.join(
+            part[16:22] + bytes(2) + part[2:4] + part[15:16] + bytes(1) + number(start, 8) for part, start in zip(parts, starts)))
+        place = at + len(node)
+        body = number(2, 4) + number(counter, 8) + number(at, 8) + number(counter, 8) + number(place if before is None else before, 8)
+        out += [node, packet(0, sequence + 1, INDEX, counter, body)]
+        at, before = place + len(out[-1]), place
+    return LONG + out
+
+
+def broken():
+    """Name, packets before, packets from the one at fault on, whether the entry is closed, and the rule."""
+    yield 'version-7', ONE, [uart(1, 1002, version=7)], False, 1
+    yield 'time-format-of-no-header', ONE, [uart(1, 1002, flags=0x04)], False, 1
+    yield 'sync-error', ONE, [uart(1, 1002, flags=0x20)], False, 1
+    yield 'opaque-with-a-header', ONE, [OPAQUE], False, 1
+    yield 'filler-of-ones', ONE, [uart(1, 1002, filler=b'\x01\x00')], False, 2
+    yield 'more-filler', ONE, [uart(1, 1002, filler=bytes(6))], False, 2
+    yield 'stamp-of-more-than-48-bits', ONE, [uart(1, 1002 | 1 << 48, counter=1002)], False, 3
+    yield 'word-bit-30-of-uart', ONE, [packet(5, 1, UART, 1002, number(1 << 31, 4) + letters(1002, b'A', 1 << 30))], False, 3
+    yield 'opaque', ONE, [packet(9, 0, FOREIGN, 1002, bytes(8))], False, 3
+    yield 'second-time-with-a-checksum', ONE, [packet(1, 1, TIME, 1002, CIVIL, flags=1, filler=checked(CIVIL))], False, 3
+    yield 'no-leap-bit', ONE, [packet(1, 1, TIME, 1002, b'\x01\x02' + CIVIL[2:])], False, 3
+    yield 'first-gap-of-arinc', ONE, [packet(7, 0, ARINC, 1002, number(1, 4) + number(100, 4) + number(0, 4))], False, 3
+    yield 'second-setup', ONE, [packet(0, 1, SETUP, 1000, number(0x0C, 4))], False, 4
+    yield 'no-time', OPENING[:1], [uart(0, 1000)], False, 4
+    yield 'setup-alone', OPENING[:1], [], False, 4
+    yield 'setup-alone-closed', OPENING[:1], [], True, 4
+    yield 'second-event-flagged', TWO, [event(1, 1002, 1, flags=0x10)], False, 5
+    yield 'uart-on-the-channel-of-time', ONE, [uart(1, 1002, channel=1)], False, 5
+    yield 'uart-on-channel-0', ONE, [uart(1, 1002, channel=0)], False, 5
+    yield 'second-sequence-of-0', ONE, [uart(0, 1002)], False, 6
+    yield 'second-sequence-of-2', ONE, [uart(2, 1002)], False, 6
+    yield 'count-falls', ONE, [uart(1, 1000)], False, 7
+    yield 'counter-before-the-entry', ONE, [uart(1, 1002, counter=1001)], False, 7
+    yield 'longer-than-a-tenth-of-a-second', ONE, [spanning(1000001)], False, 7
+    yield 'second-root', CLOSED, [root_of(CLOSED[3:4], size(ONE), 1000, 3)], True, 8
+    yield 'second-node', wrong_second_node()[:-1], wrong_second_node()[-1:], True, 8
+    yield 'uart-behind-a-node', CLOSED[:4], [uart(1, 1002)], True, 8
+    yield 'no-index', ONE, [], True, 8
+    yield 'no-root', CLOSED[:4], [], True, 8
+    yield 'index-in-an-unclosed-file', ONE, CLOSED[3:], False, 8
+    yield 'setup-of-another-count', OPENING[:1], [packet(1, 0, TIME, 1001, CIVIL)], False, 9
+    yield 'root-of-another-count', CLOSED[:4], [root_of(CLOSED[3:4], size(ONE), 1000, 2, 1001)], True, 9
+    yield 'second-event-says-none-before', TWO, [event(1, 1002, 0)], False, 10
+    yield 'sequence-before-count', ONE, [uart(0, 1000)], False, 6
+    yield 'flag-before-number-of-events', TWO, [event(1, 1002, 0, flags=0x10)], False, 5
+    yield 'version-before-sequence', ONE, [uart(0, 1002, version=7)], False, 1
+    yield 'unclosed-before-count-of-the-index', ONE, index_of(ONE, 999, 1), False, 8
+
+
+def kept():
+    """Files that keep the rules, in the places where others break them."""
+    yield 'first-closed', FIRST, True
+    yield 'first-unclosed', FIRST[:124], False
+    yield 'two-of-each', b''.join(TWO + [event(1, 1002, 1), uart(0, 1002), uart(1, 1002), spanning(1000000, 2)]), False
+    yield 'two-nodes', b''.join(LONG + LONG_INDEX), True
+
+
+def checked(body):
+    """Filler and a data checksum of 8 bits."""
+    filler = bytes(-(len(body) + 1) % 4)
+    return filler + bytes([sum(body) % 256])
+
+
+def spanning(distance, sequence=1):
+    """A UART packet of two entries so far apart."""
+    return packet(5, sequence, UART, 1002, number(1 << 31, 4) + letters(1002, b'A') + letters(1002 + distance, b'B'))
+
+
+def size(parts):
+    return sum(map(len, parts))
+
+
+def judged():
+    """Name, file, whether its entry is closed, and what is to be printed."""
+    for name, before, parts, closed, rule in broken():
+        yield name, b''.join(before + parts), closed, '%d Rule %d' % (size(before), rule)
+    for name, data, closed in kept():
+        yield name, data, closed, 'none'
+    yield 'header-sum-first', flipped(FIRST, 22, 1), True, '0 HeaderSum'
+    yield 'rule-before-a-later-fault', b''.join(ONE + [uart(0, 1002)]) + b'\x25', False, '%d Rule 6' % size(ONE)
+    yield 'fault-before-a-rule', flipped(b''.join(ONE + [uart(0, 1002)]), size(ONE), 1), False, '%d Sync' % size(ONE)
+    yield 'no-bytes-unclosed', b'', False, '0 Truncated'
+
+
+# ---- a thousand files
+
+def noise(seed, count):
+    """So many bytes, the same in each run."""
+    found = b''
+    while len(found) < count:
+        found += hashlib.sha256(('%s %d' % (seed, len(found))).encode()).digest()
+    return found[:count]
+
+
+def random_file(k):
+    """Random bytes; in three of four files they stand in a packet's place: behind a sync, in a right header, in a body."""
+    data = noise('file %d' % k, 24 + k % 41)
+    if k % 4 == 0:
+        return data[:k % 65]
+    if k % 4 == 1:
+        return b'\x25\xeb' + data
+    kind = (SETUP, TIME, EVENT, INDEX, 0x19, 0x29, 0x30, ARINC, UART, data[0])[k // 4 % 10]
+    if k % 4 == 2:
+        return packet(data[1], data[2], kind, data[3], data[24:], flags=data[4] & 0x13, filler=data[:-len(data[24:]) % 4])
+    few = number(k % 3 | data[4] << 24, 4) + data[24:24 + k % 5 * 4]
+    return b''.join(OPENING) + packet(5, 0, kind, 1001, few, flags=data[5] & 1)
+
+
+def thousand():
+    for at in range(272):
+        yield 'check-changed-%d' % at, flipped(FIRST, at, noise('byte %d' % at, 1)[0] or 1)
+    for k in range(728):
+        yield 'check-random-%d' % k, random_file(k)
+
+
+# ---- rows
+
+def rows():
+    """Name, words, input, and the line that is to be printed."""
+    for name, data, wanted in verdicts():
+        assert verdict(data) == wanted, (name, verdict(data), wanted)
+        yield name, 'check', data, wanted
+    for name, data, closed, wanted in judged():
+        assert first_fault(data, closed) == wanted, (name, first_fault(data, closed), wanted)
+        yield 'judge-' + name, 'judge ' + ('closed' if closed else 'unclosed'), data, wanted
+    for name, data, _, wanted in judged():
+        if 'Rule' in wanted:
+            yield 'check-' + name, 'check', data, verdict(data)
+    for name, data in thousand():
+        yield name, 'check', data, verdict(data)
+
+
+def status_of(line):
+    return 0 if line in ('strict', 'none') or line.startswith('lenient') else 1
+
+
+def case_text(name, words, data, line):
+    text = data.hex()
+    lines = [text[k:k + 64] for k in range(0, len(text), 64)]
+    return '\n'.join(['== %s %s' % (name, words), '%d hex' % status_of(line)] + lines) + '\n'
+
+
+def answer_text(name, words, _, line):
+    return '== %s %s\n%d\n%s\n' % (name, words, status_of(line), line)
+
+
+def run(program):
+    """Runs the program over the files, and answers how many did not come out as wanted."""
+    bad = 0
+    for name, words, data, wanted in rows():
+        if words != 'check':
+            continue
+        done = subprocess.run([program, 'check'], input=data, capture_output=True)
+        if (done.returncode, done.stdout, done.stderr) != (status_of(wanted), (wanted + '\n').encode(), b''):
+            print(name, 'wanted', wanted, 'came', done.returncode, done.stdout, done.stderr)
+            bad += 1
+    print('%d not as wanted' % bad)
+    return bad
+
+
+def main(words):
+    if words[:1] == ['run'] and len(words) == 2:
+        return run(words[1]) > 0
+    if words not in (['cases'], ['answers']):
+        sys.exit(__doc__)
+    text = case_text if words == ['cases'] else answer_text
+    for row in rows():
+        sys.stdout.write(text(*row))
+    return 0
+
+
+if __name__ == '__main__':
+    sys.exit(main(sys.argv[1:]))
