@@ -2,3 +2,4 @@ pub mod Places
 pub mod Searching
 pub mod Standing
 pub mod Ticks
+pub mod Wanting

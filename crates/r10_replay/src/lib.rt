@@ -3,11 +3,13 @@
 #![tactic(auto)]
 
 mod count;
+mod cursor;
 mod fault;
 mod packet;
 mod search;
 
 pub use count::count_at;
+pub use cursor::Cursor;
 pub use fault::ReplayFault;
 pub use packet::read_packet;
 pub use search::find;
