@@ -1,9 +1,9 @@
 // The first recording, found again on a medium.
 use crate::packets::FIRST;
-use r10_count::{Civil, Count, Parts};
+use r10_count::{Civil, Count, Items, Parts};
 use r10_indexbody::NodeEntry;
 use r10_medium::Memory;
-use r10_replay::{count_at, find, read_packet};
+use r10_replay::{Cursor, count_at, find, read_packet};
 use std::alloc::{AllocError, Global};
 use std::test::Fail;
 
@@ -71,5 +71,23 @@ fn a_packet_is_read(rt: HostRuntime) -> Result<(), Fail> {
         Err(_) => [None; 3],
     };
     assert_eq!(rt; counts, [Some(1000), Some(1010), None]);
+    Ok(())
+}
+
+#[test]
+fn a_cursor_takes_what_it_wants(rt: HostRuntime) -> Result<(), Fail> {
+    let mut medium = recorded(rt.alloc())?;
+    let mut buffer = Vec::new(rt.alloc());
+    let from = Count::of(1001).ok_or("no count")?;
+    let to = Count::of(1010).ok_or("no count")?;
+    let named = named(Count::of(1000).ok_or("no count")?);
+    let channels = Items::of(Vec::from_slice(rt.alloc(), &[5])?);
+    let mut cursor = Cursor::new(rt.alloc(), channels, from, to);
+    let told = match cursor.advance(rt.alloc(), &mut medium, 0, &named, &mut buffer) {
+        Ok(taken) => Some((taken, cursor.left())),
+        Err(_) => None,
+    };
+    let given = [0; 2].map(|_| cursor.next().map(|entry| entry.count.get()));
+    assert_eq!(rt; (told, given), (Some((1, 1)), [Some(1010), None]));
     Ok(())
 }
