@@ -2,5 +2,5 @@ mod Carrying
 mod Events
 mod Own
 mod Begin
-mod Closing
+pub mod Closing
 mod Room
