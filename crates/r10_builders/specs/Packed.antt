@@ -9,7 +9,8 @@ use Rattle.r10_body.specs.declared.entry.Entry.{Entry}
 use Rattle.r10_builder.specs.State.{State}
 use Rattle.r10_builder.specs.declared.closed.Closed.{Closed}
 use Rattle.r10_follow.specs.Grows.{Grows, HasNone, taken_in}
-use Rattle.r10_follow.specs.Next.{IsGrowing, numbered}
+use Rattle.r10_follow.specs.Next.{IsGrowing}
+use Rattle.r10_laws.specs.Channels.{numbered}
 use Rattle.r10_builders.specs.Settings.{KeepsSettings, specs_of}
 
 -- the packets of a file that grows keep to the settings of their channels, and on no channel counts fall, from the packets to the builder

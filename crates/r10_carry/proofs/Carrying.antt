@@ -17,7 +17,8 @@ use Rattle.r10_laws.proofs.Lengths.{packets_covered}
 use Rattle.r10_builder.specs.State.{State}
 use Rattle.r10_builder.specs.declared.closed.Closed.{Closed}
 use Rattle.r10_follow.specs.Grows.{Grows, HasNone, all_held, taken_in}
-use Rattle.r10_follow.specs.Next.{HasType, numbered}
+use Rattle.r10_follow.specs.Next.{HasType}
+use Rattle.r10_laws.specs.Channels.{numbered}
 use Rattle.r10_follow.proofs.Following.{says_so}
 use Rattle.r10_follow.proofs.Growing.{cost_more}
 use Rattle.r10_builders.specs.Packed.{HandsOn, TakesIn}

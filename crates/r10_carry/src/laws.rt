@@ -13,13 +13,13 @@ ghost use Rattle.r10_body.specs.Packets.{Packet as Written, file_bytes, file_ent
 ghost use Rattle.r10_body.specs.Rules.{Rise};
 ghost use Rattle.r10_body.specs.declared.entry.Entry.{Entry};
 ghost use Rattle.r10_body.specs.declared.entry.Sample.{Sample};
-ghost use Rattle.r10_laws.specs.Channels.{last_count};
+ghost use Rattle.r10_laws.specs.Channels.{last_count, numbered};
 ghost use Rattle.r10_index.specs.Written.{FitsIndex, index_of};
 ghost use Rattle.r10_builder.specs.Packing.{entry_on};
 ghost use Rattle.r10_builder.specs.State.{State};
 ghost use Rattle.r10_builder.specs.declared.closed.Closed.{Closed};
 ghost use Rattle.r10_follow.specs.Grows.{all_held, packet_count};
-ghost use Rattle.r10_follow.specs.Next.{event_packet, numbered, setup_packet, time_packet};
+ghost use Rattle.r10_follow.specs.Next.{event_packet, setup_packet, time_packet};
 ghost use Rattle.r10_builders.specs.Packed.{HandsOn, TakesIn};
 ghost use Rattle.r10_builders.specs.Settings.{AreSettings, Takes, specs_of};
 ghost use Rattle.r10_packetout.specs.Output.{Has, Writing};

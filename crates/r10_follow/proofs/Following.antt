@@ -18,14 +18,14 @@ use Rattle.r10_body.specs.declared.message.Kind.{Kind}
 use Rattle.r10_body.specs.declared.message.Kind.TheVariants as kinds
 use Rattle.r10_body.specs.declared.message.Message.TheVariants as messages
 use Rattle.r10_body.specs.declared.spec.ChannelSpec.{ChannelSpec}
-use Rattle.r10_laws.specs.Channels.{last_count, next_sequence}
+use Rattle.r10_laws.specs.Channels.{last_count, next_sequence, numbered}
 use Rattle.r10_laws.proofs.Channels.{rises}
 use Rattle.r10_laws.proofs.Indexes.{counted, counted_no, no_nodes, no_roots, not_closed}
 use Rattle.r10_laws.proofs.Rules.{follows_more}
 use Rattle.r10_laws.proofs.Sentences.{rest_length}
 use Rattle.r10_builder.specs.Packing.{IsClosed, entry_on, first_count}
 use Rattle.r10_builder.specs.declared.closed.Closed.{Closed}
-use Rattle.r10_follow.specs.Next.{GoesOn, IsGrowing, event_packet, numbered, setup_packet, time_packet}
+use Rattle.r10_follow.specs.Next.{GoesOn, IsGrowing, event_packet, setup_packet, time_packet}
 use Rattle.r10_follow.proofs.Rising.{rise_join}
 
 no : false ≡ true → ⊥

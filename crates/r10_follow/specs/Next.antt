@@ -6,7 +6,7 @@ use Rattle.r10_body.specs.Content.{setup, time, event, type_of}
 use Rattle.r10_body.specs.Files.{on_channel}
 use Rattle.r10_body.specs.Packets.{Packet, file_entries}
 use Rattle.r10_body.specs.Rules.{EachFollows, is_event_of, is_index}
-use Rattle.r10_laws.specs.Channels.{last_count, next_sequence}
+use Rattle.r10_laws.specs.Channels.{last_count}
 
 -- a file that has begun, with setup and time, and that may grow: there is no index packet yet
 pub record IsGrowing (packets : List Packet) : Type 0 where
@@ -42,7 +42,3 @@ event_packet channel counter number packets = record {
   counter = counter;
   content = event (record { count = counter; number = number; occurrence = count_by (is_event_of number) (file_entries packets) % 65536 });
 }
-
--- the packet with its channel's next number
-abbrev pub numbered : List Packet → Packet → Packet
-numbered packets p = record p { sequence = next_sequence p.channel packets }

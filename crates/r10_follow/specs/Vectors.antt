@@ -10,7 +10,7 @@ use Rattle.r10_body.specs.declared.message.Message.TheVariants.{Uart}
 use Rattle.r10_builder.specs.State.{State}
 use Rattle.r10_uart.specs.declared.entry.UartEntry.{UartEntry}
 use Rattle.r10_follow.specs.Grows.{packet_count, taken_in}
-use Rattle.r10_follow.specs.Next.{numbered}
+use Rattle.r10_laws.specs.Channels.{numbered}
 
 abbrev letter : ℕ → ℕ → UartEntry
 letter count byte = record { count = count; parity = false; sub = 0; bytes = byte ∷ [] }

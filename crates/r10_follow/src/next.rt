@@ -14,7 +14,8 @@ ghost use Rattle.r10_body.specs.declared.entry.Sample.{Sample};
 ghost use Rattle.r10_body.specs.declared.spec.ChannelSpec.{ChannelSpec};
 ghost use Rattle.r10_builder.specs.Packing.{IsClosed, first_count};
 ghost use Rattle.r10_builder.specs.declared.closed.Closed.{Closed};
-ghost use Rattle.r10_follow.specs.Next.{GoesOn, IsGrowing, event_packet, numbered, setup_packet, time_packet};
+ghost use Rattle.r10_follow.specs.Next.{GoesOn, IsGrowing, event_packet, setup_packet, time_packet};
+ghost use Rattle.r10_laws.specs.Channels.{numbered};
 
 /// What a builder hands out may come next, with its channel's next number.
 pub fn handed_out_may_follow()

@@ -18,13 +18,13 @@ use Rattle.r10_dirchain.specs.OnMedium.{SameButIn, Turned}
 use Rattle.r10_dirchain.specs.Steps.{with_last}
 use Rattle.r10_dirchain.proofs.Standing.{Stand, usable_of}
 use Rattle.r10_dirchain.proofs.Usable.{none_broken, placed}
-use Rattle.r10_blockout.specs.Blocks.{Shows}
+use Rattle.r10_blockout.specs.Blocks.{bytes_from, Shows}
 use Rattle.r10_blockout.proofs.Showing.{shows_at, shows_by}
 use Rattle.r10_body.specs.Files.{FileSays}
 use Rattle.r10_machine.specs.Config.{Config}
 use Rattle.r10_machine.specs.Machine.{File, shown_entries}
 use Rattle.r10_machine.specs.Room.{blocks_of, next_block}
-use Rattle.r10_steps.specs.Says.{Lists, MediumSays, SaysEach, SaysFile, bytes_from}
+use Rattle.r10_steps.specs.Says.{Lists, MediumSays, SaysEach, SaysFile}
 
 -- ---- bytes
 

@@ -13,7 +13,8 @@ ghost use Rattle.r10_machine.specs.Machine.{File};
 ghost use Rattle.r10_machine.specs.Room.{next_block};
 ghost use Rattle.r10_medium.specs.Disk.{Image, IsWhole};
 ghost use Rattle.r10_medium.specs.Stop.{SameBelow};
-ghost use Rattle.r10_steps.specs.Says.{Lists, MediumSays, SaysEach, SaysFile, bytes_from};
+ghost use Rattle.r10_steps.specs.Says.{Lists, MediumSays, SaysEach, SaysFile};
+ghost use Rattle.r10_blockout.specs.Blocks.{bytes_from};
 
 /// What a medium says of its files, it goes on saying where no block below the one behind them
 /// changes; and where the last of them is being written, where no block below it changes, and its

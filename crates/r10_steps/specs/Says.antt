@@ -1,7 +1,7 @@
 -- What a medium says: a directory that a recorder takes into use, and in each file of it a setup text and entries.
-use Rattle.std.specs.Prelude.{◌≡◌, ℕ, ◌+◌, ◌≤◌, false, List, [], ◌∷◌, length, take, drop, None}
-use Rattle.std.specs.List.{concat}
+use Rattle.std.specs.Prelude.{◌≡◌, ℕ, ◌+◌, ◌≤◌, false, List, [], ◌∷◌, length, None}
 use Rattle.r10_count.specs.Checks.{first_broken}
+use Rattle.r10_blockout.specs.Blocks.{bytes_from}
 use Rattle.r10_body.specs.Files.{FileSays}
 use Rattle.r10_body.specs.Packets.{Packet, file_bytes, file_entries}
 use Rattle.r10_dirblock.specs.Block.{is_closed}
@@ -14,10 +14,6 @@ use Rattle.r10_machine.specs.Config.{Config}
 use Rattle.r10_machine.specs.Machine.{File, shown_entries}
 use Rattle.r10_machine.specs.Room.{blocks_of}
 use Rattle.r10_medium.specs.Disk.{Image}
-
--- so many bytes of a medium from the front of a block on
-abbrev pub bytes_from : Image → ℕ → ℕ → List ℕ
-bytes_from image first size = take size (concat (drop first image))
 
 -- a directory entry lists a file
 pub record Lists (f : File) (e : Listed) : Type 0 where
