@@ -80,7 +80,7 @@ fn write_index(alloc: Global, book: &IndexBook) -> Result<u64, Fault> {
         book.write_node(counter, before, &mut buffer)?;
         bytes = bytes.wrapping_add(buffer.len() as u64);
     }
-    if book.entries().len() <= 3_276_000 {
+    if book.entries().len() <= 3_276_500 {
         book.write_root(counter, 64, &mut buffer)?;
         bytes = bytes.wrapping_add(buffer.len() as u64);
     }

@@ -48,13 +48,13 @@ ends_at header body packets p cost is le =
     at_most : (a b i j cost : ℕ) → a ≡ b → i ≡ j → a + i ≤ cost → b + j ≤ cost
     at_most a b i j cost e g le = omega (arith, e, g, le)
 
-few_more : (packets : List Packet) (p : Packet) → length packets < 3276000 → length (packets ++ p ∷ []) ≤ 3276000
+few_more : (packets : List Packet) (p : Packet) → length packets < 3276500 → length (packets ++ p ∷ []) ≤ 3276500
 few_more packets p few = omega (arith, few, length-append packets (p ∷ []))
 
 -- ---- each packet that is put
 
 pub handed_fits : (r : Recording) (packets : List Packet) (text : List ℕ) (entries more : List Entry) (builders : List State) → Says r packets text entries → StandApart r → HasNoEvents more
-    → (closed : Closed) → HandsOn closed packets r.builders more builders → length packets < 3276000 → r.cost + sum_by entry_cost more < 2 ^ 63
+    → (closed : Closed) → HandsOn closed packets r.builders more builders → length packets < 3276500 → r.cost + sum_by entry_cost more < 2 ^ 63
     → length (file_bytes packets) + packet_size closed.header closed.body.items + index_size (length packets + 1) ≤ r.cost + sum_by entry_cost more
 handed_fits r packets text entries more builders says apart plain closed hands few small =
     let is : Describes closed.header closed.body.items hands.packet = record { fits = hands.fits; header_is = ap bare hands.header; body_is = hands.body } in
@@ -64,7 +64,7 @@ handed_fits r packets text entries more builders says apart plain closed hands f
 
 pub time_fits : (r : Recording) (packets : List Packet) (text : List ℕ) (entries : List Entry) → Says r packets text entries → StandApart r → (count : ℕ) (civil : Parts)
     → last_count 0 (on_channel r.time entries) ≤ count → IsCount count → IsCivil civil → (header : Header) (body : List ℕ) → Describes header body (time_packet r.time count civil)
-    → length packets < 3276000 → r.cost + entry_cost (time_entry r.time count civil) < 2 ^ 63
+    → length packets < 3276500 → r.cost + entry_cost (time_entry r.time count civil) < 2 ^ 63
     → length (file_bytes packets) + packet_size header body + index_size (length packets + 1) ≤ r.cost + entry_cost (time_entry r.time count civil)
 time_fits r packets text entries says apart count civil later counts are header body is few small =
     let p : Packet = time_packet r.time count civil in
@@ -75,7 +75,7 @@ time_fits r packets text entries says apart count civil later counts are header 
 
 pub event_fits : (r : Recording) (packets : List Packet) (text : List ℕ) (entries : List Entry) → Says r packets text entries → StandApart r → (count number : ℕ)
     → last_count 0 (on_channel r.event entries) ≤ count → IsCount count → number < 2 ^ 12 → number < length r.counts → (header : Header) (body : List ℕ) → Describes header body (event_packet r.event count number packets)
-    → length packets < 3276000 → r.cost + entry_cost (event_entry r.event count number entries) < 2 ^ 63
+    → length packets < 3276500 → r.cost + entry_cost (event_entry r.event count number entries) < 2 ^ 63
     → length (file_bytes packets) + packet_size header body + index_size (length packets + 1) ≤ r.cost + entry_cost (event_entry r.event count number entries)
 event_fits r packets text entries says apart count number later counts small_number lt header body is few small =
     let p : Packet = event_packet r.event count number packets in

@@ -87,18 +87,18 @@ pub fn closed_files_say()
 /// The packets, with their index behind them, are no longer than the file costs, and so they stay with
 /// each packet that is put behind them.
 pub fn packets_have_room()
-    ensures index { (r : Recording) (packets : List Written) (text : List ℕ) (entries : List Entry) → Says r packets text entries → length packets ≤ 3_276_000 → r.cost < 2 ^ 63
+    ensures index { (r : Recording) (packets : List Written) (text : List ℕ) (entries : List Entry) → Says r packets text entries → length packets ≤ 3_276_500 → r.cost < 2 ^ 63
         → length (file_bytes packets) + index_size (length packets) ≤ r.cost }
     ensures handed { (r : Recording) (packets : List Written) (text : List ℕ) (entries : List Entry) (more : List Entry) (builders : List State) → Says r packets text entries → StandApart r → HasNoEvents more
-        → (closed : Closed) → HandsOn closed packets r.builders more builders → length packets < 3_276_000 → r.cost + sum_by entry_cost more < 2 ^ 63
+        → (closed : Closed) → HandsOn closed packets r.builders more builders → length packets < 3_276_500 → r.cost + sum_by entry_cost more < 2 ^ 63
         → length (file_bytes packets) + packet_size closed.header closed.body.items + index_size (length packets + 1) ≤ r.cost + sum_by entry_cost more }
     ensures time { (r : Recording) (packets : List Written) (text : List ℕ) (entries : List Entry) → Says r packets text entries → StandApart r
         → (count : ℕ) (civil : Parts) → last_count 0 (on_channel r.time entries) ≤ count → IsCount count → IsCivil civil → (header : Header) (body : List ℕ) → Describes header body (time_packet r.time count civil)
-        → length packets < 3_276_000 → r.cost + entry_cost (time_entry r.time count civil) < 2 ^ 63
+        → length packets < 3_276_500 → r.cost + entry_cost (time_entry r.time count civil) < 2 ^ 63
         → length (file_bytes packets) + packet_size header body + index_size (length packets + 1) ≤ r.cost + entry_cost (time_entry r.time count civil) }
     ensures event { (r : Recording) (packets : List Written) (text : List ℕ) (entries : List Entry) → Says r packets text entries → StandApart r
         → (count : ℕ) (number : ℕ) → last_count 0 (on_channel r.event entries) ≤ count → IsCount count → number < 2 ^ 12 → number < length r.counts → (header : Header) (body : List ℕ)
-        → Describes header body (event_packet r.event count number packets) → length packets < 3_276_000 → r.cost + entry_cost (event_entry r.event count number entries) < 2 ^ 63
+        → Describes header body (event_packet r.event count number packets) → length packets < 3_276_500 → r.cost + entry_cost (event_entry r.event count number entries) < 2 ^ 63
         → length (file_bytes packets) + packet_size header body + index_size (length packets + 1) ≤ r.cost + entry_cost (event_entry r.event count number entries) }
 {}
 

@@ -233,7 +233,7 @@ nodes_bytes counter entries (suc n) =
     )
 
 -- the root may follow the nodes
-pub root_follows : (ps : List Packet) (n : ℕ) → AllByRecursion FitsPacket ps → FitsIndex ps → n ≤ 32760 → length ps ≤ 100 * n → Behind ps n (ps ++ first_nodes (last_time 0 ps) (node_entries 0 ps) n)
+pub root_follows : (ps : List Packet) (n : ℕ) → AllByRecursion FitsPacket ps → FitsIndex ps → n ≤ 32765 → length ps ≤ 100 * n → Behind ps n (ps ++ first_nodes (last_time 0 ps) (node_entries 0 ps) n)
     → MayFollow (ps ++ first_nodes (last_time 0 ps) (node_entries 0 ps) n) (root_packet (last_time 0 ps) (length (file_bytes ps)) (first_nodes (last_time 0 ps) (node_entries 0 ps) n))
 root_follows ps n fits index few all behind =
     let time = last_time 0 ps in
@@ -278,7 +278,7 @@ closed_last : (b : Bool) (ps : List Packet) (p : Packet) → closed_from b (ps +
 closed_last b [] p = refl
 closed_last b (q ∷ ps) p = closed_last (is_root q) ps p
 
-count_bound : (m : ℕ) → m ≤ 3276000 → ((m + 99) / 100 ≤ 32760) × (m ≤ 100 * ((m + 99) / 100)) × (100 * ((m + 99) / 100) < m + 100)
+count_bound : (m : ℕ) → m ≤ 3276500 → ((m + 99) / 100 ≤ 32765) × (m ≤ 100 * ((m + 99) / 100)) × (100 * ((m + 99) / 100) < m + 100)
 count_bound m le = (omega (arith, le), omega arith, omega arith)
 
 -- a file without an index, and its index behind it, are a file that is closed

@@ -26,7 +26,7 @@ pub(crate) fn node_header(counter: Count, before: usize, entries: usize) -> Head
 
 /// The header of a root behind so many nodes.
 pub(crate) fn root_header(counter: Count, nodes: usize) -> Header
-    requires { nodes ≤ 32760 }
+    requires { nodes ≤ 32765 }
     ensures { result ≡ told_root_header counter nodes }
 {
     let size = 16 * nodes as u32;
