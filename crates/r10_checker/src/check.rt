@@ -39,11 +39,11 @@ pub fn check_file(alloc: Global, bytes: &[u8]) -> Result<Verdict, AllocError>
         judge.take(alloc, &rest[..packet.length])?;
         rest = &rest[packet.length..];
     }
-    Ok(judged(&track, &judge))
+    Ok(end_verdict(&track, &judge))
 }
 
-/// The verdict on a file whose packets were all taken.
-fn judged(track: &ForeignTrack, judge: &Judge) -> Verdict
+/// The verdict on a file that ends here, by its packets, whoever wrote them, and by the rules that they keep.
+pub fn end_verdict(track: &ForeignTrack, judge: &Judge) -> Verdict
     ensures { (bytes : List ℕ) → StandsForeign track.now bytes → Stands judge.now bytes → judge.now.closed ≡ true → IsVerdict bytes result }
 {
     match track.end() {

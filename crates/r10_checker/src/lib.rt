@@ -5,6 +5,6 @@ mod check;
 mod fault;
 mod laws;
 
-pub use check::{Verdict, check_file};
+pub use check::{Verdict, check_file, end_verdict};
 pub use fault::find_fault;
 pub use laws::one_verdict;

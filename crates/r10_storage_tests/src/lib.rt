@@ -15,3 +15,5 @@ mod outputs;
 mod packets;
 #[cfg(test)]
 mod replays;
+#[cfg(test)]
+mod verdicts;

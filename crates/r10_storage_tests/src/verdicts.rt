@@ -1,0 +1,92 @@
+// All files of a medium, each with its verdict.
+use crate::packets::FIRST;
+use r10_body::FileFault;
+use r10_checker::Verdict;
+use r10_dirblock::{DirBlock, Entries, Entry, encode, pad};
+use r10_dirchain::ChainError;
+use r10_medium::{BlockMedium, Faulty, Memory};
+use r10_mediumcheck::check_medium;
+use std::alloc::{AllocError, Global};
+use std::process::Abort;
+use std::test::Fail;
+
+// a file of so many bytes, from a block on
+fn file(first_block: u64, size: u64, closed: bool) -> Entry {
+    Entry {
+        name: pad(b"F "),
+        first_block,
+        block_count: size.div_ceil(512),
+        size,
+        close_time: if closed { *b"12345678" } else { *b"--------" },
+        ..Entry::default()
+    }
+}
+
+// a medium of two blocks: the first recording, and the directory of these files
+fn medium(rt: &impl Abort, alloc: Global, files: &[Entry; 3]) -> Result<Memory, AllocError> {
+    let mut entries = Entries::new();
+    for entry in files {
+        if !entries.is_full() {
+            entries.push(*entry);
+        }
+    }
+    let block = encode(&DirBlock {
+        shutdown: 0xFF,
+        volume: pad(b"VOL"),
+        forward: 1,
+        reverse: 1,
+        entries,
+    });
+    let mut image = [0; 1024];
+    image[..272].copy_from_slice(&FIRST);
+    let mut medium = Memory::of_image(alloc, &image)?;
+    assert!(rt; 1 < medium.blocks());
+    let _ = medium.write(1, &block);
+    Ok(medium)
+}
+
+// the length of each name with its verdict
+fn told<M: BlockMedium>(
+    alloc: Global,
+    medium: &mut M,
+) -> Result<[Option<(usize, Verdict)>; 4], ChainError> {
+    let said = check_medium(alloc, medium)?;
+    Ok([0, 1, 2, 3].map(|n| said.get(n).map(|file| (file.name.len(), file.verdict))))
+}
+
+#[test]
+fn each_file_has_its_verdict(rt: HostRuntime) -> Result<(), Fail> {
+    let files = [file(0, 272, true), file(0, 212, false), file(2, 0, true)];
+    let mut medium = medium(&rt, rt.alloc(), &files)?;
+    let faulty = Verdict::Faulty {
+        offset: 0,
+        fault: FileFault::Truncated,
+    };
+    let wanted = [
+        Some((1, Verdict::Strict)),
+        Some((1, Verdict::Lenient { opaque: 0 })),
+        Some((1, faulty)),
+        None,
+    ];
+    assert_eq!(rt; told(rt.alloc(), &mut medium), Ok(wanted));
+    Ok(())
+}
+
+#[test]
+fn a_file_outside_is_told_by_its_block(rt: HostRuntime) -> Result<(), Fail> {
+    let files = [file(0, 272, true), file(2, 1, true), file(0, 212, false)];
+    let mut medium = medium(&rt, rt.alloc(), &files)?;
+    assert_eq!(rt;
+        told(rt.alloc(), &mut medium),
+        Err(ChainError::BadDirectory(1))
+    );
+    Ok(())
+}
+
+#[test]
+fn a_failing_medium_has_no_verdicts(rt: HostRuntime) -> Result<(), Fail> {
+    let files = [file(0, 272, true), file(0, 212, false), file(0, 1, true)];
+    let mut medium = Faulty::new(medium(&rt, rt.alloc(), &files)?, 2);
+    assert_eq!(rt; told(rt.alloc(), &mut medium), Err(ChainError::Medium));
+    Ok(())
+}
