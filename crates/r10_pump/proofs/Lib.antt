@@ -1,0 +1,4 @@
+pub mod Coming
+pub mod Together
+pub mod SoFar
+pub mod Fitting

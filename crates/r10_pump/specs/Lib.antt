@@ -1,0 +1,2 @@
+pub mod Pumping
+pub mod Machines

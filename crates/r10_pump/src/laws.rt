@@ -1,0 +1,39 @@
+//! What a pump moved, as the machine sees it: calls that do nothing.
+
+ghost use Rattle.std.specs.Prelude.{◌≡◌, ◌≤◌, ◌++◌, ℕ, List, Option, None, Some, IfSome, length, min};
+ghost use Rattle.r10_body.specs.declared.entry.Sample.{Sample as One};
+ghost use Rattle.r10_carry.specs.Carries.{Recording};
+ghost use Rattle.r10_machine.specs.Calls.{Pumps as PumpsIn, without};
+ghost use Rattle.r10_machine.specs.Config.{Config};
+ghost use Rattle.r10_machine.specs.Machine.{File, Lane, Machine, change_first, is_channel, lane_of, last_file, with_entries, with_lane, with_last};
+ghost use Rattle.r10_mux.specs.declared.fault.Full.{Full as Lacking};
+ghost use Rattle.r10_steps.specs.Step.{Lacks, LanesAfter};
+ghost use Rattle.r10_steps.specs.declared.event.Event.TheVariants.{Pump};
+ghost use Rattle.r10_pump.specs.Machines.{IsMoved, refusal_of};
+ghost use Rattle.r10_pump.specs.Pumping.{Ends, entries_on};
+
+/// What a pump moved is what the machine's pump moves: its entries join the file, and the lane is without them.
+pub fn pumps_are_steps()
+    ensures { (s : Config) (m : Machine) (f : File) (channel : ℕ) (lane : Lane) (most n : ℕ) (samples rest : List One) (full : Option Lacking) (r : Recording) → lane_of channel m ≡ Some lane → last_file m ≡ Some f
+        → IsMoved s f lane most n samples rest full r → (n ≡ 0 → full ≡ None)
+        → PumpsIn s m channel most n (with_last (with_entries (entries_on lane.spec.id samples)) (with_lane channel (without n) m)) }
+{}
+
+/// Where a pump moved nothing because the first sample lacks room, it does in the machine.
+pub fn full_pumps_are_refused()
+    ensures { (s : Config) (m : Machine) (f : File) (channel : ℕ) (lane : Lane) (most : ℕ) (samples rest : List One) (full : Lacking) (r : Recording) → lane_of channel m ≡ Some lane → last_file m ≡ Some f
+        → IsMoved s f lane most 0 samples rest (Some full) r → Lacks s m (Pump channel most) (refusal_of full) }
+{}
+
+/// A pump of as many samples as waited ends as one of more does; of a lane that isn't quiet, as one of
+/// more could.
+pub fn pumps_end_alike()
+    ensures { (waits : Option (List One)) (samples rest : List One) (r : Recording) (channel nodes area most larger n : ℕ) (full : Option Lacking)
+        → IfSome waits (λ waiting. waiting ≡ samples ++ rest) → IfSome waits (λ waiting. most ≡ min larger (length waiting)) → most ≤ larger → n ≡ length samples → Ends r channel nodes area most n rest full
+        → (later : List One) × IfSome waits (λ waiting. waiting ≡ samples ++ later) × Ends r channel nodes area larger n later full }
+{}
+
+/// What a pump took from its lane before the medium failed is no more than it may.
+pub fn failed_pumps_take_few()
+    ensures { (channel most n : ℕ) (lanes : List Lane) → n ≤ most → LanesAfter (Pump channel most) lanes lanes (change_first (is_channel channel) (without n) lanes) }
+{}

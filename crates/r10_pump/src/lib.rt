@@ -1,0 +1,12 @@
+//! Messages that wait in lanes go into the file that is written: the first of a lane, in order, up to
+//! one that has no room, and what doesn't go in stays.
+#![tactic(auto)]
+
+mod fault;
+mod laws;
+mod moving;
+mod single;
+
+pub use fault::PumpStop;
+pub use laws::{failed_pumps_take_few, full_pumps_are_refused, pumps_are_steps, pumps_end_alike};
+pub use single::{pump, ready_pump};
