@@ -1,8 +1,9 @@
 -- What a medium says outlasts writes behind it.
-use Rattle.std.proofs.Common.{◌≡◌, ℕ, suc, ◌+◌, ◌-◌, ◌/◌, ◌<◌, ◌≤◌, Bool, true, false, ◌&&◌, List, [], ◌∷◌, ◌++◌, length, take, drop, get_or, Option, Some, None, refl, sym, ap, subst, ◌∙◌, arith, length-take-le}
+use Rattle.std.proofs.Common.{◌≡◌, ℕ, suc, ◌+◌, ◌-◌, ◌/◌, ◌<◌, ◌≤◌, Bool, true, false, ◌&&◌, List, [], ◌∷◌, ◌++◌, length, take, drop, get_or-drop, get_or-take, ext_get_or, Option, Some, None, refl, sym, ap, subst, ◌∙◌, arith}
 use Rattle.std.specs.Prelude.{nat_lt, nat_le, ◌==◌, ◌≢◌}
 use Rattle.std.specs.List.{All, concat, last_or}
-use Rattle.std.proofs.lemmas.List.{length-drop}
+use Rattle.std.proofs.lemmas.List.{length-drop, length-take, take-append-drop, take-append-le}
+use Rattle.std.proofs.lemmas.List.Folds.{concat-append}
 use Rattle.std.proofs.lemmas.List.Elements.{All-nil, All-cons, All-head, All-tail}
 use Rattle.std.proofs.lemmas.Bool.{eqb-true}
 use Rattle.r10_count.specs.Checks.{first_broken}
@@ -18,30 +19,43 @@ use Rattle.r10_dirchain.specs.OnMedium.{SameButIn, Turned}
 use Rattle.r10_dirchain.specs.Steps.{with_last}
 use Rattle.r10_dirchain.proofs.Standing.{Stand, usable_of}
 use Rattle.r10_dirchain.proofs.Usable.{none_broken, placed}
-use Rattle.r10_blockout.specs.Blocks.{bytes_from, Shows}
-use Rattle.r10_blockout.proofs.Showing.{shows_at, shows_by}
+use Rattle.r10_blockout.specs.Blocks.{bytes_from}
 use Rattle.r10_body.specs.Files.{FileSays}
 use Rattle.r10_machine.specs.Config.{Config}
 use Rattle.r10_machine.specs.Machine.{File, shown_entries}
 use Rattle.r10_machine.specs.Room.{blocks_of, next_block}
 use Rattle.r10_steps.specs.Says.{Lists, MediumSays, SaysEach, SaysFile}
+use Rattle.r10_standing.specs.Bytes.{KeepBytes}
 
 -- ---- bytes
 
-inside_long : (image : Image) (first size : ℕ) → IsWhole image → first + blocks_of size ≤ length image → length (bytes_from image first size) ≡ size
-inside_long image first size whole inside =
-    length-take-le size (concat (drop first image)) (omega (arith, inside, length-concat (drop first image) (whole_drop first image whole), length-drop first image))
+-- bytes lie in their blocks, whatever stands behind them
+in_blocks : (image part : Image) (first size : ℕ) → take (blocks_of size) (drop first image) ≡ part → size ≤ length (concat part) → bytes_from image first size ≡ take size (concat part)
+in_blocks image part first size is room =
+    ap (λ (l : Image). take size (concat l)) (sym (take-append-drop (blocks_of size) (drop first image)) ∙ ap (λ (l : Image). l ++ drop (blocks_of size) (drop first image)) is)
+    ∙ ap (take size) (concat-append part (drop (blocks_of size) (drop first image)))
+    ∙ take-append-le size (concat part) (concat (drop (blocks_of size) (drop first image))) room
+
+whole_take : (n : ℕ) (blocks : Image) → IsWhole blocks → IsWhole (take n blocks)
+whole_take n blocks whole k lt =
+    ap length (get_or-take n blocks k [] (omega (arith, lt, length-take n blocks))) ∙ whole k (omega (arith, lt, length-take n blocks))
 
 -- bytes stay where their blocks do
-bytes_stay : (old new : Image) (first size : ℕ) → IsWhole old → IsWhole new → length new ≡ length old → ((k : ℕ) → first ≤ k → k < first + blocks_of size → block_at new k ≡ block_at old k)
+pub bytes_stay : (old new : Image) (first size : ℕ) → IsWhole old → length new ≡ length old → ((k : ℕ) → first ≤ k → k < first + blocks_of size → block_at new k ≡ block_at old k)
     → first + blocks_of size ≤ length old → bytes_from new first size ≡ bytes_from old first size
-bytes_stay old new first size whole whole' blocks same inside =
-    let bytes : List ℕ = bytes_from old first size in
-    let long : length bytes ≡ size = inside_long old first size whole inside in
-    let was : Shows old first bytes = ap (λ (k : ℕ). take k (concat (drop first old))) long in
-    let is : Shows new first bytes = shows_by new first bytes whole' (omega (arith, long, inside, blocks))
-    (λ q r less within. ap (λ (b : Block). get_or b r 0) (same (first + q) (omega arith) (omega (arith, within, long, less))) ∙ shows_at old first bytes q r whole was less within) in
-    ap (λ (k : ℕ). take k (concat (drop first new))) (sym long) ∙ is
+bytes_stay old new first size whole long same inside =
+    in_blocks new (take (blocks_of size) (drop first old)) first size same_blocks room ∙ sym (in_blocks old (take (blocks_of size) (drop first old)) first size refl room)
+  where
+    room : size ≤ length (concat (take (blocks_of size) (drop first old)))
+    room = omega (arith, inside, length-concat (take (blocks_of size) (drop first old)) (whole_take (blocks_of size) (drop first old) (whole_drop first old whole)), length-take (blocks_of size) (drop first old), length-drop first old)
+
+    same_blocks : take (blocks_of size) (drop first new) ≡ take (blocks_of size) (drop first old)
+    same_blocks = ext_get_or [] (take (blocks_of size) (drop first new)) (take (blocks_of size) (drop first old))
+        (omega (arith, long, length-take (blocks_of size) (drop first old), length-take (blocks_of size) (drop first new), length-drop first old, length-drop first new))
+        (λ i lt.
+        let within : i < blocks_of size = omega (arith, lt, length-take (blocks_of size) (drop first new)) in
+        get_or-take (blocks_of size) (drop first new) i [] within ∙ get_or-drop first new i [] ∙ same (first + i) (omega arith) (omega (arith, within))
+        ∙ sym (get_or-drop first old i []) ∙ sym (get_or-take (blocks_of size) (drop first old) i [] within))
 
 -- ---- one file
 
@@ -51,9 +65,13 @@ file_stays old new f long same says = record {
   says = subst (λ (l : List ℕ). FileSays l f.setup (shown_entries f) f.closed) (sym same) says.says;
 }
 
-below_stays : (old new : Image) (f : File) (n : ℕ) → IsWhole old → IsWhole new → (kept : ℕ) → SameBelow n kept old new → f.first_block + blocks_of f.size ≤ n → SaysFile old f → SaysFile new f
-below_stays old new f n whole whole' kept same below says =
-    file_stays old new f same.size (bytes_stay old new f.first_block f.size whole whole' same.size (λ k from to. same.blocks k (omega (arith, to, below))) says.inside) says
+bytes_below : (old new : Image) (f : File) (n : ℕ) → IsWhole old → (kept : ℕ) → SameBelow n kept old new → f.first_block + blocks_of f.size ≤ n → SaysFile old f → bytes_from new f.first_block f.size ≡ bytes_from old f.first_block f.size
+bytes_below old new f n whole kept same below says =
+    bytes_stay old new f.first_block f.size whole same.size (λ k from to. same.blocks k (omega (arith, to, below))) says.inside
+
+below_stays : (old new : Image) (f : File) (n : ℕ) → IsWhole old → (kept : ℕ) → SameBelow n kept old new → f.first_block + blocks_of f.size ≤ n → SaysFile old f → SaysFile new f
+below_stays old new f n whole kept same below says =
+    file_stays old new f same.size (bytes_below old new f n whole kept same below says) says
 
 -- ---- files back to back
 
@@ -80,18 +98,30 @@ last_behind old blocks n (e ∷ entries) (g ∷ files) f stand each =
     let rest = last_behind old blocks (n + e.block_count) entries files f stand.1 each.2 in
     omega (arith, rest)
 
-grown_stay : (old new : Image) (blocks n : ℕ) (entries : List Listed) (files : List File) (f : File) → IsWhole old → IsWhole new → (kept : ℕ) → SameBelow f.first_block kept old new
+grown_stay : (old new : Image) (blocks n : ℕ) (entries : List Listed) (files : List File) (f : File) → IsWhole old → (kept : ℕ) → SameBelow f.first_block kept old new
     → bytes_from new f.first_block f.size ≡ bytes_from old f.first_block f.size → Stand blocks n entries → SaysEach old entries (files ++ f ∷ []) → SaysEach new entries (files ++ f ∷ [])
-grown_stay old new blocks n [] [] f whole whole' kept same bytes stand each = absurd each
-grown_stay old new blocks n [] (g ∷ files) f whole whole' kept same bytes stand each = absurd each
-grown_stay old new blocks n (e ∷ []) [] f whole whole' kept same bytes stand each = (each.0, file_stays old new f same.size bytes each.1, tt)
-grown_stay old new blocks n (e ∷ d ∷ entries) [] f whole whole' kept same bytes stand each = absurd each.2
-grown_stay old new blocks n (e ∷ entries) (g ∷ files) f whole whole' kept same bytes stand each =
+grown_stay old new blocks n [] [] f whole kept same bytes stand each = absurd each
+grown_stay old new blocks n [] (g ∷ files) f whole kept same bytes stand each = absurd each
+grown_stay old new blocks n (e ∷ []) [] f whole kept same bytes stand each = (each.0, file_stays old new f same.size bytes each.1, tt)
+grown_stay old new blocks n (e ∷ d ∷ entries) [] f whole kept same bytes stand each = absurd each.2
+grown_stay old new blocks n (e ∷ entries) (g ∷ files) f whole kept same bytes stand each =
     let at = after blocks n e g stand.0 each.0 in
     let later = last_behind old blocks (n + e.block_count) entries files f stand.1 each.2 in (
       each.0,
-      below_stays old new g f.first_block whole whole' kept same (omega (arith, at.1, later)) each.1,
-      grown_stay old new blocks (n + e.block_count) entries files f whole whole' kept same bytes stand.1 each.2,
+      below_stays old new g f.first_block whole kept same (omega (arith, at.1, later)) each.1,
+      grown_stay old new blocks (n + e.block_count) entries files f whole kept same bytes stand.1 each.2,
+    )
+
+grown_keep : (old new : Image) (blocks n : ℕ) (entries : List Listed) (files : List File) (f : File) → IsWhole old → (kept : ℕ) → SameBelow f.first_block kept old new
+    → bytes_from new f.first_block f.size ≡ bytes_from old f.first_block f.size → Stand blocks n entries → SaysEach old entries (files ++ f ∷ []) → KeepBytes old new (files ++ f ∷ [])
+grown_keep old new blocks n [] [] f whole kept same bytes stand each = absurd each
+grown_keep old new blocks n [] (g ∷ files) f whole kept same bytes stand each = absurd each
+grown_keep old new blocks n (e ∷ entries) [] f whole kept same bytes stand each = (bytes, tt)
+grown_keep old new blocks n (e ∷ entries) (g ∷ files) f whole kept same bytes stand each =
+    let at = after blocks n e g stand.0 each.0 in
+    let later = last_behind old blocks (n + e.block_count) entries files f stand.1 each.2 in (
+      bytes_below old new g f.first_block whole kept same (omega (arith, at.1, later)) each.1,
+      grown_keep old new blocks (n + e.block_count) entries files f whole kept same bytes stand.1 each.2,
     )
 
 -- the block behind the last file, where the one before these ends there
@@ -107,18 +137,31 @@ behind_rises s old blocks d (e ∷ entries) (f ∷ files) stand each =
     let rest = behind_rises s old blocks (Some f) entries files (subst (λ (k : ℕ). Stand blocks k entries) (sym at.1) stand.1) each.2 in
     omega (arith, rest, at.1)
 
-closed_stay : (s : Config) (old new : Image) (blocks : ℕ) (d : Option File) (entries : List Listed) (files : List File) → IsWhole old → IsWhole new → (kept : ℕ) → SameBelow (behind s (last_or d files)) kept old new
+closed_stay : (s : Config) (old new : Image) (blocks : ℕ) (d : Option File) (entries : List Listed) (files : List File) → IsWhole old → (kept : ℕ) → SameBelow (behind s (last_or d files)) kept old new
     → Stand blocks (behind s d) entries → SaysEach old entries files → SaysEach new entries files
-closed_stay s old new blocks d [] [] whole whole' kept same stand each = tt
-closed_stay s old new blocks d [] (f ∷ files) whole whole' kept same stand each = absurd each
-closed_stay s old new blocks d (e ∷ entries) [] whole whole' kept same stand each = absurd each
-closed_stay s old new blocks d (e ∷ entries) (f ∷ files) whole whole' kept same stand each =
+closed_stay s old new blocks d [] [] whole kept same stand each = tt
+closed_stay s old new blocks d [] (f ∷ files) whole kept same stand each = absurd each
+closed_stay s old new blocks d (e ∷ entries) [] whole kept same stand each = absurd each
+closed_stay s old new blocks d (e ∷ entries) (f ∷ files) whole kept same stand each =
     let at = after blocks (behind s d) e f stand.0 each.0 in
     let next : Stand blocks (behind s (Some f)) entries = subst (λ (k : ℕ). Stand blocks k entries) (sym at.1) stand.1 in
     let rises = behind_rises s old blocks (Some f) entries files next each.2 in (
       each.0,
-      below_stays old new f (behind s (last_or (Some f) files)) whole whole' kept same rises each.1,
-      closed_stay s old new blocks (Some f) entries files whole whole' kept same next each.2,
+      below_stays old new f (behind s (last_or (Some f) files)) whole kept same rises each.1,
+      closed_stay s old new blocks (Some f) entries files whole kept same next each.2,
+    )
+
+closed_keep : (s : Config) (old new : Image) (blocks : ℕ) (d : Option File) (entries : List Listed) (files : List File) → IsWhole old → (kept : ℕ) → SameBelow (behind s (last_or d files)) kept old new
+    → Stand blocks (behind s d) entries → SaysEach old entries files → KeepBytes old new files
+closed_keep s old new blocks d [] [] whole kept same stand each = tt
+closed_keep s old new blocks d [] (f ∷ files) whole kept same stand each = absurd each
+closed_keep s old new blocks d (e ∷ entries) [] whole kept same stand each = absurd each
+closed_keep s old new blocks d (e ∷ entries) (f ∷ files) whole kept same stand each =
+    let at = after blocks (behind s d) e f stand.0 each.0 in
+    let next : Stand blocks (behind s (Some f)) entries = subst (λ (k : ℕ). Stand blocks k entries) (sym at.1) stand.1 in
+    let rises = behind_rises s old blocks (Some f) entries files next each.2 in (
+      bytes_below old new f (behind s (last_or (Some f) files)) whole kept same rises each.1,
+      closed_keep s old new blocks (Some f) entries files whole kept same next each.2,
     )
 
 -- ---- the directory
@@ -151,7 +194,7 @@ closed_stand s old new files whole whole' says kept same =
     let stand = stand_from_one s says.chain says.mounts in
     let rises = behind_rises s old s.blocks None (listed_files says.chain) files stand says.each in
     said_from s old new files (next_block s files) says kept same (omega (arith, rises))
-    (closed_stay s old new s.blocks None (listed_files says.chain) files whole whole' kept same stand says.each)
+    (closed_stay s old new s.blocks None (listed_files says.chain) files whole kept same stand says.each)
 
 pub growing_stands : (s : Config) (old new : Image) (files : List File) (f : File) → IsWhole old → IsWhole new → MediumSays s old (files ++ f ∷ []) → (kept : ℕ) → SameBelow f.first_block kept old new
     → bytes_from new f.first_block f.size ≡ bytes_from old f.first_block f.size → MediumSays s new (files ++ f ∷ [])
@@ -159,7 +202,15 @@ growing_stands s old new files f whole whole' says kept same bytes =
     let stand = stand_from_one s says.chain says.mounts in
     let later = last_behind old s.blocks (1 + s.directory) (listed_files says.chain) files f stand says.each in
     said_from s old new (files ++ f ∷ []) f.first_block says kept same (omega (arith, later))
-    (grown_stay old new s.blocks (1 + s.directory) (listed_files says.chain) files f whole whole' kept same bytes stand says.each)
+    (grown_stay old new s.blocks (1 + s.directory) (listed_files says.chain) files f whole kept same bytes stand says.each)
+
+pub closed_kept : (s : Config) (old new : Image) (files : List File) → IsWhole old → MediumSays s old files → (kept : ℕ) → SameBelow (next_block s files) kept old new → KeepBytes old new files
+closed_kept s old new files whole says kept same = closed_keep s old new s.blocks None (listed_files says.chain) files whole kept same (stand_from_one s says.chain says.mounts) says.each
+
+pub growing_kept : (s : Config) (old new : Image) (files : List File) (f : File) → IsWhole old → MediumSays s old (files ++ f ∷ []) → (kept : ℕ) → SameBelow f.first_block kept old new
+    → bytes_from new f.first_block f.size ≡ bytes_from old f.first_block f.size → KeepBytes old new (files ++ f ∷ [])
+growing_kept s old new files f whole says kept same bytes =
+    grown_keep old new s.blocks (1 + s.directory) (listed_files says.chain) files f whole kept same bytes (stand_from_one s says.chain says.mounts) says.each
 
 -- ---- a directory that is written
 
@@ -168,30 +219,50 @@ others_stay reserved k [] less all = All-nil (λ (n : ℕ). k ≢ n)
 others_stay reserved k (n ∷ numbers) less all =
     All-cons (λ (n : ℕ). k ≢ n) n numbers (λ is. omega (arith, is, less, All-head (λ (n : ℕ). n ≤ reserved) n numbers all)) (others_stay reserved k numbers less (All-tail (λ (n : ℕ). n ≤ reserved) n numbers all))
 
-behind_stays : (old new : Image) (f : File) (reserved : ℕ) (numbers : List ℕ) → IsWhole old → IsWhole new → SameButIn numbers old new → All (λ (n : ℕ). n ≤ reserved) numbers → reserved < f.first_block → SaysFile old f → SaysFile new f
-behind_stays old new f reserved numbers whole whole' same all less says =
-    file_stays old new f same.size (bytes_stay old new f.first_block f.size whole whole' same.size (λ k from to. same.others k (others_stay reserved k numbers (omega (arith, from, less)) all)) says.inside) says
+bytes_behind : (old new : Image) (f : File) (reserved : ℕ) (numbers : List ℕ) → IsWhole old → SameButIn numbers old new → All (λ (n : ℕ). n ≤ reserved) numbers → reserved < f.first_block → SaysFile old f
+    → bytes_from new f.first_block f.size ≡ bytes_from old f.first_block f.size
+bytes_behind old new f reserved numbers whole same all less says =
+    bytes_stay old new f.first_block f.size whole same.size (λ k from to. same.others k (others_stay reserved k numbers (omega (arith, from, less)) all)) says.inside
 
-each_behind_stays : (old new : Image) (blocks n reserved : ℕ) (numbers : List ℕ) (entries : List Listed) (files : List File) → IsWhole old → IsWhole new → SameButIn numbers old new → All (λ (n : ℕ). n ≤ reserved) numbers → reserved < n
+behind_stays : (old new : Image) (f : File) (reserved : ℕ) (numbers : List ℕ) → IsWhole old → SameButIn numbers old new → All (λ (n : ℕ). n ≤ reserved) numbers → reserved < f.first_block → SaysFile old f → SaysFile new f
+behind_stays old new f reserved numbers whole same all less says =
+    file_stays old new f same.size (bytes_behind old new f reserved numbers whole same all less says) says
+
+each_behind_stays : (old new : Image) (blocks n reserved : ℕ) (numbers : List ℕ) (entries : List Listed) (files : List File) → IsWhole old → SameButIn numbers old new → All (λ (n : ℕ). n ≤ reserved) numbers → reserved < n
     → Stand blocks n entries → SaysEach old entries files → SaysEach new entries files
-each_behind_stays old new blocks n reserved numbers [] [] whole whole' same all less stand each = tt
-each_behind_stays old new blocks n reserved numbers [] (f ∷ files) whole whole' same all less stand each = absurd each
-each_behind_stays old new blocks n reserved numbers (e ∷ entries) [] whole whole' same all less stand each = absurd each
-each_behind_stays old new blocks n reserved numbers (e ∷ entries) (f ∷ files) whole whole' same all less stand each =
+each_behind_stays old new blocks n reserved numbers [] [] whole same all less stand each = tt
+each_behind_stays old new blocks n reserved numbers [] (f ∷ files) whole same all less stand each = absurd each
+each_behind_stays old new blocks n reserved numbers (e ∷ entries) [] whole same all less stand each = absurd each
+each_behind_stays old new blocks n reserved numbers (e ∷ entries) (f ∷ files) whole same all less stand each =
     let at = after blocks n e f stand.0 each.0 in (
       each.0,
-      behind_stays old new f reserved numbers whole whole' same all (omega (arith, at.0, less)) each.1,
-      each_behind_stays old new blocks (n + e.block_count) reserved numbers entries files whole whole' same all (omega (arith, less)) stand.1 each.2,
+      behind_stays old new f reserved numbers whole same all (omega (arith, at.0, less)) each.1,
+      each_behind_stays old new blocks (n + e.block_count) reserved numbers entries files whole same all (omega (arith, less)) stand.1 each.2,
     )
 
-pub directory_turns : (s : Config) (old new : Image) (chain : List ChainBlock) (changed : List ℕ) (files : List File) → IsWhole old → IsWhole new → length old ≡ s.blocks → Turned chain changed old new → All (λ (n : ℕ). n ≤ s.directory) changed
+each_behind_keeps : (old new : Image) (blocks n reserved : ℕ) (numbers : List ℕ) (entries : List Listed) (files : List File) → IsWhole old → SameButIn numbers old new → All (λ (n : ℕ). n ≤ reserved) numbers → reserved < n
+    → Stand blocks n entries → SaysEach old entries files → KeepBytes old new files
+each_behind_keeps old new blocks n reserved numbers [] [] whole same all less stand each = tt
+each_behind_keeps old new blocks n reserved numbers [] (f ∷ files) whole same all less stand each = absurd each
+each_behind_keeps old new blocks n reserved numbers (e ∷ entries) [] whole same all less stand each = absurd each
+each_behind_keeps old new blocks n reserved numbers (e ∷ entries) (f ∷ files) whole same all less stand each =
+    let at = after blocks n e f stand.0 each.0 in (
+      bytes_behind old new f reserved numbers whole same all (omega (arith, at.0, less)) each.1,
+      each_behind_keeps old new blocks (n + e.block_count) reserved numbers entries files whole same all (omega (arith, less)) stand.1 each.2,
+    )
+
+pub directory_keeps : (s : Config) (old new : Image) (numbers : List ℕ) (files : List File) → IsWhole old → MediumSays s old files → SameButIn numbers old new → All (λ (n : ℕ). n ≤ s.directory) numbers → KeepBytes old new files
+directory_keeps s old new numbers files whole says same all =
+    each_behind_keeps old new s.blocks (1 + s.directory) s.directory numbers (listed_files says.chain) files whole same all (omega arith) (stand_from_one s says.chain says.mounts) says.each
+
+pub directory_turns : (s : Config) (old new : Image) (chain : List ChainBlock) (changed : List ℕ) (files : List File) → IsWhole old → length old ≡ s.blocks → Turned chain changed old new → All (λ (n : ℕ). n ≤ s.directory) changed
     → first_broken (mount_rules s.directory s.blocks chain) ≡ None → SaysEach old (listed_files chain) files → MediumSays s new files
-directory_turns s old new chain changed files whole whole' blocks turned all mounts each = record {
+directory_turns s old new chain changed files whole blocks turned all mounts each = record {
   blocks = turned.others.size ∙ blocks;
   chain = chain;
   directory = turned.directory;
   mounts = mounts;
-  each = each_behind_stays old new s.blocks (1 + s.directory) s.directory changed (listed_files chain) files whole whole' turned.others all (omega arith) (stand_from_one s chain mounts) each;
+  each = each_behind_stays old new s.blocks (1 + s.directory) s.directory changed (listed_files chain) files whole turned.others all (omega arith) (stand_from_one s chain mounts) each;
 }
 
 -- ---- files that are listed

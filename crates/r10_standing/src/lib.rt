@@ -4,4 +4,4 @@
 
 mod laws;
 
-pub use laws::{directories_turn, files_are_listed, files_stand};
+pub use laws::{bytes_stand, directories_turn, files_are_listed, files_stand};
