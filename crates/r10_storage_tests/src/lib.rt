@@ -17,3 +17,5 @@ mod packets;
 mod replays;
 #[cfg(test)]
 mod verdicts;
+#[cfg(test)]
+mod volumes;

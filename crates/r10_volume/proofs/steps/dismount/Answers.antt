@@ -1,0 +1,42 @@
+use Rattle.std.proofs.Common.{[], ◌∷◌}
+use Rattle.r10_dirchain.specs.Steps.{with_shutdown}
+use Rattle.r10_volume.proofs.Turning.{directory_on, held_on, leaves_still, marking, of_first, says_still, settled_still}
+use Rattle.r10_volume.proofs.steps.dismount.Goals as goal
+
+pub returns-clause-turns : goal.returns-clause-turns
+returns-clause-turns g c = of_first c.args.directory.now (with_shutdown 0xFF c.args.directory.now) _ _ c.set_shutdown.result c.requires c.set_shutdown.ensures.turns
+
+pub returns-clause-directory : goal.returns-clause-directory
+returns-clause-directory g c =
+    let old = g.M.BlockMedium.disk c.args.medium.now in
+    let new = g.M.BlockMedium.disk c.set_shutdown.new.medium in
+    directory_on c.args.directory.now (with_shutdown 0xFF c.args.directory.now) c.set_shutdown.new.self old new c.set_shutdown.result
+    (of_first c.args.directory.now (with_shutdown 0xFF c.args.directory.now) old new c.set_shutdown.result c.requires c.set_shutdown.ensures.turns) c.set_shutdown.ensures.done
+
+pub returns-clause-holds : goal.returns-clause-holds
+returns-clause-holds g c = λ s files holds.
+    let old = g.M.BlockMedium.disk c.args.medium.now in
+    let new = g.M.BlockMedium.disk c.set_shutdown.new.medium in
+    held_on s old new c.args.directory.now (with_shutdown 0xFF c.args.directory.now) c.set_shutdown.new.self files c.set_shutdown.result (marking s old.blocks c.args.directory.now 0xFF files holds.says holds.directory) holds.found
+    (of_first c.args.directory.now (with_shutdown 0xFF c.args.directory.now) old new c.set_shutdown.result c.requires c.set_shutdown.ensures.turns) c.set_shutdown.ensures.done
+
+pub returns-clause-says : goal.returns-clause-says
+returns-clause-says g c = λ s files holds.
+    let old = g.M.BlockMedium.disk c.args.medium.now in
+    let new = g.M.BlockMedium.disk c.set_shutdown.new.medium in
+    says_still s old new c.args.directory.now (with_shutdown 0xFF c.args.directory.now) (1 ∷ []) files c.set_shutdown.result (marking s old.blocks c.args.directory.now 0xFF files holds.says holds.directory)
+    (of_first c.args.directory.now (with_shutdown 0xFF c.args.directory.now) old new c.set_shutdown.result c.requires c.set_shutdown.ensures.turns)
+
+pub returns-clause-moments : goal.returns-clause-moments
+returns-clause-moments g c = λ s files holds.
+    let old = g.M.BlockMedium.disk c.args.medium.now in
+    let new = g.M.BlockMedium.disk c.set_shutdown.new.medium in
+    leaves_still s old new c.args.directory.now (with_shutdown 0xFF c.args.directory.now) (1 ∷ []) files c.set_shutdown.result (marking s old.blocks c.args.directory.now 0xFF files holds.says holds.directory)
+    (of_first c.args.directory.now (with_shutdown 0xFF c.args.directory.now) old new c.set_shutdown.result c.requires c.set_shutdown.ensures.turns)
+
+pub returns-clause-settled : goal.returns-clause-settled
+returns-clause-settled g c = λ s files holds.
+    let old = g.M.BlockMedium.disk c.args.medium.now in
+    let new = g.M.BlockMedium.disk c.set_shutdown.new.medium in
+    settled_still s old new c.args.directory.now (with_shutdown 0xFF c.args.directory.now) (1 ∷ []) files c.set_shutdown.result (marking s old.blocks c.args.directory.now 0xFF files holds.says holds.directory)
+    (of_first c.args.directory.now (with_shutdown 0xFF c.args.directory.now) old new c.set_shutdown.result c.requires c.set_shutdown.ensures.turns)

@@ -1,0 +1,27 @@
+//! What a directory tells where files are held, as a call that does nothing.
+
+ghost use Rattle.std.specs.Prelude.{◌≡◌, ◌≤◌, ◌<◌, ℕ, List, Option, length, map};
+ghost use Rattle.r10_medium.specs.Disk.{Image};
+ghost use Rattle.r10_dirchain.specs.Chain.{files as listed_files};
+ghost use Rattle.r10_dirchain.specs.declared.chain.ChainBlock.{ChainBlock};
+ghost use Rattle.r10_machine.specs.Checks.{is_sealed, is_taken};
+ghost use Rattle.r10_machine.specs.Config.{Config};
+ghost use Rattle.r10_machine.specs.Machine.{File};
+ghost use Rattle.r10_machine.specs.Room.{next_block};
+ghost use Rattle.r10_steps.specs.Finding.{info_of};
+ghost use Rattle.r10_holding.specs.Holding.{Holds, Open};
+ghost use Rattle.r10_volume.specs.Listing.{block_behind, has_name, info_in, is_last_closed};
+
+/// Where files are held, a directory tells them: their listing and their number, which names are taken, whether
+/// the last is closed, and the block behind it, which is none behind the medium's end.
+pub fn listings_tell()
+    ensures infos { (s : Config) (image : Image) (chain : List ChainBlock) (written : Option Open) (files : List File) → Holds s image chain written files → map info_in (listed_files chain) ≡ map info_of files }
+    ensures count { (s : Config) (image : Image) (chain : List ChainBlock) (written : Option Open) (files : List File) → Holds s image chain written files → length (listed_files chain) ≡ length files }
+    ensures few { (s : Config) (image : Image) (chain : List ChainBlock) (written : Option Open) (files : List File) → Holds s image chain written files → s.directory < length image → length files ≤ length image }
+    ensures taken { (s : Config) (image : Image) (chain : List ChainBlock) (written : Option Open) (files : List File) (name : List ℕ) → Holds s image chain written files
+        → has_name name (listed_files chain) ≡ is_taken name files }
+    ensures closed { (s : Config) (image : Image) (chain : List ChainBlock) (written : Option Open) (files : List File) → Holds s image chain written files → is_last_closed (listed_files chain) ≡ is_sealed files }
+    ensures behind { (s : Config) (image : Image) (chain : List ChainBlock) (written : Option Open) (files : List File) → Holds s image chain written files
+        → block_behind s.directory (listed_files chain) ≡ next_block s files }
+    ensures inside { (s : Config) (image : Image) (chain : List ChainBlock) (written : Option Open) (files : List File) → Holds s image chain written files → s.directory < length image → next_block s files ≤ length image }
+{}

@@ -1,0 +1,106 @@
+//! What a directory tells of its files.
+
+ghost use Rattle.std.specs.Prelude.{◌≡◌, ◌-◌, ◌^◌, None, length, map, min, IfOk};
+ghost use Rattle.std.specs.List.{last_or};
+ghost use Rattle.r10_dirchain.specs.Chain.{files as listed_files};
+ghost use Rattle.r10_volume.specs.Listing.{block_behind, has_name, info_in, is_last_closed};
+
+use r10_count::Items;
+use r10_dirblock::Entry;
+use r10_dirchain::Directory;
+use r10_steps::FileInfo;
+use std::alloc::{AllocError, Global};
+
+/// The files in order, each with its name, size, blocks and whether it is closed.
+pub fn list(alloc: Global, directory: &Directory) -> Result<Vec<FileInfo>, AllocError>
+    ensures { IfOk result (λ v. v.items ≡ map info_in (listed_files directory.now)) }
+{
+    let entries = directory.files(alloc)?;
+    let mut infos = Vec::new(alloc);
+    for entry in &entries {
+        infos.push(info_of(alloc, entry)?)?;
+    }
+    Ok(infos)
+}
+
+fn info_of(alloc: Global, entry: &Entry) -> Result<FileInfo, AllocError>
+    ensures { IfOk result (λ info. info ≡ info_in entry.now) }
+{
+    let name = Vec::from_slice(alloc, entry.stripped_name())?;
+    Ok(FileInfo {
+        name: Items::of(name),
+        size: entry.size,
+        blocks: entry.block_count,
+        closed: entry.is_closed(),
+    })
+}
+
+/// How many files there are.
+pub fn count(directory: &Directory) -> usize
+    ensures { result ≡ min (length (listed_files directory.now)) (2 ^ 64 - 1) }
+{
+    let mut files = 0_usize;
+    for link in directory.blocks() {
+        files = files.saturating_add(link.block.entries.len());
+    }
+    files
+}
+
+/// The last file's entry.
+pub fn last_file(directory: &Directory) -> Option<Entry>
+    ensures { result ≡ last_or None (listed_files directory.now) }
+{
+    let mut last = None;
+    for link in directory.blocks() {
+        last = last_of(link.block.entries.as_slice(), last);
+    }
+    last
+}
+
+/// The last of these entries, or another where there is none.
+fn last_of(entries: &[Entry], before: Option<Entry>) -> Option<Entry>
+    ensures { result ≡ last_or before entries.now }
+{
+    match entries.last() {
+        Some(entry) => Some(*entry),
+        None => before,
+    }
+}
+
+/// The first block of a next file: the one behind the last file, or behind so many reserved ones.
+pub fn next_block(directory: &Directory, reserved: usize) -> usize
+    ensures { result ≡ min (block_behind reserved (listed_files directory.now)) (2 ^ 64 - 1) }
+{
+    match last_file(directory) {
+        Some(entry) => entry.first_block.saturating_add(entry.block_count) as usize,
+        None => reserved.saturating_add(1),
+    }
+}
+
+/// Whether a file has this name.
+pub fn is_taken(directory: &Directory, name: &[u8]) -> bool
+    ensures { result ≡ has_name name.now (listed_files directory.now) }
+{
+    for link in directory.blocks() {
+        if has_name(link.block.entries.as_slice(), name) {
+            return true;
+        }
+    }
+    false
+}
+
+fn has_name(entries: &[Entry], name: &[u8]) -> bool
+    ensures { result ≡ has_name name.now entries.now }
+{
+    entries.iter().any(|entry| entry.stripped_name() == name)
+}
+
+/// Whether the last file is closed, or there is none.
+pub fn is_sealed(directory: &Directory) -> bool
+    ensures { result ≡ is_last_closed (listed_files directory.now) }
+{
+    match last_file(directory) {
+        Some(entry) => entry.is_closed(),
+        None => true,
+    }
+}

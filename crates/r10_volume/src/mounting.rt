@@ -1,0 +1,80 @@
+//! Taking a medium into use.
+
+ghost use Rattle.std.specs.Prelude.{◌≡◌, ◌≤◌, ℕ, List, [], ◌∷◌, None, IfOk, IfErr, IsErrOf, OnOk, MatchResult};
+ghost use Rattle.r10_medium.specs.Disk.{Rose, Unchanged};
+ghost use Rattle.r10_medium.specs.Stop.{Leaves, Settled};
+ghost use Rattle.r10_dirchain.specs.Bad.{IsNoFault};
+ghost use Rattle.r10_dirchain.specs.Chain.{IsDirectory};
+ghost use Rattle.r10_dirchain.specs.OnMedium.{Turns};
+ghost use Rattle.r10_dirchain.specs.Steps.{with_shutdown};
+ghost use Rattle.r10_dirchain.specs.declared.chain.ChainBlock.{ChainBlock};
+ghost use Rattle.r10_machine.specs.Config.{Config};
+ghost use Rattle.r10_machine.specs.Machine.{File};
+ghost use Rattle.r10_steps.specs.Says.{MediumSays};
+ghost use Rattle.r10_holding.specs.Holding.{Holds, OthersAreFound};
+ghost use Rattle.r10_volume.specs.Mounting.{IsLeft, IsMountError, IsMounted, IsNamed, IsUnusable, IsUsable};
+ghost use Rattle.r10_volume.specs.Settling.{IsSettled};
+
+use r10_dirchain::{ChainError, Directory, read_chain};
+use r10_medium::BlockMedium;
+use std::alloc::Global;
+
+/// Reads the medium's directory, and notes in block 1 that it is in use, not properly dismounted. It must be one
+/// that a recorder can take into use with so many reserved directory blocks: `BadDirectory` names the first
+/// block at fault. Where it isn't, or memory is refused, nothing is written.
+///
+/// What the medium says of its files stays, and is sure at `Ok`.
+pub fn mount<M: BlockMedium>(
+    alloc: Global,
+    medium: &mut M,
+    reserved: usize,
+) -> Result<Directory, ChainError>
+    ensures mounted { IfOk result (IsMounted reserved (M.disk medium.old).blocks) }
+    ensures fault { IfErr result (IsMountError reserved (M.disk medium.old).blocks) }
+    ensures usable { (chain : List ChainBlock) → IsUsable reserved (M.disk medium.old).blocks chain → MatchResult result (λ directory. directory ≡ with_shutdown 0x00 chain) IsNoFault }
+    ensures unusable { (n : ℕ) → IsUnusable reserved (M.disk medium.old).blocks n → MatchResult result (λ _. ⊥) (IsNamed n) }
+    ensures directory { IfOk result (IsDirectory (M.disk medium.new).blocks) }
+    ensures left { IfErr result (IsLeft (M.disk medium.old) (M.disk medium.new)) }
+    ensures turns { (chain : List ChainBlock) → IsUsable reserved (M.disk medium.old).blocks chain
+        → Turns chain (with_shutdown 0x00 chain) [] (1 ∷ []) (M.disk medium.old) (M.disk medium.new) result }
+    // Where the medium says files, a recorder of its settings holds them.
+    ensures holds { (s : Config) (files : List File) → MediumSays s (M.disk medium.old).blocks files → OthersAreFound (M.disk medium.old).blocks files → reserved ≡ s.directory
+        → MatchResult result (λ directory. Holds s (M.disk medium.new).blocks directory None files) IsNoFault }
+    ensures says { (s : Config) (files : List File) → MediumSays s (M.disk medium.old).blocks files → MediumSays s (M.disk medium.new).blocks files }
+    ensures moments { (s : Config) (files : List File) → Settled (λ image. MediumSays s image files) (M.disk medium.old)
+        → Leaves (λ image. MediumSays s image files) (M.disk medium.old) (M.disk medium.new) }
+    ensures settled { (s : Config) (files : List File) → MediumSays s (M.disk medium.old).blocks files → OnOk result (IsSettled s files (M.disk medium.new)) }
+    ensures no_fewer { (M.disk medium.old).failures ≤ (M.disk medium.new).failures }
+    ensures cause { IsErrOf result ChainError.Medium → Rose (M.disk medium.old).failures (M.disk medium.new).failures }
+{
+    let mut directory = match usable_directory(alloc, medium, reserved) {
+        Ok(directory) => directory,
+        Err(error) => return Err(error),
+    };
+    match directory.set_shutdown(medium, 0x00) {
+        Ok(()) => Ok(directory),
+        Err(_) => Err(ChainError::Medium),
+    }
+}
+
+/// The medium's directory, where a recorder can take it into use.
+fn usable_directory<M: BlockMedium>(
+    alloc: Global,
+    medium: &mut M,
+    reserved: usize,
+) -> Result<Directory, ChainError>
+    ensures usable { IfOk result (IsUsable reserved (M.disk medium.old).blocks) }
+    ensures fault { IfErr result (IsMountError reserved (M.disk medium.old).blocks) }
+    ensures same { Unchanged (M.disk medium.old) (M.disk medium.new) }
+    ensures no_fewer { (M.disk medium.old).failures ≤ (M.disk medium.new).failures }
+    ensures cause { IsErrOf result ChainError.Medium → Rose (M.disk medium.old).failures (M.disk medium.new).failures }
+{
+    let directory = match read_chain(alloc, medium) {
+        Ok(directory) => directory,
+        Err(error) => return Err(error),
+    };
+    match directory.check(alloc, reserved, medium.blocks()) {
+        Ok(()) => Ok(directory),
+        Err(error) => Err(error),
+    }
+}

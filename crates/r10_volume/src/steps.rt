@@ -1,0 +1,54 @@
+//! Steps on the directory of a medium in use.
+
+ghost use Rattle.std.specs.Prelude.{◌≡◌, ◌⊎◌, List, [], ◌∷◌, None, OnOk, OnErr};
+ghost use Rattle.r10_medium.specs.Disk.{Counts};
+ghost use Rattle.r10_medium.specs.Stop.{Leaves, Settled};
+ghost use Rattle.r10_dirchain.specs.Chain.{IsDirectory, at};
+ghost use Rattle.r10_dirchain.specs.OnMedium.{Turns};
+ghost use Rattle.r10_dirchain.specs.Steps.{emptied, with_shutdown};
+ghost use Rattle.r10_machine.specs.Config.{Config};
+ghost use Rattle.r10_machine.specs.Machine.{File};
+ghost use Rattle.r10_steps.specs.Says.{MediumSays};
+ghost use Rattle.r10_holding.specs.Holding.{Holds};
+ghost use Rattle.r10_volume.specs.Settling.{IsSettled};
+
+use r10_dirchain::Directory;
+use r10_medium::{BlockMedium, MediumFault};
+
+/// Notes in block 1 that the medium is properly dismounted. What it says of its files stays, and is sure at `Ok`.
+pub fn dismount<M: BlockMedium>(
+    medium: &mut M,
+    directory: &mut Directory,
+) -> Result<(), MediumFault>
+    requires { IsDirectory (M.disk medium.old).blocks directory.old }
+    ensures done { OnOk result (directory.new ≡ with_shutdown 0xFF directory.old) }
+    ensures kept { OnErr result (directory.new ≡ directory.old) }
+    ensures directory { OnOk result (IsDirectory (M.disk medium.new).blocks directory.new) }
+    ensures turns { Turns directory.old (with_shutdown 0xFF directory.old) [] (1 ∷ []) (M.disk medium.old) (M.disk medium.new) result }
+    ensures holds { (s : Config) (files : List File) → Holds s (M.disk medium.old).blocks directory.old None files → OnOk result (Holds s (M.disk medium.new).blocks directory.new None files) }
+    ensures says { (s : Config) (files : List File) → Holds s (M.disk medium.old).blocks directory.old None files → MediumSays s (M.disk medium.new).blocks files }
+    ensures moments { (s : Config) (files : List File) → Holds s (M.disk medium.old).blocks directory.old None files → Settled (λ image. MediumSays s image files) (M.disk medium.old)
+        → Leaves (λ image. MediumSays s image files) (M.disk medium.old) (M.disk medium.new) }
+    ensures settled { (s : Config) (files : List File) → Holds s (M.disk medium.old).blocks directory.old None files → OnOk result (IsSettled s files (M.disk medium.new)) }
+    ensures counts { Counts (M.disk medium.old) (M.disk medium.new) result }
+{
+    directory.set_shutdown(medium, 0xFF)
+}
+
+/// Takes all files from the directory: writes block 1 once, without entries and with a forward link to itself.
+pub fn erase<M: BlockMedium>(medium: &mut M, directory: &mut Directory) -> Result<(), MediumFault>
+    requires { IsDirectory (M.disk medium.old).blocks directory.old }
+    ensures done { OnOk result (directory.new ≡ emptied directory.old) }
+    ensures kept { OnErr result (directory.new ≡ directory.old) }
+    ensures directory { OnOk result (IsDirectory (M.disk medium.new).blocks directory.new) }
+    ensures turns { Turns directory.old (emptied directory.old) [] (1 ∷ []) (M.disk medium.old) (M.disk medium.new) result }
+    ensures holds { (s : Config) (files : List File) → Holds s (M.disk medium.old).blocks directory.old None files → OnOk result (Holds s (M.disk medium.new).blocks directory.new None []) }
+    ensures failed { (s : Config) (files : List File) → Holds s (M.disk medium.old).blocks directory.old None files
+        → OnErr result (MediumSays s (M.disk medium.new).blocks files ⊎ MediumSays s (M.disk medium.new).blocks []) }
+    ensures moments { (s : Config) (files : List File) → Holds s (M.disk medium.old).blocks directory.old None files → Settled (λ image. MediumSays s image files) (M.disk medium.old)
+        → Leaves (λ image. MediumSays s image files ⊎ MediumSays s image []) (M.disk medium.old) (M.disk medium.new) }
+    ensures settled { (s : Config) (files : List File) → Holds s (M.disk medium.old).blocks directory.old None files → OnOk result (IsSettled s [] (M.disk medium.new)) }
+    ensures counts { Counts (M.disk medium.old) (M.disk medium.new) result }
+{
+    directory.erase(medium)
+}
