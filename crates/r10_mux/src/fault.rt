@@ -12,6 +12,15 @@ pub enum TakeFault {
     Medium(MediumFault),
 }
 
+/// Why an event was not taken in.
+#[derive(Clone, Copy, Debug, PartialEq, Eq)]
+pub enum EventFault {
+    /// There is no memory for it, and the file is as it was.
+    Memory,
+    /// The medium failed. The file can't go on.
+    Medium(MediumFault),
+}
+
 /// What an entry has no room in.
 #[derive(Clone, Copy, Debug, PartialEq, Eq)]
 pub enum Full {

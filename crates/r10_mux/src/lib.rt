@@ -2,9 +2,12 @@
 //! it carries those that are taken in too, in packets on the medium or in its channels' builders.
 #![tactic(auto)]
 
+mod event;
 mod fault;
 mod mux;
+mod own;
 mod put;
+mod tick;
 
-pub use fault::{Full, TakeFault};
+pub use fault::{EventFault, Full, TakeFault};
 pub use mux::Mux;
