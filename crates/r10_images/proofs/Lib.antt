@@ -1,2 +1,3 @@
 pub mod Zeros
 pub mod Lines
+pub mod Blocks

@@ -39,7 +39,7 @@ fn write_zeros<W: Write>(count: usize, writer: &mut W) -> Result<(), StreamFault
     Ok(())
 }
 
-fn write_block<W: Write>(block: &[u8; 512], writer: &mut W) -> Result<(), StreamFault>
+pub(crate) fn write_block<W: Write>(block: &[u8; 512], writer: &mut W) -> Result<(), StreamFault>
     ensures { OnOk result (Appends (W.contents writer.old) (W.contents writer.new) block.now) }
 {
     writer.write_all(block).map_err(StreamFault::Write)

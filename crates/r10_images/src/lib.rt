@@ -9,6 +9,7 @@ mod input;
 mod laws;
 mod limits;
 mod listing;
+mod writing;
 
 pub use fault::StreamFault;
 pub use formatting::write_formatted;
@@ -16,4 +17,5 @@ pub use held::Image;
 pub use input::read_whole;
 pub use laws::formatted_images;
 pub use limits::{Limit, check_format};
-pub use listing::{Outcome, list_files};
+pub use listing::{Outcome, list_files, write_refusal};
+pub use writing::write_image;

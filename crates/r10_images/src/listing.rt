@@ -111,7 +111,7 @@ fn shown_byte(byte: u8) -> u8
 }
 
 /// Writes the refusal of an image whose directory can't be taken, first for this block.
-fn write_refusal<W: Write>(alloc: Global, block: u64, writer: &mut W) -> Result<(), StreamFault>
+pub fn write_refusal<W: Write>(alloc: Global, block: u64, writer: &mut W) -> Result<(), StreamFault>
     ensures { OnOk result (Appends (W.contents writer.old) (W.contents writer.new) (refusal_line block)) }
 {
     let line = format!(in alloc; "refused 26 BadDirectory {block}\n")?;

@@ -57,6 +57,10 @@ message_text (messages.Event number count) = spaced (codes "event" ∷ decimal n
 abbrev pub entry_text : Entry → List ℕ
 entry_text e = spaced (codes "entry" ∷ decimal e.channel ∷ decimal e.count ∷ flag_text e.gap ∷ message_text e.message ∷ [])
 
+-- an entry on a line of its own
+abbrev pub entry_line : Entry → List ℕ
+entry_line e = entry_text e ++ codes "\n"
+
 -- the words for each reply; what a refusal says of itself stands behind its first word
 abbrev pub IsReplyText : Reply → List ℕ → Type 0
 IsReplyText replies.Done text = text ≡ codes "ok"

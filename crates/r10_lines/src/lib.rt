@@ -1,6 +1,6 @@
-//! Prints the line of each step's reply.
+//! Prints the line of each step's reply, and of an entry alone.
 #![tactic(auto)]
 
 mod line;
 
-pub use line::reply_line;
+pub use line::{entry_line, reply_line};

@@ -2,7 +2,7 @@
 
 ghost use Rattle.std.specs.Prelude.{◌≡◌, ◌∷◌, [], ℕ, List, codes, string_bytes, IfOk};
 ghost use Rattle.r10_lines.specs.Civil.{civil_text as civil_digits};
-ghost use Rattle.r10_lines.specs.Line.{IsReplyLine, IsReplyText, entry_text as entry_words, message_text as message_words, bytes_text, flag_text as flag_digit, long_text as eight_digits, word_text as four_digits, spaced, words_text as words_digits};
+ghost use Rattle.r10_lines.specs.Line.{IsReplyLine, IsReplyText, entry_line, entry_text as entry_words, message_text as message_words, bytes_text, flag_text as flag_digit, long_text as eight_digits, word_text as four_digits, spaced, words_text as words_digits};
 
 use r10_body::{Entry, Message, Refusal};
 use r10_count::Civil;
@@ -40,6 +40,14 @@ fn refusal_text(alloc: Global, refusal: &Refusal) -> Result<String, AllocError>
 {
     let said = refusal.to_string(alloc)?;
     format!(in alloc; "refused {said}")
+}
+
+/// The line of an entry, with its line feed.
+pub fn entry_line(alloc: Global, entry: &Entry) -> Result<String, AllocError>
+    ensures { IfOk result (λ line. string_bytes line ≡ entry_line entry.now) }
+{
+    let text = entry_text(alloc, entry)?;
+    format!(in alloc; "{text}\n")
 }
 
 /// An entry: its channel, its count, whether it has a gap, and its message.

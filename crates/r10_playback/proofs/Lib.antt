@@ -1,0 +1,4 @@
+pub mod Fronts
+pub mod Finding
+pub mod Playing
+pub mod Queue
