@@ -14,6 +14,8 @@ mod outputs;
 #[cfg(test)]
 mod packets;
 #[cfg(test)]
+mod readers;
+#[cfg(test)]
 mod replays;
 #[cfg(test)]
 mod verdicts;

@@ -1,0 +1,7 @@
+mod Clipping
+mod Covering
+mod Fronts
+mod Keeping
+mod Reading
+mod Said
+mod Times

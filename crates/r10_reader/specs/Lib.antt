@@ -1,0 +1,5 @@
+pub mod Files
+pub mod Knowing
+pub mod Refusals
+pub mod Staying
+pub mod Held

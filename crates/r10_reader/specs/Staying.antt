@@ -1,0 +1,12 @@
+-- When what is known of files stays.
+use Rattle.std.specs.Prelude.{◌≡◌, List, ◌++◌}
+use Rattle.std.specs.List.{AllByRecursion}
+use Rattle.r10_medium.specs.Disk.{Image}
+use Rattle.r10_dirblock.specs.declared.entry.Entry.{Entry as Listed}
+use Rattle.r10_reader.specs.Files.{bytes_in}
+
+-- the files keep their bytes and directory entries, and others may have come behind them
+pub record Stay (old new : Image) (entries later : List Listed) : Type 0 where
+  pub more : List Listed
+  pub entries_stay : later ≡ entries ++ more
+  pub bytes_stay : AllByRecursion (λ e. bytes_in new e ≡ bytes_in old e) entries

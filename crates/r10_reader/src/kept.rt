@@ -1,0 +1,14 @@
+//! A file that was judged.
+
+use r10_tracks::Tracks;
+
+/// What is kept of a file that was judged.
+#[derive(Drop)]
+pub struct Kept {
+    /// The file's number.
+    pub file: usize,
+    /// The number of its first block.
+    pub first: usize,
+    /// What is kept of its packets.
+    pub tracks: Tracks,
+}

@@ -1,0 +1,23 @@
+//! The file that is written.
+
+use r10_indexbody::NodeEntry;
+
+/// What the medium shows of the file that is written.
+#[derive(Clone, Copy, Debug)]
+pub struct Written<'a> {
+    /// The file's number.
+    pub file: usize,
+    /// The number of its first block.
+    pub first: usize,
+    /// What nodes say of the packets that the medium shows.
+    pub named: &'a [NodeEntry],
+}
+
+/// Where a file's packets stand that the medium shows.
+#[derive(Clone, Copy, Debug)]
+pub(crate) struct Shown<'a> {
+    /// The number of the file's first block.
+    pub first: usize,
+    /// What nodes say of the packets.
+    pub named: &'a [NodeEntry],
+}
