@@ -1,0 +1,55 @@
+-- Which machines a recorder stands for.
+use Rattle.std.specs.Prelude.{◌≡◌, ℕ, ◌+◌, List, [], ◌∷◌, Option, None, Some, length}
+use Rattle.r10_medium.specs.Disk.{Image}
+use Rattle.r10_body.specs.declared.refusal.Refusal.{Refusal}
+use Rattle.r10_body.specs.declared.spec.ChannelSpec.{ChannelSpec}
+use Rattle.r10_holding.specs.Holding.{Holds, OthersAreFound}
+use Rattle.r10_machine.specs.Config.{Config}
+use Rattle.r10_machine.specs.Machine.{File, Lane, Machine, saturated}
+use Rattle.r10_steps.specs.Calls.{own_entries}
+use Rattle.r10_steps.specs.Says.{MediumSays}
+use Rattle.r10_steps.specs.Sound.{IsSound}
+use Rattle.r10_steps.specs.Step.{Step}
+use Rattle.r10_steps.specs.declared.event.Event.{Event as Asked}
+use Rattle.r10_steps.specs.declared.reply.Reply.{Reply as Answered}
+use Rattle.r10_means.specs.Kept.{Kept, Work, mode_of, unmounted, idle, recording, failed}
+
+-- the files are those that the medium says; of one in use, by its directory, with the file that is written
+abbrev pub HasFiles : Config → Work → Image → List File → Type 0
+HasFiles s unmounted image files = MediumSays s image files × OthersAreFound image files
+HasFiles s (idle chain) image files = Holds s image chain None files
+HasFiles s (recording chain file) image files = Holds s image chain (Some file) files
+HasFiles s failed image files = MediumSays s image files
+
+-- a channel's lane: of its entries so many were taken in, and erases took so many
+pub record IsCounted (files : List File) (spec : ChannelSpec) (taken erased : ℕ) (lane : Lane) : Type 0 where
+  pub spec_is : lane.spec ≡ spec
+  pub erased_is : lane.erased ≡ erased
+  pub taken_is : taken ≡ saturated (erased + length (own_entries spec.id files))
+
+abbrev pub AreCounted : List File → List ChannelSpec → List ℕ → List ℕ → List Lane → Type 0
+AreCounted files [] [] [] [] = Unit {0}
+AreCounted files (spec ∷ specs) (t ∷ taken) (e ∷ erased) (lane ∷ lanes) = IsCounted files spec t e lane × AreCounted files specs taken erased lanes
+AreCounted files specs taken erased lanes = ⊥
+
+-- the numbers are the machine's; of a recorder that failed they are told to nobody
+abbrev pub NumbersAre : Kept → Machine → Type 0
+NumbersAre k m = elim k.work [
+  | failed ↦ Unit {0}
+  | _ ↦ (m.last_event ≡ k.last_event) × (m.generation ≡ k.generation) × AreCounted m.files k.config.channels k.taken k.erased m.lanes
+]
+
+-- what is kept, over a medium that reads as an image and has failed so often, stands for this machine, whatever waits in its lanes
+pub record Means (k : Kept) (image : Image) (failures : ℕ) (m : Machine) : Type 0 where
+  pub mode : m.mode ≡ mode_of k.work
+  pub tick : m.tick ≡ k.tick
+  pub counted : m.failures ≡ failures
+  pub files : HasFiles k.config k.work image m.files
+  pub numbers : NumbersAre k m
+  pub sound : IsSound k.config m
+
+-- the step leads to a machine that is meant then
+pub record Leads (k : Kept) (m : Machine) (event : Asked) (reply : Answered) (later : Kept) (image : Image) (failures : ℕ) : Type 0 where
+  pub machine : Machine
+  pub step : Step k.config m event reply machine
+  pub means : Means later image failures machine

@@ -1,0 +1,84 @@
+//! Calls that are steps of the machine, as calls that do nothing.
+
+ghost use Rattle.std.specs.Prelude.{◌≡◌, ◌≤◌, ◌+◌, ℕ, List, [], None, Some, true};
+ghost use Rattle.r10_count.specs.declared.civil.Parts.{Parts};
+ghost use Rattle.r10_medium.specs.Disk.{Image, Rose};
+ghost use Rattle.r10_body.specs.declared.refusal.Refusal.{Refusal as Refused};
+ghost use Rattle.r10_body.specs.declared.refusal.Refusal.TheVariants as refusals;
+ghost use Rattle.r10_dirchain.specs.declared.chain.ChainBlock.{ChainBlock};
+ghost use Rattle.r10_holding.specs.Holding.{Holds, OthersAreFound};
+ghost use Rattle.r10_machine.specs.Limits.{IsConfig};
+ghost use Rattle.r10_machine.specs.Config.{Config};
+ghost use Rattle.r10_machine.specs.Machine.{Lane, Machine};
+ghost use Rattle.r10_machine.specs.declared.reply.Mode.TheVariants as modes;
+ghost use Rattle.r10_steps.specs.Checks.{refusal};
+ghost use Rattle.r10_steps.specs.Says.{MediumSays};
+ghost use Rattle.r10_steps.specs.Step.{FailsIn, LanesAfter, after_refusal, asks_memory, has_room, uses_medium};
+ghost use Rattle.r10_steps.specs.declared.event.Event.{Event as Asked};
+ghost use Rattle.r10_steps.specs.declared.event.Event.TheVariants as events;
+ghost use Rattle.r10_steps.specs.declared.reply.Reply.TheVariants as replies;
+ghost use Rattle.r10_means.specs.Kept.{Kept, unmounted, idle, failed};
+ghost use Rattle.r10_means.specs.Means.{Leads, Means};
+
+use r10_steps::a_step_stays_sound;
+
+/// A call that a check refuses leaves what is kept and the medium's files; an offer to a full lane is told
+/// elsewhere.
+pub fn refusals_are_steps()
+    ensures { (k : Kept) (old new : Image) (n later : ℕ) (m : Machine) (event : Asked) (r : Refused) → IsConfig k.config → Means k old n m → new ≡ old → n ≤ later
+        → refusal k.config m event ≡ Some r → ((same : Machine) → after_refusal event same ≡ same) → Leads k m event (replies.Refused r) k new later }
+{
+    a_step_stays_sound();
+}
+
+/// Where memory is refused to a call that has room, all stays.
+pub fn lacks_of_memory_are_steps()
+    ensures { (k : Kept) (old new : Image) (n later : ℕ) (m : Machine) (event : Asked) → IsConfig k.config → Means k old n m → new ≡ old → n ≤ later
+        → refusal k.config m event ≡ None → asks_memory event ≡ true → has_room k.config m event ≡ true → Leads k m event (replies.Refused refusals.OutOfMemory) k new later }
+{
+    a_step_stays_sound();
+}
+
+/// A mount leads to a recorder that has the directory in use.
+pub fn mounts_are_steps()
+    ensures { (k : Kept) (old new : Image) (n later : ℕ) (m : Machine) (chain : List ChainBlock) → IsConfig k.config → Means k old n m → k.work ≡ unmounted → Holds k.config new chain None m.files → n ≤ later
+        → Leads k m events.Mount replies.Done (record k { work = idle chain }) new later }
+{
+    a_step_stays_sound();
+}
+
+/// A dismount leads to one that has none.
+pub fn dismounts_are_steps()
+    ensures { (k : Kept) (old new : Image) (n later : ℕ) (m : Machine) (chain : List ChainBlock) → IsConfig k.config → Means k old n m → k.work ≡ idle chain
+        → MediumSays k.config new m.files → OthersAreFound new m.files → n ≤ later
+        → Leads k m events.Dismount replies.Done (record k { work = unmounted }) new later }
+{
+    a_step_stays_sound();
+}
+
+/// Where the medium fails in a call, the recorder failed: of the files the medium says those from before or
+/// those that the call makes, and so does the machine that the failure leaves.
+pub fn failures_are_steps()
+    ensures step { (k : Kept) (old new : Image) (n later : ℕ) (m failed_so : Machine) (event : Asked) → IsConfig k.config → Means k old n m → n ≤ later → Rose n later
+        → refusal k.config m event ≡ None → uses_medium event ≡ true → has_room k.config m event ≡ true → FailsIn k.config (record m { failures = later }) event failed_so
+        → failed_so.tick ≡ k.tick → failed_so.failures ≡ later → MediumSays k.config new failed_so.files → Leads k m event (replies.Refused refusals.Medium) (record k { work = failed }) new later }
+    ensures before { (s : Config) (m : Machine) (event : Asked) (lanes : List Lane) → LanesAfter event m.lanes m.lanes lanes → FailsIn s m event (record m { mode = modes.Failed; lanes = lanes }) }
+{
+    a_step_stays_sound();
+}
+
+/// An erase leads to a recorder without files, of the next generation; what was taken in is erased.
+pub fn erases_are_steps()
+    ensures { (k : Kept) (old new : Image) (n later : ℕ) (m : Machine) (chain made : List ChainBlock) → IsConfig k.config → Means k old n m → k.work ≡ idle chain → refusal k.config m events.Erase ≡ None
+        → Holds k.config new made None [] → n ≤ later → Leads k m events.Erase replies.Done (record k { work = idle made; generation = k.generation + 1; erased = k.taken }) new later }
+{
+    a_step_stays_sound();
+}
+
+/// A tick sets the clock; while no file is recorded, it does nothing else.
+pub fn idle_ticks_are_steps()
+    ensures { (k : Kept) (old new : Image) (n later : ℕ) (m : Machine) (chain : List ChainBlock) (count : ℕ) (parts : Parts) → IsConfig k.config → Means k old n m → k.work ≡ idle chain
+        → refusal k.config m (events.Tick count parts) ≡ None → new ≡ old → n ≤ later → Leads k m (events.Tick count parts) replies.Done (record k { tick = Some (record { count = count; civil = parts }) }) new later }
+{
+    a_step_stays_sound();
+}

@@ -1,0 +1,10 @@
+//! Which machines a recorder stands for, and the steps between them: where a call does to the files what it does, and to
+//! what is kept, the machine takes its step.
+#![tactic(auto)]
+
+mod laws;
+
+pub use laws::{
+    dismounts_are_steps, erases_are_steps, failures_are_steps, idle_ticks_are_steps,
+    lacks_of_memory_are_steps, mounts_are_steps, refusals_are_steps,
+};
