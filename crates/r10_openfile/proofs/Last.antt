@@ -1,0 +1,25 @@
+-- The last of a list, as a search comes to it.
+use Rattle.std.proofs.Common.{◌≡◌, ℕ, suc, ◌+◌, ◌-◌, ◌<◌, List, [], ◌∷◌, ◌++◌, length, drop, get_or, Option, Some, refl, sym, ap, ◌∙◌, arith}
+use Rattle.std.specs.List.{last_or, slice_get}
+use Rattle.std.proofs.lemmas.List.{drop_more}
+use Rattle.r10_dirblock.specs.declared.entry.Entry.{Entry}
+use Rattle.r10_dirchain.specs.Chain.{files}
+use Rattle.r10_dirchain.specs.declared.chain.ChainBlock.{ChainBlock}
+
+pub last_some : (o : Option Entry) (ys : List Entry) (e : Entry) → Some e ≡ slice_get ys (length ys - 1) → Some e ≡ last_or o ys
+last_some o [] e is = absurd (cc)
+last_some o (x ∷ []) e is = is
+last_some o (x ∷ y ∷ ys) e is = last_some (Some x) (y ∷ ys) e (is ∙ ap (slice_get (x ∷ y ∷ ys)) (one_more x y ys))
+  where
+    one_more : (x y : Entry) (ys : List Entry) → length (x ∷ y ∷ ys) - 1 ≡ suc (length (y ∷ ys) - 1)
+    one_more x y ys = omega arith
+
+last_append : (o : Option Entry) (xs ys : List Entry) → last_or o (xs ++ ys) ≡ last_or (last_or o xs) ys
+last_append o [] ys = refl
+last_append o (x ∷ xs) ys = last_append (Some x) xs ys
+
+pub last_left : (o : Option Entry) (chain : List ChainBlock) (i : ℕ) (b : ChainBlock) → i < length chain → b ≡ get_or chain i b → last_or (last_or o b.block.entries) (files (drop (i + 1) chain)) ≡ last_or o (files (drop i chain))
+last_left o chain i b lt is =
+    ap (λ (c : ChainBlock). last_or (last_or o c.block.entries) (files (drop (i + 1) chain))) is
+    ∙ sym (last_append o (get_or chain i b).block.entries (files (drop (i + 1) chain)))
+    ∙ sym (ap (λ (l : List ChainBlock). last_or o (files l)) (drop_more chain i b lt))

@@ -1,0 +1,10 @@
+mod Behind
+mod Moments
+mod Turning
+mod Found
+mod Written
+mod Last
+mod Shown
+mod Grown
+mod Coming
+mod Going
