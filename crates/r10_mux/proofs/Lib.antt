@@ -1,3 +1,4 @@
 pub mod Writing
 pub mod Putting
 mod Ours
+mod Beginning

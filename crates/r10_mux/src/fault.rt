@@ -1,7 +1,17 @@
 //! What keeps an entry out of a file.
 
 use r10_body::Sample;
+use r10_builders::Builders;
 use r10_medium::MediumFault;
+
+/// Why a file was not begun.
+#[derive(Debug, Drop)]
+pub enum BeginFault {
+    /// There is no memory for it. The builders come back, and nothing has changed.
+    Memory(Builders),
+    /// The medium failed.
+    Medium(MediumFault),
+}
 
 /// Why a sample was not taken in.
 #[derive(Debug, Drop)]

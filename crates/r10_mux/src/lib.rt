@@ -2,6 +2,7 @@
 //! it carries those that are taken in too, in packets on the medium or in its channels' builders.
 #![tactic(auto)]
 
+mod begin;
 mod event;
 mod fault;
 mod mux;
@@ -9,5 +10,5 @@ mod own;
 mod put;
 mod tick;
 
-pub use fault::{EventFault, Full, TakeFault};
+pub use fault::{BeginFault, EventFault, Full, TakeFault};
 pub use mux::Mux;
