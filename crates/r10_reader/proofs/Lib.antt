@@ -4,4 +4,6 @@ mod Fronts
 mod Keeping
 mod Reading
 mod Said
+mod Staying
 mod Times
+mod Writing

@@ -1,26 +1,31 @@
 //! What is known of files, as calls that do nothing.
 
-ghost use Rattle.std.specs.Prelude.{◌≡◌, ◌≤◌, ◌<◌, ℕ, Option, Some, List, [], length, slice_get, IfSome};
+ghost use Rattle.std.specs.Prelude.{◌≡◌, ◌+◌, ◌^◌, ◌≤◌, ◌<◌, ℕ, Option, None, Some, List, [], length, slice_get, IfSome, All};
 ghost use Rattle.std.specs.List.{AllByRecursion};
-ghost use Rattle.r10_medium.specs.Disk.{Image};
+ghost use Rattle.r10_count.specs.Checks.{first_broken};
+ghost use Rattle.r10_medium.specs.Disk.{Image, IsWhole};
+ghost use Rattle.r10_medium.specs.Stop.{SameBelow};
 ghost use Rattle.r10_dirblock.specs.Block.{is_closed};
 ghost use Rattle.r10_dirblock.specs.declared.entry.Entry.{Entry as Listed};
 ghost use Rattle.r10_dirchain.specs.Chain.{IsDirectory, files};
+ghost use Rattle.r10_dirchain.specs.Mount.{blocks_in, mount_rules};
+ghost use Rattle.r10_dirchain.specs.OnMedium.{SameButIn};
 ghost use Rattle.r10_dirchain.specs.declared.chain.ChainBlock.{ChainBlock};
 ghost use Rattle.r10_body.specs.Faults.{IsAtFault};
 ghost use Rattle.r10_body.specs.Packets.{Packet, file_entries};
 ghost use Rattle.r10_body.specs.Rules.{EachFollows};
 ghost use Rattle.r10_body.specs.declared.fault.FileFault.{FileFault};
 ghost use Rattle.r10_cuts.specs.Cuts.{Agree};
+ghost use Rattle.r10_holding.specs.Holding.{IsWritten, Open};
 ghost use Rattle.r10_machine.specs.Config.{Config};
 ghost use Rattle.r10_machine.specs.Machine.{File, shown_entries};
 ghost use Rattle.r10_replay.specs.Shown.{IsShown};
 ghost use Rattle.r10_steps.specs.Says.{IsFound, MediumSays};
 ghost use Rattle.r10_steps.specs.Sound.{IsEntry};
 ghost use Rattle.r10_reader.specs.Files.{bytes_in, finished};
-ghost use Rattle.r10_reader.specs.Held.{IsHeld};
+ghost use Rattle.r10_reader.specs.Held.{IsHeld, IsToldOf};
 ghost use Rattle.r10_reader.specs.Knowing.{IsWriting, Knows};
-ghost use Rattle.r10_reader.specs.Staying.{Stay};
+ghost use Rattle.r10_reader.specs.Staying.{KeepListed, Stay};
 ghost use Rattle.r10_reader.specs.declared.books.Books.{Books};
 ghost use Rattle.r10_reader.specs.declared.written.Written.{Written};
 
@@ -30,6 +35,21 @@ pub fn what_is_known_stays()
     ensures none { (image : Image) (chain : List ChainBlock) (written : Option Written) (books : Books) → books.kept.items ≡ [] → IsWriting image written → Knows image chain written books }
     ensures stays { (old : Image) (new : Image) (chain : List ChainBlock) (made : List ChainBlock) (written : Option Written) (now : Option Written) (books : Books)
         → Knows old chain written books → Stay old new (finished written (files chain)) (finished now (files made)) → IsWriting new now → Knows new made now books }
+{}
+
+/// The files of a directory that a recorder takes into use keep their bytes, where no block below the one behind them changes, or none
+/// but the reserved ones.
+pub fn listed_files_keep_their_bytes()
+    ensures below { (reserved : ℕ) (old : Image) (new : Image) (chain : List ChainBlock) (written : Option Written) (n : ℕ) (kept : ℕ) → IsWhole old → first_broken (mount_rules reserved (length old) chain) ≡ None
+        → SameBelow n kept old new → reserved + 1 + blocks_in (finished written (files chain)) ≤ n → KeepListed old new (finished written (files chain)) }
+    ensures directory { (reserved : ℕ) (old : Image) (new : Image) (chain : List ChainBlock) (written : Option Written) (numbers : List ℕ) → IsWhole old → first_broken (mount_rules reserved (length old) chain) ≡ None
+        → SameButIn numbers old new → All (λ k. k ≤ reserved) numbers → KeepListed old new (finished written (files chain)) }
+{}
+
+/// Of the file that a recorder holds as the one that is written, the packets are shown of which it tells, and they are the machine's.
+pub fn what_is_written_is_shown()
+    ensures writing { (s : Config) (image : Image) (o : Open) (f : File) (w : Written) → IsWritten s image o f → IsToldOf o w → IsWhole image → length image ≤ 2 ^ 53 → IsWriting image (Some w) }
+    ensures held { (s : Config) (image : Image) (chain : List ChainBlock) (o : Open) (f : File) (w : Written) → IsWritten s image o f → IsToldOf o w → AllByRecursion (IsEntry s) f.entries → IsHeld image chain (Some w) w.file f }
 {}
 
 /// What a medium says of a file that isn't being written is read: the file isn't at fault, and its packets say on each channel what the file

@@ -12,7 +12,10 @@ mod refusal;
 mod written;
 
 pub use cursor::Cursor;
-pub use laws::{files_that_are_said, what_is_known_stays};
+pub use laws::{
+    files_that_are_said, listed_files_keep_their_bytes, what_is_known_stays,
+    what_is_written_is_shown,
+};
 pub use listing::entry_at;
 pub use reader::Reader;
 pub use refusal::ReadRefusal;

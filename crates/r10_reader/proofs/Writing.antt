@@ -1,0 +1,49 @@
+-- The packets that are shown of the file that is written.
+use Rattle.std.proofs.Common.{◌≡◌, ℕ, zero, suc, ◌+◌, ◌^◌, ◌≤◌, List, [], ◌∷◌, length, take, drop, Some, refl, sym, ap, subst, ◌∙◌, arith}
+use Rattle.std.specs.List.{AllByRecursion}
+use Rattle.std.proofs.lemmas.List.{take-append-drop}
+use Rattle.r10_medium.specs.Disk.{Image, IsWhole}
+use Rattle.r10_blockout.specs.Blocks.{Shows}
+use Rattle.r10_blockout.proofs.Showing.{shown_length}
+use Rattle.r10_indexbody.specs.declared.entry.NodeEntry.{NodeEntry}
+use Rattle.r10_body.specs.Packets.{Packet, packet_bytes, file_bytes, file_entries}
+use Rattle.r10_body.specs.Rules.{EachFollows, node_entry, node_entries}
+use Rattle.r10_cuts.specs.Cuts.{Agree}
+use Rattle.r10_dirchain.specs.declared.chain.ChainBlock.{ChainBlock}
+use Rattle.r10_holding.specs.Holding.{IsWritten, Open}
+use Rattle.r10_machine.specs.Config.{Config}
+use Rattle.r10_machine.specs.Machine.{File, shown_entries}
+use Rattle.r10_replay.specs.Shown.{IsShown}
+use Rattle.r10_steps.specs.Sound.{IsEntry}
+use Rattle.r10_reader.specs.Held.{IsHeld, IsToldOf}
+use Rattle.r10_reader.specs.Knowing.{IsWriting}
+use Rattle.r10_reader.specs.declared.written.Written.{Written}
+use Rattle.r10_reader.proofs.Fronts.{follows_front}
+use Rattle.r10_reader.proofs.Said.{written_held}
+
+named_first : (n offset : ℕ) (packets : List Packet) → take n (node_entries offset packets) ≡ node_entries offset (take n packets)
+named_first zero offset packets = refl
+named_first (suc n) offset [] = refl
+named_first (suc n) offset (p ∷ packets) = ap (λ (es : List NodeEntry). node_entry offset p ∷ es) (named_first n (offset + length (packet_bytes p)) packets)
+
+shown : (s : Config) (image : Image) (o : Open) (f : File) (w : Written) (is : IsWritten s image o f) → IsToldOf o w → IsShown image w.first w.named.now (take o.shown is.carries.packets)
+shown s image o f w is told =
+    let packets = is.carries.packets in
+    let front = take o.shown packets in
+    let first : f.first_block ≡ w.first = sym (told.first ∙ is.first) in
+    record {
+      shows = subst (λ (n : ℕ). Shows image n (file_bytes front)) first is.stands;
+      each = follows_front [] front (drop o.shown packets) (subst (EachFollows []) (sym (take-append-drop o.shown packets)) is.carries.says.packed.growing.each);
+      named_as = told.named ∙ ap (take o.shown) is.carries.has.named ∙ named_first o.shown 0 packets;
+    }
+
+pub is_writing : (s : Config) (image : Image) (o : Open) (f : File) (w : Written) → IsWritten s image o f → IsToldOf o w → IsWhole image → length image ≤ 2 ^ 53 → IsWriting image (Some w)
+is_writing s image o f w is told whole few =
+    let front = take o.shown is.carries.packets in
+    (front, shown s image o f w is told, omega (arith, shown_length image f.first_block (file_bytes front) whole is.stands, few))
+
+pub is_held : (s : Config) (image : Image) (chain : List ChainBlock) (o : Open) (f : File) (w : Written) → IsWritten s image o f → IsToldOf o w → AllByRecursion (IsEntry s) f.entries → IsHeld image chain (Some w) w.file f
+is_held s image chain o f w is told entries =
+    let packets = is.carries.packets in
+    let agree : Agree (file_entries (take o.shown packets)) (shown_entries f) = subst (λ (n : ℕ). Agree (file_entries (take n packets)) (shown_entries f)) is.shown is.cut.agree in
+    written_held s image chain w (take o.shown packets) f (shown s image o f w is told) agree is.cut.inside entries
