@@ -55,11 +55,11 @@ all_fit room spent (x ∷ xs) = by (nat_le (spent + entry_cost x) room) refl (al
     by true is rest = rw is (omega (arith, rest))
     by false is rest = rw is (omega arith)
 
-take_front : {X : Type 0} (xs ys : List X) → take (length xs) (xs ++ ys) ≡ xs
+pub take_front : {X : Type 0} (xs ys : List X) → take (length xs) (xs ++ ys) ≡ xs
 take_front [] ys = refl
 take_front (x ∷ xs) ys = ap (λ (l : List _). x ∷ l) (take_front xs ys)
 
-drop_front : {X : Type 0} (xs ys : List X) → drop (length xs) (xs ++ ys) ≡ ys
+pub drop_front : {X : Type 0} (xs ys : List X) → drop (length xs) (xs ++ ys) ≡ ys
 drop_front [] ys = refl
 drop_front (x ∷ xs) ys = drop_front xs ys
 
@@ -87,7 +87,7 @@ takes_in s f front back cost is room why = record { within = within front is roo
 -- ---- of a lane
 
 -- of the first that wait, at most so many, these are the front
-asked : (channel most : ℕ) (xs ys : List Sample) → length xs ≤ most → take most (map (entry_on channel) (xs ++ ys)) ≡ entries_on channel xs ++ take (most - length xs) (entries_on channel ys)
+pub asked : (channel most : ℕ) (xs ys : List Sample) → length xs ≤ most → take most (map (entry_on channel) (xs ++ ys)) ≡ entries_on channel xs ++ take (most - length xs) (entries_on channel ys)
 asked channel most [] ys le = ap (λ (n : ℕ). take n (entries_on channel ys)) (omega arith)
 asked channel zero (x ∷ xs) ys le = absurd (omega (arith, le))
 asked channel (suc most) (x ∷ xs) ys le =
@@ -95,7 +95,7 @@ asked channel (suc most) (x ∷ xs) ys le =
     rw same (ap (λ (es : List Entry). entry_on channel x ∷ es) (asked channel most xs ys (omega (arith, le))))
 
 -- why it ended, in the machine's words
-why_ended : (s : Config) (f : File) (r : Recording) (channel most n : ℕ) (front : List Entry) (rest : List Sample) (ended : Option Full) → packets_of r ≤ 1 + length (f.entries ++ front)
+pub why_ended : (s : Config) (f : File) (r : Recording) (channel most n : ℕ) (front : List Entry) (rest : List Sample) (ended : Option Full) → packets_of r ≤ 1 + length (f.entries ++ front)
     → n ≤ most → Ends r channel s.nodes (area s f) most n rest ended
     → (take (most - n) (entries_on channel rest) ≡ []) ⊎ IsSomeAnd (slice_get (take (most - n) (entries_on channel rest)) 0) (λ e. (area s f < r.cost + entry_cost e) ⊎ (100 * s.nodes ≤ 1 + length (f.entries ++ front)))
 why_ended s f r channel most n front rest None few le ends = inl (none (most - n) refl rest ends)

@@ -1,2 +1,3 @@
 pub mod Pumping
 pub mod Machines
+pub mod Stopping

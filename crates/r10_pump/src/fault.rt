@@ -29,3 +29,12 @@ pub(crate) struct Moved {
     pub number: usize,
     pub full: Option<Full>,
 }
+
+/// How many samples of a channel were moved and how many are left, and what the next one has no room in,
+/// where that ended it.
+#[derive(Clone, Copy, Debug, PartialEq, Eq)]
+pub(crate) struct Share {
+    pub number: usize,
+    pub left: usize,
+    pub full: Option<Full>,
+}

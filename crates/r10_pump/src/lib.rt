@@ -6,7 +6,9 @@ mod fault;
 mod laws;
 mod moving;
 mod single;
+mod stop;
 
 pub use fault::PumpStop;
 pub use laws::{failed_pumps_take_few, full_pumps_are_refused, pumps_are_steps, pumps_end_alike};
 pub use single::{pump, ready_pump};
+pub use stop::{pump_all, ready_all};
