@@ -80,7 +80,7 @@ same_room s m n (CountAt file parts) = refl
 
 -- ---- where nothing changes
 
-no_fewer : (k : Kept) (old : Image) (before now : ℕ) (m : Machine) → Means k old before m → before ≤ now → m.failures ≤ now
+pub no_fewer : (k : Kept) (old : Image) (before now : ℕ) (m : Machine) → Means k old before m → before ≤ now → m.failures ≤ now
 no_fewer k old before now m means more = omega (arith, means.counted, more)
 
 still_means : (k : Kept) (old new : Image) (before now : ℕ) (m : Machine) → Means k old before m → new ≡ old → IsSound k.config (failing now m) → Means k new now (failing now m)
@@ -116,7 +116,7 @@ lacks_memory law k old new before now m event limits means same more fine asks r
 
 -- ---- mounts
 
-numbers_at : (k : Kept) (w : Work) (m : Machine) → k.work ≡ w → NumbersAre k m → NumbersAre (record k { work = w }) m
+pub numbers_at : (k : Kept) (w : Work) (m : Machine) → k.work ≡ w → NumbersAre k m → NumbersAre (record k { work = w }) m
 numbers_at k w m is numbers = subst (λ (v : Work). NumbersAre (record k { work = v }) m) is numbers
 
 may_mount : (mode : Mode) → mode ≡ modes.Unmounted → first_broken (unmounted_checks mode) ≡ None

@@ -1,15 +1,16 @@
 //! Calls that are steps of the machine, as calls that do nothing.
 
-ghost use Rattle.std.specs.Prelude.{◌≡◌, ◌≤◌, ◌+◌, ℕ, List, [], None, Some, true};
+ghost use Rattle.std.specs.Prelude.{◌≡◌, ◌≤◌, ◌+◌, ◌++◌, ◌∷◌, ℕ, List, [], None, Some, true};
 ghost use Rattle.r10_count.specs.declared.civil.Parts.{Parts};
 ghost use Rattle.r10_medium.specs.Disk.{Image, Rose};
 ghost use Rattle.r10_body.specs.declared.refusal.Refusal.{Refusal as Refused};
 ghost use Rattle.r10_body.specs.declared.refusal.Refusal.TheVariants as refusals;
 ghost use Rattle.r10_dirchain.specs.declared.chain.ChainBlock.{ChainBlock};
-ghost use Rattle.r10_holding.specs.Holding.{Holds, OthersAreFound};
+ghost use Rattle.r10_holding.specs.Holding.{Holds, Open, OthersAreFound};
 ghost use Rattle.r10_machine.specs.Limits.{IsConfig};
 ghost use Rattle.r10_machine.specs.Config.{Config};
-ghost use Rattle.r10_machine.specs.Machine.{Lane, Machine};
+ghost use Rattle.r10_machine.specs.Machine.{File, Lane, Machine};
+ghost use Rattle.r10_machine.specs.Calls.{shown_whole};
 ghost use Rattle.r10_machine.specs.declared.reply.Mode.TheVariants as modes;
 ghost use Rattle.r10_steps.specs.Checks.{refusal};
 ghost use Rattle.r10_steps.specs.Says.{MediumSays};
@@ -17,7 +18,7 @@ ghost use Rattle.r10_steps.specs.Step.{FailsIn, LanesAfter, after_refusal, asks_
 ghost use Rattle.r10_steps.specs.declared.event.Event.{Event as Asked};
 ghost use Rattle.r10_steps.specs.declared.event.Event.TheVariants as events;
 ghost use Rattle.r10_steps.specs.declared.reply.Reply.TheVariants as replies;
-ghost use Rattle.r10_means.specs.Kept.{Kept, unmounted, idle, failed};
+ghost use Rattle.r10_means.specs.Kept.{Kept, unmounted, idle, recording, failed};
 ghost use Rattle.r10_means.specs.Means.{Leads, Means};
 
 use r10_steps::a_step_stays_sound;
@@ -79,6 +80,15 @@ pub fn erases_are_steps()
 pub fn idle_ticks_are_steps()
     ensures { (k : Kept) (old new : Image) (n later : ℕ) (m : Machine) (chain : List ChainBlock) (count : ℕ) (parts : Parts) → IsConfig k.config → Means k old n m → k.work ≡ idle chain
         → refusal k.config m (events.Tick count parts) ≡ None → new ≡ old → n ≤ later → Leads k m (events.Tick count parts) replies.Done (record k { tick = Some (record { count = count; civil = parts }) }) new later }
+{
+    a_step_stays_sound();
+}
+
+/// A commit leads to a recorder whose open file shows all that it has.
+pub fn commits_are_steps()
+    ensures { (k : Kept) (old new : Image) (n later : ℕ) (m : Machine) (chain made : List ChainBlock) (file shown : Open) (files : List File) (f : File) (size : ℕ) → IsConfig k.config → Means k old n m → k.work ≡ recording chain file
+        → m.files ≡ files ++ f ∷ [] → Holds k.config new made (Some shown) (files ++ shown_whole size f ∷ []) → n ≤ later
+        → Leads k m events.Commit replies.Done (record k { work = recording made shown }) new later }
 {
     a_step_stays_sound();
 }
