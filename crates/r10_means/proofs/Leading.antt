@@ -33,7 +33,7 @@ StepsStaySound = (s : Config) (old : Machine) (event : Asked) (reply : Answered)
 
 -- ---- failures that are counted change no check
 
-abbrev failing : ℕ → Machine → Machine
+abbrev pub failing : ℕ → Machine → Machine
 failing n m = record m { failures = n }
 
 same_refusal : (s : Config) (m : Machine) (n : ℕ) (event : Asked) → refusal s (failing n m) event ≡ refusal s m event

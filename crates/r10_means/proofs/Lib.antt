@@ -1,2 +1,3 @@
 mod Leading
 mod Lasting
+mod Growing

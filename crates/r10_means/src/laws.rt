@@ -9,15 +9,18 @@ ghost use Rattle.r10_dirchain.specs.declared.chain.ChainBlock.{ChainBlock};
 ghost use Rattle.r10_holding.specs.Holding.{Holds, Open, OthersAreFound};
 ghost use Rattle.r10_machine.specs.Limits.{IsConfig};
 ghost use Rattle.r10_machine.specs.Config.{Config};
-ghost use Rattle.r10_machine.specs.Machine.{File, Lane, Machine};
-ghost use Rattle.r10_machine.specs.Calls.{shown_whole};
+ghost use Rattle.r10_machine.specs.Machine.{File, Lane, Machine, Tick as Clock, with_entries};
+ghost use Rattle.r10_machine.specs.Calls.{empty_file, shown_whole, time_entry};
+ghost use Rattle.r10_machine.specs.Room.{fits};
 ghost use Rattle.r10_machine.specs.declared.reply.Mode.TheVariants as modes;
+ghost use Rattle.r10_steps.specs.Calls.{event_entry};
 ghost use Rattle.r10_steps.specs.Checks.{refusal};
 ghost use Rattle.r10_steps.specs.Says.{MediumSays};
 ghost use Rattle.r10_steps.specs.Step.{FailsIn, LanesAfter, after_refusal, asks_memory, has_room, uses_medium};
 ghost use Rattle.r10_steps.specs.declared.event.Event.{Event as Asked};
 ghost use Rattle.r10_steps.specs.declared.event.Event.TheVariants as events;
 ghost use Rattle.r10_steps.specs.declared.reply.Reply.TheVariants as replies;
+ghost use Rattle.r10_means.specs.Grown.{AreGrown};
 ghost use Rattle.r10_means.specs.Kept.{Kept, unmounted, idle, recording, failed};
 ghost use Rattle.r10_means.specs.Means.{Leads, Means};
 
@@ -89,6 +92,38 @@ pub fn commits_are_steps()
     ensures { (k : Kept) (old new : Image) (n later : ℕ) (m : Machine) (chain made : List ChainBlock) (file shown : Open) (files : List File) (f : File) (size : ℕ) → IsConfig k.config → Means k old n m → k.work ≡ recording chain file
         → m.files ≡ files ++ f ∷ [] → Holds k.config new made (Some shown) (files ++ shown_whole size f ∷ []) → n ≤ later
         → Leads k m events.Commit replies.Done (record k { work = recording made shown }) new later }
+{
+    a_step_stays_sound();
+}
+
+/// A tick while a file is recorded: the file takes in the time.
+pub fn ticks_are_steps()
+    ensures { (k : Kept) (old new : Image) (n later : ℕ) (m : Machine) (chain : List ChainBlock) (file after : Open) (files : List File) (f : File) (count : ℕ) (parts : Parts) (grown : List ℕ) → IsConfig k.config → Means k old n m
+        → k.work ≡ recording chain file → m.files ≡ files ++ f ∷ [] → f.own ≡ true → refusal k.config m (events.Tick count parts) ≡ None → fits k.config f (time_entry k.config (record { count = count; civil = parts })) ≡ true
+        → AreGrown (time_entry k.config (record { count = count; civil = parts }) ∷ []) k.config.channels k.taken grown
+        → Holds k.config new chain (Some after) (files ++ with_entries (time_entry k.config (record { count = count; civil = parts }) ∷ []) f ∷ []) → n ≤ later
+        → Leads k m (events.Tick count parts) replies.Done (record k { work = recording chain after; tick = Some (record { count = count; civil = parts }); taken = grown }) new later }
+{
+    a_step_stays_sound();
+}
+
+/// The file takes in an event.
+pub fn events_are_steps()
+    ensures { (k : Kept) (old new : Image) (n later : ℕ) (m : Machine) (chain : List ChainBlock) (file after : Open) (files : List File) (f : File) (number count : ℕ) (grown : List ℕ) → IsConfig k.config → Means k old n m
+        → k.work ≡ recording chain file → m.files ≡ files ++ f ∷ [] → f.own ≡ true → refusal k.config m (events.Event number count) ≡ None → fits k.config f (event_entry k.config number count f) ≡ true
+        → AreGrown (event_entry k.config number count f ∷ []) k.config.channels k.taken grown → Holds k.config new chain (Some after) (files ++ with_entries (event_entry k.config number count f ∷ []) f ∷ []) → n ≤ later
+        → Leads k m (events.Event number count) replies.Done (record k { work = recording chain after; last_event = Some count; taken = grown }) new later }
+{
+    a_step_stays_sound();
+}
+
+/// A start leads to a recorder that records a file, which shows the last tick's time.
+pub fn starts_are_steps()
+    ensures { (k : Kept) (old new : Image) (n later : ℕ) (m : Machine) (chain made : List ChainBlock) (file : Open) (clock : Clock) (name setup : List ℕ) (size : ℕ) (grown : List ℕ) → IsConfig k.config → Means k old n m
+        → k.work ≡ idle chain → k.tick ≡ Some clock → refusal k.config m (events.Start name setup) ≡ None → fits k.config (empty_file k.config m.files name setup) (time_entry k.config clock) ≡ true
+        → AreGrown (time_entry k.config clock ∷ []) k.config.channels k.taken grown
+        → Holds k.config new made (Some file) (m.files ++ shown_whole size (with_entries (time_entry k.config clock ∷ []) (empty_file k.config m.files name setup)) ∷ []) → n ≤ later
+        → Leads k m (events.Start name setup) replies.Done (record k { work = recording made file; taken = grown }) new later }
 {
     a_step_stays_sound();
 }
