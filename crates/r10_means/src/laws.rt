@@ -5,6 +5,7 @@ ghost use Rattle.r10_count.specs.declared.civil.Parts.{Parts};
 ghost use Rattle.r10_medium.specs.Disk.{Image, Rose};
 ghost use Rattle.r10_body.specs.declared.refusal.Refusal.{Refusal as Refused};
 ghost use Rattle.r10_body.specs.declared.refusal.Refusal.TheVariants as refusals;
+ghost use Rattle.r10_body.specs.declared.entry.Entry.{Entry};
 ghost use Rattle.r10_dirchain.specs.declared.chain.ChainBlock.{ChainBlock};
 ghost use Rattle.r10_holding.specs.Holding.{Holds, Open, OthersAreFound};
 ghost use Rattle.r10_machine.specs.Limits.{IsConfig};
@@ -22,7 +23,7 @@ ghost use Rattle.r10_steps.specs.declared.event.Event.TheVariants as events;
 ghost use Rattle.r10_steps.specs.declared.reply.Reply.TheVariants as replies;
 ghost use Rattle.r10_means.specs.Grown.{AreGrown};
 ghost use Rattle.r10_means.specs.Kept.{Kept, unmounted, idle, recording, failed};
-ghost use Rattle.r10_means.specs.Means.{Leads, Means};
+ghost use Rattle.r10_means.specs.Means.{AreCounted, Leads, Means};
 
 use r10_steps::a_step_stays_sound;
 
@@ -127,3 +128,9 @@ pub fn starts_are_steps()
 {
     a_step_stays_sound();
 }
+
+/// Times and events are on channels of their own: with one of them no channel's number grows.
+pub fn own_entries_count_for_none()
+    ensures times { (s : Config) (e : Entry) (files : List File) (taken erased : List ℕ) (lanes : List Lane) → IsConfig s → e.channel ≡ s.time → AreCounted files s.channels taken erased lanes → AreGrown (e ∷ []) s.channels taken taken }
+    ensures events { (s : Config) (e : Entry) (files : List File) (taken erased : List ℕ) (lanes : List Lane) → IsConfig s → e.channel ≡ s.event → AreCounted files s.channels taken erased lanes → AreGrown (e ∷ []) s.channels taken taken }
+{}
