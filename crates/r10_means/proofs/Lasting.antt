@@ -1,5 +1,6 @@
 -- The last file changes, and the channels' numbers with it.
 use Rattle.std.proofs.Common.{◌≡◌, ◌≤◌, ◌+◌, ℕ, Bool, true, false, cond, List, [], ◌∷◌, ◌++◌, length, Some, None, refl, sym, ap, ◌∙◌, subst}
+use Rattle.std.specs.Prelude.{IsSomeAnd}
 use Rattle.std.specs.List.{flat_map, last_or}
 use Rattle.r10_count.specs.Checks.{first_broken}
 use Rattle.r10_body.specs.Files.{on_channel}
@@ -12,17 +13,19 @@ use Rattle.r10_machine.specs.Calls.{shown_whole}
 use Rattle.r10_machine.specs.Checks.{idle_checks, recording_checks}
 use Rattle.r10_machine.specs.Limits.{IsConfig}
 use Rattle.r10_machine.specs.Machine.{File, Lane, Machine, change_last, last_size, saturated, with_last}
+use Rattle.r10_machine.specs.Room.{area, cost_of}
 use Rattle.r10_machine.specs.Sound.{own_files}
 use Rattle.r10_machine.specs.declared.reply.Mode.{Mode}
 use Rattle.r10_machine.specs.declared.reply.Mode.TheVariants as modes
 use Rattle.r10_machine.proofs.Growing.{append_last}
-use Rattle.r10_steps.specs.Calls.{own_entries}
+use Rattle.r10_steps.specs.Calls.{closed_in, own_entries}
+use Rattle.r10_steps.specs.Checks.{refusal}
 use Rattle.r10_steps.specs.Step.{Step}
-use Rattle.r10_steps.specs.declared.event.Event.TheVariants.{Commit}
+use Rattle.r10_steps.specs.declared.event.Event.TheVariants.{Commit, Seal}
 use Rattle.r10_steps.specs.declared.reply.Reply.TheVariants as replies
-use Rattle.r10_means.specs.Kept.{Kept, mode_of, recording}
+use Rattle.r10_means.specs.Kept.{Kept, mode_of, idle, recording}
 use Rattle.r10_means.specs.Means.{AreCounted, IsCounted, Leads, Means}
-use Rattle.r10_means.proofs.Leading.{StepsStaySound, no_fewer, numbers_at}
+use Rattle.r10_means.proofs.Leading.{StepsStaySound, failing, no_fewer, numbers_at}
 
 -- ---- lists
 
@@ -97,5 +100,43 @@ committed law k old new before now m chain made o later files f size limits mean
         files = holds;
         numbers = (numbers.0, numbers.1, numbers_stay files m.files f (shown_whole size f) refl refl is k.config.channels k.taken k.erased m.lanes numbers.2);
         sound = law k.config m Commit replies.Done done limits means.sound step;
+      };
+    }
+
+pub closed_numbers : (files : List File) (f g : File) → g.own ≡ f.own → g.entries ≡ f.entries → (specs : List ChannelSpec) (taken erased : List ℕ) (lanes : List Lane)
+    → AreCounted (files ++ f ∷ []) specs taken erased lanes → AreCounted (files ++ g ∷ []) specs taken erased lanes
+closed_numbers files f g own same specs taken erased lanes are = numbers_stay files (files ++ f ∷ []) f g own same refl specs taken erased lanes are
+
+-- ---- seals
+
+pub sealed : StepsStaySound → (k : Kept) (old new : Image) (before now : ℕ) (m : Machine) (chain made : List ChainBlock) (files : List File) (f : File) (size : ℕ)
+    → IsConfig k.config → Means k old before m → k.work ≡ idle chain → m.files ≡ files ++ f ∷ [] → refusal k.config m Seal ≡ None → cost_of f ≤ area k.config f
+    → Holds k.config new made None (files ++ closed_in size f ∷ []) → before ≤ now → Leads k m Seal replies.Done (record k { work = idle made }) new now
+sealed law k old new before now m chain made files f size limits means at is fine room holds more =
+    let shown : List File = files ++ closed_in size f ∷ [] in
+    let done : Machine = record m { files = shown; failures = now } in
+    let size_is : last_size done ≡ size = ap (λ g. elim g [ None ↦ 0 | Some x ↦ x.size ]) (append_last None files (closed_in size f)) in
+    let changed : shown ≡ change_last (closed_in (last_size done)) m.files =
+    sym (last_changes (closed_in size) files f) ∙ ap (λ n. change_last (closed_in n) (files ++ f ∷ [])) (sym size_is) ∙ ap (λ (l : List File). change_last (closed_in (last_size done)) l) (sym is) in
+    let last : last_or None m.files ≡ Some f = ap (λ (l : List File). last_or None l) is ∙ append_last None files f in
+    let step : Step k.config m Seal replies.Done done = (
+      no_fewer k old before now m means more,
+      (
+        fine,
+        subst (λ o. IsSomeAnd o (λ x. (cost_of x ≤ area k.config x) × (done ≡ with_last (closed_in (last_size done)) (failing now m)))) (sym last)
+            (room, ap (λ (l : List File). record m { files = l; failures = now }) changed),
+      ),
+    ) in
+    let numbers = numbers_at k (idle chain) m at means.numbers in
+    record {
+      machine = done;
+      step = step;
+      means = record {
+        mode = means.mode ∙ ap mode_of at;
+        tick = means.tick;
+        counted = refl;
+        files = holds;
+        numbers = (numbers.0, numbers.1, numbers_stay files m.files f (closed_in size f) refl refl is k.config.channels k.taken k.erased m.lanes numbers.2);
+        sound = law k.config m Seal replies.Done done limits means.sound step;
       };
     }

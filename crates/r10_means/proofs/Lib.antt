@@ -1,3 +1,4 @@
 mod Leading
 mod Lasting
 mod Growing
+mod Taking

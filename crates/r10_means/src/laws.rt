@@ -10,11 +10,12 @@ ghost use Rattle.r10_dirchain.specs.declared.chain.ChainBlock.{ChainBlock};
 ghost use Rattle.r10_holding.specs.Holding.{Holds, Open, OthersAreFound};
 ghost use Rattle.r10_machine.specs.Limits.{IsConfig};
 ghost use Rattle.r10_machine.specs.Config.{Config};
-ghost use Rattle.r10_machine.specs.Machine.{File, Lane, Machine, Tick as Clock, with_entries};
-ghost use Rattle.r10_machine.specs.Calls.{empty_file, shown_whole, time_entry};
-ghost use Rattle.r10_machine.specs.Room.{fits};
+ghost use Rattle.r10_machine.specs.Machine.{File, Lane, Machine, Tick as Clock, change_first, is_channel, with_entries};
+ghost use Rattle.r10_machine.specs.Calls.{Pumps, Stops, empty_file, lanes_without, shown_whole, time_entry, without};
+ghost use Rattle.r10_machine.specs.Room.{area, cost_of, fits};
 ghost use Rattle.r10_machine.specs.declared.reply.Mode.TheVariants as modes;
-ghost use Rattle.r10_steps.specs.Calls.{event_entry};
+ghost use Rattle.r10_machine.specs.declared.reply.Stopped.{Stopped as Said};
+ghost use Rattle.r10_steps.specs.Calls.{closed_in, event_entry};
 ghost use Rattle.r10_steps.specs.Checks.{refusal};
 ghost use Rattle.r10_steps.specs.Says.{MediumSays};
 ghost use Rattle.r10_steps.specs.Step.{FailsIn, LanesAfter, after_refusal, asks_memory, has_room, uses_medium};
@@ -134,3 +135,34 @@ pub fn own_entries_count_for_none()
     ensures times { (s : Config) (e : Entry) (files : List File) (taken erased : List ℕ) (lanes : List Lane) → IsConfig s → e.channel ≡ s.time → AreCounted files s.channels taken erased lanes → AreGrown (e ∷ []) s.channels taken taken }
     ensures events { (s : Config) (e : Entry) (files : List File) (taken erased : List ℕ) (lanes : List Lane) → IsConfig s → e.channel ≡ s.event → AreCounted files s.channels taken erased lanes → AreGrown (e ∷ []) s.channels taken taken }
 {}
+
+/// What a pump takes from a lane joins the file, and is counted.
+pub fn pumps_are_led()
+    ensures { (k : Kept) (old new : Image) (n later : ℕ) (m : Machine) (chain : List ChainBlock) (file after : Open) (files : List File) (f : File) (channel most moved : ℕ) (more : List Entry) (grown : List ℕ) → IsConfig k.config → Means k old n m
+        → k.work ≡ recording chain file → m.files ≡ files ++ f ∷ [] → f.own ≡ true → refusal k.config m (events.Pump channel most) ≡ None
+        → Pumps k.config (record m { failures = later }) channel most moved (record m { lanes = change_first (is_channel channel) (without moved) m.lanes; files = files ++ with_entries more f ∷ []; failures = later })
+        → AreGrown more k.config.channels k.taken grown → Holds k.config new chain (Some after) (files ++ with_entries more f ∷ []) → n ≤ later
+        → Leads k m (events.Pump channel most) (replies.Moved moved) (record k { work = recording chain after; taken = grown }) new later }
+{
+    a_step_stays_sound();
+}
+
+/// What a stop takes from all lanes joins the file, which is closed.
+pub fn stops_are_led()
+    ensures { (k : Kept) (old new : Image) (n later : ℕ) (m : Machine) (chain made : List ChainBlock) (file : Open) (files : List File) (f closed : File) (said : Said) (entries : List Entry) (grown : List ℕ) → IsConfig k.config → Means k old n m
+        → k.work ≡ recording chain file → m.files ≡ files ++ f ∷ [] → f.own ≡ true → closed.own ≡ true → closed.entries ≡ f.entries ++ entries → refusal k.config m events.Stop ≡ None
+        → Stops k.config (record m { failures = later }) said (record m { mode = modes.Idle; lanes = lanes_without entries m.lanes; files = files ++ closed ∷ []; failures = later })
+        → AreGrown entries k.config.channels k.taken grown → Holds k.config new made None (files ++ closed ∷ []) → n ≤ later
+        → Leads k m events.Stop (replies.Stopped said) (record k { work = idle made; taken = grown }) new later }
+{
+    a_step_stays_sound();
+}
+
+/// A seal closes the last file with the entries that it shows.
+pub fn seals_are_steps()
+    ensures { (k : Kept) (old new : Image) (n later : ℕ) (m : Machine) (chain made : List ChainBlock) (files : List File) (f : File) (size : ℕ) → IsConfig k.config → Means k old n m → k.work ≡ idle chain → m.files ≡ files ++ f ∷ []
+        → refusal k.config m events.Seal ≡ None → cost_of f ≤ area k.config f → Holds k.config new made None (files ++ closed_in size f ∷ []) → n ≤ later
+        → Leads k m events.Seal replies.Done (record k { work = idle made }) new later }
+{
+    a_step_stays_sound();
+}

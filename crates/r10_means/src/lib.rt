@@ -7,5 +7,6 @@ mod laws;
 pub use laws::{
     commits_are_steps, dismounts_are_steps, erases_are_steps, events_are_steps, failures_are_steps,
     idle_ticks_are_steps, lacks_of_memory_are_steps, mounts_are_steps, own_entries_count_for_none,
-    refusals_are_steps, starts_are_steps, ticks_are_steps,
+    pumps_are_led, refusals_are_steps, seals_are_steps, starts_are_steps, stops_are_led,
+    ticks_are_steps,
 };
