@@ -1,6 +1,6 @@
 //! What is known of files, as calls that do nothing.
 
-ghost use Rattle.std.specs.Prelude.{◌≡◌, ◌+◌, ◌^◌, ◌≤◌, ◌<◌, ℕ, Option, None, Some, List, [], length, slice_get, IfSome, All};
+ghost use Rattle.std.specs.Prelude.{◌≡◌, ◌+◌, ◌^◌, ◌≤◌, ◌<◌, ℕ, Option, None, Some, List, [], ◌++◌, length, slice_get, IfSome, All};
 ghost use Rattle.std.specs.List.{AllByRecursion};
 ghost use Rattle.r10_count.specs.Checks.{first_broken};
 ghost use Rattle.r10_medium.specs.Disk.{Image, IsWhole};
@@ -14,6 +14,7 @@ ghost use Rattle.r10_dirchain.specs.declared.chain.ChainBlock.{ChainBlock};
 ghost use Rattle.r10_body.specs.Faults.{IsAtFault};
 ghost use Rattle.r10_body.specs.Packets.{Packet, file_entries};
 ghost use Rattle.r10_body.specs.Rules.{EachFollows};
+ghost use Rattle.r10_body.specs.declared.entry.Entry.{Entry};
 ghost use Rattle.r10_body.specs.declared.fault.FileFault.{FileFault};
 ghost use Rattle.r10_cuts.specs.Cuts.{Agree};
 ghost use Rattle.r10_holding.specs.Holding.{IsWritten, Open};
@@ -23,7 +24,7 @@ ghost use Rattle.r10_replay.specs.Shown.{IsShown};
 ghost use Rattle.r10_steps.specs.Says.{IsFound, MediumSays};
 ghost use Rattle.r10_steps.specs.Sound.{IsEntry};
 ghost use Rattle.r10_reader.specs.Files.{bytes_in, finished};
-ghost use Rattle.r10_reader.specs.Held.{IsHeld, IsToldOf};
+ghost use Rattle.r10_reader.specs.Held.{IsCovered, IsHeld, IsToldOf};
 ghost use Rattle.r10_reader.specs.Knowing.{IsWriting, Knows};
 ghost use Rattle.r10_reader.specs.Staying.{KeepListed, Stay};
 ghost use Rattle.r10_reader.specs.declared.books.Books.{Books};
@@ -50,6 +51,14 @@ pub fn listed_files_keep_their_bytes()
 pub fn what_is_written_is_shown()
     ensures writing { (s : Config) (image : Image) (o : Open) (f : File) (w : Written) → IsWritten s image o f → IsToldOf o w → IsWhole image → length image ≤ 2 ^ 53 → IsWriting image (Some w) }
     ensures held { (s : Config) (image : Image) (chain : List ChainBlock) (o : Open) (f : File) (w : Written) → IsWritten s image o f → IsToldOf o w → AllByRecursion (IsEntry s) f.entries → IsHeld image chain (Some w) w.file f }
+{}
+
+/// A cursor that has covered nothing has covered no packet and no entry; and what it has covered, it still has where packets and entries
+/// come behind.
+pub fn what_is_covered_stays()
+    ensures none { (packets : List Packet) (f : File) → IsCovered packets f 0 0 }
+    ensures stays { (packets : List Packet) (more : List Packet) (f : File) (later : File) (entries : List Entry) (count : ℕ) (n : ℕ) → IsCovered packets f count n → f.shown ≤ length f.entries
+        → later.entries ≡ f.entries ++ entries → f.shown ≤ later.shown → IsCovered (packets ++ more) later count n }
 {}
 
 /// What a medium says of a file that isn't being written is read: the file isn't at fault, and its packets say on each channel what the file

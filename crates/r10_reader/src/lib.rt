@@ -13,7 +13,7 @@ mod written;
 
 pub use cursor::Cursor;
 pub use laws::{
-    files_that_are_said, listed_files_keep_their_bytes, what_is_known_stays,
+    files_that_are_said, listed_files_keep_their_bytes, what_is_covered_stays, what_is_known_stays,
     what_is_written_is_shown,
 };
 pub use listing::entry_at;
