@@ -36,7 +36,7 @@ StepsStaySound = (s : Config) (old : Machine) (event : Asked) (reply : Answered)
 abbrev pub failing : ℕ → Machine → Machine
 failing n m = record m { failures = n }
 
-same_refusal : (s : Config) (m : Machine) (n : ℕ) (event : Asked) → refusal s (failing n m) event ≡ refusal s m event
+pub same_refusal : (s : Config) (m : Machine) (n : ℕ) (event : Asked) → refusal s (failing n m) event ≡ refusal s m event
 same_refusal s m n Mount = refl
 same_refusal s m n Dismount = refl
 same_refusal s m n (Tick count parts) = refl
@@ -83,7 +83,7 @@ same_room s m n (CountAt file parts) = refl
 pub no_fewer : (k : Kept) (old : Image) (before now : ℕ) (m : Machine) → Means k old before m → before ≤ now → m.failures ≤ now
 no_fewer k old before now m means more = omega (arith, means.counted, more)
 
-still_means : (k : Kept) (old new : Image) (before now : ℕ) (m : Machine) → Means k old before m → new ≡ old → IsSound k.config (failing now m) → Means k new now (failing now m)
+pub still_means : (k : Kept) (old new : Image) (before now : ℕ) (m : Machine) → Means k old before m → new ≡ old → IsSound k.config (failing now m) → Means k new now (failing now m)
 still_means k old new before now m means same sound = record {
   mode = means.mode;
   tick = means.tick;

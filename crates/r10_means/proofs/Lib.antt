@@ -2,3 +2,4 @@ mod Leading
 mod Lasting
 mod Growing
 mod Taking
+mod Told

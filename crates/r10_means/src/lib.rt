@@ -3,6 +3,7 @@
 #![tactic(auto)]
 
 mod laws;
+mod telling;
 
 pub use laws::{
     commits_are_steps, dismounts_are_steps, erases_are_steps, events_are_steps, failures_are_steps,
@@ -10,3 +11,4 @@ pub use laws::{
     pumps_are_led, refusals_are_steps, seals_are_steps, starts_are_steps, stops_are_led,
     ticks_are_steps,
 };
+pub use telling::{offers_are_steps, tellings_are_steps};
