@@ -5,3 +5,4 @@ pub mod Fitting
 pub mod Leaving
 pub mod Lanes
 pub mod AllLanes
+pub mod Stops

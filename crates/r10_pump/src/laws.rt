@@ -1,16 +1,20 @@
 //! What a pump moved, as the machine sees it: calls that do nothing.
 
-ghost use Rattle.std.specs.Prelude.{◌≡◌, ◌≤◌, ◌++◌, ℕ, List, Option, None, Some, IfSome, length, min};
+ghost use Rattle.std.specs.Prelude.{◌≡◌, ◌≤◌, ◌++◌, ◌==◌, ℕ, List, Option, None, Some, IfSome, count_by, length, map, min, take};
+ghost use Rattle.std.specs.List.{AllByRecursion};
 ghost use Rattle.r10_body.specs.declared.entry.Sample.{Sample as One};
+ghost use Rattle.r10_body.specs.declared.spec.ChannelSpec.{ChannelSpec as Spec};
 ghost use Rattle.r10_carry.specs.Carries.{Recording};
-ghost use Rattle.r10_machine.specs.Calls.{Pumps as PumpsIn, without};
+ghost use Rattle.r10_machine.specs.Calls.{Pumps as PumpsIn, all_waiting, lanes_without, without};
 ghost use Rattle.r10_machine.specs.Config.{Config};
 ghost use Rattle.r10_machine.specs.Machine.{File, Lane, Machine, change_first, is_channel, lane_of, last_file, with_entries, with_lane, with_last};
+ghost use Rattle.r10_machine.specs.Room.{TakesIn};
 ghost use Rattle.r10_mux.specs.declared.fault.Full.{Full as Lacking};
 ghost use Rattle.r10_steps.specs.Step.{Lacks, LanesAfter};
-ghost use Rattle.r10_steps.specs.declared.event.Event.TheVariants.{Pump};
-ghost use Rattle.r10_pump.specs.Machines.{IsMoved, refusal_of};
+ghost use Rattle.r10_steps.specs.declared.event.Event.TheVariants.{Pump, Stop};
+ghost use Rattle.r10_pump.specs.Machines.{AreMoved, IsMoved, refusal_of};
 ghost use Rattle.r10_pump.specs.Pumping.{Ends, entries_on};
+ghost use Rattle.r10_pump.specs.Stopping.{Part, entries_of, most_of, samples_on};
 
 /// What a pump moved is what the machine's pump moves: its entries join the file, and the lane is without them.
 pub fn pumps_are_steps()
@@ -36,4 +40,24 @@ pub fn pumps_end_alike()
 /// What a pump took from its lane before the medium failed is no more than it may.
 pub fn failed_pumps_take_few()
     ensures { (channel most n : ℕ) (lanes : List Lane) → n ≤ most → LanesAfter (Pump channel most) lanes lanes (change_first (is_channel channel) (without n) lanes) }
+{}
+
+/// What a stop moved is what the machine's stop takes in.
+pub fn stops_are_steps()
+    ensures { (s : Config) (f : File) (lanes : List Lane) (parts : List Part) (n : ℕ) (r : Recording) → AreMoved s f lanes parts n r
+        → TakesIn s f (all_waiting lanes) n × (take n (all_waiting lanes) ≡ entries_of parts) }
+{}
+
+/// Each lane is without the samples of its channel.
+pub fn stops_leave_the_rest()
+    ensures { (lanes : List Lane) (parts : List Part) → lanes_without (entries_of parts) lanes ≡ map (λ lane. without (length (samples_on lane.spec.id parts)) lane) lanes }
+{}
+
+/// Where a channel comes once, and no part of it has more samples than its lane has room for, what a stop
+/// took from the lane is no more than it may.
+pub fn failed_stops_take_few()
+    ensures few { (specs : List Spec) (parts : List Part) (channel : ℕ) → count_by (λ c. c == channel) (map (λ p. p.channel) parts) ≤ 1 → AllByRecursion (λ p. length p.samples ≤ most_of specs p.channel) parts
+        → length (samples_on channel parts) ≤ most_of specs channel }
+    ensures lanes { (parts : List Part) (lanes : List Lane) → AllByRecursion (λ lane. length (samples_on lane.spec.id parts) ≤ lane.spec.capacity) lanes
+        → LanesAfter Stop lanes lanes (map (λ lane. without (length (samples_on lane.spec.id parts)) lane) lanes) }
 {}
