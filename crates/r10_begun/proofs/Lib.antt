@@ -1,0 +1,4 @@
+pub mod Told
+pub mod Behind
+pub mod Places
+pub mod Listing

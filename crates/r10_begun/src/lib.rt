@@ -1,0 +1,7 @@
+//! A file that was written behind all others is the last one that is held, once it is listed; and before that
+//! the others stay.
+#![tactic(auto)]
+
+mod laws;
+
+pub use laws::{begun_files_are_held, files_in_front_stay, packets_are_few};
