@@ -1,10 +1,11 @@
 mod Behind
 mod Moments
 mod Turning
-mod Found
+mod Ends
 mod Written
 mod Last
 mod Shown
 mod Grown
 mod Coming
 mod Going
+mod Closed

@@ -5,9 +5,9 @@ use Rattle.std.specs.List.{All, concat}
 use Rattle.std.proofs.lemmas.List.{length-drop}
 use Rattle.std.proofs.lemmas.List.Elements.{All-nil, All-cons}
 use Rattle.std.proofs.lemmas.List.Sums.{sum_by-cons}
-use Rattle.std.proofs.lemmas.Bool.{eqb-true, eq-eqb, ltb-true, lt-ltb, le-leb}
+use Rattle.std.proofs.lemmas.Bool.{false≢true, eqb-true, eq-eqb, ltb-true, lt-ltb, le-leb}
 use Rattle.r10_count.specs.Checks.{first_broken}
-use Rattle.r10_medium.specs.Disk.{Disk, Image, block_at}
+use Rattle.r10_medium.specs.Disk.{Disk, Image, IsWhole, block_at}
 use Rattle.r10_medium.specs.Stop.{ComesBy, Settled}
 use Rattle.r10_medium.proofs.Stops.{settled_reads, weakened}
 use Rattle.r10_dirblock.specs.declared.entry.Entry.{Entry as Listed}
@@ -23,12 +23,14 @@ use Rattle.r10_dirchain.proofs.Turning.{on_ok}
 use Rattle.r10_dirchain.proofs.Unique.{one_directory}
 use Rattle.r10_dirchain.proofs.Usable.{placed}
 use Rattle.r10_blockout.specs.Blocks.{bytes_from}
-use Rattle.r10_body.specs.Files.{FileSays}
+use Rattle.r10_holding.specs.Holding.{OthersAreFound}
+use Rattle.r10_holding.proofs.Found.{found_stays}
 use Rattle.r10_machine.specs.Config.{Config}
-use Rattle.r10_machine.specs.Machine.{File, shown_entries}
+use Rattle.r10_machine.specs.Machine.{File}
 use Rattle.r10_machine.specs.Room.{blocks_of}
-use Rattle.r10_standing.proofs.Said.{last_said}
-use Rattle.r10_steps.specs.Says.{Lists, MediumSays, SaysEach, SaysFile}
+use Rattle.r10_standing.proofs.Said.{directory_keeps, directory_turns, last_said}
+use Rattle.r10_steps.specs.Says.{IsFound, Lists, MediumSays, SaysEach, SaysFile}
+use Rattle.r10_openfile.proofs.Ends.{all_front, all_with}
 use Rattle.r10_openfile.specs.Keeping.{Becomes, IsKept, Keeps}
 
 -- ---- files behind the blocks that change
@@ -63,21 +65,6 @@ place_of blocks n e is =
     three true false c d is = absurd (cc)
     three false b c d is = absurd (cc)
 
-each_stays : (old new : Image) (blocks n reserved : ℕ) (numbers : List ℕ) (entries : List Listed) (files : List File) → SameButIn numbers old new → All (λ (n : ℕ). n ≤ reserved) numbers → reserved < n
-    → Stand blocks n entries → SaysEach old entries files → SaysEach new entries files
-each_stays old new blocks n reserved numbers [] [] same all less stand each = tt
-each_stays old new blocks n reserved numbers [] (f ∷ files) same all less stand each = absurd each
-each_stays old new blocks n reserved numbers (e ∷ entries) [] same all less stand each = absurd each
-each_stays old new blocks n reserved numbers (e ∷ entries) (f ∷ files) same all less stand each =
-    let bytes = same_bytes old new reserved f.first_block f.size numbers same all (omega (arith, less, (place_of blocks n e stand.0).first, each.0.first_block)) in (
-      each.0,
-      record {
-        inside = omega (arith, same.size, each.1.inside);
-        says = subst (λ (l : List ℕ). FileSays l f.setup (shown_entries f) f.closed) (sym bytes) each.1.says;
-      },
-      each_stays old new blocks (n + e.block_count) reserved numbers entries files same all (omega (arith, less)) stand.1 each.2,
-    )
-
 -- where the last file stands
 pub record LastStands (n : ℕ) (entries : List Listed) (f : File) : Type 0 where
   pub listed : 0 < length entries
@@ -110,6 +97,7 @@ written_in chain = (at chain (last_listing chain)).number ∷ []
 
 -- over an image that says the files, the last of them is shown anew: it is said, and an entry lists it
 pub record Makes (s : Config) (image : Image) (chain : List ChainBlock) (files : List File) (f g : File) (e : Listed) : Type 0 where
+  pub whole : IsWhole image
   pub there : IsDirectory image chain
   pub says : MediumSays s image (files ++ f ∷ [])
   pub lists : Lists g e
@@ -159,14 +147,14 @@ module _ (s : Config) (old : Image) (chain : List ChainBlock) (files : List File
   made_says new turned =
       let listed : SaysEach old (listed_files (updated e chain)) (files ++ g ∷ []) =
       subst (λ (l : List Listed). SaysEach old l (files ++ g ∷ [])) (sym (files-updated e chain last.listed)) (last_said old (listed_files chain) files f e g each makes.lists makes.made) in
-      record {
-        blocks = turned.others.size ∙ makes.says.blocks;
-        chain = updated e chain;
-        directory = turned.directory;
-        mounts = mounts_made;
-        each = each_stays old new s.blocks (s.directory + 1) s.directory (written_in chain) (listed_files (updated e chain)) (files ++ g ∷ []) turned.others reserved (omega arith)
-            (usable_of s.directory s.blocks (updated e chain) mounts_made).stand listed;
-      }
+      directory_turns s old new (updated e chain) (written_in chain) (files ++ g ∷ []) makes.whole makes.says.blocks turned reserved mounts_made listed
+
+  -- others are found as they were
+  pub made_found : (new : Image) → Turned (updated e chain) (written_in chain) old new → OthersAreFound old (files ++ f ∷ []) → g.own ≡ true → OthersAreFound new (files ++ g ∷ [])
+  made_found new turned found own =
+      let Found : Image → File → Type 0 = λ image h. h.own ≡ false → IsFound image h in
+      let now : OthersAreFound new (files ++ f ∷ []) = found_stays old new (files ++ f ∷ []) (directory_keeps s old new (written_in chain) (files ++ f ∷ []) makes.whole makes.says turned.others reserved) found in
+      all_with (Found new) files g (all_front (Found new) files f now).0 (λ other. absurd (false≢true (sym other ∙ own)))
 
   -- the bytes of the file
   pub made_bytes : (new : Image) (size : ℕ) → Turned (updated e chain) (written_in chain) old new → bytes_from new g.first_block size ≡ bytes_from old g.first_block size
