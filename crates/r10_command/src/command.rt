@@ -2,15 +2,17 @@
 
 ghost use Rattle.std.specs.Prelude.{◌≡◌, IfOk, OnOk, map, string_bytes};
 ghost use Rattle.std.specs.Io.KnownBytes.{Appends};
-ghost use Rattle.r10_command.specs.Command.{Does};
+ghost use Rattle.r10_command.specs.Command.{Does, selected};
 ghost use Rattle.r10_command.specs.Status.{status_of, Ends, IsFailure};
 ghost use Rattle.r10_command.specs.Written.{WritesFormatted};
 
 use crate::fault::Fault;
+use crate::image::sim_image;
 use crate::play::sim;
 use r10_images::{Outcome, check_format, list_files, write_formatted};
+use r10_playback::{Selection, play_input};
 use r10_verdicts::check_input;
-use r10_words::{Asked, FormatWords, WordsFault, read_words};
+use r10_words::{Asked, FormatWords, PlayWords, WordsFault, read_words};
 use std::alloc::Global;
 use std::io::{Read, Write};
 
@@ -55,8 +57,13 @@ fn perform<R: Read, W: Write>(
             sim(alloc, reader, writer)?;
             Ok(Outcome::Done)
         }
+        Ok(Asked::Image) => {
+            sim_image(alloc, reader, writer)?;
+            Ok(Outcome::Done)
+        }
         Ok(Asked::Files) => Ok(list_files(alloc, reader, writer)?),
         Ok(Asked::Check) => Ok(check_input(alloc, reader, writer)?),
+        Ok(Asked::Play(play)) => Ok(play_input(alloc, &selection(&play), reader, writer)?),
         Ok(Asked::Format(format)) => {
             write_medium(&format, writer)?;
             Ok(Outcome::Done)
@@ -67,6 +74,18 @@ fn perform<R: Read, W: Write>(
         }
         Err(WordsFault::Memory(error)) => Err(Fault::Memory(error)),
         Err(WordsFault::Wrong(line)) => Err(Fault::Usage(line)),
+    }
+}
+
+/// The entries that the words ask for.
+fn selection(play: &PlayWords) -> Selection
+    ensures { result ≡ selected play.now }
+{
+    Selection {
+        file: play.file,
+        channel: play.channel,
+        from: play.from,
+        to: play.to,
     }
 }
 

@@ -3,8 +3,10 @@
 
 mod command;
 mod fault;
+mod image;
 mod play;
 
 pub use command::{report, run};
 pub use fault::Fault;
+pub use image::sim_image;
 pub use play::{run_script, sim};

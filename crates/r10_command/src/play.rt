@@ -2,9 +2,11 @@
 
 ghost use Rattle.std.specs.Prelude.{◌≡◌, ◌<◌, ◌+◌, ◌^◌, ℕ, [], length, IfOk, IfSome, OnOk};
 ghost use Rattle.r10_machine.specs.Machine.{Machine, fresh};
+ghost use Rattle.r10_medium.specs.MemoryDisk.{memory_disk};
 ghost use Rattle.r10_control.specs.Files.{IsFormatted};
+ghost use Rattle.r10_control.specs.Saying.{MediumSays};
 ghost use Rattle.r10_command.specs.Lines.{WritesLines, RunsAndWrites, IsReady};
-ghost use Rattle.r10_command.specs.Sim.{Plays, Simulates};
+ghost use Rattle.r10_command.specs.Sim.{Leaves, Plays, Simulates};
 
 use crate::fault::Fault;
 use r10_body::Refusal;
@@ -35,11 +37,24 @@ pub fn sim<R: Read, W: Write>(alloc: Global, reader: &mut R, writer: &mut W) -> 
 pub fn run_script<W: Write>(alloc: Global, script: Script, writer: &mut W) -> Result<Memory, Fault>
     ensures { OnOk result (Plays script.settings script.events.items (W.contents writer.old) (W.contents writer.new)) }
 {
+    let world = run_on_fresh(alloc, script, writer)?;
+    Ok(world.into_medium())
+}
+
+/// The recorder as the steps of a script leave it, on a fresh medium.
+pub(crate) fn run_on_fresh<W: Write>(
+    alloc: Global,
+    script: Script,
+    writer: &mut W,
+) -> Result<World<Memory>, Fault>
+    ensures plays { OnOk result (Plays script.settings script.events.items (W.contents writer.old) (W.contents writer.new)) }
+    ensures leaves { IfOk result (λ world. Leaves script.settings script.events.items (memory_disk world.medium).blocks) }
+{
     let Script { settings, events } = script;
     let medium = Memory::new(alloc, settings.blocks())?;
     let mut world = fresh_world(alloc, settings, medium)?;
     run_steps(alloc, &mut world, events.as_slice(), writer)?;
-    Ok(world.into_medium())
+    Ok(world)
 }
 
 /// A recorder of these settings, over the medium that it formats.
@@ -52,6 +67,7 @@ fn fresh_world<M: BlockMedium + Drop>(
     ensures config { IfOk result (λ w. w.config ≡ settings) }
     ensures machine { IfOk result (λ w. w.machine ≡ fresh settings.channels [] (M.disk w.medium).failures) }
     ensures formatted { IfOk result (λ w. IsFormatted (M.disk w.medium).blocks) }
+    ensures says { IfOk result (λ w. MediumSays (M.disk w.medium).blocks w.machine.files) }
 {
     match r10_control::format(&mut medium, &settings) {
         Ok(()) => (),
@@ -71,7 +87,8 @@ fn run_steps<M: BlockMedium, W: Write>(
     events: &[Event],
     writer: &mut W,
 ) -> Result<(), Fault>
-    ensures { OnOk result (IsReady world.old.machine (M.disk world.old.medium).blocks
+    ensures says { OnOk result (MediumSays (M.disk world.old.medium).blocks world.old.machine.files → MediumSays (M.disk world.new.medium).blocks world.new.machine.files) }
+    ensures runs { OnOk result (IsReady world.old.machine (M.disk world.old.medium).blocks
         → RunsAndWrites world.old.config world.old.machine events.now world.new.machine (W.contents writer.old) (W.contents writer.new)) }
 {
     let mut replies = Vec::new(alloc);

@@ -1,8 +1,9 @@
 -- Two words ask for a run, or for a list, exactly where the second says so; and words that give an option its value.
-use Rattle.std.proofs.Common.{◌≡◌, ℕ, ◌+◌, ◌-◌, Bool, IsTrue, map, string_bytes, ◌<◌, ◌≤◌, length, List, [], ◌∷◌, ◌++◌, get_or, codes, String, Global, inl, inr, arith, ap, sym, ◌∙◌}
+use Rattle.std.proofs.Common.{◌≡◌, ℕ, ◌+◌, ◌-◌, Bool, false, IsTrue, map, string_bytes, ◌<◌, ◌≤◌, length, List, [], ◌∷◌, ◌++◌, get_or, codes, String, Global, inl, inr, arith, ap, sym, ◌∙◌}
+use Rattle.std.proofs.lemmas.Bool.{cases_lt}
 use Rattle.std.proofs.lemmas.List.{get_or-map, length-map}
 use Rattle.std.specs.Bool.{Decides}
-use Rattle.r10_words.specs.Words.{AsksSim, AsksOnly, GivesOption, word_at}
+use Rattle.r10_words.specs.Words.{AsksSim, AsksOnly, GivesOption, IsLeftOut, begins, word_at}
 
 pub second_word : (words : List (String Global)) (word : String Global) (r : Bool) → word ≡ get_or words 1 word → 2 ≤ length words → length words < 3
     → Decides r (string_bytes word ≡ codes "sim") → (IsTrue r → AsksSim (map string_bytes words)) × (AsksSim (map string_bytes words) → IsTrue r)
@@ -43,3 +44,17 @@ given_apart words i first second option value some lt is next named spelled =
     let inside : i - 1 + 1 < length (map string_bytes words) = omega (arith, some, lt, length-map words string_bytes) in
     let here : word_at (map string_bytes words) (i - 1 + 1) ≡ value = ap (λ (k : ℕ). word_at (map string_bytes words) k) (sym at) ∙ word_is words i second lt next ∙ spelled in
     (i - 1, inside, inr (word_is words (i - 1) first before is ∙ named, here))
+
+-- words without an option, and one more
+pub left_out_more : (words : List (String Global)) (i : ℕ) (word : String Global) (option : List ℕ) → i < length words → word ≡ get_or words i word → begins (string_bytes word) option ≡ false
+    → ((k : ℕ) → 1 ≤ k → k < i → begins (word_at (map string_bytes words) k) option ≡ false) → (k : ℕ) → 1 ≤ k → k < i + 1 → begins (word_at (map string_bytes words) k) option ≡ false
+left_out_more words i word option lt is without before k some less = elim (cases_lt k i) [
+  | inl earlier ↦ before k some earlier
+  | inr later ↦
+      let same : k ≡ i = omega (arith, less, later) in
+      ap (λ (n : ℕ). begins (word_at (map string_bytes words) n) option) same ∙ ap (λ (w : List ℕ). begins w option) (word_is words i word lt is) ∙ without
+]
+
+pub left_out_all : (words : List (String Global)) (n : ℕ) (option : List ℕ) → length words ≤ n → ((k : ℕ) → 1 ≤ k → k < n → begins (word_at (map string_bytes words) k) option ≡ false)
+    → IsLeftOut (map string_bytes words) option
+left_out_all words n option all without k some less = without k some (omega (arith, less, all, length-map words string_bytes))

@@ -1,9 +1,11 @@
 -- What words ask for.
-use Rattle.std.specs.Prelude.{◌≡◌, ◌⊎◌, ℕ, ◌+◌, ◌<◌, List, [], ◌∷◌, ◌++◌, codes, length, slice_index_or, string_bytes}
+use Rattle.std.specs.Prelude.{◌≡◌, ◌⊎◌, ℕ, ◌+◌, ◌<◌, ◌≤◌, ◌==◌, Bool, false, List, [], ◌∷◌, ◌++◌, codes, length, slice_index_or, string_bytes}
+use Rattle.std.specs.List.{starts_with}
 use Rattle.std.specs.Fmt.{decimal}
 use Rattle.r10_words.specs.declared.asked.Asked.{Asked}
-use Rattle.r10_words.specs.declared.asked.Asked.TheVariants.{Sim, Files, Check, Format, Text}
+use Rattle.r10_words.specs.declared.asked.Asked.TheVariants.{Sim, Image, Files, Check, Play, Format, Text}
 use Rattle.r10_words.specs.declared.asked.FormatWords.{FormatWords}
+use Rattle.r10_words.specs.declared.asked.PlayWords.{PlayWords}
 
 -- behind the program's own name nothing, or the word `sim`
 abbrev pub AsksSim : List (List ℕ) → Type 0
@@ -11,6 +13,14 @@ AsksSim [] = Unit {0}
 AsksSim (name ∷ []) = Unit {0}
 AsksSim (name ∷ word ∷ []) = word ≡ codes "sim"
 AsksSim (name ∷ word ∷ other ∷ words) = ⊥
+
+-- behind the program's own name `sim --image`
+abbrev pub AsksImage : List (List ℕ) → Type 0
+AsksImage [] = ⊥
+AsksImage (name ∷ []) = ⊥
+AsksImage (name ∷ word ∷ []) = ⊥
+AsksImage (name ∷ word ∷ option ∷ []) = (word ≡ codes "sim") × (option ≡ codes "--image")
+AsksImage (name ∷ word ∷ option ∷ more ∷ words) = ⊥
 
 -- behind the program's own name this word alone
 abbrev pub AsksOnly : List ℕ → List (List ℕ) → Type 0
@@ -39,10 +49,31 @@ pub record GivesAll (words : List (List ℕ)) (format : FormatWords) : Type 0 wh
   pub directory : GivesOption words (codes "--directory") (decimal format.directory)
   pub volume : GivesOption words (codes "--volume") (string_bytes format.volume)
 
--- a formatted medium as the options say, or help or the version
+-- a word begins with an option
+abbrev pub begins : List ℕ → List ℕ → Bool
+begins word option = starts_with (λ a b. a == b) word option
+
+-- no word behind the program's own name begins with the option
+abbrev pub IsLeftOut : List (List ℕ) → List ℕ → Type 0
+IsLeftOut words option = (i : ℕ) → 1 ≤ i → i < length words → begins (word_at words i) option ≡ false
+
+-- the option has this number, in decimal, or is left out where the number goes without saying
+abbrev pub GivesOr : List (List ℕ) → List ℕ → ℕ → ℕ → Type 0
+GivesOr words option number otherwise = GivesOption words option (decimal number) ⊎ ((number ≡ otherwise) × IsLeftOut words option)
+
+-- the options of `play`: the first file, all channels and all counts go without saying
+pub record GivesSelection (words : List (List ℕ)) (play : PlayWords) : Type 0 where
+  pub file : GivesOr words (codes "--file") play.file 0
+  pub channel : GivesOr words (codes "--channel") play.channel 0
+  pub from : GivesOr words (codes "--from") play.from 0
+  pub to : GivesOr words (codes "--to") play.to 281474976710655
+
+-- a formatted medium or entries as the options say, or help or the version
 abbrev pub AsksOther : List (List ℕ) → Asked → Type 0
 AsksOther words Sim = ⊥
+AsksOther words Image = ⊥
 AsksOther words Files = ⊥
 AsksOther words Check = ⊥
+AsksOther words (Play play) = GivesSelection words play
 AsksOther words (Format format) = GivesAll words format
 AsksOther words (Text text) = Unit {0}

@@ -1,9 +1,9 @@
 //! What the words of a call ask for.
 
-ghost use Rattle.std.specs.Prelude.{◌≡◌, ◌↔◌, IsTrue, Ok, IfOk, map, string_bytes};
+ghost use Rattle.std.specs.Prelude.{◌≡◌, ◌↔◌, IsTrue, Ok, IfOk, codes, map, string_bytes};
 ghost use Rattle.std.specs.Fmt.{decimal};
-ghost use Rattle.r10_words.specs.Words.{AsksSim, AsksFiles, AsksCheck, AsksOnly, AsksOther, GivesOption, GivesAll};
-ghost use Rattle.r10_words.specs.declared.asked.Asked.TheVariants.{Sim, Files, Check};
+ghost use Rattle.r10_words.specs.Words.{AsksSim, AsksImage, AsksFiles, AsksCheck, AsksOnly, AsksOther, GivesOption, GivesAll, GivesOr, GivesSelection, IsLeftOut, begins};
+ghost use Rattle.r10_words.specs.declared.asked.Asked.TheVariants.{Sim, Image, Files, Check};
 
 use crate::usage::{command_line, usage_line};
 use clap::ArgMatches;
@@ -16,10 +16,14 @@ use thiserror::Error;
 pub enum Asked {
     /// Run a script that is read from standard input.
     Sim,
+    /// Run such a script, and write the image of its medium.
+    Image,
     /// List the files of an image that is read from standard input.
     Files,
     /// Say the verdict on a recording that is read from standard input.
     Check,
+    /// Print entries of an image that is read from standard input.
+    Play(PlayWords),
     /// Write the image of a formatted medium.
     Format(FormatWords),
     /// Print this text: help, or the version.
@@ -37,6 +41,22 @@ pub struct FormatWords {
     pub volume: String,
 }
 
+/// Which entries are to be printed. Whether there are such is not asked here.
+#[derive(Clone, Copy, Debug, PartialEq, Eq)]
+pub struct PlayWords {
+    /// The file's number, from 0.
+    pub file: usize,
+    /// The channel, or 0 for all.
+    pub channel: u16,
+    /// The first count.
+    pub from: u64,
+    /// The last count.
+    pub to: u64,
+}
+
+/// Where a call doesn't say the last count: the largest that 48 bits hold.
+const LAST_COUNT: u64 = 281_474_976_710_655;
+
 /// Why the words of a call ask for nothing.
 #[derive(Debug, Drop, Error)]
 pub enum WordsFault {
@@ -48,16 +68,20 @@ pub enum WordsFault {
     Wrong(String),
 }
 
-/// What the words ask for, the program's own name first: a run for no word behind it or for `sim` alone, a list for `files`
-/// alone, a verdict for `check` alone, and else what the command line says.
+/// What the words ask for, the program's own name first: a run for no word behind it or for `sim` alone, its medium for
+/// `sim --image`, a list for `files` alone, a verdict for `check` alone, and else what the command line says.
 pub fn read_words(alloc: Global, words: &[String]) -> Result<Asked, WordsFault>
     ensures sim { AsksSim (map string_bytes words.now) → result ≡ Ok Sim }
+    ensures image { AsksImage (map string_bytes words.now) → result ≡ Ok Image }
     ensures files { AsksFiles (map string_bytes words.now) → result ≡ Ok Files }
     ensures check { AsksCheck (map string_bytes words.now) → result ≡ Ok Check }
-    ensures other { (AsksSim (map string_bytes words.now) → ⊥) → (AsksFiles (map string_bytes words.now) → ⊥) → (AsksCheck (map string_bytes words.now) → ⊥) → IfOk result (AsksOther (map string_bytes words.now)) }
+    ensures other { (AsksSim (map string_bytes words.now) → ⊥) → (AsksImage (map string_bytes words.now) → ⊥) → (AsksFiles (map string_bytes words.now) → ⊥) → (AsksCheck (map string_bytes words.now) → ⊥) → IfOk result (AsksOther (map string_bytes words.now)) }
 {
     if asks_sim(words) {
         return Ok(Asked::Sim);
+    }
+    if asks_image(words) {
+        return Ok(Asked::Image);
     }
     if asks_only(words, "files") {
         return Ok(Asked::Files);
@@ -78,6 +102,25 @@ fn asks_sim(words: &[String]) -> bool
     }
 }
 
+fn asks_image(words: &[String]) -> bool
+    ensures { IsTrue result ↔ AsksImage (map string_bytes words.now) }
+{
+    match words {
+        [_, command, option] => is_image(command, option),
+        _ => false,
+    }
+}
+
+fn is_image(command: &String, option: &String) -> bool
+    ensures { IsTrue result ↔ ((string_bytes command.now ≡ codes "sim") × (string_bytes option.now ≡ codes "--image")) }
+{
+    if command.as_str() == "sim" {
+        option.as_str() == "--image"
+    } else {
+        false
+    }
+}
+
 /// Whether this command is the one word behind the program's own name.
 fn asks_only(words: &[String], command: &str) -> bool
     ensures { IsTrue result ↔ AsksOnly command.now (map string_bytes words.now) }
@@ -94,10 +137,7 @@ fn read_other(alloc: Global, words: &[String]) -> Result<Asked, WordsFault>
 {
     let command = command_line(alloc)?;
     match command.try_get_matches_from(words) {
-        Ok(matches) => match matches.subcommand_matches("format") {
-            Some(found) => read_format(alloc, words, found),
-            None => Err(wrong(alloc, "these words ask for nothing")?),
-        },
+        Ok(matches) => read_matches(alloc, words, &matches),
         Err(error) => match error.kind() {
             ErrorKind::OutOfMemory => Err(WordsFault::Memory(AllocError)),
             ErrorKind::DisplayHelp | ErrorKind::DisplayVersion => {
@@ -105,6 +145,22 @@ fn read_other(alloc: Global, words: &[String]) -> Result<Asked, WordsFault>
             }
             _ => Err(WordsFault::Wrong(usage_line(alloc, &error)?)),
         },
+    }
+}
+
+fn read_matches(
+    alloc: Global,
+    words: &[String],
+    matches: &ArgMatches<'_>,
+) -> Result<Asked, WordsFault>
+    ensures { IfOk result (AsksOther (map string_bytes words.now)) }
+{
+    if let Some(found) = matches.subcommand_matches("format") {
+        return read_format(alloc, words, found);
+    }
+    match matches.subcommand_matches("play") {
+        Some(found) => read_play(alloc, words, found),
+        None => Err(wrong(alloc, "these words ask for nothing")?),
     }
 }
 
@@ -128,9 +184,30 @@ fn read_format(alloc: Global, words: &[String], found: &ArgMatches<'_>) -> Resul
     if gives_all(alloc, words, &format)? {
         Ok(Asked::Format(format))
     } else {
-        Err(wrong(alloc, "a number has neither a sign nor zeros before it")?)
+        Err(wrong(alloc, NUMBERS)?)
     }
 }
+
+/// What the options of `play` say, each looked up among the words once more, and for those that are left out what goes without
+/// saying: the first file, all its channels and all counts.
+fn read_play(alloc: Global, words: &[String], found: &ArgMatches<'_>) -> Result<Asked, WordsFault>
+    ensures { IfOk result (AsksOther (map string_bytes words.now)) }
+{
+    let play = PlayWords {
+        file: found.get_one::<usize>("file").unwrap_or(0),
+        channel: found.get_one::<u16>("channel").unwrap_or(0),
+        from: found.get_one::<u64>("from").unwrap_or(0),
+        to: found.get_one::<u64>("to").unwrap_or(LAST_COUNT),
+    };
+    if gives_selection(alloc, words, &play)? {
+        Ok(Asked::Play(play))
+    } else {
+        Err(wrong(alloc, NUMBERS)?)
+    }
+}
+
+/// What is said of numbers that are spelled otherwise.
+const NUMBERS: &str = "a number has neither a sign nor zeros before it";
 
 fn wrong(alloc: Global, line: &str) -> Result<WordsFault, AllocError> {
     Ok(WordsFault::Wrong(String::from_str(alloc, line)?))
@@ -147,6 +224,57 @@ fn gives_all(alloc: Global, words: &[String], format: &FormatWords) -> Result<bo
         return Ok(false);
     }
     gives_option(alloc, words, "--volume", format.volume.as_str())
+}
+
+/// Whether the words give these values, or leave out those that go without saying.
+fn gives_selection(alloc: Global, words: &[String], play: &PlayWords) -> Result<bool, AllocError>
+    ensures { IfOk result (λ r. IsTrue r → GivesSelection (map string_bytes words.now) play.now) }
+{
+    if !gives_or(alloc, words, "--file", play.file as u64, 0)? {
+        return Ok(false);
+    }
+    if !gives_or(alloc, words, "--channel", u64::from(play.channel), 0)? {
+        return Ok(false);
+    }
+    if !gives_or(alloc, words, "--from", play.from, 0)? {
+        return Ok(false);
+    }
+    gives_or(alloc, words, "--to", play.to, LAST_COUNT)
+}
+
+/// Whether the words give the option this number, or leave it out where the number goes without saying.
+fn gives_or(
+    alloc: Global,
+    words: &[String],
+    option: &str,
+    number: u64,
+    otherwise: u64,
+) -> Result<bool, AllocError>
+    ensures { IfOk result (λ r. IsTrue r → GivesOr (map string_bytes words.now) option.now number otherwise) }
+{
+    if number == otherwise && is_left_out(words, option) {
+        return Ok(true);
+    }
+    let text = format!(in alloc; "{number}")?;
+    gives_option(alloc, words, option, text.as_str())
+}
+
+/// Whether no word behind the program's own name begins with the option.
+fn is_left_out(words: &[String], option: &str) -> bool
+    ensures { IsTrue result → IsLeftOut (map string_bytes words.now) option.now }
+{
+    for i in 1..words.len() {
+        if begins_with(&words[i], option) {
+            return false;
+        }
+    }
+    true
+}
+
+fn begins_with(word: &String, option: &str) -> bool
+    ensures { result ≡ begins (string_bytes word.now) option.now }
+{
+    word.as_bytes().starts_with(option.as_bytes())
 }
 
 fn gives_number(

@@ -1,7 +1,7 @@
 //! The command line as `clap` knows it, and what is said of wrong words.
 
 use clap::error::ErrorKind;
-use clap::{Arg, Command, value_parser};
+use clap::{Arg, ArgAction, Command, value_parser};
 use std::alloc::{AllocError, Global};
 
 /// The version of the program.
@@ -10,6 +10,12 @@ const VERSION: &str = "0.2.0";
 const ABOUT: &str = "A solid-state flight recorder that writes IRIG 106-17 Chapter 10 files";
 
 const ABOUT_SIM: &str = "Runs a script on a recorder in memory and prints a line for each step";
+
+const MORE_SIM: &str =
+    "Without a word behind it r10 does the same; r10 --help has a whole script. With --image the medium's image is written
+in place of the lines, its blocks of 512 bytes one after the other. An example, which lists the files of a run:
+
+  r10 sim --image < examples/first.toml | r10 files";
 
 const ABOUT_FORMAT: &str = "Writes the image of a formatted medium";
 
@@ -26,6 +32,19 @@ const MORE_FILES: &str =
 where it is closed or else 0. An image without a directory is refused, with status 1. An example:
 
   r10 format --blocks 64 --directory 2 --volume VOL | r10 files";
+
+const ABOUT_PLAY: &str = "Reads an image and prints the entries of one of its files";
+
+const MORE_PLAY: &str =
+    "An image is read from standard input. The file must be strict, and closed as its directory entry says; else not
+strict is printed, with status 1. Its entries are printed by count, then by channel, a line each:
+
+  entry CHANNEL COUNT GAP KIND VALUES
+
+An image without a directory, a number that no file has and a count of more than 48 bits are refused, with
+status 1. An example, of an image with a file that has every kind of channel:
+
+  scripts/play_cases.py image | r10 play --file 0 --channel 5";
 
 const ABOUT_CHECK: &str = "Reads a recording and prints the verdict on it";
 
@@ -82,14 +101,21 @@ What a step may do: mount, tick, start, offer, pump, stop, cursor, advance, next
 docs/FORMAT.md has the keys of scripts, the form of the lines, the format of the
 files and the refusals by number; examples/ has a script for each kind of channel.
 
-Exit status: 0; 1 where an image is refused or a recording is faulty; 2 for a wrong
-command line or script; 3 where memory, reading or writing fails.";
+Exit status: 0; 1 where an image is refused, a file of it is not strict or a recording is
+faulty; 2 for a wrong command line or script; 3 where memory, reading or writing fails.";
 
 /// Behind a word that is no option.
 const HINT: &str = "; a script comes from standard input: r10 < SCRIPT";
 
 pub(crate) fn command_line<'a>(alloc: Global) -> Result<Command<'a>, AllocError> {
-    let sim = Command::new(alloc, "sim").about(ABOUT_SIM);
+    let sim = Command::new(alloc, "sim")
+        .about(ABOUT_SIM)
+        .after_help(MORE_SIM)
+        .arg(flag(
+            alloc,
+            "image",
+            "Write the medium's image in place of the lines",
+        ))?;
     let format = Command::new(alloc, "format")
         .about(ABOUT_FORMAT)
         .after_help(MORE_FORMAT)
@@ -103,6 +129,7 @@ pub(crate) fn command_line<'a>(alloc: Global) -> Result<Command<'a>, AllocError>
     let files = Command::new(alloc, "files")
         .about(ABOUT_FILES)
         .after_help(MORE_FILES);
+    let play = play_line(alloc)?;
     let check = Command::new(alloc, "check")
         .about(ABOUT_CHECK)
         .after_help(MORE_CHECK);
@@ -114,7 +141,38 @@ pub(crate) fn command_line<'a>(alloc: Global) -> Result<Command<'a>, AllocError>
         .subcommand(sim)?
         .subcommand(format)?
         .subcommand(files)?
+        .subcommand(play)?
         .subcommand(check)
+}
+
+/// The command `play`, whose options may all be left out.
+fn play_line<'a>(alloc: Global) -> Result<Command<'a>, AllocError> {
+    Command::new(alloc, "play")
+        .about(ABOUT_PLAY)
+        .after_help(MORE_PLAY)
+        .arg(free(alloc, "file", "The file's number [default: 0]").value_parser(value_parser!(
+            usize
+        )))?
+        .arg(free(alloc, "channel", "The channel, 0 for all [default: 0]").value_parser(
+            value_parser!(u16),
+        ))?
+        .arg(free(alloc, "from", "The first count [default: 0]").value_parser(value_parser!(u64)))?
+        .arg(free(alloc, "to", "The last count [default: 281474976710655]").value_parser(
+            value_parser!(u64),
+        ))
+}
+
+/// An option with a number, which may be left out.
+fn free<'a>(alloc: Global, name: &'a str, help: &'a str) -> Arg<'a> {
+    Arg::new(alloc, name).long(name).value_name("N").help(help)
+}
+
+/// An option without a value.
+fn flag<'a>(alloc: Global, name: &'a str, help: &'a str) -> Arg<'a> {
+    Arg::new(alloc, name)
+        .long(name)
+        .action(ArgAction::SetTrue)
+        .help(help)
 }
 
 /// An option with a number, which must be given.

@@ -26,6 +26,7 @@ loop-done-preserved g c =
       within = within;
       config = search rules;
       ready = λ begun. c.run.ensures.formatted (c.loop-done.invariant.ready begun);
+      says = λ said. c.run.ensures.says (c.loop-done.invariant.says said);
       ran = λ begun. let so_far = c.loop-done.invariant.ran begun in
           round_more s c.args.world.now.machine c.loop-done.world.machine c.run.new.world.machine events done n so_far.0 new
           (contents c.args.writer.now) (contents c.loop-done.writer) (contents c.write_lines.new.writer)

@@ -1,0 +1,31 @@
+//! The command `sim --image`: runs the steps of a script, and writes the image that they leave.
+
+ghost use Rattle.std.specs.Prelude.{OnOk, IfSome};
+ghost use Rattle.r10_command.specs.Sim.{WritesLeft};
+
+use crate::fault::Fault;
+use crate::play::run_on_fresh;
+use r10_images::{read_whole, write_image};
+use r10_script::read_script;
+use std::alloc::Global;
+use std::io;
+use std::io::{Read, Write};
+
+/// Reads a script, runs its steps on a fresh medium in memory, and writes the medium's image, block by block.
+pub fn sim_image<R: Read, W: Write>(
+    alloc: Global,
+    reader: &mut R,
+    writer: &mut W,
+) -> Result<(), Fault>
+    ensures { OnOk result (IfSome (R.remaining reader.old) (λ text. WritesLeft text (W.contents writer.old) (W.contents writer.new))) }
+{
+    let text = read_whole(alloc, reader)?;
+    match read_script(alloc, text.as_slice()) {
+        Ok(script) => {
+            let mut medium = run_on_fresh(alloc, script, &mut io::sink())?.into_medium();
+            write_image(&mut medium, writer)?;
+            Ok(())
+        }
+        Err(fault) => Err(Fault::Script(fault)),
+    }
+}
