@@ -2,3 +2,4 @@ pub mod Told
 pub mod Behind
 pub mod Places
 pub mod Listing
+pub mod Turning
