@@ -1,1 +1,3 @@
 mod Following
+mod Feeding
+mod Beginning

@@ -62,7 +62,7 @@ impl Bench {
         requires { IsBehind self.old.lane.spec (reached self.old.lane) self.old.builder }
         ensures { OnOk result (IsBehind self.new.lane.spec (reached self.new.lane) self.new.builder) }
     {
-        let messages = make(alloc, numbers)?;
+        let messages = make(alloc, numbers, &[0x55; 8])?;
         let start = rt.thread_cpu_time()?;
         copy_all(messages.as_slice(), &mut self.copied);
         let middle = rt.thread_cpu_time()?;

@@ -1,6 +1,7 @@
 //! The program `r10_bench`, run by hand: how many small UART messages a second go through a lane and a builder, beside a
 //! plain copy of the same bytes, how many go through lanes of one thread and between two, how long searches in the book
-//! of a file's packets take, and its index, and how many bytes of a file are judged in a second.
+//! of a file's packets take, and its index, how many messages a second are recorded onto a medium in memory, and how many
+//! bytes of a file are judged in a second.
 #![tactic(auto)]
 
 mod bench;
@@ -12,6 +13,9 @@ mod figures;
 mod lanes;
 mod messages;
 mod path;
+mod record;
+mod recording;
+mod start;
 
 use fault::Fault;
 use std::io;
@@ -37,6 +41,10 @@ fn main(rt: HostRuntime) -> Result<ExitCode, Fault> {
     print!(rt; "{lanes}")?;
     let book = book::run(&rt, rt.alloc(), number)?;
     print!(rt; "{book}")?;
+    for load in &recording::LOADS {
+        let figures = recording::run(&rt, rt.alloc(), load, number)?;
+        print!(rt; "{figures}")?;
+    }
     for shape in &check::SHAPES {
         let figures = check::run(&rt, rt.alloc(), shape, number)?;
         print!(rt; "{figures}")?;

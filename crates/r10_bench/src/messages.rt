@@ -7,20 +7,19 @@ use r10_count::{Count, Items};
 use std::alloc::{AllocError, Global};
 use std::ops::Range;
 
-/// The messages of these numbers: each at the count that is its number, and its 8 bytes say it too.
-pub fn make(alloc: Global, numbers: Range<u32>) -> Result<Vec<Timed>, AllocError>
+/// The messages of these numbers: each at the count that is its number, with these bytes.
+pub fn make(alloc: Global, numbers: Range<u32>, bytes: &[u8]) -> Result<Vec<Timed>, AllocError>
     ensures { IfOk result (λ messages. length messages.items ≡ numbers.end - numbers.start) }
 {
     let mut messages = Vec::with_capacity(alloc, numbers.len())?;
     for number in numbers {
-        let number = u64::from(number);
-        let Some(count) = Count::of(number) else {
+        let Some(count) = Count::of(u64::from(number)) else {
             unreachable!()
         };
         let message = Message::Uart {
             parity: false,
             sub: 0,
-            bytes: Items::of(Vec::from_slice(alloc, &number.to_le_bytes())?),
+            bytes: Items::of(Vec::from_slice(alloc, bytes)?),
         };
         messages.push(Timed { count, message })?;
     }
