@@ -6,3 +6,4 @@ pub mod Leaving
 pub mod Lanes
 pub mod AllLanes
 pub mod Stops
+pub mod Rests

@@ -1,20 +1,20 @@
 //! What a pump moved, as the machine sees it: calls that do nothing.
 
 ghost use Rattle.std.specs.Prelude.{◌≡◌, ◌≤◌, ◌++◌, ◌==◌, ℕ, List, Option, None, Some, IfSome, count_by, length, map, min, take};
-ghost use Rattle.std.specs.List.{AllByRecursion};
+ghost use Rattle.std.specs.List.{AllByRecursion, sum_by};
 ghost use Rattle.r10_body.specs.declared.entry.Sample.{Sample as One};
 ghost use Rattle.r10_body.specs.declared.spec.ChannelSpec.{ChannelSpec as Spec};
 ghost use Rattle.r10_carry.specs.Carries.{Recording};
-ghost use Rattle.r10_machine.specs.Calls.{Pumps as PumpsIn, all_waiting, lanes_without, without};
+ghost use Rattle.r10_machine.specs.Calls.{Pumps as PumpsIn, all_waiting, lanes_without, waiting_count, without};
 ghost use Rattle.r10_machine.specs.Config.{Config};
-ghost use Rattle.r10_machine.specs.Machine.{File, Lane, Machine, change_first, is_channel, lane_of, last_file, with_entries, with_lane, with_last};
+ghost use Rattle.r10_machine.specs.Machine.{File, Lane, Machine, change_first, is_channel, lane_of, last_file, rising, with_entries, with_lane, with_last};
 ghost use Rattle.r10_machine.specs.Room.{TakesIn};
 ghost use Rattle.r10_mux.specs.declared.fault.Full.{Full as Lacking};
 ghost use Rattle.r10_steps.specs.Step.{Lacks, LanesAfter};
 ghost use Rattle.r10_steps.specs.declared.event.Event.TheVariants.{Pump, Stop};
-ghost use Rattle.r10_pump.specs.Machines.{AreMoved, IsMoved, refusal_of};
+ghost use Rattle.r10_pump.specs.Machines.{AreMoved, HasWaiting, IsMoved, refusal_of};
 ghost use Rattle.r10_pump.specs.Pumping.{Ends, entries_on};
-ghost use Rattle.r10_pump.specs.Stopping.{Part, entries_of, most_of, samples_on};
+ghost use Rattle.r10_pump.specs.Stopping.{AreApart, Part, entries_of, most_of, samples_on};
 
 /// What a pump moved is what the machine's pump moves: its entries join the file, and the lane is without them.
 pub fn pumps_are_steps()
@@ -51,6 +51,12 @@ pub fn stops_are_steps()
 /// Each lane is without the samples of its channel.
 pub fn stops_leave_the_rest()
     ensures { (lanes : List Lane) (parts : List Part) → lanes_without (entries_of parts) lanes ≡ map (λ lane. without (length (samples_on lane.spec.id parts)) lane) lanes }
+{}
+
+/// Where each lane is of a channel of its own, what a stop leaves is what is left of each channel.
+pub fn stops_count_the_rest()
+    ensures { (lanes : List Lane) (parts : List Part) → AreApart (map (λ lane. lane.spec) lanes) → map (λ p. p.channel) parts ≡ rising (map (λ lane. lane.spec.id) lanes) → AllByRecursion (HasWaiting lanes) parts
+        → waiting_count (map (λ lane. without (length (samples_on lane.spec.id parts)) lane) lanes) ≡ sum_by (λ p. length p.rest) parts }
 {}
 
 /// Where a channel comes once, and no part of it has more samples than its lane has room for, what a stop
