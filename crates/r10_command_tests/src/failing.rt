@@ -126,6 +126,7 @@ fn a_failing_reader_is_status_3(rt: HostRuntime) -> Result<(), Fail> {
 fn a_full_writer_is_status_3(rt: HostRuntime) -> Result<(), Fail> {
     for (word, room) in [
         ("sim", 0),
+        ("play", 0),
         ("sim", LINES.len() - 1),
         ("--help", 0),
         ("--help", 100),
