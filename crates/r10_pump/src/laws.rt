@@ -5,10 +5,12 @@ ghost use Rattle.std.specs.List.{AllByRecursion, sum_by};
 ghost use Rattle.r10_body.specs.declared.entry.Sample.{Sample as One};
 ghost use Rattle.r10_body.specs.declared.spec.ChannelSpec.{ChannelSpec as Spec};
 ghost use Rattle.r10_carry.specs.Carries.{Recording};
-ghost use Rattle.r10_machine.specs.Calls.{Pumps as PumpsIn, all_waiting, lanes_without, waiting_count, without};
+ghost use Rattle.r10_machine.specs.Calls.{Pumps as PumpsIn, Stops, all_waiting, closed_whole, lanes_without, waiting_count, without};
 ghost use Rattle.r10_machine.specs.Config.{Config};
-ghost use Rattle.r10_machine.specs.Machine.{File, Lane, Machine, change_first, is_channel, lane_of, last_file, rising, with_entries, with_lane, with_last};
+ghost use Rattle.r10_machine.specs.Machine.{File, Lane, Machine, change_first, change_last, is_channel, lane_of, last_file, last_size, rising, with_entries, with_lane, with_last};
 ghost use Rattle.r10_machine.specs.Room.{TakesIn};
+ghost use Rattle.r10_machine.specs.declared.reply.Mode.TheVariants.{Idle};
+ghost use Rattle.r10_machine.specs.declared.reply.Stopped.{Stopped as Said};
 ghost use Rattle.r10_mux.specs.declared.fault.Full.{Full as Lacking};
 ghost use Rattle.r10_steps.specs.Step.{Lacks, LanesAfter};
 ghost use Rattle.r10_steps.specs.declared.event.Event.TheVariants.{Pump, Stop};
@@ -46,6 +48,15 @@ pub fn failed_pumps_take_few()
 pub fn stops_are_steps()
     ensures { (s : Config) (f : File) (lanes : List Lane) (parts : List Part) (n : ℕ) (r : Recording) → AreMoved s f lanes parts n r
         → TakesIn s f (all_waiting lanes) n × (take n (all_waiting lanes) ≡ entries_of parts) }
+{}
+
+/// Where each lane is of a channel of its own, and as many are said to be left as parts leave, the step is
+/// that of the machine's stop.
+pub fn stops_are_whole_steps()
+    ensures { (s : Config) (m : Machine) (f : File) (said : Said) (parts : List Part) (r : Recording) (new : Machine) → last_file m ≡ Some f → AreMoved s f m.lanes parts said.taken r → AreApart (map (λ lane. lane.spec) m.lanes)
+        → said.left ≡ sum_by (λ p. length p.rest) parts
+        → new ≡ record m { mode = Idle; lanes = lanes_without (entries_of parts) m.lanes; files = change_last (λ g. closed_whole (last_size new) (with_entries (entries_of parts) g)) m.files }
+        → Stops s m said new }
 {}
 
 /// Each lane is without the samples of its channel.
