@@ -3,3 +3,4 @@ pub mod Behind
 pub mod Places
 pub mod Listing
 pub mod Turning
+pub mod Calls

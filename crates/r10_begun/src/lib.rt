@@ -2,6 +2,8 @@
 //! the others stay.
 #![tactic(auto)]
 
+mod file;
 mod laws;
 
+pub use file::list_file;
 pub use laws::{begun_files_are_held, files_in_front_stay, packets_are_few};

@@ -1,0 +1,114 @@
+-- A file that has begun: its last block, and then its entry in the directory.
+use Rattle.std.proofs.Common.{◌≡◌, false, Ok, Err, ℕ, ◌<◌, ◌⊎◌, inl, List, [], ◌∷◌, ◌++◌, length, None, Some, Result, sym, ap, subst, ◌∙◌, arith}
+use Rattle.std.specs.Prelude.{OnOk}
+use Rattle.std.specs.List.{All}
+use Rattle.std.proofs.lemmas.List.{append-nil}
+use Rattle.std.proofs.lemmas.List.Elements.{All-from_get_or}
+use Rattle.r10_medium.specs.Disk.{Disk, Image, IsSynced, Unchanged}
+use Rattle.r10_medium.specs.Stop.{Leaves, Settled}
+use Rattle.r10_medium.proofs.Stops.{below_puts, joined, then_stays, weakened, whole_reads}
+use Rattle.r10_blockout.specs.Blocks.{Shows, blocks_for, file_blocks, first_blocks}
+use Rattle.r10_blockout.specs.Output.{Puts, first_of}
+use Rattle.r10_blockout.proofs.Joining.{carries_past}
+use Rattle.r10_body.specs.Files.{FileSays}
+use Rattle.r10_body.specs.Packets.{file_bytes}
+use Rattle.r10_carry.specs.Carries.{Recording}
+use Rattle.r10_dirblock.specs.declared.entry.Entry.{Entry as Listed}
+use Rattle.r10_dirchain.specs.Chain.{Holds as HasBlock, IsDirectory, at, blank_block}
+use Rattle.r10_dirchain.specs.OnMedium.{HasNext, Turns}
+use Rattle.r10_dirchain.specs.Steps.{added, last_block, spare}
+use Rattle.r10_dirchain.specs.declared.chain.ChainBlock.{ChainBlock}
+use Rattle.r10_dirchain.proofs.Directories.{still_holds}
+use Rattle.r10_holding.specs.Holding.{Holds}
+use Rattle.r10_machine.specs.Config.{Config}
+use Rattle.r10_machine.specs.Machine.{File}
+use Rattle.r10_machine.specs.Room.{next_block}
+use Rattle.r10_steps.specs.Says.{MediumSays}
+use Rattle.r10_begun.specs.Begun.{IsBegun, MayList}
+use Rattle.r10_begun.proofs.Behind.{behind_holds, behind_moments}
+use Rattle.r10_begun.proofs.Turning.{begun_held, begun_moments, begun_reads, sure_says}
+
+-- ---- whatever the medium has: its directory stays while blocks behind it are put
+
+pub directory_stays : (old new sure : Disk) (chain : List ChainBlock) (first : ℕ) (blocks : Image) → IsDirectory old.blocks chain → All (λ (b : ChainBlock). b.number < first) chain → Puts first blocks old new → Unchanged new sure → IsDirectory sure.blocks chain
+directory_stays old new sure chain first blocks there below put same =
+    let kept = below_puts first blocks old.blocks new.blocks put.reads in
+    subst (λ (l : Image). IsDirectory l chain) (sym same.reads)
+    (record {
+      linked = there.linked;
+      holds = All-from_get_or (HasBlock new.blocks) chain blank_block (λ i lt. still_holds old.blocks new.blocks (at chain i) (there.holds i blank_block lt) kept.size (kept.blocks (at chain i).number (below i blank_block lt)));
+    })
+
+pub next_stays : (old new sure : Disk) (chain : List ChainBlock) → HasNext old.blocks chain → length new.blocks ≡ length old.blocks → Unchanged new sure → HasNext sure.blocks chain
+next_stays old new sure chain next long same = record { in_order = next.in_order; within = omega (arith, next.within, long, ap (λ (l : Image). length l) same.reads) }
+
+-- ---- the last block
+
+module _ (s : Config) (chain : List ChainBlock) (files : List File) (f : File) (e : Listed) (r : Recording) (old mid : Disk) (may : MayList s old.blocks chain files r f e)
+    (put : Puts (first_of r.out.blocks) (file_blocks (file_bytes may.carries.packets)) old mid) where
+  abbrev bytes : List ℕ
+  bytes = file_bytes may.carries.packets
+
+  put_here : Puts (next_block s files) (first_blocks (bytes ++ []) (blocks_for (length bytes))) old mid
+  put_here =
+      subst (λ (l : List ℕ). Puts (next_block s files) (first_blocks l (blocks_for (length bytes))) old mid) (sym (append-nil bytes))
+      (subst (λ (n : ℕ). Puts n (file_blocks bytes) old mid) (may.first ∙ may.place) put)
+
+  pub last_holds : Holds s mid.blocks chain None files
+  last_holds = behind_holds s files bytes old.blocks mid.blocks (whole_reads old) (record { more = []; count = blocks_for (length bytes); puts = put_here.reads }) chain may.held
+
+  pub last_moments : Settled (λ image. MediumSays s image files) old → Leaves (λ image. MediumSays s image files ⊎ MediumSays s image (files ++ f ∷ [])) old mid
+  last_moments settled =
+      weakened (λ image. MediumSays s image files) (λ image. MediumSays s image files ⊎ MediumSays s image (files ++ f ∷ [])) old mid (λ image says. inl says)
+      (behind_moments s files bytes (blocks_for (length bytes)) old mid put_here settled)
+
+  pub last_begun : Shows mid.blocks (first_of r.out.blocks) bytes → FileSays bytes f.setup f.entries false → IsBegun s mid.blocks files r f
+  last_begun shows says = record {
+    time = may.time;
+    event = may.event;
+    first = may.first;
+    place = may.place;
+    size = may.size;
+    unclosed = may.unclosed;
+    own = may.own;
+    whole = may.whole;
+    none = may.none;
+    carries = record {
+      packets = may.carries.packets;
+      has = record {
+        bytes = carries_past r.out.blocks bytes [] old mid may.carries.has.bytes (subst (λ (b : List ℕ). Puts (first_of r.out.blocks) (file_blocks b) old mid) (sym (append-nil bytes)) put);
+        named = may.carries.has.named;
+        numbered = may.carries.has.numbered;
+      };
+      says = may.carries.says;
+    };
+    shows = subst (λ (n : ℕ). Shows mid.blocks n bytes) may.first shows;
+    says = says;
+  }
+
+-- ---- and then the entry
+
+module _ {T E : Type 0} (s : Config) (chain : List ChainBlock) (files : List File) (f : File) (e : Listed) (r : Recording) (old mid sure new : Disk) (result : Result T E) (may : MayList s old.blocks chain files r f e)
+    (put : Puts (first_of r.out.blocks) (file_blocks (file_bytes may.carries.packets)) old mid) (shows : Shows mid.blocks (first_of r.out.blocks) (file_bytes may.carries.packets)) (says : FileSays (file_bytes may.carries.packets) f.setup f.entries false)
+    (same : Unchanged mid sure) (synced : IsSynced sure) (turns : Turns chain (added e chain) (spare chain) ((last_block chain).number ∷ spare chain) sure new result) where
+  held : Holds s sure.blocks chain None files
+  held = subst (λ (l : Image). Holds s l chain None files) (sym same.reads) (last_holds s chain files f e r old mid may put)
+
+  begun : IsBegun s sure.blocks files r f
+  begun = subst (λ (l : Image). IsBegun s l files r f) (sym same.reads) (last_begun s chain files f e r old mid may put shows says)
+
+  pub listed_holds : OnOk result (Holds s new.blocks (added e chain) (Some (record { recording = r; shown = length r.out.entries })) (files ++ f ∷ []))
+  listed_holds = begun_held s chain files r f e sure new result held begun may.sealed may.few may.lists turns
+
+  pub listed_reads : MediumSays s new.blocks files ⊎ MediumSays s new.blocks (files ++ f ∷ [])
+  listed_reads = begun_reads s chain files r f e sure new result held begun may.sealed may.few may.lists turns
+
+  pub listed_moments : Settled (λ image. MediumSays s image files) old → Leaves (λ image. MediumSays s image files ⊎ MediumSays s image (files ++ f ∷ [])) old new
+  listed_moments settled =
+      let left : Image → Type 0 = λ image. MediumSays s image files ⊎ MediumSays s image (files ++ f ∷ []) in
+      joined left old sure new (then_stays left old mid sure (last_moments s chain files f e r old mid may put settled) same)
+      (begun_moments s chain files r f e sure new result held begun may.sealed may.few may.lists turns (sure_says s sure chain files synced held))
+
+pub on_both : {T E : Type 0} (result : Result T E) (P Q R : Type 0) → (P → Q → R) → OnOk result P → OnOk result Q → OnOk result R
+on_both (Ok x) P Q R gives p q = gives p q
+on_both (Err e) P Q R gives p q = p

@@ -1,0 +1,101 @@
+use Rattle.std.proofs.Common.{◌≡◌, ◌⊎◌, inl, List, [], ◌∷◌, ◌++◌, length, Some, sym, subst}
+use Rattle.r10_medium.specs.Disk.{Image}
+use Rattle.r10_medium.proofs.Stops.{then_stays}
+use Rattle.r10_blockout.specs.Blocks.{file_blocks}
+use Rattle.r10_blockout.specs.Output.{first_of}
+use Rattle.r10_body.specs.Packets.{file_bytes}
+use Rattle.r10_dirchain.specs.Steps.{added}
+use Rattle.r10_dirchain.specs.declared.chain.ChainBlock.{ChainBlock}
+use Rattle.r10_holding.specs.Holding.{Holds}
+use Rattle.r10_steps.specs.Says.{MediumSays}
+use Rattle.r10_begun.proofs.Calls.{directory_stays, last_holds, last_moments, listed_holds, listed_moments, listed_reads, on_both}
+use Rattle.r10_begun.proofs.file.list_file.Goals as goal
+
+pub returns-in-Err-clause-either : goal.returns-in-Err-clause-either
+returns-in-Err-clause-either g c =
+    let disk = g.M.BlockMedium.disk in
+    let chain = c.args.directory.now in
+    let r = c.args.mux.now in
+    let old = disk c.args.medium.now in
+    let mid = disk c.commit_blocks.new.medium in
+    λ s files f may. inl (last_holds s chain files f c.args.entry r old mid may (c.commit_blocks.ensures.puts f.setup f.entries may.carries)).says
+
+pub returns-in-Err-clause-moments : goal.returns-in-Err-clause-moments
+returns-in-Err-clause-moments g c =
+    let disk = g.M.BlockMedium.disk in
+    let chain = c.args.directory.now in
+    let r = c.args.mux.now in
+    let old = disk c.args.medium.now in
+    let mid = disk c.commit_blocks.new.medium in
+    λ s files f may settled. last_moments s chain files f c.args.entry r old mid may (c.commit_blocks.ensures.puts f.setup f.entries may.carries) settled
+
+pub returns-in-Err-sync-clause-either : goal.returns-in-Err-sync-clause-either
+returns-in-Err-sync-clause-either g c =
+    let disk = g.M.BlockMedium.disk in
+    let chain = c.args.directory.now in
+    let r = c.args.mux.now in
+    let old = disk c.args.medium.now in
+    let mid = disk c.commit_blocks.new.medium in
+    let sure = disk c.sync.new.self in
+    λ s files f may. inl (subst (λ (l : Image). MediumSays s l files) (sym c.sync.ensures.same.reads) (last_holds s chain files f c.args.entry r old mid may (c.commit_blocks.ensures.puts f.setup f.entries may.carries)).says)
+
+pub returns-in-Err-sync-clause-moments : goal.returns-in-Err-sync-clause-moments
+returns-in-Err-sync-clause-moments g c =
+    let disk = g.M.BlockMedium.disk in
+    let chain = c.args.directory.now in
+    let r = c.args.mux.now in
+    let old = disk c.args.medium.now in
+    let mid = disk c.commit_blocks.new.medium in
+    let sure = disk c.sync.new.self in
+    λ s files f may settled.
+    then_stays (λ image. MediumSays s image files ⊎ MediumSays s image (files ++ f ∷ [])) old mid sure (last_moments s chain files f c.args.entry r old mid may (c.commit_blocks.ensures.puts f.setup f.entries may.carries) settled) c.sync.ensures.same
+
+pub add-requires-clause-stands : goal.add-requires-clause-stands
+add-requires-clause-stands g c =
+    let disk = g.M.BlockMedium.disk in
+    let chain = c.args.directory.now in
+    let r = c.args.mux.now in
+    let old = disk c.args.medium.now in
+    let mid = disk c.commit_blocks.new.medium in
+    let sure = disk c.sync.new.self in
+    let it = c.requires.carries in
+    directory_stays old mid sure chain (first_of r.out.blocks) (file_blocks (file_bytes it.2.packets)) c.requires.stands c.requires.below (c.commit_blocks.ensures.puts it.0 it.1 it.2) c.sync.ensures.same
+
+pub returns-clause-holds : goal.returns-clause-holds
+returns-clause-holds g c =
+    let disk = g.M.BlockMedium.disk in
+    let chain = c.args.directory.now in
+    let r = c.args.mux.now in
+    let old = disk c.args.medium.now in
+    let mid = disk c.commit_blocks.new.medium in
+    let sure = disk c.sync.new.self in
+    let new = disk c.add.new.medium in
+    λ s files f may.
+    let Held : List ChainBlock → Type 0 = λ l. Holds s new.blocks l (Some (record { recording = r; shown = length r.out.entries })) (files ++ f ∷ []) in
+    on_both c.add.result (Held (added c.args.entry chain)) (c.add.new.self ≡ added c.args.entry chain) (Held c.add.new.self) (λ held is. subst Held (sym is) held)
+    (listed_holds s chain files f c.args.entry r old mid sure new c.add.result may (c.commit_blocks.ensures.puts f.setup f.entries may.carries)
+    (c.in_default.ensures.shows f.setup f.entries may.carries) (c.commit_blocks.ensures.says f.setup f.entries may.carries may.none) c.sync.ensures.same c.in_default-sync.ensures.sure c.add.ensures.turns) c.add.ensures.done
+
+pub returns-clause-either : goal.returns-clause-either
+returns-clause-either g c =
+    let disk = g.M.BlockMedium.disk in
+    let chain = c.args.directory.now in
+    let r = c.args.mux.now in
+    let old = disk c.args.medium.now in
+    let mid = disk c.commit_blocks.new.medium in
+    let sure = disk c.sync.new.self in
+    let new = disk c.add.new.medium in
+    λ s files f may. listed_reads s chain files f c.args.entry r old mid sure new c.add.result may (c.commit_blocks.ensures.puts f.setup f.entries may.carries)
+    (c.in_default.ensures.shows f.setup f.entries may.carries) (c.commit_blocks.ensures.says f.setup f.entries may.carries may.none) c.sync.ensures.same c.in_default-sync.ensures.sure c.add.ensures.turns
+
+pub returns-clause-moments : goal.returns-clause-moments
+returns-clause-moments g c =
+    let disk = g.M.BlockMedium.disk in
+    let chain = c.args.directory.now in
+    let r = c.args.mux.now in
+    let old = disk c.args.medium.now in
+    let mid = disk c.commit_blocks.new.medium in
+    let sure = disk c.sync.new.self in
+    let new = disk c.add.new.medium in
+    λ s files f may settled. listed_moments s chain files f c.args.entry r old mid sure new c.add.result may (c.commit_blocks.ensures.puts f.setup f.entries may.carries)
+    (c.in_default.ensures.shows f.setup f.entries may.carries) (c.commit_blocks.ensures.says f.setup f.entries may.carries may.none) c.sync.ensures.same c.in_default-sync.ensures.sure c.add.ensures.turns settled

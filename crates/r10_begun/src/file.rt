@@ -1,0 +1,63 @@
+//! Listing a file that has begun.
+
+ghost use Rattle.std.specs.Prelude.{◌≡◌, ◌<◌, ◌⊎◌, List, [], ◌∷◌, ◌++◌, ℕ, None, Some, true, length, OnOk, OnErr};
+ghost use Rattle.std.specs.List.{All};
+ghost use Rattle.r10_medium.specs.Disk.{Counts};
+ghost use Rattle.r10_medium.specs.Stop.{Leaves, Settled};
+ghost use Rattle.r10_blockout.specs.Blocks.{bytes_from};
+ghost use Rattle.r10_blockout.specs.Output.{HasRoom, first_of};
+ghost use Rattle.r10_body.specs.declared.entry.Entry.{Entry as Said};
+ghost use Rattle.r10_carry.specs.Carries.{Carries};
+ghost use Rattle.r10_dirblock.specs.Block.{has_room};
+ghost use Rattle.r10_dirchain.specs.Chain.{IsDirectory};
+ghost use Rattle.r10_dirchain.specs.OnMedium.{HasNext};
+ghost use Rattle.r10_dirchain.specs.Rooms.{room_for};
+ghost use Rattle.r10_dirchain.specs.Steps.{added};
+ghost use Rattle.r10_dirchain.specs.declared.chain.ChainBlock.{ChainBlock};
+ghost use Rattle.r10_holding.specs.Holding.{Holds};
+ghost use Rattle.r10_machine.specs.Config.{Config};
+ghost use Rattle.r10_machine.specs.Machine.{File};
+ghost use Rattle.r10_steps.specs.Says.{MediumSays};
+ghost use Rattle.r10_begun.specs.Begun.{MayList};
+
+use r10_dirblock::Entry;
+use r10_dirchain::{Directory, Room};
+use r10_medium::{BlockMedium, MediumFault};
+use r10_mux::Mux;
+
+/// Lists a file that was written behind all others: writes its last block, makes sure of its packets, and
+/// adds its entry to the directory. Then it is the one that is written, and the medium shows all its packets.
+///
+/// Where the medium fails, it says the files that there were, or those with this one.
+pub fn list_file<M: BlockMedium>(
+    mux: &Mux,
+    medium: &mut M,
+    directory: &mut Directory,
+    entry: Entry,
+    room: Room,
+) -> Result<(), MediumFault>
+    requires inside { HasRoom mux.now.out.blocks 0 (length (M.disk medium.old).blocks) }
+    requires carries { (text : List ℕ) × (entries : List Said) × Carries mux.now (M.disk medium.old).blocks text entries }
+    requires stands { IsDirectory (M.disk medium.old).blocks directory.old }
+    requires below { All (λ (b : ChainBlock). b.number < first_of mux.now.out.blocks) directory.old }
+    requires next { HasNext (M.disk medium.old).blocks directory.old }
+    requires entry { has_room entry ≡ true }
+    requires ready { length directory.old < room_for room }
+    ensures holds { (s : Config) (files : List File) (f : File) → MayList s (M.disk medium.old).blocks directory.old files mux.now f entry
+        → OnOk result (Holds s (M.disk medium.new).blocks directory.new (Some (record { recording = mux.now; shown = length mux.now.out.entries })) (files ++ f ∷ [])) }
+    ensures either { (s : Config) (files : List File) (f : File) → MayList s (M.disk medium.old).blocks directory.old files mux.now f entry
+        → MediumSays s (M.disk medium.new).blocks files ⊎ MediumSays s (M.disk medium.new).blocks (files ++ f ∷ []) }
+    ensures moments { (s : Config) (files : List File) (f : File) → MayList s (M.disk medium.old).blocks directory.old files mux.now f entry → Settled (λ image. MediumSays s image files) (M.disk medium.old)
+        → Leaves (λ image. MediumSays s image files ⊎ MediumSays s image (files ++ f ∷ [])) (M.disk medium.old) (M.disk medium.new) }
+    ensures done { OnOk result (directory.new ≡ added entry directory.old) }
+    ensures kept { OnErr result (directory.new ≡ directory.old) }
+    ensures counts { Counts (M.disk medium.old) (M.disk medium.new) result }
+{
+    if let Err(fault) = mux.commit_blocks(medium) {
+        return Err(fault);
+    }
+    if let Err(fault) = medium.sync() {
+        return Err(fault);
+    }
+    directory.add(medium, entry, room)
+}
