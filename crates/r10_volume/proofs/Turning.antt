@@ -24,6 +24,7 @@ use Rattle.r10_machine.specs.Machine.{File}
 use Rattle.r10_standing.specs.Bytes.{KeepBytes}
 use Rattle.r10_standing.proofs.Said.{directory_keeps, directory_turns}
 use Rattle.r10_steps.specs.Says.{MediumSays, SaysEach}
+use Rattle.r10_volume.specs.Mounting.{IsUsable}
 use Rattle.r10_volume.specs.Settling.{IsSettled}
 
 -- ---- the first block
@@ -228,3 +229,19 @@ pub directory_on : {T E : Type 0} (chain made now : List ChainBlock) (old new : 
 directory_on chain made now old new result turns done =
     on_both result (Settled (Turned made (1 ∷ []) old.blocks) new) (now ≡ made) (IsDirectory new.blocks now)
     (λ turned is. subst (IsDirectory new.blocks) (sym is) (settled_reads (Turned made (1 ∷ []) old.blocks) new turned).directory) turns.settled done
+
+-- and a recorder can use it, where its rules hold
+pub usable_on : {T E : Type 0} (reserved : ℕ) (chain made now : List ChainBlock) (changed : List ℕ) (old new : Disk) (result : Result T E) → first_broken (mount_rules reserved (length old.blocks) made) ≡ None
+    → Turns chain made [] changed old new result → OnOk result (now ≡ made) → OnOk result (IsUsable reserved new.blocks now)
+usable_on reserved chain made now changed old new result rules turns done =
+    on_both result (Settled (Turned made changed old.blocks) new) (now ≡ made) (IsUsable reserved new.blocks now)
+    (λ settled is.
+    let turned = settled_reads (Turned made changed old.blocks) new settled in
+    subst (IsUsable reserved new.blocks) (sym is) (record { directory = turned.directory; rules = subst (λ (n : ℕ). first_broken (mount_rules reserved n made) ≡ None) (sym turned.others.size) rules }))
+    turns.settled done
+
+pub marked_rules : (reserved shutdown : ℕ) (image : Image) (chain : List ChainBlock) → IsUsable reserved image chain → first_broken (mount_rules reserved (length image) (with_shutdown shutdown chain)) ≡ None
+marked_rules reserved shutdown image chain usable = usable-with_shutdown reserved (length image) shutdown chain usable.rules
+
+pub emptied_rules : (reserved : ℕ) (image : Image) (chain : List ChainBlock) → IsUsable reserved image chain → first_broken (mount_rules reserved (length image) (emptied chain)) ≡ None
+emptied_rules reserved image chain usable = usable-emptied reserved (length image) chain (some_reserved reserved (length image) image chain usable.directory usable.rules)

@@ -34,6 +34,7 @@ pub fn mount<M: BlockMedium>(
     ensures usable { (chain : List ChainBlock) → IsUsable reserved (M.disk medium.old).blocks chain → MatchResult result (λ directory. directory ≡ with_shutdown 0x00 chain) IsNoFault }
     ensures unusable { (n : ℕ) → IsUnusable reserved (M.disk medium.old).blocks n → MatchResult result (λ _. ⊥) (IsNamed n) }
     ensures directory { IfOk result (IsDirectory (M.disk medium.new).blocks) }
+    ensures ready { IfOk result (IsUsable reserved (M.disk medium.new).blocks) }
     ensures left { IfErr result (IsLeft (M.disk medium.old) (M.disk medium.new)) }
     ensures turns { (chain : List ChainBlock) → IsUsable reserved (M.disk medium.old).blocks chain
         → Turns chain (with_shutdown 0x00 chain) [] (1 ∷ []) (M.disk medium.old) (M.disk medium.new) result }

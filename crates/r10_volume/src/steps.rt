@@ -1,6 +1,6 @@
 //! Steps on the directory of a medium in use.
 
-ghost use Rattle.std.specs.Prelude.{◌≡◌, ◌⊎◌, List, [], ◌∷◌, None, OnOk, OnErr};
+ghost use Rattle.std.specs.Prelude.{◌≡◌, ◌⊎◌, ℕ, List, [], ◌∷◌, None, OnOk, OnErr};
 ghost use Rattle.r10_medium.specs.Disk.{Counts};
 ghost use Rattle.r10_medium.specs.Stop.{Leaves, Settled};
 ghost use Rattle.r10_dirchain.specs.Chain.{IsDirectory, at};
@@ -10,6 +10,7 @@ ghost use Rattle.r10_machine.specs.Config.{Config};
 ghost use Rattle.r10_machine.specs.Machine.{File};
 ghost use Rattle.r10_steps.specs.Says.{MediumSays};
 ghost use Rattle.r10_holding.specs.Holding.{Holds};
+ghost use Rattle.r10_volume.specs.Mounting.{IsUsable};
 ghost use Rattle.r10_volume.specs.Settling.{IsSettled};
 
 use r10_dirchain::Directory;
@@ -24,6 +25,7 @@ pub fn dismount<M: BlockMedium>(
     ensures done { OnOk result (directory.new ≡ with_shutdown 0xFF directory.old) }
     ensures kept { OnErr result (directory.new ≡ directory.old) }
     ensures directory { OnOk result (IsDirectory (M.disk medium.new).blocks directory.new) }
+    ensures usable { (reserved : ℕ) → IsUsable reserved (M.disk medium.old).blocks directory.old → OnOk result (IsUsable reserved (M.disk medium.new).blocks directory.new) }
     ensures turns { Turns directory.old (with_shutdown 0xFF directory.old) [] (1 ∷ []) (M.disk medium.old) (M.disk medium.new) result }
     ensures holds { (s : Config) (files : List File) → Holds s (M.disk medium.old).blocks directory.old None files → OnOk result (Holds s (M.disk medium.new).blocks directory.new None files) }
     ensures says { (s : Config) (files : List File) → Holds s (M.disk medium.old).blocks directory.old None files → MediumSays s (M.disk medium.new).blocks files }
@@ -41,6 +43,7 @@ pub fn erase<M: BlockMedium>(medium: &mut M, directory: &mut Directory) -> Resul
     ensures done { OnOk result (directory.new ≡ emptied directory.old) }
     ensures kept { OnErr result (directory.new ≡ directory.old) }
     ensures directory { OnOk result (IsDirectory (M.disk medium.new).blocks directory.new) }
+    ensures usable { (reserved : ℕ) → IsUsable reserved (M.disk medium.old).blocks directory.old → OnOk result (IsUsable reserved (M.disk medium.new).blocks directory.new) }
     ensures turns { Turns directory.old (emptied directory.old) [] (1 ∷ []) (M.disk medium.old) (M.disk medium.new) result }
     ensures holds { (s : Config) (files : List File) → Holds s (M.disk medium.old).blocks directory.old None files → OnOk result (Holds s (M.disk medium.new).blocks directory.new None []) }
     ensures failed { (s : Config) (files : List File) → Holds s (M.disk medium.old).blocks directory.old None files

@@ -9,7 +9,7 @@ use Rattle.r10_dirchain.specs.OnMedium.{Turns}
 use Rattle.r10_dirchain.proofs.Unique.{one_directory}
 use Rattle.r10_steps.specs.Says.{MediumSays}
 use Rattle.r10_volume.proofs.Taken.{named_error, no_error, none_unusable, says_usable}
-use Rattle.r10_volume.proofs.Turning.{directory_on, held_on, leaves_still, marked_later, marking, says_still, settled_still}
+use Rattle.r10_volume.proofs.Turning.{directory_on, marked_rules, usable_on, held_on, leaves_still, marked_later, marking, says_still, settled_still}
 use Rattle.r10_volume.proofs.mounting.mount.Goals as goal
 
 pub returns-in-Err-clause-usable : goal.returns-in-Err-clause-usable
@@ -41,6 +41,17 @@ returns-in-Ok-set_shutdown-clause-directory g c =
     let turns : Turns {T = Directory} {E = ChainError} chain made [] (1 ∷ []) old new (Ok c.set_shutdown.new.self) =
     marked_later chain 0 old (g.M.BlockMedium.disk c.usable_directory.new.medium) new (Ok c.in-Ok-set_shutdown.field-0) (Ok c.set_shutdown.new.self) c.in-Ok.ensures.same is c.in-Ok-set_shutdown.ensures.turns (λ P p. p) in
     directory_on chain made c.set_shutdown.new.self old new (Ok c.set_shutdown.new.self) turns c.in-Ok-set_shutdown.ensures.done
+
+pub returns-in-Ok-set_shutdown-clause-ready : goal.returns-in-Ok-set_shutdown-clause-ready
+returns-in-Ok-set_shutdown-clause-ready g c =
+    let old = g.M.BlockMedium.disk c.args.medium.now in
+    let new = g.M.BlockMedium.disk c.set_shutdown.new.medium in
+    let chain = c.in-Ok.directory in
+    let made = with_shutdown 0 chain in
+    let is = c.in-Ok.ensures.usable.directory in
+    let turns : Turns {T = Directory} {E = ChainError} chain made [] (1 ∷ []) old new (Ok c.set_shutdown.new.self) =
+    marked_later chain 0 old (g.M.BlockMedium.disk c.usable_directory.new.medium) new (Ok c.in-Ok-set_shutdown.field-0) (Ok c.set_shutdown.new.self) c.in-Ok.ensures.same is c.in-Ok-set_shutdown.ensures.turns (λ P p. p) in
+    usable_on c.args.reserved chain made c.set_shutdown.new.self (1 ∷ []) old new (Ok c.set_shutdown.new.self) (marked_rules c.args.reserved 0 old.blocks chain c.in-Ok.ensures.usable) turns c.in-Ok-set_shutdown.ensures.done
 
 pub returns-in-Ok-set_shutdown-clause-turns : goal.returns-in-Ok-set_shutdown-clause-turns
 returns-in-Ok-set_shutdown-clause-turns g c =

@@ -1,6 +1,7 @@
 use Rattle.std.proofs.Common.{[], ◌∷◌}
+use Rattle.r10_dirchain.specs.Chain.{at}
 use Rattle.r10_dirchain.specs.Steps.{with_shutdown}
-use Rattle.r10_volume.proofs.Turning.{directory_on, held_on, leaves_still, marking, of_first, says_still, settled_still}
+use Rattle.r10_volume.proofs.Turning.{directory_on, marked_rules, usable_on, held_on, leaves_still, marking, of_first, says_still, settled_still}
 use Rattle.r10_volume.proofs.steps.dismount.Goals as goal
 
 pub returns-clause-turns : goal.returns-clause-turns
@@ -12,6 +13,12 @@ returns-clause-directory g c =
     let new = g.M.BlockMedium.disk c.set_shutdown.new.medium in
     directory_on c.args.directory.now (with_shutdown 0xFF c.args.directory.now) c.set_shutdown.new.self old new c.set_shutdown.result
     (of_first c.args.directory.now (with_shutdown 0xFF c.args.directory.now) old new c.set_shutdown.result c.requires c.set_shutdown.ensures.turns) c.set_shutdown.ensures.done
+
+pub returns-clause-usable : goal.returns-clause-usable
+returns-clause-usable g c = λ reserved usable.
+    let old = g.M.BlockMedium.disk c.args.medium.now in
+    usable_on reserved c.args.directory.now (with_shutdown 0xFF c.args.directory.now) c.set_shutdown.new.self ((at c.args.directory.now 0).number ∷ []) old (g.M.BlockMedium.disk c.set_shutdown.new.medium) c.set_shutdown.result
+    (marked_rules reserved 0xFF old.blocks c.args.directory.now usable) c.set_shutdown.ensures.turns c.set_shutdown.ensures.done
 
 pub returns-clause-holds : goal.returns-clause-holds
 returns-clause-holds g c = λ s files holds.

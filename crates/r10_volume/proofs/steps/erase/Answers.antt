@@ -1,11 +1,17 @@
 use Rattle.std.proofs.Common.{[], ◌∷◌}
 use Rattle.r10_dirchain.specs.Steps.{emptied}
-use Rattle.r10_volume.proofs.Turning.{directory_on, emptied_on, emptying, leaves_then, on_err, says_then, settled_empty}
+use Rattle.r10_volume.proofs.Turning.{directory_on, emptied_rules, usable_on, emptied_on, emptying, leaves_then, on_err, says_then, settled_empty}
 use Rattle.r10_volume.proofs.steps.erase.Goals as goal
 
 pub returns-clause-directory : goal.returns-clause-directory
 returns-clause-directory g c =
     directory_on c.args.directory.now (emptied c.args.directory.now) c.erase.new.self _ (g.M.BlockMedium.disk c.erase.new.medium) c.erase.result c.erase.ensures.turns c.erase.ensures.done
+
+pub returns-clause-usable : goal.returns-clause-usable
+returns-clause-usable g c = λ reserved usable.
+    let old = g.M.BlockMedium.disk c.args.medium.now in
+    usable_on reserved c.args.directory.now (emptied c.args.directory.now) c.erase.new.self (1 ∷ []) old (g.M.BlockMedium.disk c.erase.new.medium) c.erase.result
+    (emptied_rules reserved old.blocks c.args.directory.now usable) c.erase.ensures.turns c.erase.ensures.done
 
 pub returns-clause-holds : goal.returns-clause-holds
 returns-clause-holds g c = λ s files holds.
