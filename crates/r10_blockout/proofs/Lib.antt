@@ -2,3 +2,4 @@ pub mod Padding
 pub mod Showing
 pub mod Carrying
 pub mod Joining
+pub mod Resuming

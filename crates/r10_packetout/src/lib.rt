@@ -8,4 +8,5 @@ mod numbers;
 mod output;
 mod parts;
 
+pub use index::put_index;
 pub use output::PacketOut;
