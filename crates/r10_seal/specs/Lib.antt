@@ -1,0 +1,2 @@
+pub mod Sealing
+pub mod Judging

@@ -1,0 +1,73 @@
+-- A last file that was left open, and the file that it is with its index.
+use Rattle.std.specs.Prelude.{◌≡◌, ◌⊎◌, ℕ, ◌*◌, ◌≤◌, ◌++◌, false, List, [], ◌∷◌, length, Some, None}
+use Rattle.r10_count.specs.declared.civil.Parts.{Parts}
+use Rattle.r10_medium.specs.Disk.{Disk, Image}
+use Rattle.r10_medium.specs.Stop.{ComesBy, PutsSome}
+use Rattle.r10_blockout.specs.Blocks.{Shows, bytes_from, file_blocks}
+use Rattle.r10_body.specs.Cost.{file_cost}
+use Rattle.r10_body.specs.Files.{PacketsSay}
+use Rattle.r10_body.specs.Packets.{Packet, file_bytes, file_entries}
+use Rattle.r10_dirblock.specs.Block.{sized}
+use Rattle.r10_dirblock.specs.Texts.{time_text}
+use Rattle.r10_dirblock.specs.declared.entry.Entry.{Entry as Listed}
+use Rattle.r10_dirchain.specs.Steps.{last_listing, updated}
+use Rattle.r10_dirchain.specs.Chain.{at}
+use Rattle.r10_dirchain.specs.OnMedium.{Turned}
+use Rattle.r10_dirchain.specs.declared.chain.ChainBlock.{ChainBlock}
+use Rattle.r10_index.specs.Written.{index_of}
+use Rattle.r10_machine.specs.Machine.{File}
+use Rattle.r10_steps.specs.Calls.{closed_in}
+use Rattle.r10_tracks.specs.Times.{last_mark}
+use Rattle.r10_tracks.specs.declared.times.TimeMark.{TimeMark}
+
+-- the bytes are these packets: a strict file without an index, with this setup text
+pub record IsUnsealed (bytes : List ℕ) (text : List ℕ) (packets : List Packet) : Type 0 where
+  pub bytes_are : bytes ≡ file_bytes packets
+  pub say : PacketsSay packets text (file_entries packets) false
+
+-- what they cost
+abbrev pub cost_of_packets : List ℕ → List Packet → ℕ
+cost_of_packets text packets = file_cost text (file_entries packets)
+
+-- their bytes with their index behind them
+abbrev pub sealed_bytes : List Packet → List ℕ
+sealed_bytes packets = file_bytes (packets ++ index_of packets)
+
+-- the entry of the file with its index, closed at a time
+abbrev pub sealed_entry : List Packet → Parts → Listed → Listed
+sealed_entry packets civil e = record (sized (length (sealed_bytes packets)) e) { close_time = time_text civil }
+
+-- the file with its index
+abbrev pub sealed : List Packet → File → File
+sealed packets f = closed_in (length (sealed_bytes packets)) f
+
+-- over an image that shows the file with its index, and where nothing but blocks of that is put, the directory is this one
+pub record IsClosed (e : Listed) (packets : List Packet) (made : List ChainBlock) (changed : List ℕ) (old image : Image) : Type 0 where
+  pub between : Image
+  pub puts : PutsSome e.first_block (file_blocks (sealed_bytes packets)) old between
+  pub shows : Shows between e.first_block (sealed_bytes packets)
+  pub turned : Turned made changed between image
+
+-- the number of the block that lists the last file
+abbrev pub listing_block : List ChainBlock → List ℕ
+listing_block chain = (at chain (last_listing chain)).number ∷ []
+
+-- The last file, with this entry, has few packets for an index of so many nodes, and costs no more than its part of the medium has; the medium shows it with its index then, and the
+-- directory lists it closed at its last time.
+pub record Seals (old : Image) (chain : List ChainBlock) (e : Listed) (nodes area : ℕ) (new : Image) (made : List ChainBlock) : Type 0 where
+  pub text : List ℕ
+  pub packets : List Packet
+  pub unsealed : IsUnsealed (bytes_from old e.first_block e.size) text packets
+  pub few : length packets ≤ 100 * nodes
+  pub room : cost_of_packets text packets ≤ area
+  pub time : TimeMark
+  pub last : last_mark None packets ≡ Some time
+  pub shows : Shows new e.first_block (sealed_bytes packets)
+  pub made_is : made ≡ updated (sealed_entry packets time.civil e) chain
+  pub closed : IsClosed e packets made (listing_block chain) old new
+
+-- at a moment of a seal: blocks of the file with its index are put over those that could be left, or the file is closed
+abbrev pub IsSealing : Listed → List Packet → List ChainBlock → Disk → Image → Type 0
+IsSealing e packets chain old image =
+    ComesBy (PutsSome e.first_block (file_blocks (sealed_bytes packets))) old image
+    ⊎ ((civil : Parts) × IsClosed e packets (updated (sealed_entry packets civil e) chain) (listing_block chain) old.blocks image)

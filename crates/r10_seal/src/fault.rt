@@ -1,0 +1,18 @@
+//! Why a file isn't closed.
+
+use r10_foreign::Fault;
+
+/// Why a last file that was left open isn't closed.
+#[derive(Clone, Copy, Debug, PartialEq, Eq, Drop)]
+pub enum SealFault {
+    /// It is not strict: the first fault of its bytes.
+    BadFile(Fault),
+    /// It has more packets than a hundred for each node of an index.
+    IndexFull,
+    /// It costs more than there is of the medium behind its first block.
+    MediumFull,
+    /// A call of the medium failed.
+    Medium,
+    /// Memory was refused.
+    OutOfMemory,
+}
