@@ -7,7 +7,7 @@ use Rattle.std.proofs.lemmas.List.Elements.{All-from_get_or}
 use Rattle.r10_medium.specs.Disk.{Disk, Image, IsSynced, Unchanged}
 use Rattle.r10_medium.specs.Stop.{Leaves, Settled}
 use Rattle.r10_medium.proofs.Stops.{below_puts, joined, then_stays, weakened, whole_reads}
-use Rattle.r10_blockout.specs.Blocks.{Shows, blocks_for, file_blocks, first_blocks}
+use Rattle.r10_blockout.specs.Blocks.{Shows, bytes_from, blocks_for, file_blocks, first_blocks}
 use Rattle.r10_blockout.specs.Output.{Puts, first_of}
 use Rattle.r10_blockout.proofs.Joining.{carries_past}
 use Rattle.r10_body.specs.Files.{FileSays}
@@ -26,7 +26,7 @@ use Rattle.r10_machine.specs.Room.{next_block}
 use Rattle.r10_steps.specs.Says.{MediumSays}
 use Rattle.r10_begun.specs.Begun.{IsBegun, MayList}
 use Rattle.r10_begun.proofs.Behind.{behind_holds, behind_moments}
-use Rattle.r10_begun.proofs.Turning.{begun_held, begun_moments, begun_reads, sure_says}
+use Rattle.r10_begun.proofs.Turning.{begun_held, begun_moments, begun_reads, begun_settled, sure_says}
 
 -- ---- whatever the medium has: its directory stays while blocks behind it are put
 
@@ -102,6 +102,9 @@ module _ {T E : Type 0} (s : Config) (chain : List ChainBlock) (files : List Fil
 
   pub listed_reads : MediumSays s new.blocks files ⊎ MediumSays s new.blocks (files ++ f ∷ [])
   listed_reads = begun_reads s chain files r f e sure new result held begun may.sealed may.few may.lists turns
+
+  pub listed_settled : OnOk result (Settled (λ image. MediumSays s image (files ++ f ∷ []) × (bytes_from image f.first_block f.size ≡ bytes_from new.blocks f.first_block f.size) × IsDirectory image (added e chain)) new)
+  listed_settled = begun_settled s chain files r f e sure new result held begun may.sealed may.few may.lists turns
 
   pub listed_moments : Settled (λ image. MediumSays s image files) old → Leaves (λ image. MediumSays s image files ⊎ MediumSays s image (files ++ f ∷ [])) old new
   listed_moments settled =

@@ -28,7 +28,8 @@ use r10_mux::Mux;
 /// Lists a file that was written behind all others: writes its last block, makes sure of its packets, and
 /// adds its entry to the directory. Then it is the one that is written, and the medium shows all its packets.
 ///
-/// Where the medium fails, it says the files that there were, or those with this one.
+/// At `Ok` a stop leaves the files with this one. Where the medium fails, it says the files that there were, or those
+/// with this one.
 pub fn list_file<M: BlockMedium>(
     mux: &Mux,
     medium: &mut M,
@@ -49,6 +50,8 @@ pub fn list_file<M: BlockMedium>(
         → MediumSays s (M.disk medium.new).blocks files ⊎ MediumSays s (M.disk medium.new).blocks (files ++ f ∷ []) }
     ensures moments { (s : Config) (files : List File) (f : File) → MayList s (M.disk medium.old).blocks directory.old files mux.now f entry → Settled (λ image. MediumSays s image files) (M.disk medium.old)
         → Leaves (λ image. MediumSays s image files ⊎ MediumSays s image (files ++ f ∷ [])) (M.disk medium.old) (M.disk medium.new) }
+    ensures settled { (s : Config) (files : List File) (f : File) → MayList s (M.disk medium.old).blocks directory.old files mux.now f entry
+        → OnOk result (Settled (λ image. MediumSays s image (files ++ f ∷ []) × (bytes_from image f.first_block f.size ≡ bytes_from (M.disk medium.new).blocks f.first_block f.size) × IsDirectory image (added entry directory.old)) (M.disk medium.new)) }
     ensures done { OnOk result (directory.new ≡ added entry directory.old) }
     ensures kept { OnErr result (directory.new ≡ directory.old) }
     ensures counts { Counts (M.disk medium.old) (M.disk medium.new) result }

@@ -8,7 +8,7 @@ use Rattle.r10_dirchain.specs.Steps.{added}
 use Rattle.r10_dirchain.specs.declared.chain.ChainBlock.{ChainBlock}
 use Rattle.r10_holding.specs.Holding.{Holds}
 use Rattle.r10_steps.specs.Says.{MediumSays}
-use Rattle.r10_begun.proofs.Calls.{directory_stays, last_holds, last_moments, listed_holds, listed_moments, listed_reads, on_both}
+use Rattle.r10_begun.proofs.Calls.{directory_stays, last_holds, last_moments, listed_holds, listed_moments, listed_reads, listed_settled, on_both}
 use Rattle.r10_begun.proofs.file.list_file.Goals as goal
 
 pub returns-in-Err-clause-either : goal.returns-in-Err-clause-either
@@ -99,3 +99,15 @@ returns-clause-moments g c =
     let new = disk c.add.new.medium in
     λ s files f may settled. listed_moments s chain files f c.args.entry r old mid sure new c.add.result may (c.commit_blocks.ensures.puts f.setup f.entries may.carries)
     (c.in_default.ensures.shows f.setup f.entries may.carries) (c.commit_blocks.ensures.says f.setup f.entries may.carries may.none) c.sync.ensures.same c.in_default-sync.ensures.sure c.add.ensures.turns settled
+
+pub returns-clause-settled : goal.returns-clause-settled
+returns-clause-settled g c =
+    let disk = g.M.BlockMedium.disk in
+    let chain = c.args.directory.now in
+    let r = c.args.mux.now in
+    let old = disk c.args.medium.now in
+    let mid = disk c.commit_blocks.new.medium in
+    let sure = disk c.sync.new.self in
+    let new = disk c.add.new.medium in
+    λ s files f may. listed_settled s chain files f c.args.entry r old mid sure new c.add.result may (c.commit_blocks.ensures.puts f.setup f.entries may.carries)
+    (c.in_default.ensures.shows f.setup f.entries may.carries) (c.commit_blocks.ensures.says f.setup f.entries may.carries may.none) c.sync.ensures.same c.in_default-sync.ensures.sure c.add.ensures.turns
