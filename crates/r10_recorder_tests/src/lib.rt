@@ -9,3 +9,5 @@ mod builders;
 mod parts;
 #[cfg(test)]
 mod recorder;
+#[cfg(test)]
+mod writing;
