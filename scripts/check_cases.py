@@ -316,15 +316,20 @@ def run(program):
     return bad
 
 
+def print_rows(words, rows, case_text, answer_text, usage):
+    """Prints the cases of rows, or their answers."""
+    if words not in (['cases'], ['answers']):
+        sys.exit(usage)
+    text = case_text if words == ['cases'] else answer_text
+    for row in rows:
+        sys.stdout.write(text(*row))
+    return 0
+
+
 def main(words):
     if words[:1] == ['run'] and len(words) == 2:
         return run(words[1]) > 0
-    if words not in (['cases'], ['answers']):
-        sys.exit(__doc__)
-    text = case_text if words == ['cases'] else answer_text
-    for row in rows():
-        sys.stdout.write(text(*row))
-    return 0
+    return print_rows(words, rows(), case_text, answer_text, __doc__)
 
 
 if __name__ == '__main__':

@@ -13,7 +13,7 @@ import pathlib
 import subprocess
 import sys
 
-from check_cases import CIVIL, FIRST, OPENING, event, flipped, index_of, letters, lost, number, packet
+from check_cases import CIVIL, FIRST, OPENING, event, flipped, index_of, letters, lost, number, packet, print_rows
 from judge_recording import ARINC, TIME, UART, first_fault
 
 READER = pathlib.Path(__file__).with_name('read_chapter10.py')
@@ -185,12 +185,7 @@ def main(words):
     if words == ['image']:
         sys.stdout.buffer.write(alone(KINDS))
         return 0
-    if words not in (['cases'], ['answers']):
-        sys.exit(__doc__)
-    text = case_text if words == ['cases'] else answer_text
-    for row in rows():
-        sys.stdout.write(text(*row))
-    return 0
+    return print_rows(words, rows(), case_text, answer_text, __doc__)
 
 
 if __name__ == '__main__':
