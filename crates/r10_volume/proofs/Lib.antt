@@ -1,3 +1,4 @@
 pub mod Turning
 pub mod Taken
 pub mod Listed
+pub mod Usable

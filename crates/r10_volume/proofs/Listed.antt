@@ -97,12 +97,12 @@ same_next s image entries files each = next_by s.directory (last_or None entries
 
 -- ---- bounds
 
-record IsPlaced (blocks n : ℕ) (e : Entry) : Type 0 where
+pub record IsPlaced (blocks n : ℕ) (e : Entry) : Type 0 where
   pub first : e.first_block ≡ n
   pub some : 0 < e.block_count
   pub within : n + e.block_count ≤ blocks
 
-placed_at : (blocks n : ℕ) (e : Entry) → stands blocks n e ≡ true → IsPlaced blocks n e
+pub placed_at : (blocks n : ℕ) (e : Entry) → stands blocks n e ≡ true → IsPlaced blocks n e
 placed_at blocks n e is =
     let parts = all_four (e.first_block == n) (nat_lt 0 e.size) (e.block_count == (e.size + 511) / 512) (nat_le (n + e.block_count) blocks) is in
     let count : e.block_count ≡ (e.size + 511) / 512 = eqb-true e.block_count ((e.size + 511) / 512) parts.2 in

@@ -1,3 +1,4 @@
 pub mod Mounting
 pub mod Listing
 pub mod Settling
+pub mod Front

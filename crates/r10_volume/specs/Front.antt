@@ -1,0 +1,8 @@
+-- The blocks of files in front of another.
+use Rattle.std.specs.Prelude.{◌≡◌, ℕ, ◌<◌, length}
+use Rattle.r10_medium.specs.Disk.{Image, block_at}
+
+-- as long, and the blocks behind the reserved ones and below this one are as they were
+pub record KeepsFront (reserved first : ℕ) (old new : Image) : Type 0 where
+  pub size : length new ≡ length old
+  pub blocks : (k : ℕ) → reserved < k → k < first → block_at new k ≡ block_at old k
