@@ -24,7 +24,7 @@ use Rattle.r10_steps.specs.Step.{Step}
 use Rattle.r10_steps.specs.declared.event.Event.TheVariants.{Commit, Seal}
 use Rattle.r10_steps.specs.declared.reply.Reply.TheVariants as replies
 use Rattle.r10_means.specs.Kept.{Kept, mode_of, idle, recording}
-use Rattle.r10_means.specs.Means.{AreCounted, IsCounted, Leads, Means}
+use Rattle.r10_means.specs.Means.{AreCounted, IsCounted, LeadsTo, Means}
 use Rattle.r10_means.proofs.Leading.{StepsStaySound, failing, no_fewer, numbers_at}
 
 -- ---- lists
@@ -78,7 +78,7 @@ may_record mode is = subst (λ v. first_broken (recording_checks v) ≡ None) (s
 
 pub committed : StepsStaySound → (k : Kept) (old new : Image) (before now : ℕ) (m : Machine) (chain made : List ChainBlock) (o later : Open) (files : List File) (f : File) (size : ℕ)
     → IsConfig k.config → Means k old before m → k.work ≡ recording chain o → m.files ≡ files ++ f ∷ [] → Holds k.config new made (Some later) (files ++ shown_whole size f ∷ []) → before ≤ now
-    → Leads k m Commit replies.Done (record k { work = recording made later }) new now
+    → LeadsTo k m Commit replies.Done (record k { work = recording made later }) new now (record m { files = files ++ shown_whole size f ∷ []; failures = now })
 committed law k old new before now m chain made o later files f size limits means at is holds more =
     let shown : List File = files ++ shown_whole size f ∷ [] in
     let done : Machine = record m { files = shown; failures = now } in
@@ -91,7 +91,6 @@ committed law k old new before now m chain made o later files f size limits mean
     ) in
     let numbers = numbers_at k (recording chain o) m at means.numbers in
     record {
-      machine = done;
       step = step;
       means = record {
         mode = means.mode ∙ ap mode_of at;
@@ -111,7 +110,7 @@ closed_numbers files f g own same specs taken erased lanes are = numbers_stay fi
 
 pub sealed : StepsStaySound → (k : Kept) (old new : Image) (before now : ℕ) (m : Machine) (chain made : List ChainBlock) (files : List File) (f : File) (size : ℕ)
     → IsConfig k.config → Means k old before m → k.work ≡ idle chain → m.files ≡ files ++ f ∷ [] → refusal k.config m Seal ≡ None → cost_of f ≤ area k.config f
-    → Holds k.config new made None (files ++ closed_in size f ∷ []) → before ≤ now → Leads k m Seal replies.Done (record k { work = idle made }) new now
+    → Holds k.config new made None (files ++ closed_in size f ∷ []) → before ≤ now → LeadsTo k m Seal replies.Done (record k { work = idle made }) new now (record m { files = files ++ closed_in size f ∷ []; failures = now })
 sealed law k old new before now m chain made files f size limits means at is fine room holds more =
     let shown : List File = files ++ closed_in size f ∷ [] in
     let done : Machine = record m { files = shown; failures = now } in
@@ -129,7 +128,6 @@ sealed law k old new before now m chain made files f size limits means at is fin
     ) in
     let numbers = numbers_at k (idle chain) m at means.numbers in
     record {
-      machine = done;
       step = step;
       means = record {
         mode = means.mode ∙ ap mode_of at;

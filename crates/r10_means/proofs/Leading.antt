@@ -25,7 +25,7 @@ use Rattle.r10_steps.specs.declared.event.Event.TheVariants.{Mount, Dismount, Ti
 use Rattle.r10_steps.specs.declared.reply.Reply.{Reply as Answered}
 use Rattle.r10_steps.specs.declared.reply.Reply.TheVariants as replies
 use Rattle.r10_means.specs.Kept.{Kept, Work, mode_of, unmounted, idle, failed}
-use Rattle.r10_means.specs.Means.{AreCounted, HasFiles, IsCounted, Leads, Means, NumbersAre}
+use Rattle.r10_means.specs.Means.{AreCounted, HasFiles, IsCounted, LeadsTo, Means, NumbersAre}
 
 -- every step keeps a sound state sound
 abbrev pub StepsStaySound : Type 0
@@ -94,17 +94,17 @@ still_means k old new before now m means same sound = record {
 }
 
 pub refused : StepsStaySound → (k : Kept) (old new : Image) (before now : ℕ) (m : Machine) (event : Asked) (r : Refusal) → IsConfig k.config → Means k old before m → new ≡ old → before ≤ now
-    → refusal k.config m event ≡ Some r → ((n : Machine) → after_refusal event n ≡ n) → Leads k m event (replies.Refused r) k new now
+    → refusal k.config m event ≡ Some r → ((n : Machine) → after_refusal event n ≡ n) → LeadsTo k m event (replies.Refused r) k new now (record m { failures = now })
 refused law k old new before now m event r limits means same more is stays =
     let later : Machine = failing now m in
     let step : Step k.config m event (replies.Refused r) later = (
       no_fewer k old before now m means more,
       subst (λ o. Refuses o k.config m.failures later event r later) (sym (same_refusal k.config m now event ∙ is)) (refl, sym (stays later)),
     ) in
-    record { machine = later; step = step; means = still_means k old new before now m means same (law k.config m event (replies.Refused r) later limits means.sound step) }
+    record { step = step; means = still_means k old new before now m means same (law k.config m event (replies.Refused r) later limits means.sound step) }
 
 pub lacks_memory : StepsStaySound → (k : Kept) (old new : Image) (before now : ℕ) (m : Machine) (event : Asked) → IsConfig k.config → Means k old before m → new ≡ old → before ≤ now
-    → refusal k.config m event ≡ None → asks_memory event ≡ true → has_room k.config m event ≡ true → Leads k m event (replies.Refused OutOfMemory) k new now
+    → refusal k.config m event ≡ None → asks_memory event ≡ true → has_room k.config m event ≡ true → LeadsTo k m event (replies.Refused OutOfMemory) k new now (record m { failures = now })
 lacks_memory law k old new before now m event limits means same more fine asks room =
     let later : Machine = failing now m in
     let step : Step k.config m event (replies.Refused OutOfMemory) later = (
@@ -112,7 +112,7 @@ lacks_memory law k old new before now m event limits means same more fine asks r
       subst (λ o. Refuses o k.config m.failures later event OutOfMemory later) (sym (same_refusal k.config m now event ∙ fine))
           (asks, same_room k.config m now event ∙ room, refl),
     ) in
-    record { machine = later; step = step; means = still_means k old new before now m means same (law k.config m event (replies.Refused OutOfMemory) later limits means.sound step) }
+    record { step = step; means = still_means k old new before now m means same (law k.config m event (replies.Refused OutOfMemory) later limits means.sound step) }
 
 -- ---- mounts
 
@@ -126,12 +126,11 @@ may_dismount : (mode : Mode) → mode ≡ modes.Idle → first_broken (idle_chec
 may_dismount mode is = subst (λ v. first_broken (idle_checks v) ≡ None) (sym is) refl
 
 pub mounted : StepsStaySound → (k : Kept) (old new : Image) (before now : ℕ) (m : Machine) (chain : List ChainBlock) → IsConfig k.config → Means k old before m → k.work ≡ unmounted → Holds k.config new chain None m.files → before ≤ now
-    → Leads k m Mount replies.Done (record k { work = idle chain }) new now
+    → LeadsTo k m Mount replies.Done (record k { work = idle chain }) new now (record m { mode = modes.Idle; failures = now })
 mounted law k old new before now m chain limits means at holds more =
     let later : Machine = record m { mode = modes.Idle; failures = now } in
     let step : Step k.config m Mount replies.Done later = (no_fewer k old before now m means more, (may_mount m.mode (means.mode ∙ ap mode_of at), refl)) in
     record {
-      machine = later;
       step = step;
       means = record {
         mode = refl;
@@ -144,12 +143,11 @@ mounted law k old new before now m chain limits means at holds more =
     }
 
 pub dismounted : StepsStaySound → (k : Kept) (old new : Image) (before now : ℕ) (m : Machine) (chain : List ChainBlock) → IsConfig k.config → Means k old before m → k.work ≡ idle chain
-    → MediumSays k.config new m.files → OthersAreFound new m.files → before ≤ now → Leads k m Dismount replies.Done (record k { work = unmounted }) new now
+    → MediumSays k.config new m.files → OthersAreFound new m.files → before ≤ now → LeadsTo k m Dismount replies.Done (record k { work = unmounted }) new now (record m { mode = modes.Unmounted; failures = now })
 dismounted law k old new before now m chain limits means at says found more =
     let later : Machine = record m { mode = modes.Unmounted; failures = now } in
     let step : Step k.config m Dismount replies.Done later = (no_fewer k old before now m means more, (may_dismount m.mode (means.mode ∙ ap mode_of at), refl)) in
     record {
-      machine = later;
       step = step;
       means = record {
         mode = refl;
@@ -165,7 +163,7 @@ dismounted law k old new before now m chain limits means at says found more =
 
 pub failed_so : StepsStaySound → (k : Kept) (old new : Image) (before now : ℕ) (m later : Machine) (event : Asked) → IsConfig k.config → Means k old before m → before ≤ now → Rose before now
     → refusal k.config m event ≡ None → uses_medium event ≡ true → has_room k.config m event ≡ true → FailsIn k.config (failing now m) event later
-    → later.tick ≡ k.tick → later.failures ≡ now → MediumSays k.config new later.files → Leads k m event (replies.Refused Medium) (record k { work = failed }) new now
+    → later.tick ≡ k.tick → later.failures ≡ now → MediumSays k.config new later.files → LeadsTo k m event (replies.Refused Medium) (record k { work = failed }) new now later
 failed_so law k old new before now m later event limits means more rose fine uses room fails tick counted says =
     let gives : Refuses (refusal k.config (failing now m) event) k.config m.failures (failing now m) event Medium later =
     subst (λ o. Refuses o k.config m.failures (failing now m) event Medium later) (sym (same_refusal k.config m now event ∙ fine))
@@ -175,7 +173,6 @@ failed_so law k old new before now m later event limits means more rose fine use
       subst (λ n. Refuses (refusal k.config (failing n m) event) k.config m.failures (failing n m) event Medium later) (sym counted) gives,
     ) in
     record {
-      machine = later;
       step = step;
       means = record {
         mode = ap (λ (x : Machine). x.mode) fails.rest;
@@ -214,13 +211,12 @@ counts_erased (x ∷ specs) files (t ∷ taken) [] lanes are = absurd are
 counts_erased (x ∷ specs) files (t ∷ taken) (e ∷ erased) [] are = absurd are
 
 pub erased : StepsStaySound → (k : Kept) (old new : Image) (before now : ℕ) (m : Machine) (chain made : List ChainBlock) → IsConfig k.config → Means k old before m → k.work ≡ idle chain → refusal k.config m Erase ≡ None
-    → Holds k.config new made None [] → before ≤ now → Leads k m Erase replies.Done (record k { work = idle made; generation = k.generation + 1; erased = k.taken }) new now
+    → Holds k.config new made None [] → before ≤ now → LeadsTo k m Erase replies.Done (record k { work = idle made; generation = k.generation + 1; erased = k.taken }) new now (record m { files = []; generation = m.generation + 1; lanes = map (erased_with m.files) m.lanes; failures = now })
 erased law k old new before now m chain made limits means at fine holds more =
     let later : Machine = record m { files = []; generation = m.generation + 1; lanes = map (erased_with m.files) m.lanes; failures = now } in
     let step : Step k.config m Erase replies.Done later = (no_fewer k old before now m means more, (fine, refl)) in
     let numbers = numbers_at k (idle chain) m at means.numbers in
     record {
-      machine = later;
       step = step;
       means = record {
         mode = means.mode ∙ ap mode_of at;
@@ -235,7 +231,7 @@ erased law k old new before now m chain made limits means at fine holds more =
 -- ---- the clock, while no file is recorded
 
 pub ticked : StepsStaySound → (k : Kept) (old new : Image) (before now : ℕ) (m : Machine) (chain : List ChainBlock) (count : ℕ) (parts : Parts) → IsConfig k.config → Means k old before m → k.work ≡ idle chain
-    → refusal k.config m (Tick count parts) ≡ None → new ≡ old → before ≤ now → Leads k m (Tick count parts) replies.Done (record k { tick = Some (record { count = count; civil = parts }) }) new now
+    → refusal k.config m (Tick count parts) ≡ None → new ≡ old → before ≤ now → LeadsTo k m (Tick count parts) replies.Done (record k { tick = Some (record { count = count; civil = parts }) }) new now (record m { tick = Some (record { count = count; civil = parts }); failures = now })
 ticked law k old new before now m chain count parts limits means at fine same more =
     let later : Machine = record m { tick = Some (record { count = count; civil = parts }); failures = now } in
     let step : Step k.config m (Tick count parts) replies.Done later = (
@@ -243,7 +239,6 @@ ticked law k old new before now m chain count parts limits means at fine same mo
       (fine, subst (λ mode. TicksIn (is_recording mode) k.config (failing now m) (record { count = count; civil = parts }) later) (sym (means.mode ∙ ap mode_of at)) refl),
     ) in
     record {
-      machine = later;
       step = step;
       means = record {
         mode = means.mode;

@@ -17,7 +17,7 @@ use Rattle.r10_steps.specs.declared.event.Event.TheVariants.{Pump, Stop}
 use Rattle.r10_steps.specs.declared.reply.Reply.TheVariants as replies
 use Rattle.r10_means.specs.Grown.{AreGrown}
 use Rattle.r10_means.specs.Kept.{Kept, mode_of, idle, recording}
-use Rattle.r10_means.specs.Means.{AreCounted, IsCounted, Leads, Means}
+use Rattle.r10_means.specs.Means.{AreCounted, IsCounted, LeadsTo, Means}
 use Rattle.r10_means.proofs.Growing.{numbers_grow}
 use Rattle.r10_means.proofs.Lasting.{closed_numbers}
 use Rattle.r10_means.proofs.Leading.{StepsStaySound, failing, no_fewer, numbers_at}
@@ -59,13 +59,12 @@ pub pumped : StepsStaySound → (k : Kept) (old new : Image) (before now : ℕ) 
     → IsConfig k.config → Means k old before m → k.work ≡ recording chain o → m.files ≡ files ++ f ∷ [] → f.own ≡ true → refusal k.config m (Pump channel most) ≡ None
     → Pumps k.config (failing now m) channel most n (record m { lanes = change_first (is_channel channel) (without n) m.lanes; files = files ++ with_entries more f ∷ []; failures = now })
     → AreGrown more k.config.channels k.taken grown → Holds k.config new chain (Some later) (files ++ with_entries more f ∷ []) → before ≤ now
-    → Leads k m (Pump channel most) (replies.Moved n) (record k { work = recording chain later; taken = grown }) new now
+    → LeadsTo k m (Pump channel most) (replies.Moved n) (record k { work = recording chain later; taken = grown }) new now (record m { lanes = change_first (is_channel channel) (without n) m.lanes; files = files ++ with_entries more f ∷ []; failures = now })
 pumped law k old new before now m chain o later files f channel most n more grown limits means at is own fine does grows holds less =
     let done : Machine = record m { lanes = change_first (is_channel channel) (without n) m.lanes; files = files ++ with_entries more f ∷ []; failures = now } in
     let step : Step k.config m (Pump channel most) (replies.Moved n) done = (no_fewer k old before now m means less, (fine, does)) in
     let numbers = numbers_at k (recording chain o) m at means.numbers in
     record {
-      machine = done;
       step = step;
       means = record {
         mode = means.mode ∙ ap mode_of at;
@@ -85,14 +84,13 @@ pub stopped : StepsStaySound → (k : Kept) (old new : Image) (before now : ℕ)
     → IsConfig k.config → Means k old before m → k.work ≡ recording chain o → m.files ≡ files ++ f ∷ [] → f.own ≡ true → g.own ≡ true → g.entries ≡ f.entries ++ entries → refusal k.config m Stop ≡ None
     → Stops k.config (failing now m) said (record m { mode = modes.Idle; lanes = lanes_without entries m.lanes; files = files ++ g ∷ []; failures = now })
     → AreGrown entries k.config.channels k.taken grown → Holds k.config new made None (files ++ g ∷ []) → before ≤ now
-    → Leads k m Stop (replies.Stopped said) (record k { work = idle made; taken = grown }) new now
+    → LeadsTo k m Stop (replies.Stopped said) (record k { work = idle made; taken = grown }) new now (record m { mode = modes.Idle; lanes = lanes_without entries m.lanes; files = files ++ g ∷ []; failures = now })
 stopped law k old new before now m chain made o files f g said entries grown limits means at is own same longer fine does grows holds less =
     let done : Machine = record m { mode = modes.Idle; lanes = lanes_without entries m.lanes; files = files ++ g ∷ []; failures = now } in
     let step : Step k.config m Stop (replies.Stopped said) done = (no_fewer k old before now m means less, (fine, does)) in
     let numbers = numbers_at k (recording chain o) m at means.numbers in
     let more = numbers_grow files m.files f entries own is k.config.channels k.taken grown k.erased m.lanes grows numbers.2 in
     record {
-      machine = done;
       step = step;
       means = record {
         mode = refl;

@@ -18,7 +18,7 @@ use Rattle.r10_steps.specs.Step.{Refuses, Step, after_refusal}
 use Rattle.r10_steps.specs.declared.event.Event.TheVariants.{CountAt, Files, Find, Offer, Status}
 use Rattle.r10_steps.specs.declared.reply.Reply.TheVariants as replies
 use Rattle.r10_means.specs.Kept.{Kept, Work, failed, idle, recording, unmounted}
-use Rattle.r10_means.specs.Means.{AreCounted, HasFiles, IsCounted, Leads, Means, NumbersAre}
+use Rattle.r10_means.specs.Means.{AreCounted, HasFiles, IsCounted, LeadsTo, Means, NumbersAre}
 use Rattle.r10_means.proofs.Leading.{StepsStaySound, failing, no_fewer, same_refusal, still_means}
 
 -- ---- a lane whose settings and erased entries stay
@@ -60,19 +60,19 @@ lane_means change keeps channel k image n m means sound = record {
 -- ---- offers
 
 pub offered : StepsStaySound → (k : Kept) (image : Image) (n : ℕ) (m : Machine) (channel count : ℕ) (message : Message) → IsConfig k.config → Means k image n m → refusal k.config m (Offer channel count message) ≡ None
-    → Leads k m (Offer channel count message) replies.Done k image n
+    → LeadsTo k m (Offer channel count message) replies.Done k image n (with_lane channel (accepted count message) m)
 offered law k image n m channel count message limits means fine =
     let later : Machine = with_lane channel (accepted count message) m in
     let step : Step k.config m (Offer channel count message) replies.Done later = (omega arith, (fine, refl)) in
-    record { machine = later; step = step; means = lane_means (accepted count message) (λ l. (refl, refl)) channel k image n m means (law k.config m (Offer channel count message) replies.Done later limits means.sound step) }
+    record { step = step; means = lane_means (accepted count message) (λ l. (refl, refl)) channel k image n m means (law k.config m (Offer channel count message) replies.Done later limits means.sound step) }
 
 pub offer_refused : StepsStaySound → (k : Kept) (image : Image) (n : ℕ) (m : Machine) (channel count : ℕ) (message : Message) (r : Refusal) → IsConfig k.config → Means k image n m → refusal k.config m (Offer channel count message) ≡ Some r
-    → Leads k m (Offer channel count message) (replies.Refused r) k image n
+    → LeadsTo k m (Offer channel count message) (replies.Refused r) k image n (after_refusal (Offer channel count message) m)
 offer_refused law k image n m channel count message r limits means is =
     let fine : Bool = is_none (first_broken (offer_checks (lane_of channel m) count message)) in
     let later : Machine = cond fine (with_lane channel overflowed m) m in
     let step : Step k.config m (Offer channel count message) (replies.Refused r) later = (by-le fine, subst (λ o. Refuses o k.config m.failures (failing later.failures m) (Offer channel count message) r later) (sym is) (refl, by-same fine)) in
-    record { machine = later; step = step; means = by-means fine (law k.config m (Offer channel count message) (replies.Refused r) later limits means.sound step) }
+    record { step = step; means = by-means fine (law k.config m (Offer channel count message) (replies.Refused r) later limits means.sound step) }
   where
     by-le : (b : Bool) → m.failures ≤ (cond b (with_lane channel overflowed m) m).failures
     by-le true = omega arith
@@ -89,31 +89,31 @@ offer_refused law k image n m channel count message r limits means is =
 -- ---- calls that only tell
 
 pub files_told : StepsStaySound → (k : Kept) (old new : Image) (before now : ℕ) (m : Machine) → IsConfig k.config → Means k old before m → new ≡ old → before ≤ now → refusal k.config m Files ≡ None
-    → Leads k m Files (replies.Files (map info_of m.files)) k new now
+    → LeadsTo k m Files (replies.Files (map info_of m.files)) k new now (record m { failures = now })
 files_told law k old new before now m limits means same more fine =
     let step : Step k.config m Files (replies.Files (map info_of m.files)) (failing now m) = (no_fewer k old before now m means more, (fine, (refl, refl))) in
-    record { machine = failing now m; step = step; means = still_means k old new before now m means same (law k.config m Files (replies.Files (map info_of m.files)) (failing now m) limits means.sound step) }
+    record { step = step; means = still_means k old new before now m means same (law k.config m Files (replies.Files (map info_of m.files)) (failing now m) limits means.sound step) }
 
 pub status_told : StepsStaySound → (k : Kept) (old new : Image) (before now : ℕ) (m : Machine) → IsConfig k.config → Means k old before m → new ≡ old → before ≤ now
-    → Leads k m Status (replies.Status (status_of k.config m)) k new now
+    → LeadsTo k m Status (replies.Status (status_of k.config m)) k new now (record m { failures = now })
 status_told law k old new before now m limits means same more =
     let step : Step k.config m Status (replies.Status (status_of k.config m)) (failing now m) = (no_fewer k old before now m means more, (refl, (refl, refl))) in
-    record { machine = failing now m; step = step; means = still_means k old new before now m means same (law k.config m Status (replies.Status (status_of k.config m)) (failing now m) limits means.sound step) }
+    record { step = step; means = still_means k old new before now m means same (law k.config m Status (replies.Status (status_of k.config m)) (failing now m) limits means.sound step) }
 
 pub found_told : StepsStaySound → (k : Kept) (old new : Image) (before now : ℕ) (m : Machine) (file channel count : ℕ) (f : File) → IsConfig k.config → Means k old before m → new ≡ old → before ≤ now
-    → refusal k.config m (Find file channel count) ≡ None → slice_get m.files file ≡ Some f → Leads k m (Find file channel count) (replies.Found (found f channel count)) k new now
+    → refusal k.config m (Find file channel count) ≡ None → slice_get m.files file ≡ Some f → LeadsTo k m (Find file channel count) (replies.Found (found f channel count)) k new now (record m { failures = now })
 found_told law k old new before now m file channel count f limits means same more fine there =
     let step : Step k.config m (Find file channel count) (replies.Found (found f channel count)) (failing now m) = (
       no_fewer k old before now m means more,
       (fine, (subst (λ o. IsSomeAnd o (λ x. found f channel count ≡ found x channel count)) (sym there) refl, refl)),
     ) in
-    record { machine = failing now m; step = step; means = still_means k old new before now m means same (law k.config m (Find file channel count) (replies.Found (found f channel count)) (failing now m) limits means.sound step) }
+    record { step = step; means = still_means k old new before now m means same (law k.config m (Find file channel count) (replies.Found (found f channel count)) (failing now m) limits means.sound step) }
 
 pub count_told : StepsStaySound → (k : Kept) (old new : Image) (before now : ℕ) (m : Machine) (file : ℕ) (parts : Parts) (f : File) → IsConfig k.config → Means k old before m → new ≡ old → before ≤ now
-    → refusal k.config m (CountAt file parts) ≡ None → slice_get m.files file ≡ Some f → Leads k m (CountAt file parts) (replies.CountAt (count_at f parts)) k new now
+    → refusal k.config m (CountAt file parts) ≡ None → slice_get m.files file ≡ Some f → LeadsTo k m (CountAt file parts) (replies.CountAt (count_at f parts)) k new now (record m { failures = now })
 count_told law k old new before now m file parts f limits means same more fine there =
     let step : Step k.config m (CountAt file parts) (replies.CountAt (count_at f parts)) (failing now m) = (
       no_fewer k old before now m means more,
       (fine, (subst (λ o. IsSomeAnd o (λ x. count_at f parts ≡ count_at x parts)) (sym there) refl, refl)),
     ) in
-    record { machine = failing now m; step = step; means = still_means k old new before now m means same (law k.config m (CountAt file parts) (replies.CountAt (count_at f parts)) (failing now m) limits means.sound step) }
+    record { step = step; means = still_means k old new before now m means same (law k.config m (CountAt file parts) (replies.CountAt (count_at f parts)) (failing now m) limits means.sound step) }

@@ -48,8 +48,7 @@ pub record Means (k : Kept) (image : Image) (failures : ℕ) (m : Machine) : Typ
   pub numbers : NumbersAre k m
   pub sound : IsSound k.config m
 
--- the step leads to a machine that is meant then
-pub record Leads (k : Kept) (m : Machine) (event : Asked) (reply : Answered) (later : Kept) (image : Image) (failures : ℕ) : Type 0 where
-  pub machine : Machine
+-- the step leads to this machine, which is meant then
+pub record LeadsTo (k : Kept) (m : Machine) (event : Asked) (reply : Answered) (later : Kept) (image : Image) (failures : ℕ) (machine : Machine) : Type 0 where
   pub step : Step k.config m event reply machine
   pub means : Means later image failures machine

@@ -1,6 +1,6 @@
 //! Calls that are steps of the machine, as calls that do nothing.
 
-ghost use Rattle.std.specs.Prelude.{◌≡◌, ◌≤◌, ◌+◌, ◌++◌, ◌∷◌, ℕ, List, [], None, Some, true};
+ghost use Rattle.std.specs.Prelude.{◌≡◌, ◌≤◌, ◌+◌, ◌++◌, ◌∷◌, ℕ, List, [], None, Some, map, true};
 ghost use Rattle.r10_count.specs.declared.civil.Parts.{Parts};
 ghost use Rattle.r10_medium.specs.Disk.{Image, Rose};
 ghost use Rattle.r10_body.specs.declared.refusal.Refusal.{Refusal as Refused};
@@ -15,7 +15,7 @@ ghost use Rattle.r10_machine.specs.Calls.{Pumps, Stops, empty_file, lanes_withou
 ghost use Rattle.r10_machine.specs.Room.{area, cost_of, fits};
 ghost use Rattle.r10_machine.specs.declared.reply.Mode.TheVariants as modes;
 ghost use Rattle.r10_machine.specs.declared.reply.Stopped.{Stopped as Said};
-ghost use Rattle.r10_steps.specs.Calls.{closed_in, event_entry};
+ghost use Rattle.r10_steps.specs.Calls.{closed_in, erased_with, event_entry};
 ghost use Rattle.r10_steps.specs.Checks.{refusal};
 ghost use Rattle.r10_steps.specs.Says.{MediumSays};
 ghost use Rattle.r10_steps.specs.Step.{FailsIn, LanesAfter, after_refusal, asks_memory, has_room, uses_medium};
@@ -24,7 +24,7 @@ ghost use Rattle.r10_steps.specs.declared.event.Event.TheVariants as events;
 ghost use Rattle.r10_steps.specs.declared.reply.Reply.TheVariants as replies;
 ghost use Rattle.r10_means.specs.Grown.{AreGrown};
 ghost use Rattle.r10_means.specs.Kept.{Kept, unmounted, idle, recording, failed};
-ghost use Rattle.r10_means.specs.Means.{AreCounted, Leads, Means};
+ghost use Rattle.r10_means.specs.Means.{AreCounted, LeadsTo, Means};
 
 use r10_steps::a_step_stays_sound;
 
@@ -32,7 +32,7 @@ use r10_steps::a_step_stays_sound;
 /// elsewhere.
 pub fn refusals_are_steps()
     ensures { (k : Kept) (old new : Image) (n later : ℕ) (m : Machine) (event : Asked) (r : Refused) → IsConfig k.config → Means k old n m → new ≡ old → n ≤ later
-        → refusal k.config m event ≡ Some r → ((same : Machine) → after_refusal event same ≡ same) → Leads k m event (replies.Refused r) k new later }
+        → refusal k.config m event ≡ Some r → ((same : Machine) → after_refusal event same ≡ same) → LeadsTo k m event (replies.Refused r) k new later (record m { failures = later }) }
 {
     a_step_stays_sound();
 }
@@ -40,7 +40,7 @@ pub fn refusals_are_steps()
 /// Where memory is refused to a call that has room, all stays.
 pub fn lacks_of_memory_are_steps()
     ensures { (k : Kept) (old new : Image) (n later : ℕ) (m : Machine) (event : Asked) → IsConfig k.config → Means k old n m → new ≡ old → n ≤ later
-        → refusal k.config m event ≡ None → asks_memory event ≡ true → has_room k.config m event ≡ true → Leads k m event (replies.Refused refusals.OutOfMemory) k new later }
+        → refusal k.config m event ≡ None → asks_memory event ≡ true → has_room k.config m event ≡ true → LeadsTo k m event (replies.Refused refusals.OutOfMemory) k new later (record m { failures = later }) }
 {
     a_step_stays_sound();
 }
@@ -48,7 +48,7 @@ pub fn lacks_of_memory_are_steps()
 /// A mount leads to a recorder that has the directory in use.
 pub fn mounts_are_steps()
     ensures { (k : Kept) (old new : Image) (n later : ℕ) (m : Machine) (chain : List ChainBlock) → IsConfig k.config → Means k old n m → k.work ≡ unmounted → Holds k.config new chain None m.files → n ≤ later
-        → Leads k m events.Mount replies.Done (record k { work = idle chain }) new later }
+        → LeadsTo k m events.Mount replies.Done (record k { work = idle chain }) new later (record m { mode = modes.Idle; failures = later }) }
 {
     a_step_stays_sound();
 }
@@ -57,7 +57,7 @@ pub fn mounts_are_steps()
 pub fn dismounts_are_steps()
     ensures { (k : Kept) (old new : Image) (n later : ℕ) (m : Machine) (chain : List ChainBlock) → IsConfig k.config → Means k old n m → k.work ≡ idle chain
         → MediumSays k.config new m.files → OthersAreFound new m.files → n ≤ later
-        → Leads k m events.Dismount replies.Done (record k { work = unmounted }) new later }
+        → LeadsTo k m events.Dismount replies.Done (record k { work = unmounted }) new later (record m { mode = modes.Unmounted; failures = later }) }
 {
     a_step_stays_sound();
 }
@@ -67,7 +67,7 @@ pub fn dismounts_are_steps()
 pub fn failures_are_steps()
     ensures step { (k : Kept) (old new : Image) (n later : ℕ) (m failed_so : Machine) (event : Asked) → IsConfig k.config → Means k old n m → n ≤ later → Rose n later
         → refusal k.config m event ≡ None → uses_medium event ≡ true → has_room k.config m event ≡ true → FailsIn k.config (record m { failures = later }) event failed_so
-        → failed_so.tick ≡ k.tick → failed_so.failures ≡ later → MediumSays k.config new failed_so.files → Leads k m event (replies.Refused refusals.Medium) (record k { work = failed }) new later }
+        → failed_so.tick ≡ k.tick → failed_so.failures ≡ later → MediumSays k.config new failed_so.files → LeadsTo k m event (replies.Refused refusals.Medium) (record k { work = failed }) new later failed_so }
     ensures before { (s : Config) (m : Machine) (event : Asked) (lanes : List Lane) → LanesAfter event m.lanes m.lanes lanes → FailsIn s m event (record m { mode = modes.Failed; lanes = lanes }) }
 {
     a_step_stays_sound();
@@ -76,7 +76,7 @@ pub fn failures_are_steps()
 /// An erase leads to a recorder without files, of the next generation; what was taken in is erased.
 pub fn erases_are_steps()
     ensures { (k : Kept) (old new : Image) (n later : ℕ) (m : Machine) (chain made : List ChainBlock) → IsConfig k.config → Means k old n m → k.work ≡ idle chain → refusal k.config m events.Erase ≡ None
-        → Holds k.config new made None [] → n ≤ later → Leads k m events.Erase replies.Done (record k { work = idle made; generation = k.generation + 1; erased = k.taken }) new later }
+        → Holds k.config new made None [] → n ≤ later → LeadsTo k m events.Erase replies.Done (record k { work = idle made; generation = k.generation + 1; erased = k.taken }) new later (record m { files = []; generation = m.generation + 1; lanes = map (erased_with m.files) m.lanes; failures = later }) }
 {
     a_step_stays_sound();
 }
@@ -84,7 +84,7 @@ pub fn erases_are_steps()
 /// A tick sets the clock; while no file is recorded, it does nothing else.
 pub fn idle_ticks_are_steps()
     ensures { (k : Kept) (old new : Image) (n later : ℕ) (m : Machine) (chain : List ChainBlock) (count : ℕ) (parts : Parts) → IsConfig k.config → Means k old n m → k.work ≡ idle chain
-        → refusal k.config m (events.Tick count parts) ≡ None → new ≡ old → n ≤ later → Leads k m (events.Tick count parts) replies.Done (record k { tick = Some (record { count = count; civil = parts }) }) new later }
+        → refusal k.config m (events.Tick count parts) ≡ None → new ≡ old → n ≤ later → LeadsTo k m (events.Tick count parts) replies.Done (record k { tick = Some (record { count = count; civil = parts }) }) new later (record m { tick = Some (record { count = count; civil = parts }); failures = later }) }
 {
     a_step_stays_sound();
 }
@@ -93,7 +93,7 @@ pub fn idle_ticks_are_steps()
 pub fn commits_are_steps()
     ensures { (k : Kept) (old new : Image) (n later : ℕ) (m : Machine) (chain made : List ChainBlock) (file shown : Open) (files : List File) (f : File) (size : ℕ) → IsConfig k.config → Means k old n m → k.work ≡ recording chain file
         → m.files ≡ files ++ f ∷ [] → Holds k.config new made (Some shown) (files ++ shown_whole size f ∷ []) → n ≤ later
-        → Leads k m events.Commit replies.Done (record k { work = recording made shown }) new later }
+        → LeadsTo k m events.Commit replies.Done (record k { work = recording made shown }) new later (record m { files = files ++ shown_whole size f ∷ []; failures = later }) }
 {
     a_step_stays_sound();
 }
@@ -104,7 +104,7 @@ pub fn ticks_are_steps()
         → k.work ≡ recording chain file → m.files ≡ files ++ f ∷ [] → f.own ≡ true → refusal k.config m (events.Tick count parts) ≡ None → fits k.config f (time_entry k.config (record { count = count; civil = parts })) ≡ true
         → AreGrown (time_entry k.config (record { count = count; civil = parts }) ∷ []) k.config.channels k.taken grown
         → Holds k.config new chain (Some after) (files ++ with_entries (time_entry k.config (record { count = count; civil = parts }) ∷ []) f ∷ []) → n ≤ later
-        → Leads k m (events.Tick count parts) replies.Done (record k { work = recording chain after; tick = Some (record { count = count; civil = parts }); taken = grown }) new later }
+        → LeadsTo k m (events.Tick count parts) replies.Done (record k { work = recording chain after; tick = Some (record { count = count; civil = parts }); taken = grown }) new later (record m { tick = Some (record { count = count; civil = parts }); files = files ++ with_entries (time_entry k.config (record { count = count; civil = parts }) ∷ []) f ∷ []; failures = later }) }
 {
     a_step_stays_sound();
 }
@@ -114,7 +114,7 @@ pub fn events_are_steps()
     ensures { (k : Kept) (old new : Image) (n later : ℕ) (m : Machine) (chain : List ChainBlock) (file after : Open) (files : List File) (f : File) (number count : ℕ) (grown : List ℕ) → IsConfig k.config → Means k old n m
         → k.work ≡ recording chain file → m.files ≡ files ++ f ∷ [] → f.own ≡ true → refusal k.config m (events.Event number count) ≡ None → fits k.config f (event_entry k.config number count f) ≡ true
         → AreGrown (event_entry k.config number count f ∷ []) k.config.channels k.taken grown → Holds k.config new chain (Some after) (files ++ with_entries (event_entry k.config number count f ∷ []) f ∷ []) → n ≤ later
-        → Leads k m (events.Event number count) replies.Done (record k { work = recording chain after; last_event = Some count; taken = grown }) new later }
+        → LeadsTo k m (events.Event number count) replies.Done (record k { work = recording chain after; last_event = Some count; taken = grown }) new later (record m { last_event = Some count; files = files ++ with_entries (event_entry k.config number count f ∷ []) f ∷ []; failures = later }) }
 {
     a_step_stays_sound();
 }
@@ -125,7 +125,7 @@ pub fn starts_are_steps()
         → k.work ≡ idle chain → k.tick ≡ Some clock → refusal k.config m (events.Start name setup) ≡ None → fits k.config (empty_file k.config m.files name setup) (time_entry k.config clock) ≡ true
         → AreGrown (time_entry k.config clock ∷ []) k.config.channels k.taken grown
         → Holds k.config new made (Some file) (m.files ++ shown_whole size (with_entries (time_entry k.config clock ∷ []) (empty_file k.config m.files name setup)) ∷ []) → n ≤ later
-        → Leads k m (events.Start name setup) replies.Done (record k { work = recording made file; taken = grown }) new later }
+        → LeadsTo k m (events.Start name setup) replies.Done (record k { work = recording made file; taken = grown }) new later (record m { mode = modes.Recording; files = m.files ++ shown_whole size (with_entries (time_entry k.config clock ∷ []) (empty_file k.config m.files name setup)) ∷ []; failures = later }) }
 {
     a_step_stays_sound();
 }
@@ -142,7 +142,7 @@ pub fn pumps_are_led()
         → k.work ≡ recording chain file → m.files ≡ files ++ f ∷ [] → f.own ≡ true → refusal k.config m (events.Pump channel most) ≡ None
         → Pumps k.config (record m { failures = later }) channel most moved (record m { lanes = change_first (is_channel channel) (without moved) m.lanes; files = files ++ with_entries more f ∷ []; failures = later })
         → AreGrown more k.config.channels k.taken grown → Holds k.config new chain (Some after) (files ++ with_entries more f ∷ []) → n ≤ later
-        → Leads k m (events.Pump channel most) (replies.Moved moved) (record k { work = recording chain after; taken = grown }) new later }
+        → LeadsTo k m (events.Pump channel most) (replies.Moved moved) (record k { work = recording chain after; taken = grown }) new later (record m { lanes = change_first (is_channel channel) (without moved) m.lanes; files = files ++ with_entries more f ∷ []; failures = later }) }
 {
     a_step_stays_sound();
 }
@@ -153,7 +153,7 @@ pub fn stops_are_led()
         → k.work ≡ recording chain file → m.files ≡ files ++ f ∷ [] → f.own ≡ true → closed.own ≡ true → closed.entries ≡ f.entries ++ entries → refusal k.config m events.Stop ≡ None
         → Stops k.config (record m { failures = later }) said (record m { mode = modes.Idle; lanes = lanes_without entries m.lanes; files = files ++ closed ∷ []; failures = later })
         → AreGrown entries k.config.channels k.taken grown → Holds k.config new made None (files ++ closed ∷ []) → n ≤ later
-        → Leads k m events.Stop (replies.Stopped said) (record k { work = idle made; taken = grown }) new later }
+        → LeadsTo k m events.Stop (replies.Stopped said) (record k { work = idle made; taken = grown }) new later (record m { mode = modes.Idle; lanes = lanes_without entries m.lanes; files = files ++ closed ∷ []; failures = later }) }
 {
     a_step_stays_sound();
 }
@@ -162,7 +162,7 @@ pub fn stops_are_led()
 pub fn seals_are_steps()
     ensures { (k : Kept) (old new : Image) (n later : ℕ) (m : Machine) (chain made : List ChainBlock) (files : List File) (f : File) (size : ℕ) → IsConfig k.config → Means k old n m → k.work ≡ idle chain → m.files ≡ files ++ f ∷ []
         → refusal k.config m events.Seal ≡ None → cost_of f ≤ area k.config f → Holds k.config new made None (files ++ closed_in size f ∷ []) → n ≤ later
-        → Leads k m events.Seal replies.Done (record k { work = idle made }) new later }
+        → LeadsTo k m events.Seal replies.Done (record k { work = idle made }) new later (record m { files = files ++ closed_in size f ∷ []; failures = later }) }
 {
     a_step_stays_sound();
 }

@@ -6,22 +6,24 @@ ghost use Rattle.r10_medium.specs.Disk.{Image};
 ghost use Rattle.r10_body.specs.declared.message.Message.{Message};
 ghost use Rattle.r10_body.specs.declared.refusal.Refusal.{Refusal as Refused};
 ghost use Rattle.r10_machine.specs.Limits.{IsConfig};
-ghost use Rattle.r10_machine.specs.Machine.{File, Machine};
+ghost use Rattle.r10_machine.specs.Calls.{accepted};
+ghost use Rattle.r10_machine.specs.Machine.{File, Machine, with_lane};
 ghost use Rattle.r10_steps.specs.Checks.{refusal};
 ghost use Rattle.r10_steps.specs.Finding.{count_at, found, info_of, status_of};
+ghost use Rattle.r10_steps.specs.Step.{after_refusal};
 ghost use Rattle.r10_steps.specs.declared.event.Event.TheVariants as events;
 ghost use Rattle.r10_steps.specs.declared.reply.Reply.TheVariants as replies;
 ghost use Rattle.r10_means.specs.Kept.{Kept};
-ghost use Rattle.r10_means.specs.Means.{Leads, Means};
+ghost use Rattle.r10_means.specs.Means.{LeadsTo, Means};
 
 use r10_steps::a_step_stays_sound;
 
 /// An offer is accepted or refused, in whatever mode; what is kept is the same.
 pub fn offers_are_steps()
     ensures accepted { (k : Kept) (image : Image) (n : ℕ) (m : Machine) (channel count : ℕ) (message : Message) → IsConfig k.config → Means k image n m → refusal k.config m (events.Offer channel count message) ≡ None
-        → Leads k m (events.Offer channel count message) replies.Done k image n }
+        → LeadsTo k m (events.Offer channel count message) replies.Done k image n (with_lane channel (accepted count message) m) }
     ensures refused { (k : Kept) (image : Image) (n : ℕ) (m : Machine) (channel count : ℕ) (message : Message) (r : Refused) → IsConfig k.config → Means k image n m → refusal k.config m (events.Offer channel count message) ≡ Some r
-        → Leads k m (events.Offer channel count message) (replies.Refused r) k image n }
+        → LeadsTo k m (events.Offer channel count message) (replies.Refused r) k image n (after_refusal (events.Offer channel count message) m) }
 {
     a_step_stays_sound();
 }
@@ -30,12 +32,12 @@ pub fn offers_are_steps()
 /// count at a civil time.
 pub fn tellings_are_steps()
     ensures files { (k : Kept) (old new : Image) (n later : ℕ) (m : Machine) → IsConfig k.config → Means k old n m → new ≡ old → n ≤ later → refusal k.config m events.Files ≡ None
-        → Leads k m events.Files (replies.Files (map info_of m.files)) k new later }
-    ensures status { (k : Kept) (old new : Image) (n later : ℕ) (m : Machine) → IsConfig k.config → Means k old n m → new ≡ old → n ≤ later → Leads k m events.Status (replies.Status (status_of k.config m)) k new later }
+        → LeadsTo k m events.Files (replies.Files (map info_of m.files)) k new later (record m { failures = later }) }
+    ensures status { (k : Kept) (old new : Image) (n later : ℕ) (m : Machine) → IsConfig k.config → Means k old n m → new ≡ old → n ≤ later → LeadsTo k m events.Status (replies.Status (status_of k.config m)) k new later (record m { failures = later }) }
     ensures found { (k : Kept) (old new : Image) (n later : ℕ) (m : Machine) (file channel count : ℕ) (f : File) → IsConfig k.config → Means k old n m → new ≡ old → n ≤ later
-        → refusal k.config m (events.Find file channel count) ≡ None → slice_get m.files file ≡ Some f → Leads k m (events.Find file channel count) (replies.Found (found f channel count)) k new later }
+        → refusal k.config m (events.Find file channel count) ≡ None → slice_get m.files file ≡ Some f → LeadsTo k m (events.Find file channel count) (replies.Found (found f channel count)) k new later (record m { failures = later }) }
     ensures count { (k : Kept) (old new : Image) (n later : ℕ) (m : Machine) (file : ℕ) (parts : Parts) (f : File) → IsConfig k.config → Means k old n m → new ≡ old → n ≤ later
-        → refusal k.config m (events.CountAt file parts) ≡ None → slice_get m.files file ≡ Some f → Leads k m (events.CountAt file parts) (replies.CountAt (count_at f parts)) k new later }
+        → refusal k.config m (events.CountAt file parts) ≡ None → slice_get m.files file ≡ Some f → LeadsTo k m (events.CountAt file parts) (replies.CountAt (count_at f parts)) k new later (record m { failures = later }) }
 {
     a_step_stays_sound();
 }
