@@ -9,3 +9,5 @@ mod Grown
 mod Coming
 mod Going
 mod Closed
+mod Pumped
+mod AllPumped

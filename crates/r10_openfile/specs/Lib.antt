@@ -1,2 +1,3 @@
+pub mod Intake
 pub mod Keeping
 pub mod Putting

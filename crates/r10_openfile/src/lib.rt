@@ -6,5 +6,6 @@
 mod data;
 mod entries;
 mod file;
+mod pumping;
 
 pub use file::OpenFile;
