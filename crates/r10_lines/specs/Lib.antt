@@ -1,3 +1,6 @@
+pub mod Words
 pub mod Civil
+pub mod Refusals
 pub mod Line
+pub mod Replies
 pub mod Vectors

@@ -1,5 +1,5 @@
--- The line that a step prints.
-use Rattle.std.specs.Prelude.{◌≡◌, ℕ, Bool, true, false, List, [], ◌∷◌, ◌++◌, Some, None, codes}
+-- The lines of entries, and the line that a step prints.
+use Rattle.std.specs.Prelude.{◌≡◌, ℕ, List, [], ◌∷◌, ◌++◌, Some, None, codes}
 use Rattle.std.specs.Fmt.{decimal}
 use Rattle.std.specs.Int.{w16, w32, to_be_bytes}
 use Rattle.std.specs.List.{flat_map}
@@ -10,17 +10,8 @@ use Rattle.r10_body.specs.declared.message.Message.TheVariants as messages
 use Rattle.r10_machine.specs.declared.reply.Reply.{Reply}
 use Rattle.r10_machine.specs.declared.reply.Reply.TheVariants as replies
 use Rattle.r10_lines.specs.Civil.{civil_text}
-
--- words with a space between each and the next
-abbrev pub spaced : List (List ℕ) → List ℕ
-spaced [] = []
-spaced (word ∷ []) = word
-spaced (word ∷ next ∷ words) = word ++ (32 ∷ spaced (next ∷ words))
-
--- a truth value
-abbrev pub flag_text : Bool → List ℕ
-flag_text true = codes "1"
-flag_text false = codes "0"
+use Rattle.r10_lines.specs.Refusals.{refusal_text}
+use Rattle.r10_lines.specs.Words.{spaced, flag_text}
 
 -- bytes in pairs of hex digits of lower case, a dash where there are none
 abbrev pub bytes_text : List ℕ → List ℕ
@@ -61,7 +52,7 @@ entry_text e = spaced (codes "entry" ∷ decimal e.channel ∷ decimal e.count �
 abbrev pub entry_line : Entry → List ℕ
 entry_line e = entry_text e ++ codes "\n"
 
--- the words for each reply; what a refusal says of itself stands behind its first word
+-- the words for each reply
 abbrev pub IsReplyText : Reply → List ℕ → Type 0
 IsReplyText replies.Done text = text ≡ codes "ok"
 IsReplyText (replies.Moved moved) text = text ≡ spaced (codes "moved" ∷ decimal moved ∷ [])
@@ -70,7 +61,7 @@ IsReplyText (replies.Cursor id) text = text ≡ spaced (codes "cursor" ∷ decim
 IsReplyText (replies.Advanced queued) text = text ≡ spaced (codes "advanced" ∷ decimal queued ∷ [])
 IsReplyText (replies.Next None) text = text ≡ codes "none"
 IsReplyText (replies.Next (Some entry)) text = text ≡ entry_text entry
-IsReplyText (replies.Refused refusal) text = (said : List ℕ) × (text ≡ spaced (codes "refused" ∷ said ∷ []))
+IsReplyText (replies.Refused refusal) text = text ≡ refusal_text refusal
 
 -- the step's number, the reply's words, and a line feed
 abbrev pub IsReplyLine : ℕ → Reply → List ℕ → Type 0

@@ -1,6 +1,9 @@
-//! Prints the line of each step's reply, and of an entry alone.
+//! Prints the lines of each step's reply, and of an entry alone.
 #![tactic(auto)]
 
 mod line;
+mod refusal;
+mod reply;
 
 pub use line::{entry_line, reply_line};
+pub use reply::reply_lines;

@@ -1,10 +1,12 @@
-//! The line that a step prints.
+//! The lines of entries, and the line that a step prints.
 
-ghost use Rattle.std.specs.Prelude.{◌≡◌, ◌∷◌, [], ℕ, List, codes, string_bytes, IfOk};
+ghost use Rattle.std.specs.Prelude.{◌≡◌, string_bytes, IfOk};
 ghost use Rattle.r10_lines.specs.Civil.{civil_text as civil_digits};
-ghost use Rattle.r10_lines.specs.Line.{IsReplyLine, IsReplyText, entry_line, entry_text as entry_words, message_text as message_words, bytes_text, flag_text as flag_digit, long_text as eight_digits, word_text as four_digits, spaced, words_text as words_digits};
+ghost use Rattle.r10_lines.specs.Line.{IsReplyLine, IsReplyText, entry_line, entry_text as entry_words, message_text as message_words, bytes_text, long_text as eight_digits, word_text as four_digits, words_text as words_digits};
+ghost use Rattle.r10_lines.specs.Words.{flag_text as flag_digit};
 
-use r10_body::{Entry, Message, Refusal};
+use crate::refusal::refusal_text;
+use r10_body::{Entry, Message};
 use r10_count::Civil;
 use r10_machine::Reply;
 use std::alloc::{AllocError, Global};
@@ -35,13 +37,6 @@ fn reply_text(alloc: Global, reply: &Reply) -> Result<String, AllocError>
     }
 }
 
-fn refusal_text(alloc: Global, refusal: &Refusal) -> Result<String, AllocError>
-    ensures { IfOk result (λ text. (said : List ℕ) × (string_bytes text ≡ spaced (codes "refused" ∷ said ∷ []))) }
-{
-    let said = refusal.to_string(alloc)?;
-    format!(in alloc; "refused {said}")
-}
-
 /// The line of an entry, with its line feed.
 pub fn entry_line(alloc: Global, entry: &Entry) -> Result<String, AllocError>
     ensures { IfOk result (λ line. string_bytes line ≡ entry_line entry.now) }
@@ -51,7 +46,7 @@ pub fn entry_line(alloc: Global, entry: &Entry) -> Result<String, AllocError>
 }
 
 /// An entry: its channel, its count, whether it has a gap, and its message.
-fn entry_text(alloc: Global, entry: &Entry) -> Result<String, AllocError>
+pub(crate) fn entry_text(alloc: Global, entry: &Entry) -> Result<String, AllocError>
     ensures { IfOk result (λ text. string_bytes text ≡ entry_words entry.now) }
 {
     let (channel, count) = (entry.channel, entry.count.get());
@@ -107,7 +102,7 @@ fn message_text(alloc: Global, message: &Message) -> Result<String, AllocError>
     }
 }
 
-fn flag_text(flag: bool) -> &'static str
+pub(crate) fn flag_text(flag: bool) -> &'static str
     ensures { result.now ≡ flag_digit flag }
 {
     if flag { "1" } else { "0" }

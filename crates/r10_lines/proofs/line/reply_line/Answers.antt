@@ -1,6 +1,7 @@
 use Rattle.std.proofs.Common.{rules, ◌≡◌, ◌∷◌, ◌++◌, [], IfOk, decimal, string_bytes}
 use Rattle.std.proofs.lemmas.Result.{IfOk-weaker}
-use Rattle.r10_lines.specs.Line.{spaced, IsReplyLine}
+use Rattle.r10_lines.specs.Line.{IsReplyLine}
+use Rattle.r10_lines.specs.Words.{spaced}
 use Rattle.r10_lines.proofs.line.reply_line.Goals as goal
 
 pub returns : goal.returns
