@@ -1,9 +1,9 @@
 mod Clipping
-mod Covering
-mod Fronts
+pub mod Covering
+pub mod Fronts
 mod Keeping
 mod Reading
-mod Said
+pub mod Said
 mod Staying
 mod Times
-mod Writing
+pub mod Writing

@@ -36,9 +36,9 @@ use Rattle.r10_reader.proofs.Times.{same_ticks}
 
 -- ---- the file of an entry, and the entry of a file
 
-record IsSaid (image : Image) (e : Listed) (f : File) : Type 0 where
-  lists : Lists f e
-  says : SaysFile image f
+pub record IsSaid (image : Image) (e : Listed) (f : File) : Type 0 where
+  pub lists : Lists f e
+  pub says : SaysFile image f
 
 said_by : (image : Image) (entries : List Listed) (fs : List File) (k : ℕ) (e : Listed) → SaysEach image entries fs → slice_get entries k ≡ Some e → (f : File) × IsSaid image e f
 said_by image [] fs k e each at = absurd (cc (at))
@@ -48,7 +48,7 @@ said_by image (d ∷ entries) (f ∷ fs) zero e each at =
     (f, subst (λ (x : Listed). IsSaid image x f) same (record { lists = each.0; says = each.1 }))
 said_by image (d ∷ entries) (f ∷ fs) (suc k) e each at = said_by image entries fs k e each.2 at
 
-listed_by : (image : Image) (entries : List Listed) (fs : List File) (k : ℕ) (f : File) → SaysEach image entries fs → slice_get fs k ≡ Some f → (e : Listed) × (slice_get entries k ≡ Some e) × IsSaid image e f
+pub listed_by : (image : Image) (entries : List Listed) (fs : List File) (k : ℕ) (f : File) → SaysEach image entries fs → slice_get fs k ≡ Some f → (e : Listed) × (slice_get entries k ≡ Some e) × IsSaid image e f
 listed_by image entries [] k f each at = absurd (cc (at))
 listed_by image [] (g ∷ fs) k f each at = absurd each
 listed_by image (e ∷ entries) (g ∷ fs) zero f each at =
@@ -57,11 +57,11 @@ listed_by image (e ∷ entries) (g ∷ fs) zero f each at =
 listed_by image (e ∷ entries) (g ∷ fs) (suc k) f each at = listed_by image entries fs k f each.2 at
 
 -- the medium's directory is the one that is known
-says_each : (s : Config) (image : Image) (fs : List File) (chain : List ChainBlock) → MediumSays s image fs → IsDirectory image chain → SaysEach image (files chain) fs
+pub says_each : (s : Config) (image : Image) (fs : List File) (chain : List ChainBlock) → MediumSays s image fs → IsDirectory image chain → SaysEach image (files chain) fs
 says_each s image fs chain says directory = subst (λ (c : List ChainBlock). SaysEach image (files c) fs) (one_directory image says.chain chain says.directory directory) says.each
 
 -- the bytes by the entry are those by the file
-same_bytes : (image : Image) (e : Listed) (f : File) → Lists f e → bytes_from image f.first_block f.size ≡ bytes_in image e
+pub same_bytes : (image : Image) (e : Listed) (f : File) → Lists f e → bytes_from image f.first_block f.size ≡ bytes_in image e
 same_bytes image e f lists = ap (λ (n : ℕ). bytes_from image n f.size) (sym lists.first_block) ∙ ap (bytes_from image e.first_block) (sym lists.size)
 
 pub not_at_fault : (s : Config) (image : Image) (fs : List File) (chain : List ChainBlock) (file : ℕ) (e : Listed) (offset : ℕ) (fault : FileFault) → MediumSays s image fs → IsDirectory image chain
@@ -104,7 +104,7 @@ data_entries (p ∷ ps) = by (is_index p) refl (data_entries ps)
 -- ---- what is held
 
 -- the file of a number, and its directory entry, where it isn't being written
-found_entry : (written : Option Written) (chain : List ChainBlock) (file : ℕ) (e : Listed) → IfSome written (λ w. file < w.file) → slice_get (files chain) file ≡ Some e → finished_file written chain file ≡ Some e
+pub found_entry : (written : Option Written) (chain : List ChainBlock) (file : ℕ) (e : Listed) → IfSome written (λ w. file < w.file) → slice_get (files chain) file ≡ Some e → finished_file written chain file ≡ Some e
 found_entry None chain file e before at = at
 found_entry (Some w) chain file e before at = among_first (files chain) w.file file before ∙ at
 

@@ -26,7 +26,7 @@ named_first zero offset packets = refl
 named_first (suc n) offset [] = refl
 named_first (suc n) offset (p ∷ packets) = ap (λ (es : List NodeEntry). node_entry offset p ∷ es) (named_first n (offset + length (packet_bytes p)) packets)
 
-shown : (s : Config) (image : Image) (o : Open) (f : File) (w : Written) (is : IsWritten s image o f) → IsToldOf o w → IsShown image w.first w.named.now (take o.shown is.carries.packets)
+pub shown : (s : Config) (image : Image) (o : Open) (f : File) (w : Written) (is : IsWritten s image o f) → IsToldOf o w → IsShown image w.first w.named.now (take o.shown is.carries.packets)
 shown s image o f w is told =
     let packets = is.carries.packets in
     let front = take o.shown packets in

@@ -1,0 +1,4 @@
+mod Fronts
+mod Reading
+mod Standing
+mod Stepping
