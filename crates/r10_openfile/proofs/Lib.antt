@@ -11,3 +11,5 @@ mod Going
 mod Closed
 mod Pumped
 mod AllPumped
+mod Fronting
+mod Others

@@ -41,7 +41,7 @@ bytes_behind old new first size long same =
     (ext_get_or [] (drop first new) (drop first old) (omega (arith, long, length-drop first new, length-drop first old))
     (λ k lt. get_or-drop first new k [] ∙ same (first + k) (omega arith) ∙ sym (get_or-drop first old k [])))
 
-others : (reserved k : ℕ) (numbers : List ℕ) → reserved < k → All (λ (n : ℕ). n ≤ reserved) numbers → All (λ (n : ℕ). k ≢ n) numbers
+pub others : (reserved k : ℕ) (numbers : List ℕ) → reserved < k → All (λ (n : ℕ). n ≤ reserved) numbers → All (λ (n : ℕ). k ≢ n) numbers
 others reserved k numbers less all i d lt is = omega (arith, is, less, all i d lt)
 
 pub same_bytes : (old new : Image) (reserved first size : ℕ) (numbers : List ℕ) → SameButIn numbers old new → All (λ (n : ℕ). n ≤ reserved) numbers → reserved < first → bytes_from new first size ≡ bytes_from old first size

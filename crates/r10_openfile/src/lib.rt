@@ -6,6 +6,8 @@
 mod data;
 mod entries;
 mod file;
+mod laws;
 mod pumping;
 
 pub use file::OpenFile;
+pub use laws::channels_end_apart;
