@@ -1,1 +1,5 @@
 pub mod Found
+pub mod Ends
+pub mod Staying
+pub mod Counting
+pub mod Relisting
