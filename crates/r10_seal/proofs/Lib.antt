@@ -5,3 +5,6 @@ pub mod Marks
 pub mod Setup
 pub mod Behind
 pub mod Closed
+pub mod Left
+pub mod Held
+pub mod Usable

@@ -1,9 +1,8 @@
 -- Where the last file of a directory stands that a recorder can use, and what stays while its blocks are written.
-use Rattle.std.proofs.Common.{◌≡◌, ℕ, ◌+◌, ◌*◌, ◌/◌, ◌<◌, ◌≤◌, Bool, true, false, ◌&&◌, List, [], ◌∷◌, length, drop, take, Option, Some, None, refl, sym, ap, subst, ◌∙◌, arith, ext_get_or, get_or-drop}
-use Rattle.std.specs.Prelude.{nat_lt, nat_le, ◌==◌, ◌≢◌, IfSome}
-use Rattle.std.specs.List.{All, concat, last_or}
+use Rattle.std.proofs.Common.{◌≡◌, ℕ, ◌+◌, ◌*◌, ◌/◌, ◌<◌, ◌≤◌, Bool, true, false, ◌&&◌, List, [], ◌∷◌, length, Option, Some, None, refl, sym, ap, subst, ◌∙◌, arith}
+use Rattle.std.specs.Prelude.{nat_lt, nat_le, ◌==◌, IfSome}
+use Rattle.std.specs.List.{All, last_or}
 use Rattle.std.proofs.lemmas.Bool.{eqb-true, leb-true}
-use Rattle.std.proofs.lemmas.List.{length-drop}
 use Rattle.std.proofs.lemmas.List.Elements.{All-nil, All-cons, All-head, All-tail}
 use Rattle.r10_count.specs.Checks.{first_broken}
 use Rattle.r10_medium.specs.Disk.{Block, Image}
@@ -19,6 +18,7 @@ use Rattle.r10_dirchain.specs.Steps.{last_listing}
 use Rattle.r10_dirchain.proofs.FileLists.{last_listing_is, last_of}
 use Rattle.r10_dirchain.proofs.Standing.{Stand, usable_of}
 use Rattle.r10_dirchain.proofs.Usable.{none_broken, place_rules_hold, placed}
+use Rattle.r10_holding.proofs.Staying.{bytes_behind}
 use Rattle.r10_volume.specs.Mounting.{IsUsable}
 
 -- a file behind the reserved blocks, whose bytes are inside the medium
@@ -84,13 +84,6 @@ some_listed chain e is = some_files (files chain) e is
 pub shown_still : (reserved : ℕ) (before old new : Image) (chain made : List ChainBlock) (e : Entry) (bytes : List ℕ) → IsUsable reserved before chain → last_or None (files chain) ≡ Some e → reserved < e.first_block
     → Turned made ((at chain (last_listing chain)).number ∷ []) old new → Shows old e.first_block bytes → Shows new e.first_block bytes
 shown_still reserved before old new chain made e bytes usable is less turned shows =
-    ap (λ (l : Image). take (length bytes) (concat l)) same ∙ shows
-  where
-    low : (at chain (last_listing chain)).number ≤ reserved
-    low = listing_reserved reserved before chain e usable is
-
-    same : drop e.first_block new ≡ drop e.first_block old
-    same = ext_get_or [] (drop e.first_block new) (drop e.first_block old) (omega (arith, turned.others.size, length-drop e.first_block new, length-drop e.first_block old))
-        (λ k lt. get_or-drop e.first_block new k []
-        ∙ turned.others.others (e.first_block + k) (All-cons (λ (m : ℕ). e.first_block + k ≢ m) (at chain (last_listing chain)).number [] (λ eq. omega (arith, eq, low, less)) (All-nil (λ (m : ℕ). e.first_block + k ≢ m)))
-        ∙ sym (get_or-drop e.first_block old k []))
+    let number = (at chain (last_listing chain)).number in
+    let low : number ≤ reserved = listing_reserved reserved before chain e usable is in
+    bytes_behind old new reserved e.first_block (length bytes) (number ∷ []) turned.others (All-cons (λ (n : ℕ). n ≤ reserved) number [] low (All-nil (λ (n : ℕ). n ≤ reserved))) less ∙ shows

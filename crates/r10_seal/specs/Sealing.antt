@@ -14,7 +14,7 @@ use Rattle.r10_dirchain.specs.Steps.{last_listing, updated}
 use Rattle.r10_dirchain.specs.Chain.{at}
 use Rattle.r10_dirchain.specs.OnMedium.{Turned}
 use Rattle.r10_dirchain.specs.declared.chain.ChainBlock.{ChainBlock}
-use Rattle.r10_index.specs.Written.{index_of}
+use Rattle.r10_index.specs.Written.{FitsIndex, index_of}
 use Rattle.r10_machine.specs.Machine.{File}
 use Rattle.r10_steps.specs.Calls.{closed_in}
 use Rattle.r10_tracks.specs.Times.{last_mark}
@@ -41,16 +41,20 @@ sealed_entry packets civil e = record (sized (length (sealed_bytes packets)) e) 
 abbrev pub sealed : List Packet → File → File
 sealed packets f = closed_in (length (sealed_bytes packets)) f
 
--- over an image that shows the file with its index, and where nothing but blocks of that is put, the directory is this one
-pub record IsClosed (e : Listed) (packets : List Packet) (made : List ChainBlock) (changed : List ℕ) (old image : Image) : Type 0 where
-  pub between : Image
-  pub puts : PutsSome e.first_block (file_blocks (sealed_bytes packets)) old between
-  pub shows : Shows between e.first_block (sealed_bytes packets)
-  pub turned : Turned made changed between image
-
 -- the number of the block that lists the last file
 abbrev pub listing_block : List ChainBlock → List ℕ
 listing_block chain = (at chain (last_listing chain)).number ∷ []
+
+-- over an image that shows the file with its index, and where nothing but blocks of that was put, the directory is this one: it lists the file closed at its last time
+pub record IsClosed (e : Listed) (packets : List Packet) (chain made : List ChainBlock) (old image : Image) : Type 0 where
+  pub fits : FitsIndex packets
+  pub time : TimeMark
+  pub last : last_mark None packets ≡ Some time
+  pub made_is : made ≡ updated (sealed_entry packets time.civil e) chain
+  pub between : Image
+  pub puts : PutsSome e.first_block (file_blocks (sealed_bytes packets)) old between
+  pub shows : Shows between e.first_block (sealed_bytes packets)
+  pub turned : Turned made (listing_block chain) between image
 
 -- The last file, with this entry, has few packets for an index of so many nodes, and costs no more than its part of the medium has; the medium shows it with its index then, and the
 -- directory lists it closed at its last time.
@@ -60,14 +64,17 @@ pub record Seals (old : Image) (chain : List ChainBlock) (e : Listed) (nodes are
   pub unsealed : IsUnsealed (bytes_from old e.first_block e.size) text packets
   pub few : length packets ≤ 100 * nodes
   pub room : cost_of_packets text packets ≤ area
-  pub time : TimeMark
-  pub last : last_mark None packets ≡ Some time
   pub shows : Shows new e.first_block (sealed_bytes packets)
-  pub made_is : made ≡ updated (sealed_entry packets time.civil e) chain
-  pub closed : IsClosed e packets made (listing_block chain) old new
+  pub closed : IsClosed e packets chain made old new
+
+-- blocks of the file with its index were put over these, or the file is closed
+abbrev pub IsPartlySealed : Listed → List Packet → List ChainBlock → Image → Image → Type 0
+IsPartlySealed e packets chain old image =
+    PutsSome e.first_block (file_blocks (sealed_bytes packets)) old image
+    ⊎ ((made : List ChainBlock) × IsClosed e packets chain made old image)
 
 -- at a moment of a seal: blocks of the file with its index are put over those that could be left, or the file is closed
 abbrev pub IsSealing : Listed → List Packet → List ChainBlock → Disk → Image → Type 0
 IsSealing e packets chain old image =
     ComesBy (PutsSome e.first_block (file_blocks (sealed_bytes packets))) old image
-    ⊎ ((civil : Parts) × IsClosed e packets (updated (sealed_entry packets civil e) chain) (listing_block chain) old.blocks image)
+    ⊎ ((made : List ChainBlock) × IsClosed e packets chain made old.blocks image)

@@ -5,7 +5,9 @@
 mod closing;
 mod fault;
 mod judging;
+mod laws;
 mod writing;
 
 pub use closing::seal;
 pub use fault::SealFault;
+pub use laws::{left_files_are_strict, sealed_files_are_held, seals_leave_files, shown_files_cost};

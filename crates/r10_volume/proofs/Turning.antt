@@ -81,7 +81,7 @@ said : (s : Config) (old : Disk) (image : Image) (made : List ChainBlock) (chang
 said s old image made changed files later makes turned =
     directory_turns s old.blocks image made changed later (whole_reads old) makes.says.blocks turned makes.reserved makes.mounts makes.each
 
-same_image : (old new : Image) → SameButIn [] old new → old ≡ new
+pub same_image : (old new : Image) → SameButIn [] old new → old ≡ new
 same_image old new same = sym (ext_get_or [] new old same.size (λ n lt. same.others n (All-nil (λ (k : ℕ). n ≢ k))))
 
 pub says_then : {T E : Type 0} (s : Config) (old new : Disk) (chain made : List ChainBlock) (changed : List ℕ) (files later : List File) (result : Result T E) → Makes s old.blocks made changed files later
@@ -99,7 +99,7 @@ leaves_then s old new chain made changed files later result makes turns here =
     (λ turned. inr (said s old image made changed files later makes turned)))
     turns.moments
 
-keep_both : (old new image : Image) (files : List File) → KeepBytes old new files → KeepBytes old image files → KeepBytes new image files
+pub keep_both : (old new image : Image) (files : List File) → KeepBytes old new files → KeepBytes old image files → KeepBytes new image files
 keep_both old new image [] keep keeps = tt
 keep_both old new image (f ∷ files) (here, keep) (there, keeps) = (there ∙ sym here, keep_both old new image files keep keeps)
 
@@ -155,7 +155,7 @@ on_reads P Q new result gives settled = on_ok result (Settled P new) Q (λ here.
 
 -- ---- a step behind calls that change nothing
 
-left_before : (old mid : Disk) → Unchanged old mid → (image : Image) → MayLeave mid image → MayLeave old image
+pub left_before : (old mid : Disk) → Unchanged old mid → (image : Image) → MayLeave mid image → MayLeave old image
 left_before old mid same image now = record {
   size = now.size ∙ ap length same.reads;
   each = λ n lt. same.may_hold n (block_at image n) (now.each n (subst (λ (l : Image). n < length l) (sym same.reads) lt));

@@ -1,0 +1,8 @@
+use Rattle.r10_seal.proofs.Left.{fault_left, left_unsealed}
+use Rattle.r10_seal.proofs.laws.left_files_are_strict.Goals as goal
+
+pub returns-clause-unsealed : goal.returns-clause-unsealed
+returns-clause-unsealed c = left_unsealed
+
+pub returns-clause-fault : goal.returns-clause-fault
+returns-clause-fault c = fault_left

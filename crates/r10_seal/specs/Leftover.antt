@@ -1,0 +1,49 @@
+-- A last file that was left open, among the files that a recorder holds, and what a seal makes of it.
+use Rattle.std.specs.Prelude.{◌≡◌, ◌⊎◌, ℕ, ◌<◌, ◌++◌, false, List, [], ◌∷◌, None, Result, OnOk}
+use Rattle.r10_blockout.specs.Blocks.{bytes_from}
+use Rattle.r10_body.specs.Cost.{file_cost}
+use Rattle.r10_body.specs.Packets.{Packet}
+use Rattle.r10_dirchain.specs.declared.chain.ChainBlock.{ChainBlock}
+use Rattle.r10_holding.specs.Holding.{Holds}
+use Rattle.r10_machine.specs.Config.{Config}
+use Rattle.r10_machine.specs.Machine.{File, shown_entries}
+use Rattle.r10_machine.specs.Room.{area}
+use Rattle.r10_medium.specs.Disk.{Disk, Image}
+use Rattle.r10_medium.specs.Stop.{Leaves}
+use Rattle.r10_steps.specs.Calls.{MayPassIndex}
+use Rattle.r10_steps.specs.Says.{MediumSays}
+use Rattle.r10_volume.specs.Settling.{IsSettled}
+use Rattle.r10_seal.specs.Sealing.{IsUnsealed, sealed}
+use Rattle.r10_seal.specs.declared.fault.SealFault.{SealFault}
+use Rattle.r10_seal.specs.declared.fault.SealFault.TheVariants.{BadFile, IndexFull, MediumFull, Medium, OutOfMemory}
+
+-- a recorder with so many nodes holds these files, of which the last was left open
+pub record IsLeftOpen (s : Config) (image : Image) (chain : List ChainBlock) (nodes : ℕ) (files : List File) (f : File) : Type 0 where
+  pub held : Holds s image chain None (files ++ f ∷ [])
+  pub unclosed : f.closed ≡ false
+  pub nodes_are : nodes ≡ s.nodes
+
+-- what the file costs with the entries that it shows
+abbrev pub shown_cost : File → ℕ
+shown_cost f = file_cost f.setup (shown_entries f)
+
+-- what a fault says of the file: its bytes are strict, so that they are not at fault
+abbrev pub IsLeftFault : Config → File → SealFault → Type 0
+IsLeftFault s f (BadFile at) = ⊥
+IsLeftFault s f IndexFull = MayPassIndex s f
+IsLeftFault s f MediumFull = area s f < shown_cost f
+IsLeftFault s f Medium = Unit {0}
+IsLeftFault s f OutOfMemory = Unit {0}
+
+-- the files with the last of them left open, or closed with the index of these packets
+abbrev pub IsEither : Config → List File → File → List Packet → Image → Type 0
+IsEither s files f packets image = MediumSays s image (files ++ f ∷ []) ⊎ MediumSays s image (files ++ sealed packets f ∷ [])
+
+-- The medium has these packets of the file. After an Ok the file is held closed with their index, and a stop leaves it so; else, and at every moment, the medium says the file as it was left, or so.
+pub record SealsLast {T E : Type 0} (s : Config) (files : List File) (f : File) (old new : Disk) (made : List ChainBlock) (result : Result T E) : Type 0 where
+  pub packets : List Packet
+  pub unsealed : IsUnsealed (bytes_from old.blocks f.first_block f.size) f.setup packets
+  pub holds : OnOk result (Holds s new.blocks made None (files ++ sealed packets f ∷ []))
+  pub reads : IsEither s files f packets new.blocks
+  pub moments : IsSettled s (files ++ f ∷ []) old → Leaves (IsEither s files f packets) old new
+  pub settled : OnOk result (IsSettled s (files ++ sealed packets f ∷ []) new)
