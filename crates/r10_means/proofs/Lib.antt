@@ -1,4 +1,4 @@
-mod Leading
+pub mod Leading
 mod Lasting
 mod Growing
 mod Taking

@@ -1,6 +1,6 @@
 //! Taking a medium into use.
 
-ghost use Rattle.std.specs.Prelude.{◌≡◌, ◌≤◌, ℕ, List, [], ◌∷◌, None, IfOk, IfErr, IsErrOf, OnOk, MatchResult};
+ghost use Rattle.std.specs.Prelude.{◌≡◌, ◌≤◌, ℕ, List, [], ◌∷◌, length, None, IfOk, IfErr, IsErrOf, OnOk, MatchResult};
 ghost use Rattle.r10_medium.specs.Disk.{Rose, Unchanged};
 ghost use Rattle.r10_medium.specs.Stop.{Leaves, Settled};
 ghost use Rattle.r10_dirchain.specs.Bad.{IsNoFault};
@@ -45,6 +45,7 @@ pub fn mount<M: BlockMedium>(
     ensures moments { (s : Config) (files : List File) → Settled (λ image. MediumSays s image files) (M.disk medium.old)
         → Leaves (λ image. MediumSays s image files) (M.disk medium.old) (M.disk medium.new) }
     ensures settled { (s : Config) (files : List File) → MediumSays s (M.disk medium.old).blocks files → OnOk result (IsSettled s files (M.disk medium.new)) }
+    ensures blocks { length (M.disk medium.new).blocks ≡ length (M.disk medium.old).blocks }
     ensures no_fewer { (M.disk medium.old).failures ≤ (M.disk medium.new).failures }
     ensures cause { IsErrOf result ChainError.Medium → Rose (M.disk medium.old).failures (M.disk medium.new).failures }
 {

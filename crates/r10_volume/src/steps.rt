@@ -1,6 +1,6 @@
 //! Steps on the directory of a medium in use.
 
-ghost use Rattle.std.specs.Prelude.{◌≡◌, ◌⊎◌, ℕ, List, [], ◌∷◌, None, OnOk, OnErr};
+ghost use Rattle.std.specs.Prelude.{◌≡◌, ◌⊎◌, ℕ, List, [], ◌∷◌, length, None, OnOk, OnErr};
 ghost use Rattle.r10_medium.specs.Disk.{Counts};
 ghost use Rattle.r10_medium.specs.Stop.{Leaves, Settled};
 ghost use Rattle.r10_dirchain.specs.Chain.{IsDirectory, at};
@@ -32,6 +32,7 @@ pub fn dismount<M: BlockMedium>(
     ensures moments { (s : Config) (files : List File) → Holds s (M.disk medium.old).blocks directory.old None files → Settled (λ image. MediumSays s image files) (M.disk medium.old)
         → Leaves (λ image. MediumSays s image files) (M.disk medium.old) (M.disk medium.new) }
     ensures settled { (s : Config) (files : List File) → Holds s (M.disk medium.old).blocks directory.old None files → OnOk result (IsSettled s files (M.disk medium.new)) }
+    ensures blocks { length (M.disk medium.new).blocks ≡ length (M.disk medium.old).blocks }
     ensures counts { Counts (M.disk medium.old) (M.disk medium.new) result }
 {
     directory.set_shutdown(medium, 0xFF)
@@ -51,6 +52,7 @@ pub fn erase<M: BlockMedium>(medium: &mut M, directory: &mut Directory) -> Resul
     ensures moments { (s : Config) (files : List File) → Holds s (M.disk medium.old).blocks directory.old None files → Settled (λ image. MediumSays s image files) (M.disk medium.old)
         → Leaves (λ image. MediumSays s image files ⊎ MediumSays s image []) (M.disk medium.old) (M.disk medium.new) }
     ensures settled { (s : Config) (files : List File) → Holds s (M.disk medium.old).blocks directory.old None files → OnOk result (IsSettled s [] (M.disk medium.new)) }
+    ensures blocks { length (M.disk medium.new).blocks ≡ length (M.disk medium.old).blocks }
     ensures counts { Counts (M.disk medium.old) (M.disk medium.new) result }
 {
     directory.erase(medium)

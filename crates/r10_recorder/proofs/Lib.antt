@@ -1,0 +1,4 @@
+mod Leading
+mod Mounts
+mod Dismounts
+mod Erases

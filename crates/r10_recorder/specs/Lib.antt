@@ -1,0 +1,6 @@
+pub mod Work
+pub mod State
+pub mod Owns
+pub mod Leading
+pub mod Checks
+pub mod Refused
