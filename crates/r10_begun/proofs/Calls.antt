@@ -1,24 +1,26 @@
 -- A file that has begun: its last block, and then its entry in the directory.
-use Rattle.std.proofs.Common.{◌≡◌, false, Ok, Err, ℕ, ◌<◌, ◌⊎◌, inl, List, [], ◌∷◌, ◌++◌, length, None, Some, Result, sym, ap, subst, ◌∙◌, arith}
+use Rattle.std.proofs.Common.{◌≡◌, false, Ok, Err, ℕ, ◌*◌, ◌<◌, ◌⊎◌, ⊎_elim, inl, List, [], ◌∷◌, ◌++◌, length, take, None, Some, Result, sym, ap, subst, ◌∙◌, arith}
 use Rattle.std.specs.Prelude.{OnOk}
 use Rattle.std.specs.List.{All}
 use Rattle.std.proofs.lemmas.List.{append-nil}
-use Rattle.std.proofs.lemmas.List.Elements.{All-from_get_or}
+use Rattle.std.proofs.lemmas.List.Elements.{All-cons, All-from_get_or}
 use Rattle.r10_medium.specs.Disk.{Disk, Image, IsSynced, Unchanged}
 use Rattle.r10_medium.specs.Stop.{Leaves, Settled}
-use Rattle.r10_medium.proofs.Stops.{below_puts, joined, then_stays, weakened, whole_reads}
+use Rattle.r10_medium.proofs.Stops.{below_puts, joined, settled_reads, then_stays, weakened, whole_reads}
 use Rattle.r10_blockout.specs.Blocks.{Shows, bytes_from, blocks_for, file_blocks, first_blocks}
 use Rattle.r10_blockout.specs.Output.{Puts, first_of}
 use Rattle.r10_blockout.proofs.Joining.{carries_past}
 use Rattle.r10_body.specs.Files.{FileSays}
 use Rattle.r10_body.specs.Packets.{file_bytes}
-use Rattle.r10_carry.specs.Carries.{Recording}
+use Rattle.r10_body.specs.declared.entry.Entry.{Entry}
+use Rattle.r10_carry.specs.Carries.{Carries, Recording}
 use Rattle.r10_dirblock.specs.declared.entry.Entry.{Entry as Listed}
 use Rattle.r10_dirchain.specs.Chain.{Holds as HasBlock, IsDirectory, at, blank_block}
-use Rattle.r10_dirchain.specs.OnMedium.{HasNext, Turns}
-use Rattle.r10_dirchain.specs.Steps.{added, last_block, spare}
+use Rattle.r10_dirchain.specs.OnMedium.{HasNext, SameButIn, Turned, Turns}
+use Rattle.r10_dirchain.specs.Steps.{added, last_block, last_place, spare}
 use Rattle.r10_dirchain.specs.declared.chain.ChainBlock.{ChainBlock}
-use Rattle.r10_dirchain.proofs.Directories.{still_holds}
+use Rattle.r10_dirchain.proofs.Directories.{some_block, still_holds}
+use Rattle.r10_dirchain.proofs.Turning.{on_ok}
 use Rattle.r10_holding.specs.Holding.{Holds}
 use Rattle.r10_machine.specs.Config.{Config}
 use Rattle.r10_machine.specs.Machine.{File}
@@ -26,7 +28,12 @@ use Rattle.r10_machine.specs.Room.{next_block}
 use Rattle.r10_steps.specs.Says.{MediumSays}
 use Rattle.r10_begun.specs.Begun.{IsBegun, MayList}
 use Rattle.r10_begun.proofs.Behind.{behind_holds, behind_moments}
+use Rattle.r10_begun.proofs.Places.{same_from}
 use Rattle.r10_begun.proofs.Turning.{begun_held, begun_moments, begun_reads, begun_settled, sure_says}
+
+pub on_both : {T E : Type 0} (result : Result T E) (P Q R : Type 0) → (P → Q → R) → OnOk result P → OnOk result Q → OnOk result R
+on_both (Ok x) P Q R gives p q = gives p q
+on_both (Err e) P Q R gives p q = p
 
 -- ---- whatever the medium has: its directory stays while blocks behind it are put
 
@@ -41,6 +48,48 @@ directory_stays old new sure chain first blocks there below put same =
 
 pub next_stays : (old new sure : Disk) (chain : List ChainBlock) → HasNext old.blocks chain → length new.blocks ≡ length old.blocks → Unchanged new sure → HasNext sure.blocks chain
 next_stays old new sure chain next long same = record { in_order = next.in_order; within = omega (arith, next.within, long, ap (λ (l : Image). length l) same.reads) }
+
+-- what is carried stays where blocks below it change
+pub carries_behind : (r : Recording) (numbers : List ℕ) (old new : Image) (text : List ℕ) (entries : List Entry) → SameButIn numbers old new → All (λ (n : ℕ). n < first_of r.out.blocks) numbers → Carries r old text entries
+    → Carries r new text entries
+carries_behind r numbers old new text entries same below carried =
+    let has = carried.has in
+    let front = take (512 * r.out.blocks.full) (file_bytes carried.packets) in
+    record {
+      packets = carried.packets;
+      has = record {
+        bytes = record {
+          size = has.bytes.size;
+          blocks = same_from old new (first_of r.out.blocks) (length front) numbers same below ∙ has.bytes.blocks;
+          tail = has.bytes.tail;
+        };
+        named = has.named;
+        numbered = has.numbered;
+      };
+      says = carried.says;
+    }
+
+-- so it does while a file is listed
+pub listed_carries : {T E : Type 0} (chain : List ChainBlock) (e : Listed) (r : Recording) (mid sure new : Disk) (result : Result T E) (text : List ℕ) (entries : List Entry) → IsDirectory sure.blocks chain
+    → All (λ (b : ChainBlock). b.number < first_of r.out.blocks) chain → All (λ (n : ℕ). n < first_of r.out.blocks) (spare chain) → Unchanged mid sure
+    → Turns chain (added e chain) (spare chain) ((last_block chain).number ∷ spare chain) sure new result → Carries r mid.blocks text entries → OnOk result (Carries r new.blocks text entries)
+listed_carries chain e r mid sure new result text entries there below spares same turns carried =
+    let changed = (last_block chain).number ∷ spare chain in
+    let turned : Image → Type 0 = Turned (added e chain) changed sure.blocks in
+    let less = All-cons (λ (n : ℕ). n < first_of r.out.blocks) (last_block chain).number (spare chain) (below (last_place chain) blank_block (omega (arith, some_block sure.blocks chain there))) spares in
+    on_ok result (Settled turned new) (Carries r new.blocks text entries)
+    (λ settled. carries_behind r changed sure.blocks new.blocks text entries (settled_reads turned new settled).others less (subst (λ (l : Image). Carries r l text entries) (sym same.reads) carried))
+    turns.settled
+
+-- a step of the directory, behind which it is sure
+pub turned_size : {T E : Type 0} (chain made : List ChainBlock) (unlinked changed : List ℕ) (old new : Disk) (result : Result T E) → Turns chain made unlinked changed old new result → length new.blocks ≡ length old.blocks
+turned_size chain made unlinked changed old new result turns = ⊎_elim (λ was. was.others.size) (λ is. is.others.size) turns.reads
+
+pub sure_of : {T E : Type 0} (chain made now : List ChainBlock) (unlinked changed : List ℕ) (old new : Disk) (result : Result T E) → Turns chain made unlinked changed old new result → OnOk result (now ≡ made)
+    → OnOk result (Settled (λ image. IsDirectory image now) new)
+sure_of chain made now unlinked changed old new result turns done =
+    on_both result (Settled (Turned made changed old.blocks) new) (now ≡ made) (Settled (λ image. IsDirectory image now) new)
+    (λ settled is image left. subst (IsDirectory image) (sym is) (settled image left).directory) turns.settled done
 
 -- ---- the last block
 
@@ -111,7 +160,3 @@ module _ {T E : Type 0} (s : Config) (chain : List ChainBlock) (files : List Fil
       let left : Image → Type 0 = λ image. MediumSays s image files ⊎ MediumSays s image (files ++ f ∷ []) in
       joined left old sure new (then_stays left old mid sure (last_moments s chain files f e r old mid may put settled) same)
       (begun_moments s chain files r f e sure new result held begun may.sealed may.few may.lists turns (sure_says s sure chain files synced held))
-
-pub on_both : {T E : Type 0} (result : Result T E) (P Q R : Type 0) → (P → Q → R) → OnOk result P → OnOk result Q → OnOk result R
-on_both (Ok x) P Q R gives p q = gives p q
-on_both (Err e) P Q R gives p q = p

@@ -50,7 +50,7 @@ extended_longer e chain =
     omega (arith, longer chain (last_place chain) b (next_listing e chain))
 
 -- the blocks that are written are reserved ones
-written_reserved : (reserved blocks : ℕ) (e : Listed) (chain : List ChainBlock) → 0 < length chain → first_broken (mount_rules reserved blocks chain) ≡ None → first_broken (mount_rules reserved blocks (added e chain)) ≡ None
+pub written_reserved : (reserved blocks : ℕ) (e : Listed) (chain : List ChainBlock) → 0 < length chain → first_broken (mount_rules reserved blocks chain) ≡ None → first_broken (mount_rules reserved blocks (added e chain)) ≡ None
     → All (λ (n : ℕ). n ≤ reserved) ((last_block chain).number ∷ spare chain)
 written_reserved reserved blocks e chain some mounts made =
     let last = placed reserved 1 chain (usable_of reserved blocks chain mounts).placed (last_place chain) (omega (arith, some)) in

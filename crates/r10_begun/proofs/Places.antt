@@ -23,7 +23,7 @@ use Rattle.r10_steps.specs.Says.{SaysEach}
 abbrev pub behind : Config → Option File → ℕ
 behind s d = elim d [ None ↦ 1 + s.directory | Some f ↦ f.first_block + blocks_of f.size ]
 
-stands_at : (blocks n : ℕ) (e : Listed) → stands blocks n e ≡ true → e.first_block ≡ n
+pub stands_at : (blocks n : ℕ) (e : Listed) → stands blocks n e ≡ true → e.first_block ≡ n
 stands_at blocks n e is = eqb-true e.first_block n (first (e.first_block == n) (nat_lt 0 e.size) (e.block_count == (e.size + 511) / 512) (nat_le (n + e.block_count) blocks) is)
   where
     first : (a b c d : Bool) → (a && b && c && d) ≡ true → a ≡ true
@@ -72,8 +72,11 @@ all_closed image d (e ∷ c ∷ entries) (f ∷ files) each others last =
 
 -- ---- bytes behind the blocks that change
 
-pub bytes_behind : (old new : Image) (reserved first size : ℕ) (numbers : List ℕ) → SameButIn numbers old new → All (λ (n : ℕ). n ≤ reserved) numbers → reserved < first → bytes_from new first size ≡ bytes_from old first size
-bytes_behind old new reserved first size numbers same all less =
+pub same_from : (old new : Image) (first size : ℕ) (numbers : List ℕ) → SameButIn numbers old new → All (λ (n : ℕ). n < first) numbers → bytes_from new first size ≡ bytes_from old first size
+same_from old new first size numbers same all =
     ap (λ (l : Image). take size (concat l))
     (ext_get_or [] (drop first new) (drop first old) (omega (arith, same.size, length-drop first new, length-drop first old))
-    (λ k lt. get_or-drop first new k [] ∙ same.others (first + k) (λ i d lt is. omega (arith, is, less, all i d lt)) ∙ sym (get_or-drop first old k [])))
+    (λ k lt. get_or-drop first new k [] ∙ same.others (first + k) (λ i d lt is. omega (arith, is, all i d lt)) ∙ sym (get_or-drop first old k [])))
+
+pub bytes_behind : (old new : Image) (reserved first size : ℕ) (numbers : List ℕ) → SameButIn numbers old new → All (λ (n : ℕ). n ≤ reserved) numbers → reserved < first → bytes_from new first size ≡ bytes_from old first size
+bytes_behind old new reserved first size numbers same all less = same_from old new first size numbers same (λ i d lt. omega (arith, less, all i d lt))

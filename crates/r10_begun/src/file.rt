@@ -12,7 +12,7 @@ ghost use Rattle.r10_dirblock.specs.Block.{has_room};
 ghost use Rattle.r10_dirchain.specs.Chain.{IsDirectory};
 ghost use Rattle.r10_dirchain.specs.OnMedium.{HasNext};
 ghost use Rattle.r10_dirchain.specs.Rooms.{room_for};
-ghost use Rattle.r10_dirchain.specs.Steps.{added};
+ghost use Rattle.r10_dirchain.specs.Steps.{added, spare};
 ghost use Rattle.r10_dirchain.specs.declared.chain.ChainBlock.{ChainBlock};
 ghost use Rattle.r10_holding.specs.Holding.{Holds};
 ghost use Rattle.r10_machine.specs.Config.{Config};
@@ -52,8 +52,13 @@ pub fn list_file<M: BlockMedium>(
         → Leaves (λ image. MediumSays s image files ⊎ MediumSays s image (files ++ f ∷ [])) (M.disk medium.old) (M.disk medium.new) }
     ensures settled { (s : Config) (files : List File) (f : File) → MayList s (M.disk medium.old).blocks directory.old files mux.now f entry
         → OnOk result (Settled (λ image. MediumSays s image (files ++ f ∷ []) × (bytes_from image f.first_block f.size ≡ bytes_from (M.disk medium.new).blocks f.first_block f.size) × IsDirectory image (added entry directory.old)) (M.disk medium.new)) }
+    // Whatever files there are: the directory is sure, and behind its blocks the file carries what it carried.
+    ensures sure { OnOk result (Settled (λ image. IsDirectory image directory.new) (M.disk medium.new)) }
+    ensures carries { (text : List ℕ) (entries : List Said) → Carries mux.now (M.disk medium.old).blocks text entries → All (λ (n : ℕ). n < first_of mux.now.out.blocks) (spare directory.old)
+        → OnOk result (Carries mux.now (M.disk medium.new).blocks text entries) }
     ensures done { OnOk result (directory.new ≡ added entry directory.old) }
     ensures kept { OnErr result (directory.new ≡ directory.old) }
+    ensures blocks { length (M.disk medium.new).blocks ≡ length (M.disk medium.old).blocks }
     ensures counts { Counts (M.disk medium.old) (M.disk medium.new) result }
 {
     if let Err(fault) = mux.commit_blocks(medium) {

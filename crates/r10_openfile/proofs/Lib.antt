@@ -13,3 +13,7 @@ mod Pumped
 mod AllPumped
 mod Fronting
 mod Others
+mod Names
+mod Places
+mod Rooms
+mod Beginning

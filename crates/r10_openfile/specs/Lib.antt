@@ -1,3 +1,4 @@
 pub mod Intake
 pub mod Keeping
 pub mod Putting
+pub mod Starting

@@ -5,9 +5,13 @@
 
 mod data;
 mod entries;
+mod fault;
 mod file;
 mod laws;
+mod opening;
 mod pumping;
 
+pub use fault::BeginFault;
 pub use file::OpenFile;
 pub use laws::channels_end_apart;
+pub use opening::begin;

@@ -1,14 +1,14 @@
-use Rattle.std.proofs.Common.{◌≡◌, ◌⊎◌, inl, List, [], ◌∷◌, ◌++◌, length, Some, sym, subst}
+use Rattle.std.proofs.Common.{◌≡◌, ◌⊎◌, inl, List, [], ◌∷◌, ◌++◌, length, Some, sym, ap, ◌∙◌, subst}
 use Rattle.r10_medium.specs.Disk.{Image}
 use Rattle.r10_medium.proofs.Stops.{then_stays}
 use Rattle.r10_blockout.specs.Blocks.{file_blocks}
 use Rattle.r10_blockout.specs.Output.{first_of}
 use Rattle.r10_body.specs.Packets.{file_bytes}
-use Rattle.r10_dirchain.specs.Steps.{added}
+use Rattle.r10_dirchain.specs.Steps.{added, last_block, spare}
 use Rattle.r10_dirchain.specs.declared.chain.ChainBlock.{ChainBlock}
 use Rattle.r10_holding.specs.Holding.{Holds}
 use Rattle.r10_steps.specs.Says.{MediumSays}
-use Rattle.r10_begun.proofs.Calls.{directory_stays, last_holds, last_moments, listed_holds, listed_moments, listed_reads, listed_settled, on_both}
+use Rattle.r10_begun.proofs.Calls.{directory_stays, last_holds, last_moments, listed_carries, listed_holds, listed_moments, listed_reads, listed_settled, on_both, sure_of, turned_size}
 use Rattle.r10_begun.proofs.file.list_file.Goals as goal
 
 pub returns-in-Err-clause-either : goal.returns-in-Err-clause-either
@@ -111,3 +111,32 @@ returns-clause-settled g c =
     let new = disk c.add.new.medium in
     λ s files f may. listed_settled s chain files f c.args.entry r old mid sure new c.add.result may (c.commit_blocks.ensures.puts f.setup f.entries may.carries)
     (c.in_default.ensures.shows f.setup f.entries may.carries) (c.commit_blocks.ensures.says f.setup f.entries may.carries may.none) c.sync.ensures.same c.in_default-sync.ensures.sure c.add.ensures.turns
+
+pub returns-in-Err-sync-clause-blocks : goal.returns-in-Err-sync-clause-blocks
+returns-in-Err-sync-clause-blocks g c = ap (λ (l : Image). length l) c.sync.ensures.same.reads ∙ c.commit_blocks.ensures.blocks
+
+pub returns-clause-sure : goal.returns-clause-sure
+returns-clause-sure g c =
+    let disk = g.M.BlockMedium.disk in
+    let chain = c.args.directory.now in
+    sure_of chain (added c.args.entry chain) c.add.new.self (spare chain) ((last_block chain).number ∷ spare chain) (disk c.sync.new.self) (disk c.add.new.medium) c.add.result c.add.ensures.turns c.add.ensures.done
+
+pub returns-clause-carries : goal.returns-clause-carries
+returns-clause-carries g c =
+    let disk = g.M.BlockMedium.disk in
+    let chain = c.args.directory.now in
+    let r = c.args.mux.now in
+    let old = disk c.args.medium.now in
+    let mid = disk c.commit_blocks.new.medium in
+    let sure = disk c.sync.new.self in
+    let new = disk c.add.new.medium in
+    let it = c.requires.carries in
+    let there = directory_stays old mid sure chain (first_of r.out.blocks) (file_blocks (file_bytes it.2.packets)) c.requires.stands c.requires.below (c.commit_blocks.ensures.puts it.0 it.1 it.2) c.sync.ensures.same in
+    λ text entries carried spares. listed_carries chain c.args.entry r mid sure new c.add.result text entries there c.requires.below spares c.sync.ensures.same c.add.ensures.turns (c.commit_blocks.ensures.carries text entries carried)
+
+pub returns-clause-blocks : goal.returns-clause-blocks
+returns-clause-blocks g c =
+    let disk = g.M.BlockMedium.disk in
+    let chain = c.args.directory.now in
+    turned_size chain (added c.args.entry chain) (spare chain) ((last_block chain).number ∷ spare chain) (disk c.sync.new.self) (disk c.add.new.medium) c.add.result c.add.ensures.turns
+    ∙ ap (λ (l : Image). length l) c.sync.ensures.same.reads ∙ c.commit_blocks.ensures.blocks
