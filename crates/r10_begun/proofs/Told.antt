@@ -1,25 +1,22 @@
 -- How many packets a file has at most that is written.
-use Rattle.std.proofs.Common.{◌≡◌, ℕ, suc, ◌+◌, ◌<◌, ◌≤◌, Bool, true, false, List, [], ◌∷◌, ◌++◌, length, refl, ap, ◌∙◌, arith, length-append}
-use Rattle.std.specs.Prelude.{count_by, map, nat_lt, ◌==◌}
+use Rattle.std.proofs.Common.{◌≡◌, ℕ, suc, ◌+◌, ◌<◌, ◌≤◌, Bool, true, false, List, [], ◌∷◌, ◌++◌, length, refl, ap, arith, length-append}
+use Rattle.std.specs.Prelude.{count_by, map, ◌==◌}
 use Rattle.std.proofs.lemmas.List.{length-map}
 use Rattle.std.proofs.lemmas.List.Sorted.{length_permutation}
-use Rattle.std.proofs.lemmas.List.Sums.{sum_by-append}
-use Rattle.std.proofs.lemmas.Bool.{ltb-true}
 use Rattle.r10_body.specs.Content.{Content, FitsContent, setup, time, event, uart, bus, arinc, discrete, message, node, root, messages_of, type_of}
 use Rattle.r10_body.specs.Packets.{Packet, file_entries, packet_entries, with_gaps}
 use Rattle.r10_body.specs.Rules.{EachFollows, MayFollow, is_index, is_setup}
 use Rattle.r10_body.specs.declared.entry.Entry.{Entry}
 use Rattle.r10_body.specs.declared.entry.Timed.{Timed}
-use Rattle.r10_builder.specs.Packing.{entry_on}
-use Rattle.r10_builder.specs.State.{State}
 use Rattle.r10_carry.specs.Carries.{Carries, Recording, packets_of}
 use Rattle.r10_carry.proofs.Closing.{has_length}
 use Rattle.r10_cuts.specs.Cuts.{Agree}
 use Rattle.r10_cuts.proofs.Replays.{agree-permutation}
-use Rattle.r10_follow.specs.Grows.{all_held, held, is_open, taken_in}
+use Rattle.r10_follow.specs.Grows.{all_held, taken_in}
 use Rattle.r10_laws.proofs.Indexes.{none_at, part_of}
 use Rattle.r10_laws.proofs.Lengths.{not_setup}
 use Rattle.r10_medium.specs.Disk.{Image}
+use Rattle.r10_mux.proofs.Putting.{open_some}
 
 -- ---- each packet behind the first has an entry
 
@@ -58,22 +55,6 @@ packets_some [] each none = omega arith
 packets_some (p ∷ ps) each none =
     let plain = none_at p ps (part_of p) none in
     omega (arith, rest_some (p ∷ []) ps (omega arith) each.1 plain.3, length-append (packet_entries p) (file_entries ps))
-
--- ---- and each open builder
-
-open_some : (bs : List State) → count_by is_open bs ≤ length (all_held bs)
-open_some [] = omega arith
-open_some (b ∷ bs) = by (nat_lt 0 (length b.samples)) refl (open_some bs)
-  where
-    long : length (all_held (b ∷ bs)) ≡ length b.samples + length (all_held bs)
-    long = length-append (held b) (all_held bs) ∙ ap (λ (n : ℕ). n + length (all_held bs)) (length-map b.samples (entry_on b.spec.id))
-
-    first : count_by is_open (b ∷ bs) ≡ count_by is_open (b ∷ []) + count_by is_open bs
-    first = sum_by-append _ (b ∷ []) bs
-
-    by : (t : Bool) → nat_lt 0 (length b.samples) ≡ t → count_by is_open bs ≤ length (all_held bs) → count_by is_open (b ∷ bs) ≤ length (all_held (b ∷ bs))
-    by true is rest = let one : count_by is_open (b ∷ []) ≡ 1 = rw is refl in omega (arith, first, one, rest, long, ltb-true 0 (length b.samples) is)
-    by false is rest = let one : count_by is_open (b ∷ []) ≡ 0 = rw is refl in omega (arith, first, one, rest, long)
 
 -- ---- how many packets it has
 
