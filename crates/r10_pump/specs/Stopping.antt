@@ -11,7 +11,7 @@ use Rattle.r10_machine.specs.declared.reply.Stopped.{Stopped}
 use Rattle.r10_carry.specs.Carries.{Carries, Recording}
 use Rattle.r10_mux.specs.Writes.{Writes}
 use Rattle.r10_mux.specs.declared.fault.Full.{Full}
-use Rattle.r10_pump.specs.Pumping.{Ends, EndsBy, HasBuilder, Moves, TakenIn, entries_on}
+use Rattle.r10_pump.specs.Pumping.{Ends, EndsBy, HasBuilder, KeepsRoom, Moves, TakenIn, entries_on}
 
 -- ---- lanes
 
@@ -89,6 +89,7 @@ pub record PumpsAll {Lane : Type 0} (took : Lane → List Sample → Lane → Ty
   pub number : stopped.taken ≡ length (entries_of parts)
   pub left : stopped.left ≡ min (sum_by (λ p. length p.rest) parts) (2 ^ 64 - 1)
   pub fits : 0 < stopped.taken → new.cost ≤ area
+  pub packets : KeepsRoom nodes old new
   pub taken_in : TakenIn (AllEnd spec_of reached lanes) (AllEnd spec_of reached lanes') (entries_of parts) old before new after
   pub through : GoesThrough (most_of (map spec_of lanes)) new nodes area parts
 
@@ -126,6 +127,7 @@ pub record PumpsOne {Lane : Type 0} (took : Lane → List Sample → Lane → Ty
   pub left_is : left ≡ length rest
   pub within : n ≤ most
   pub fits : 0 < n → new.cost ≤ area
+  pub packets : KeepsRoom nodes old new
   pub taken_in : TakenIn (AllEnd spec_of reached lanes) (AllEnd spec_of reached lanes') (entries_on channel samples) old before new after
   pub ends : Ends new channel nodes area most n rest full
 
