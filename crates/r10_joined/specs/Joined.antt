@@ -1,0 +1,36 @@
+-- Which machines a recorder and the cursors of its readers stand for together.
+use Rattle.std.specs.Prelude.{◌≡◌, ℕ, List, Option}
+use Rattle.r10_medium.specs.Disk.{Image}
+use Rattle.r10_machine.specs.Machine.{Machine}
+use Rattle.r10_steps.specs.Says.{MediumSays}
+use Rattle.r10_steps.specs.Step.{Run, Step}
+use Rattle.r10_steps.specs.declared.event.Event.{Event as Asked}
+use Rattle.r10_steps.specs.declared.reply.Reply.{Reply as Answered}
+use Rattle.r10_reader.specs.declared.cursor.Cursor.{Cursor}
+use Rattle.r10_cursors.specs.Read.{HaveRead}
+use Rattle.r10_cursors.specs.Standing.{Stand}
+use Rattle.r10_means.specs.Kept.{Kept}
+use Rattle.r10_means.specs.Means.{Means}
+
+-- what a recorder keeps, over a medium that reads as an image and has failed so often, stands for the machine, and so does the table for
+-- its cursors, which are as far in their files as the machine's
+pub record Joined (k : Kept) (image : Image) (failures : ℕ) (slots : List (Option Cursor)) (m : Machine) : Type 0 where
+  pub means : Means k image failures m
+  pub stand : Stand slots m.cursors
+  pub read : HaveRead image m.files m.generation slots m.cursors
+
+-- the step leads to a machine for which both stand then, and whose files the medium says
+pub record StepsOn (k : Kept) (m : Machine) (event : Asked) (reply : Answered) (later : Kept) (image : Image) (failures : ℕ) (slots : List (Option Cursor)) : Type 0 where
+  pub machine : Machine
+  pub step : Step k.config m event reply machine
+  pub says : MediumSays k.config image machine.files
+  pub joined : Joined later image failures slots machine
+  pub config : later.config ≡ k.config
+
+-- these replies to these events are a run to such a machine
+pub record RunsOn (k : Kept) (m : Machine) (events : List Asked) (replies : List Answered) (later : Kept) (image : Image) (failures : ℕ) (slots : List (Option Cursor)) : Type 0 where
+  pub images : List Image
+  pub machine : Machine
+  pub run : Run k.config m events replies images machine
+  pub joined : Joined later image failures slots machine
+  pub config : later.config ≡ k.config
