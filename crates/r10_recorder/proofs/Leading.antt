@@ -59,6 +59,6 @@ failed_leads law k old new before now m event limits means more rose fine uses r
 -- ---- what is refused
 
 -- something is lacking, by a refusal of its own
-pub lacking : {M : Type 0} (disk : M → Disk) (o : Option Refusal) (lacks : Refusal → Type 0) (old new : Kept) (medium medium' : M) (n : ℕ) → o ≡ None → lacks (BadDirectory n) → Unchanged (disk medium) (disk medium') → new ≡ record old { work = new.work }
+pub lacking : {M : Type 0} (disk : M → Disk) (o : Option Refusal) (lacks : Refusal → Type 0) (old new : Kept) (medium medium' : M) (n : ℕ) → o ≡ None → lacks (BadDirectory n) → Unchanged (disk medium) (disk medium') → new ≡ old
     → Refuses disk o lacks old new medium medium' (BadDirectory n)
 lacking disk o lacks old new medium medium' n fine is same kept = subst (λ p. Refuses disk p lacks old new medium medium' (BadDirectory n)) (sym fine) (is, same, kept)

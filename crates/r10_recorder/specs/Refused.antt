@@ -6,19 +6,19 @@ use Rattle.r10_means.specs.Kept.{Kept, failed}
 use Rattle.r10_medium.specs.Disk.{Disk, Rose, Unchanged}
 use Rattle.r10_volume.specs.Mounting.{IsUnusable}
 
--- the first check that doesn't hold, which leaves all; else what is lacking, which leaves what is kept but for memory, and the
--- medium as it was; or the medium failed, and the recorder with it
+-- the first check that doesn't hold, which leaves all; else what is lacking, which leaves what is kept, and of the medium what is read
+-- and what a stop leaves; or the medium failed, and the recorder with it
 abbrev pub Refuses : {M : Type 0} → (M → Disk) → Option Refusal → (Refusal → Type 0) → Kept → Kept → M → M → Refusal → Type 0
 Refuses disk (Some first) lacks old new medium medium' r = (r ≡ first) × (new ≡ old) × (medium' ≡ medium)
 Refuses disk None lacks old new medium medium' Medium = Rose (disk medium).failures (disk medium').failures × (new ≡ record old { work = failed })
-Refuses disk None lacks old new medium medium' OutOfMemory = Unchanged (disk medium) (disk medium') × (new ≡ record old { work = new.work })
-Refuses disk None lacks old new medium medium' r = lacks r × Unchanged (disk medium) (disk medium') × (new ≡ record old { work = new.work })
+Refuses disk None lacks old new medium medium' OutOfMemory = Unchanged (disk medium) (disk medium') × (new ≡ old)
+Refuses disk None lacks old new medium medium' r = lacks r × Unchanged (disk medium) (disk medium') × (new ≡ old)
 
 -- nothing is lacking
 abbrev pub nothing : Refusal → Type 0
 nothing r = ⊥
 
 -- a mount is refused because of the first block of the directory that can't be used
-abbrev pub IsUnmounted : ℕ → Disk → Refusal → Type 0
-IsUnmounted reserved disk (BadDirectory n) = IsUnusable reserved disk.blocks n
-IsUnmounted reserved disk r = ⊥
+abbrev pub IsMountRefusal : ℕ → Disk → Refusal → Type 0
+IsMountRefusal reserved disk (BadDirectory n) = IsUnusable reserved disk.blocks n
+IsMountRefusal reserved disk r = ⊥

@@ -19,7 +19,7 @@ use std::marker::Model;
 ///
 /// Of what each call refuses, the first that applies is answered, in the order in which the call's text names them; Medium is
 /// answered as soon as the medium fails, and the recorder is Failed from then on. Any other refused call leaves what
-/// is kept, but for memory, and the medium's blocks as they were.
+/// is kept, and the medium's blocks, as they were.
 #[derive(Drop)]
 pub struct Recorder<M: BlockMedium, L: LaneOut> {
     pub(crate) alloc: Global,

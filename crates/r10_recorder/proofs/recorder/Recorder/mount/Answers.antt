@@ -6,7 +6,7 @@ use Rattle.r10_machine.specs.Machine.{Machine}
 use Rattle.r10_means.specs.Kept.{Kept, Work, mode_of, idle, failed}
 use Rattle.r10_means.specs.Means.{Means}
 use Rattle.r10_recorder.specs.Leading.{Leads, none_taken}
-use Rattle.r10_recorder.specs.Refused.{Refuses, IsUnmounted}
+use Rattle.r10_recorder.specs.Refused.{Refuses, IsMountRefusal}
 use Rattle.r10_recorder.specs.State.{State}
 use Rattle.r10_recorder.specs.Work.{work_of}
 use Rattle.r10_recorder.specs.declared.work.Doing.{Doing}
@@ -59,8 +59,8 @@ returns-in-Err-BadDirectory-clause-refused g c =
     let disk = g.M.BlockMedium.disk in
     let k : Kept = record { config = w.settings; work = work_of w.work; tick = w.tick; last_event = w.last_event; generation = w.generation; taken = w.taken.items; erased = w.erased.items } in
     let fine : first_broken (unmounted_checks (mode_of k.work)) ≡ None = ap (λ mode. first_broken (unmounted_checks mode)) (sym c.mode_in.ensures) ∙ c.in_default.ensures in
-    subst (λ (v : State _ _). Refuses disk (first_broken (unmounted_checks (mode_of v.kept.work))) (IsUnmounted v.kept.config.directory (disk v.medium)) v.kept k v.medium c.mount.new.medium (refusals.BadDirectory c.in-Err-BadDirectory.block)) c.self.view_is
-    (lacking disk (first_broken (unmounted_checks (mode_of k.work))) (IsUnmounted k.config.directory (disk w.medium)) k k w.medium c.mount.new.medium c.in-Err-BadDirectory.block fine
+    subst (λ (v : State _ _). Refuses disk (first_broken (unmounted_checks (mode_of v.kept.work))) (IsMountRefusal v.kept.config.directory (disk v.medium)) v.kept k v.medium c.mount.new.medium (refusals.BadDirectory c.in-Err-BadDirectory.block)) c.self.view_is
+    (lacking disk (first_broken (unmounted_checks (mode_of k.work))) (IsMountRefusal k.config.directory (disk w.medium)) k k w.medium c.mount.new.medium c.in-Err-BadDirectory.block fine
     (rw (sym c.directory.ensures.value) (rw c.in-Err-BadDirectory.field-0-is at c.in-Err-BadDirectory.ensures.fault)) (rw c.in-Err-BadDirectory.field-0-is at c.in-Err-BadDirectory.ensures.left) refl)
 
 pub returns-in-Err-OutOfMemory-clause-steps : goal.returns-in-Err-OutOfMemory-clause-steps
