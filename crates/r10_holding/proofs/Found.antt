@@ -8,4 +8,4 @@ use Rattle.r10_standing.specs.Bytes.{KeepBytes}
 pub found_stays : (old new : Image) (files : List File) → KeepBytes old new files → OthersAreFound old files → OthersAreFound new files
 found_stays old new [] keep found = tt
 found_stays old new (f ∷ files) (here, keep) (first, found) =
-    (λ own. let was = first own in record { packets = was.packets; bytes_are = here ∙ was.bytes_are; entries_are = was.entries_are; shown = was.shown; own = was.own }, found_stays old new files keep found)
+    (λ own. let was = first own in record { packets = was.packets; bytes_are = here ∙ was.bytes_are; each = was.each; entries_are = was.entries_are; shown = was.shown; own = was.own }, found_stays old new files keep found)

@@ -19,7 +19,7 @@ use Rattle.r10_steps.specs.Checks.{refusal}
 use Rattle.r10_steps.specs.Says.{MediumSays}
 use Rattle.r10_steps.specs.Sound.{IsSound}
 use Rattle.r10_steps.specs.Calls.{erased_with, own_entries}
-use Rattle.r10_steps.specs.Step.{FailsIn, LanesAfter, Step, Refuses, after_refusal, asks_memory, has_room, uses_medium}
+use Rattle.r10_steps.specs.Step.{FailsIn, LanesAfter, Step, Refuses, after_refusal, asks_memory, entry_has_room, uses_medium}
 use Rattle.r10_steps.specs.declared.event.Event.{Event as Asked}
 use Rattle.r10_steps.specs.declared.event.Event.TheVariants.{Mount, Dismount, Tick, Start, Offer, Pump, Event, Commit, Stop, Seal, Erase, Files, Status, Cursor, Advance, Next, Close, Find, CountAt}
 use Rattle.r10_steps.specs.declared.reply.Reply.{Reply as Answered}
@@ -57,7 +57,7 @@ same_refusal s m n (Close id) = refl
 same_refusal s m n (Find file channel count) = refl
 same_refusal s m n (CountAt file parts) = refl
 
-same_room : (s : Config) (m : Machine) (n : ℕ) (event : Asked) → has_room s (failing n m) event ≡ has_room s m event
+same_room : (s : Config) (m : Machine) (n : ℕ) (event : Asked) → entry_has_room s (failing n m) event ≡ entry_has_room s m event
 same_room s m n Mount = refl
 same_room s m n Dismount = refl
 same_room s m n (Tick count parts) = refl
@@ -104,7 +104,7 @@ refused law k old new before now m event r limits means same more is stays =
     record { step = step; means = still_means k old new before now m means same (law k.config m event (replies.Refused r) later limits means.sound step) }
 
 pub lacks_memory : StepsStaySound → (k : Kept) (old new : Image) (before now : ℕ) (m : Machine) (event : Asked) → IsConfig k.config → Means k old before m → new ≡ old → before ≤ now
-    → refusal k.config m event ≡ None → asks_memory event ≡ true → has_room k.config m event ≡ true → LeadsTo k m event (replies.Refused OutOfMemory) k new now (record m { failures = now })
+    → refusal k.config m event ≡ None → asks_memory event ≡ true → entry_has_room k.config m event ≡ true → LeadsTo k m event (replies.Refused OutOfMemory) k new now (record m { failures = now })
 lacks_memory law k old new before now m event limits means same more fine asks room =
     let later : Machine = failing now m in
     let step : Step k.config m event (replies.Refused OutOfMemory) later = (
@@ -162,7 +162,7 @@ dismounted law k old new before now m chain limits means at says found more =
 -- ---- a failure of the medium
 
 pub failed_so : StepsStaySound → (k : Kept) (old new : Image) (before now : ℕ) (m later : Machine) (event : Asked) → IsConfig k.config → Means k old before m → before ≤ now → Rose before now
-    → refusal k.config m event ≡ None → uses_medium event ≡ true → has_room k.config m event ≡ true → FailsIn k.config (failing now m) event later
+    → refusal k.config m event ≡ None → uses_medium event ≡ true → entry_has_room k.config m event ≡ true → FailsIn k.config (failing now m) event later
     → later.tick ≡ k.tick → later.failures ≡ now → MediumSays k.config new later.files → LeadsTo k m event (replies.Refused Medium) (record k { work = failed }) new now later
 failed_so law k old new before now m later event limits means more rose fine uses room fails tick counted says =
     let gives : Refuses (refusal k.config (failing now m) event) k.config m.failures (failing now m) event Medium later =

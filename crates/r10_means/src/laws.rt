@@ -18,7 +18,7 @@ ghost use Rattle.r10_machine.specs.declared.reply.Stopped.{Stopped as Said};
 ghost use Rattle.r10_steps.specs.Calls.{closed_in, erased_with, event_entry};
 ghost use Rattle.r10_steps.specs.Checks.{refusal};
 ghost use Rattle.r10_steps.specs.Says.{MediumSays};
-ghost use Rattle.r10_steps.specs.Step.{FailsIn, LanesAfter, after_refusal, asks_memory, has_room, uses_medium};
+ghost use Rattle.r10_steps.specs.Step.{FailsIn, LanesAfter, after_refusal, asks_memory, entry_has_room, uses_medium};
 ghost use Rattle.r10_steps.specs.declared.event.Event.{Event as Asked};
 ghost use Rattle.r10_steps.specs.declared.event.Event.TheVariants as events;
 ghost use Rattle.r10_steps.specs.declared.reply.Reply.TheVariants as replies;
@@ -40,7 +40,7 @@ pub fn refusals_are_steps()
 /// Where memory is refused to a call that has room, all stays.
 pub fn lacks_of_memory_are_steps()
     ensures { (k : Kept) (old new : Image) (n later : ℕ) (m : Machine) (event : Asked) → IsConfig k.config → Means k old n m → new ≡ old → n ≤ later
-        → refusal k.config m event ≡ None → asks_memory event ≡ true → has_room k.config m event ≡ true → LeadsTo k m event (replies.Refused refusals.OutOfMemory) k new later (record m { failures = later }) }
+        → refusal k.config m event ≡ None → asks_memory event ≡ true → entry_has_room k.config m event ≡ true → LeadsTo k m event (replies.Refused refusals.OutOfMemory) k new later (record m { failures = later }) }
 {
     a_step_stays_sound();
 }
@@ -66,7 +66,7 @@ pub fn dismounts_are_steps()
 /// those that the call makes, and so does the machine that the failure leaves.
 pub fn failures_are_steps()
     ensures step { (k : Kept) (old new : Image) (n later : ℕ) (m failed_so : Machine) (event : Asked) → IsConfig k.config → Means k old n m → n ≤ later → Rose n later
-        → refusal k.config m event ≡ None → uses_medium event ≡ true → has_room k.config m event ≡ true → FailsIn k.config (record m { failures = later }) event failed_so
+        → refusal k.config m event ≡ None → uses_medium event ≡ true → entry_has_room k.config m event ≡ true → FailsIn k.config (record m { failures = later }) event failed_so
         → failed_so.tick ≡ k.tick → failed_so.failures ≡ later → MediumSays k.config new failed_so.files → LeadsTo k m event (replies.Refused refusals.Medium) (record k { work = failed }) new later failed_so }
     ensures before { (s : Config) (m : Machine) (event : Asked) (lanes : List Lane) → LanesAfter event m.lanes m.lanes lanes → FailsIn s m event (record m { mode = modes.Failed; lanes = lanes }) }
 {

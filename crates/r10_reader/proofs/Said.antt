@@ -14,7 +14,7 @@ use Rattle.r10_body.specs.Content.{Content, setup, time, event, uart, bus, arinc
 use Rattle.r10_body.specs.Faults.{IsAtFault}
 use Rattle.r10_body.specs.Files.{on_channel}
 use Rattle.r10_body.specs.Packets.{Packet, packet_entries, file_entries}
-use Rattle.r10_body.specs.Rules.{EachFollows, is_data, is_index}
+use Rattle.r10_body.specs.Rules.{is_data, is_index}
 use Rattle.r10_body.specs.declared.entry.Entry.{Entry}
 use Rattle.r10_body.specs.declared.fault.FileFault.{FileFault}
 use Rattle.r10_laws.proofs.Injective.{one_file}
@@ -124,13 +124,13 @@ held_by image chain written file e f found is inside ticks =
     }
 
 pub found_held : (s : Config) (image : Image) (fs : List File) (chain : List ChainBlock) (written : Option Written) (file : ℕ) (f : File) → MediumSays s image fs → IsDirectory image chain
-    → IfSome written (λ w. file < w.file) → slice_get fs file ≡ Some f → (is : IsFound image f) → EachFollows [] is.packets → IsHeld image chain written file f
-found_held s image fs chain written file f says directory before at is each =
+    → IfSome written (λ w. file < w.file) → slice_get fs file ≡ Some f → IsFound image f → IsHeld image chain written file f
+found_held s image fs chain written file f says directory before at is =
     let listed = listed_by image (files chain) fs file f (says_each s image fs chain says directory) at in
     let e = listed.0 in
     let said = listed.2 in
     let all = said.says.says.0 in
-    let one : is.packets ≡ all = one_file is.packets all (follows_fit [] is.packets each) (follows_fit [] all said.says.says.2.file.each) (sym is.bytes_are ∙ said.says.says.1) in
+    let one : is.packets ≡ all = one_file is.packets all (follows_fit [] is.packets is.each) (follows_fit [] all said.says.says.2.file.each) (sym is.bytes_are ∙ said.says.says.1) in
     let whole : shown_entries f ≡ f.entries = take_all f.shown f.entries (omega (arith, is.shown)) in
     held_by image chain written file e f (found_entry written chain file e before listed.1) said (omega (arith, is.shown)) (ap ticks_of (sym (whole ∙ is.entries_are ∙ ap file_entries one)))
 

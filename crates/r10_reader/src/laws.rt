@@ -13,7 +13,6 @@ ghost use Rattle.r10_dirchain.specs.OnMedium.{SameButIn};
 ghost use Rattle.r10_dirchain.specs.declared.chain.ChainBlock.{ChainBlock};
 ghost use Rattle.r10_body.specs.Faults.{IsAtFault};
 ghost use Rattle.r10_body.specs.Packets.{Packet, file_entries};
-ghost use Rattle.r10_body.specs.Rules.{EachFollows};
 ghost use Rattle.r10_body.specs.declared.entry.Entry.{Entry};
 ghost use Rattle.r10_body.specs.declared.fault.FileFault.{FileFault};
 ghost use Rattle.r10_cuts.specs.Cuts.{Agree};
@@ -68,7 +67,7 @@ pub fn files_that_are_said()
     ensures sound { (s : Config) (image : Image) (machine : List File) (chain : List ChainBlock) (file : ℕ) (e : Listed) (offset : ℕ) (fault : FileFault) → MediumSays s image machine → IsDirectory image chain
         → slice_get (files chain) file ≡ Some e → IsAtFault (bytes_in image e) (is_closed e) offset fault → ⊥ }
     ensures found { (s : Config) (image : Image) (machine : List File) (chain : List ChainBlock) (written : Option Written) (file : ℕ) (f : File) → MediumSays s image machine → IsDirectory image chain
-        → IfSome written (λ w. file < w.file) → slice_get machine file ≡ Some f → (is : IsFound image f) → EachFollows [] is.packets → IsHeld image chain written file f }
+        → IfSome written (λ w. file < w.file) → slice_get machine file ≡ Some f → IsFound image f → IsHeld image chain written file f }
     ensures own { (s : Config) (image : Image) (machine : List File) (chain : List ChainBlock) (written : Option Written) (file : ℕ) (f : File) → MediumSays s image machine → IsDirectory image chain
         → IfSome written (λ w. file < w.file) → slice_get machine file ≡ Some f → f.shown ≤ length f.entries → AllByRecursion (IsEntry s) f.entries → IsHeld image chain written file f }
     ensures written { (s : Config) (image : Image) (chain : List ChainBlock) (w : Written) (packets : List Packet) (f : File) → IsShown image w.first w.named.now packets → Agree (file_entries packets) (shown_entries f)

@@ -13,7 +13,7 @@ use Rattle.r10_recorder.specs.Leading.{AreLeft, Leads, none_taken}
 use Rattle.r10_recorder.specs.Refused.{Refuses}
 use Rattle.r10_steps.specs.Checks.{refusal}
 use Rattle.r10_steps.specs.Says.{MediumSays}
-use Rattle.r10_steps.specs.Step.{LanesAfter, after_refusal, asks_memory, has_room, may_take, uses_medium}
+use Rattle.r10_steps.specs.Step.{LanesAfter, after_refusal, asks_memory, entry_has_room, may_take, uses_medium}
 use Rattle.r10_steps.specs.declared.event.Event.{Event as Asked}
 use Rattle.r10_steps.specs.declared.reply.Reply.TheVariants as replies
 
@@ -33,7 +33,7 @@ refused_leads law k old before m event r limits means is stays = record {
 
 -- memory is refused, and all stays
 pub memory_leads : StepsStaySound → (k : Kept) (old new : Image) (before now : ℕ) (m : Machine) (event : Asked) → IsConfig k.config → Means k old before m → new ≡ old → before ≤ now
-    → refusal k.config m event ≡ None → asks_memory event ≡ true → has_room k.config m event ≡ true → Leads none_taken k m event (replies.Refused OutOfMemory) k new now
+    → refusal k.config m event ≡ None → asks_memory event ≡ true → entry_has_room k.config m event ≡ true → Leads none_taken k m event (replies.Refused OutOfMemory) k new now
 memory_leads law k old new before now m event limits means same more fine asks room = record {
   machine = record m { failures = now };
   led = lacks_memory law k old new before now m event limits means same more fine asks room;
@@ -47,7 +47,7 @@ still_there event (l ∷ lanes) = ((0, omega arith, refl), still_there event lan
 
 -- the medium fails, and says the files that it said
 pub failed_leads : StepsStaySound → (k : Kept) (old new : Image) (before now : ℕ) (m : Machine) (event : Asked) → IsConfig k.config → Means k old before m → before ≤ now → Rose before now
-    → refusal k.config m event ≡ None → uses_medium event ≡ true → has_room k.config m event ≡ true → MediumSays k.config new m.files → Leads none_taken k m event (replies.Refused Medium) (record k { work = failed }) new now
+    → refusal k.config m event ≡ None → uses_medium event ≡ true → entry_has_room k.config m event ≡ true → MediumSays k.config new m.files → Leads none_taken k m event (replies.Refused Medium) (record k { work = failed }) new now
 failed_leads law k old new before now m event limits means more rose fine uses room says = record {
   machine = record m { mode = modes.Failed; failures = now };
   led = failed_so law k old new before now m (record m { mode = modes.Failed; failures = now }) event limits means more rose fine uses room

@@ -14,6 +14,7 @@ use Rattle.r10_blockout.specs.Blocks.{Shows, bytes_from, file_blocks}
 use Rattle.r10_blockout.proofs.Showing.{shown_length}
 use Rattle.r10_body.specs.Files.{PacketsSay}
 use Rattle.r10_body.specs.Packets.{Packet, file_bytes, file_entries, packet_bytes, packet_entries}
+use Rattle.r10_body.specs.Rules.{EachFollows}
 use Rattle.r10_body.specs.declared.entry.Entry.{Entry}
 use Rattle.r10_carry.proofs.Closing.{index_says}
 use Rattle.r10_dirblock.specs.Block.{is_closed}
@@ -29,6 +30,7 @@ use Rattle.r10_holding.proofs.Ends.{all_front, all_with}
 use Rattle.r10_holding.proofs.Found.{found_stays}
 use Rattle.r10_holding.proofs.Relisting.{Relists, made_bytes, made_found, made_says, reserved, written_in}
 use Rattle.r10_index.specs.Written.{index_of}
+use Rattle.r10_laws.proofs.Meaning.{one_list}
 use Rattle.r10_machine.specs.Config.{Config}
 use Rattle.r10_machine.specs.Machine.{File, shown_entries}
 use Rattle.r10_machine.specs.Room.{area}
@@ -161,8 +163,10 @@ module _ (s : Config) (old : Image) (chain : List ChainBlock) (nodes : ℕ) (fil
 
     found_closed : g.own ≡ false → IsFound image g
     found_closed own =
-        let was : IsFound old f = (all_front (λ (h : File). h.own ≡ false → IsFound old h) files f left.held.found).1 own in record {
+        let was : IsFound old f = (all_front (λ (h : File). h.own ≡ false → IsFound old h) files f left.held.found).1 own in
+        let same : was.packets ≡ ps = one_list was.packets ps was.each (unsealed s old chain nodes files f left whole).say.file.each (sym was.bytes_are ∙ has) in record {
           packets = was.packets ++ index_of ps;
+          each = subst (λ (l : List Packet). EachFollows [] (l ++ index_of ps)) (sym same) says_closed.file.each;
           bytes_are = closed_shows ∙ sym (found_with was.packets ps (sym was.bytes_are ∙ has));
           entries_are = was.entries_are ∙ sym (entries_with was.packets ps);
           shown = was.shown;

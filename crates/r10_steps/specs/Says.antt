@@ -4,6 +4,7 @@ use Rattle.r10_count.specs.Checks.{first_broken}
 use Rattle.r10_blockout.specs.Blocks.{bytes_from}
 use Rattle.r10_body.specs.Files.{FileSays}
 use Rattle.r10_body.specs.Packets.{Packet, file_bytes, file_entries}
+use Rattle.r10_body.specs.Rules.{EachFollows}
 use Rattle.r10_dirblock.specs.Block.{is_closed}
 use Rattle.r10_dirblock.specs.Texts.{stripped}
 use Rattle.r10_dirblock.specs.declared.entry.Entry.{Entry as Listed}
@@ -42,10 +43,12 @@ pub record MediumSays (s : Config) (image : Image) (files : List File) : Type 0 
   pub mounts : first_broken (mount_rules s.directory s.blocks chain) ≡ None
   pub each : SaysEach image (listed_files chain) files
 
--- a file as a new recorder finds it: it shows all its entries, in the order of its packets, and another recorder began it
+-- a file as a new recorder finds it: it shows all its entries, in the order of its packets, each of which may follow those before it, and
+-- another recorder began it
 pub record IsFound (image : Image) (f : File) : Type 0 where
   pub packets : List Packet
   pub bytes_are : bytes_from image f.first_block f.size ≡ file_bytes packets
+  pub each : EachFollows [] packets
   pub entries_are : f.entries ≡ file_entries packets
   pub shown : f.shown ≡ length f.entries
   pub own : f.own ≡ false

@@ -122,11 +122,12 @@ pub record FailsIn (s : Config) (old : Machine) (event : Asked) (new : Machine) 
 
 -- ---- steps
 
--- where no check refuses, room may be lacking; where it isn't, the medium or memory may fail
+-- where no check refuses, room may be lacking; where no entry lacks it, the medium or memory may fail, of a seal before it has read how
+-- long the index is
 abbrev pub GivesUp : Config → ℕ → Machine → Asked → Refusal → Machine → Type 0
 GivesUp s before old event Medium new =
-    (uses_medium event ≡ true) × (has_room s old event ≡ true) × Rose before old.failures × FailsIn s old event new
-GivesUp s before old event OutOfMemory new = (asks_memory event ≡ true) × (has_room s old event ≡ true) × (new ≡ old)
+    (uses_medium event ≡ true) × (entry_has_room s old event ≡ true) × Rose before old.failures × FailsIn s old event new
+GivesUp s before old event OutOfMemory new = (asks_memory event ≡ true) × (entry_has_room s old event ≡ true) × (new ≡ old)
 GivesUp s before old event r new = Lacks s old event r × (new ≡ old)
 
 -- the first check that doesn't hold refuses
