@@ -22,7 +22,8 @@ use Rattle.r10_reader.specs.declared.cursor.Cursor.{Cursor}
 use Rattle.r10_reader.specs.declared.written.Written.{Written}
 use Rattle.r10_reader.proofs.Said.{listed_by, says_each, same_bytes, found_entry}
 use Rattle.r10_reader.proofs.Writing.{shown}
-use Rattle.r10_cursors.specs.Read.{IsReadTo, HasRead, HaveRead, ShowsMore, ShowMore, KeepsShown, KeepsBytes, NoneShrinks, GrowsShown, bytes_shown}
+use Rattle.r10_cursors.specs.Read.{IsReadTo, HasRead, HaveRead, ShowsMore, ShowMore, KeepsShown, KeepsBytes, GrowsShown, bytes_shown}
+use Rattle.r10_reader.specs.Staying.{NoneShrinks}
 use Rattle.r10_cursors.specs.Standing.{Matches, Stand, slot_at}
 use Rattle.r10_cursors.proofs.Fronts.{shown_front, one_had, one_shown, plain}
 

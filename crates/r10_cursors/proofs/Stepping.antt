@@ -27,7 +27,8 @@ use Rattle.r10_steps.specs.Sound.{IsSound}
 use Rattle.r10_steps.specs.Step.{Does, FailsIn, GivesUp, Refuses, Replies, Step, after_refusal}
 use Rattle.r10_steps.proofs.Grown.{last_of}
 use Rattle.r10_reader.specs.declared.cursor.Cursor.{Cursor as Slot}
-use Rattle.r10_cursors.specs.Read.{HaveRead, KeepsBytes, NoneShrinks, ShowsMore, ShowMore}
+use Rattle.r10_cursors.specs.Read.{HaveRead, KeepsBytes, ShowsMore, ShowMore}
+use Rattle.r10_reader.specs.Staying.{NoneShrinks}
 use Rattle.r10_cursors.specs.Standing.{Stand}
 use Rattle.r10_cursors.proofs.Reading.{begun_anew, grown, grows, still}
 

@@ -63,11 +63,6 @@ GrowsShown old new [] later = Unit {0}
 GrowsShown old new (f ∷ files) [] = ⊥
 GrowsShown old new (f ∷ files) (g ∷ later) = KeepsShown old new f g × GrowsShown old new files later
 
--- no file has fewer bytes
-abbrev pub NoneShrinks : List File → List File → Type 0
-NoneShrinks (f ∷ files) (g ∷ later) = (f.size ≤ g.size) × NoneShrinks files later
-NoneShrinks files later = Unit {0}
-
 -- of each file the new image shows the bytes that the old one showed
 abbrev pub KeepsBytes : Image → Image → List File → Type 0
 KeepsBytes old new files = AllByRecursion (λ f. bytes_shown new f ≡ bytes_shown old f) files

@@ -18,7 +18,8 @@ ghost use Rattle.r10_reader.specs.Files.{HasPackets};
 ghost use Rattle.r10_reader.specs.Held.{IsCovered, IsHeld, IsToldOf};
 ghost use Rattle.r10_reader.specs.declared.cursor.Cursor.{Cursor};
 ghost use Rattle.r10_reader.specs.declared.written.Written.{Written};
-ghost use Rattle.r10_cursors.specs.Read.{GrowsShown, HaveRead, IsReadTo, KeepsBytes, NoneShrinks, ShowMore, TakesNext, bytes_shown};
+ghost use Rattle.r10_cursors.specs.Read.{GrowsShown, HaveRead, IsReadTo, KeepsBytes, ShowMore, TakesNext, bytes_shown};
+ghost use Rattle.r10_reader.specs.Staying.{NoneShrinks};
 ghost use Rattle.r10_cursors.specs.Standing.{Stand, slot_at};
 ghost use Rattle.r10_cursors.specs.Steps.{StepsTo};
 

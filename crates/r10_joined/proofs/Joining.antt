@@ -17,7 +17,9 @@ use Rattle.r10_steps.specs.declared.event.Event.TheVariants as events
 use Rattle.r10_steps.specs.declared.reply.Reply.{Reply as Answered}
 use Rattle.r10_steps.specs.declared.reply.Reply.TheVariants as replies
 use Rattle.r10_reader.specs.declared.cursor.Cursor.{Cursor}
-use Rattle.r10_cursors.specs.Read.{HaveRead, KeepsBytes, NoneShrinks}
+use Rattle.r10_cursors.specs.Read.{HaveRead, KeepsBytes}
+use Rattle.r10_reader.specs.Staying.{NoneShrinks}
+use Rattle.r10_reader.proofs.Sizes.{none_shrinks}
 use Rattle.r10_cursors.specs.Standing.{Stand}
 use Rattle.r10_cursors.specs.Steps.{StepsTo}
 use Rattle.r10_means.specs.Kept.{Kept, Work, unmounted, idle, recording, failed}
@@ -51,10 +53,6 @@ moves law k later old new before now m machine event reply slots joined leads sa
     let says : MediumSays k.config new machine.files = subst (λ (s : Config). MediumSays s new machine.files) config (said later.work later.config new machine.files leads.means.files) in
     let both = law k.config old new m machine event reply slots joined.means.sound leads.step same says keeps joined.stand joined.read in
     record { machine = machine; step = leads.step; says = says; joined = record { means = leads.means; stand = both.0; read = both.1 }; config = config }
-
-none_shrinks : (files : List File) → NoneShrinks files files
-none_shrinks [] = tt
-none_shrinks (f ∷ files) = (omega arith, none_shrinks files)
 
 bytes_stay : (image : Image) (files : List File) → KeepsBytes image image files
 bytes_stay image [] = tt

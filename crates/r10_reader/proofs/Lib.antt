@@ -7,3 +7,4 @@ pub mod Said
 mod Staying
 mod Times
 pub mod Writing
+pub mod Sizes

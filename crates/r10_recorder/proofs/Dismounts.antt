@@ -13,6 +13,7 @@ use Rattle.r10_means.specs.Kept.{Kept, Work, mode_of, unmounted, idle, failed}
 use Rattle.r10_means.specs.Means.{HasFiles, Means}
 use Rattle.r10_means.proofs.Leading.{StepsStaySound, dismounted}
 use Rattle.r10_medium.specs.Disk.{Image, Rose}
+use Rattle.r10_reader.proofs.Sizes.{none_shrinks}
 use Rattle.r10_recorder.specs.Leading.{Leads, none_taken}
 use Rattle.r10_recorder.proofs.Leading.{failed_leads, none_left, refused_leads}
 use Rattle.r10_steps.specs.Checks.{refusal}
@@ -38,6 +39,7 @@ dismount_done law k old new before now m chain limits means at says found more =
   led = dismounted law k old new before now m chain limits means at says found more;
   lanes = none_left m.lanes;
   cursors = refl;
+  sizes = λ again. none_shrinks m.files;
 }
 
 pub dismount_fails : StepsStaySound → (k : Kept) (old new : Image) (before now : ℕ) (m : Machine) → IsConfig k.config → Means k old before m → first_broken (idle_checks (mode_of k.work)) ≡ None → before ≤ now → Rose before now

@@ -55,6 +55,7 @@ erase_done law k old new before now m chain made limits means at fine holds more
   led = erased law k old new before now m chain made limits means at (same_check k old before m means ∙ fine) holds more;
   lanes = left_erased m.files m.lanes;
   cursors = refl;
+  sizes = λ again. absurd (omega (arith, again));
 }
 
 -- ---- where the medium fails, it says the files from before, or none
@@ -75,6 +76,7 @@ fails_after law k old new before now m limits means fine more rose says =
       led = failed_so law k old new before now m later Erase limits means more rose (same_check k old before m means ∙ fine) refl refl fails means.tick refl says;
       lanes = left_erased m.files m.lanes;
       cursors = refl;
+      sizes = λ again. absurd (omega (arith, again));
     }
 
 pub erase_fails : StepsStaySound → (k : Kept) (old new : Image) (before now : ℕ) (m : Machine) → IsConfig k.config → Means k old before m → checked k ≡ None → before ≤ now → Rose before now

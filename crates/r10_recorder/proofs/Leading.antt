@@ -9,6 +9,7 @@ use Rattle.r10_means.specs.Kept.{Kept, failed}
 use Rattle.r10_means.specs.Means.{Means}
 use Rattle.r10_means.proofs.Leading.{StepsStaySound, failed_before, failed_so, lacks_memory, refused}
 use Rattle.r10_medium.specs.Disk.{Disk, Image, Rose, Unchanged}
+use Rattle.r10_reader.proofs.Sizes.{none_shrinks}
 use Rattle.r10_recorder.specs.Leading.{AreLeft, Leads, none_taken}
 use Rattle.r10_recorder.specs.Refused.{Refuses}
 use Rattle.r10_steps.specs.Checks.{refusal}
@@ -29,6 +30,7 @@ refused_leads law k old before m event r limits means is stays = record {
   led = refused law k old old before before m event r limits means refl (omega arith) is stays;
   lanes = none_left m.lanes;
   cursors = refl;
+  sizes = λ again. none_shrinks m.files;
 }
 
 -- memory is refused, and all stays
@@ -39,6 +41,7 @@ memory_leads law k old new before now m event limits means same more fine asks r
   led = lacks_memory law k old new before now m event limits means same more fine asks room;
   lanes = none_left m.lanes;
   cursors = refl;
+  sizes = λ again. none_shrinks m.files;
 }
 
 still_there : (event : Asked) (lanes : List Lane) → LanesAfter event lanes lanes lanes
@@ -54,6 +57,7 @@ failed_leads law k old new before now m event limits means more rose fine uses r
       (failed_before k.config (record m { failures = now }) event m.lanes (still_there event m.lanes)) means.tick refl says;
   lanes = none_left m.lanes;
   cursors = refl;
+  sizes = λ again. none_shrinks m.files;
 }
 
 -- ---- what is refused

@@ -14,6 +14,7 @@ use Rattle.r10_means.specs.Kept.{Kept, Work, mode_of, unmounted, idle, recording
 use Rattle.r10_means.specs.Means.{HasFiles, Means}
 use Rattle.r10_means.proofs.Leading.{StepsStaySound, mounted}
 use Rattle.r10_medium.specs.Disk.{Image, Rose}
+use Rattle.r10_reader.proofs.Sizes.{none_shrinks}
 use Rattle.r10_recorder.specs.Leading.{Leads, none_taken}
 use Rattle.r10_recorder.proofs.Leading.{failed_leads, memory_leads, none_left, refused_leads}
 use Rattle.r10_steps.specs.Checks.{refusal}
@@ -47,6 +48,7 @@ mount_done law k old new before now m chain limits means fine holds more = recor
   led = mounted law k old new before now m chain limits means (unmounted_work k.work fine) holds more;
   lanes = none_left m.lanes;
   cursors = refl;
+  sizes = λ again. none_shrinks m.files;
 }
 
 pub mount_lacks : StepsStaySound → (k : Kept) (old new : Image) (before now : ℕ) (m : Machine) → IsConfig k.config → Means k old before m → first_broken (unmounted_checks (mode_of k.work)) ≡ None → new ≡ old → before ≤ now

@@ -6,6 +6,7 @@ use Rattle.r10_machine.specs.Machine.{Lane, Machine}
 use Rattle.r10_means.specs.Kept.{Kept}
 use Rattle.r10_means.specs.Means.{LeadsTo, Means}
 use Rattle.r10_medium.specs.Disk.{Disk, Image}
+use Rattle.r10_reader.specs.Staying.{NoneShrinks}
 use Rattle.r10_recorder.specs.State.{State}
 use Rattle.r10_steps.specs.declared.event.Event.{Event as Asked}
 use Rattle.r10_steps.specs.declared.reply.Reply.{Reply as Answered}
@@ -24,12 +25,14 @@ none_taken channel = 0
 
 -- ---- steps
 
--- a step leads to a machine that is meant then, whose lanes gave so many, and which has the same cursors
+-- a step leads to a machine that is meant then, whose lanes gave so many, which has the same cursors, and of whose files none of the same
+-- generation has fewer bytes
 pub record Leads (taken : ℕ → ℕ) (k : Kept) (m : Machine) (event : Asked) (reply : Answered) (later : Kept) (image : Image) (failures : ℕ) : Type 0 where
   pub machine : Machine
   pub led : LeadsTo k m event reply later image failures machine
   pub lanes : AreLeft taken m.lanes machine.lanes
   pub cursors : machine.cursors ≡ m.cursors
+  pub sizes : machine.generation ≡ m.generation → NoneShrinks m.files machine.files
 
 -- from each machine that is meant, what a call answers leads to one that is meant then
 abbrev pub Answers : {T : Type 0} → (ℕ → ℕ) → Kept → Image → ℕ → Asked → (T → Answered) → Result T Refusal → Kept → Image → ℕ → Type 0
