@@ -17,3 +17,4 @@ mod Names
 mod Places
 mod Rooms
 mod Beginning
+mod Relisted
