@@ -1,5 +1,5 @@
 -- What a medium says after a step on its directory.
-use Rattle.std.proofs.Common.{◌≡◌, ◌≢◌, ◌⊎◌, ℕ, ◌<◌, ◌≤◌, List, [], ◌∷◌, length, map, Result, Ok, Err, OnOk, OnErr, None, inl, inr, ⊎_elim, sym, ap, ◌∙◌, subst, arith, ext_get_or}
+use Rattle.std.proofs.Common.{◌≡◌, ◌≢◌, ◌⊎◌, ℕ, ◌<◌, ◌≤◌, List, [], ◌∷◌, length, map, Result, Ok, Err, OnOk, OnErr, None, inl, inr, ⊎_elim, refl, sym, ap, ◌∙◌, subst, arith, ext_get_or}
 use Rattle.std.specs.List.{All}
 use Rattle.std.proofs.lemmas.List.Elements.{All-nil, All-cons}
 use Rattle.r10_count.specs.Checks.{first_broken}
@@ -115,6 +115,20 @@ settled_still s old new chain made changed files result makes turns =
   where
     kept : (image : Image) → Turned made changed old.blocks image → KeepBytes old.blocks image files
     kept image turned = directory_keeps s old.blocks image changed files (whole_reads old) makes.says turned.others makes.reserved
+
+-- the files keep their bytes
+own_bytes : (image : Image) (files : List File) → KeepBytes image image files
+own_bytes image [] = tt
+own_bytes image (f ∷ files) = (refl, own_bytes image files)
+
+pub kept_unchanged : (old new : Disk) (files : List File) → Unchanged old new → KeepBytes old.blocks new.blocks files
+kept_unchanged old new files same = subst (λ (image : Image). KeepBytes old.blocks image files) (sym same.reads) (own_bytes old.blocks files)
+
+pub kept_then : {T E : Type 0} (s : Config) (old new : Disk) (chain made : List ChainBlock) (changed : List ℕ) (files later : List File) (result : Result T E) → Makes s old.blocks made changed files later
+    → Turns chain made [] changed old new result → KeepBytes old.blocks new.blocks files
+kept_then s old new chain made changed files later result makes turns = ⊎_elim
+    (λ same. subst (λ (image : Image). KeepBytes old.blocks image files) (same_image old.blocks new.blocks same.others) (own_bytes old.blocks files))
+    (λ turned. directory_keeps s old.blocks new.blocks changed files (whole_reads old) makes.says turned.others makes.reserved) turns.reads
 
 pub settled_empty : {T E : Type 0} (s : Config) (old new : Disk) (chain made : List ChainBlock) (changed : List ℕ) (files : List File) (result : Result T E) → Makes s old.blocks made changed files []
     → Turns chain made [] changed old new result → OnOk result (IsSettled s [] new)

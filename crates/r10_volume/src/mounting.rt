@@ -10,6 +10,7 @@ ghost use Rattle.r10_dirchain.specs.Steps.{with_shutdown};
 ghost use Rattle.r10_dirchain.specs.declared.chain.ChainBlock.{ChainBlock};
 ghost use Rattle.r10_machine.specs.Config.{Config};
 ghost use Rattle.r10_machine.specs.Machine.{File};
+ghost use Rattle.r10_standing.specs.Bytes.{KeepBytes};
 ghost use Rattle.r10_steps.specs.Says.{MediumSays};
 ghost use Rattle.r10_holding.specs.Holding.{Holds, OthersAreFound};
 ghost use Rattle.r10_volume.specs.Mounting.{IsLeft, IsMountError, IsMounted, IsNamed, IsUnusable, IsUsable};
@@ -42,6 +43,7 @@ pub fn mount<M: BlockMedium>(
     ensures holds { (s : Config) (files : List File) → MediumSays s (M.disk medium.old).blocks files → OthersAreFound (M.disk medium.old).blocks files → reserved ≡ s.directory
         → MatchResult result (λ directory. Holds s (M.disk medium.new).blocks directory None files) IsNoFault }
     ensures says { (s : Config) (files : List File) → MediumSays s (M.disk medium.old).blocks files → MediumSays s (M.disk medium.new).blocks files }
+    ensures bytes { (s : Config) (files : List File) → MediumSays s (M.disk medium.old).blocks files → KeepBytes (M.disk medium.old).blocks (M.disk medium.new).blocks files }
     ensures moments { (s : Config) (files : List File) → Settled (λ image. MediumSays s image files) (M.disk medium.old)
         → Leaves (λ image. MediumSays s image files) (M.disk medium.old) (M.disk medium.new) }
     ensures settled { (s : Config) (files : List File) → MediumSays s (M.disk medium.old).blocks files → OnOk result (IsSettled s files (M.disk medium.new)) }

@@ -8,6 +8,7 @@ ghost use Rattle.r10_dirchain.specs.OnMedium.{Turns};
 ghost use Rattle.r10_dirchain.specs.Steps.{emptied, with_shutdown};
 ghost use Rattle.r10_machine.specs.Config.{Config};
 ghost use Rattle.r10_machine.specs.Machine.{File};
+ghost use Rattle.r10_standing.specs.Bytes.{KeepBytes};
 ghost use Rattle.r10_steps.specs.Says.{MediumSays};
 ghost use Rattle.r10_holding.specs.Holding.{Holds};
 ghost use Rattle.r10_volume.specs.Mounting.{IsUsable};
@@ -29,6 +30,7 @@ pub fn dismount<M: BlockMedium>(
     ensures turns { Turns directory.old (with_shutdown 0xFF directory.old) [] (1 ∷ []) (M.disk medium.old) (M.disk medium.new) result }
     ensures holds { (s : Config) (files : List File) → Holds s (M.disk medium.old).blocks directory.old None files → OnOk result (Holds s (M.disk medium.new).blocks directory.new None files) }
     ensures says { (s : Config) (files : List File) → Holds s (M.disk medium.old).blocks directory.old None files → MediumSays s (M.disk medium.new).blocks files }
+    ensures bytes { (s : Config) (files : List File) → Holds s (M.disk medium.old).blocks directory.old None files → KeepBytes (M.disk medium.old).blocks (M.disk medium.new).blocks files }
     ensures moments { (s : Config) (files : List File) → Holds s (M.disk medium.old).blocks directory.old None files → Settled (λ image. MediumSays s image files) (M.disk medium.old)
         → Leaves (λ image. MediumSays s image files) (M.disk medium.old) (M.disk medium.new) }
     ensures settled { (s : Config) (files : List File) → Holds s (M.disk medium.old).blocks directory.old None files → OnOk result (IsSettled s files (M.disk medium.new)) }
@@ -49,6 +51,7 @@ pub fn erase<M: BlockMedium>(medium: &mut M, directory: &mut Directory) -> Resul
     ensures holds { (s : Config) (files : List File) → Holds s (M.disk medium.old).blocks directory.old None files → OnOk result (Holds s (M.disk medium.new).blocks directory.new None []) }
     ensures failed { (s : Config) (files : List File) → Holds s (M.disk medium.old).blocks directory.old None files
         → OnErr result (MediumSays s (M.disk medium.new).blocks files ⊎ MediumSays s (M.disk medium.new).blocks []) }
+    ensures bytes { (s : Config) (files : List File) → Holds s (M.disk medium.old).blocks directory.old None files → KeepBytes (M.disk medium.old).blocks (M.disk medium.new).blocks files }
     ensures moments { (s : Config) (files : List File) → Holds s (M.disk medium.old).blocks directory.old None files → Settled (λ image. MediumSays s image files) (M.disk medium.old)
         → Leaves (λ image. MediumSays s image files ⊎ MediumSays s image []) (M.disk medium.old) (M.disk medium.new) }
     ensures settled { (s : Config) (files : List File) → Holds s (M.disk medium.old).blocks directory.old None files → OnOk result (IsSettled s [] (M.disk medium.new)) }

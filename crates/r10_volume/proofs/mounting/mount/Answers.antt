@@ -9,7 +9,7 @@ use Rattle.r10_dirchain.specs.OnMedium.{Turns}
 use Rattle.r10_dirchain.proofs.Unique.{one_directory}
 use Rattle.r10_steps.specs.Says.{MediumSays}
 use Rattle.r10_volume.proofs.Taken.{named_error, no_error, none_unusable, says_usable}
-use Rattle.r10_volume.proofs.Turning.{directory_on, marked_rules, usable_on, held_on, leaves_still, marked_later, marking, says_still, settled_still}
+use Rattle.r10_volume.proofs.Turning.{directory_on, marked_rules, usable_on, held_on, kept_then, kept_unchanged, leaves_still, marked_later, marking, says_still, settled_still}
 use Rattle.r10_volume.proofs.mounting.mount.Goals as goal
 
 pub returns-in-Err-clause-usable : goal.returns-in-Err-clause-usable
@@ -22,6 +22,9 @@ pub returns-in-Err-clause-holds : goal.returns-in-Err-clause-holds
 returns-in-Err-clause-holds g c = λ s files says found e.
     let image = (g.M.BlockMedium.disk c.args.medium.now).blocks in
     no_error c.args.reserved image c.in-Err.error c.in-Err.ensures.fault says.chain (says_usable s c.args.reserved image files says e)
+
+pub returns-in-Err-clause-bytes : goal.returns-in-Err-clause-bytes
+returns-in-Err-clause-bytes g c = λ s files says. kept_unchanged (g.M.BlockMedium.disk c.args.medium.now) (g.M.BlockMedium.disk c.usable_directory.new.medium) files c.in-Err.ensures.same
 
 pub returns-in-Ok-set_shutdown-clause-usable : goal.returns-in-Ok-set_shutdown-clause-usable
 returns-in-Ok-set_shutdown-clause-usable g c =
@@ -86,6 +89,17 @@ returns-in-Ok-set_shutdown-clause-says g c =
     marked_later chain 0 old (g.M.BlockMedium.disk c.usable_directory.new.medium) new (Ok c.in-Ok-set_shutdown.field-0) (Ok c.set_shutdown.new.self) c.in-Ok.ensures.same is c.in-Ok-set_shutdown.ensures.turns (λ P p. p) in
     λ s files says. says_still s old new chain made (1 ∷ []) files (Ok c.set_shutdown.new.self) (marking s old.blocks chain 0 files says is) turns
 
+pub returns-in-Ok-set_shutdown-clause-bytes : goal.returns-in-Ok-set_shutdown-clause-bytes
+returns-in-Ok-set_shutdown-clause-bytes g c =
+    let old = g.M.BlockMedium.disk c.args.medium.now in
+    let new = g.M.BlockMedium.disk c.set_shutdown.new.medium in
+    let chain = c.in-Ok.directory in
+    let made = with_shutdown 0 chain in
+    let is = c.in-Ok.ensures.usable.directory in
+    let turns : Turns {T = Directory} {E = ChainError} chain made [] (1 ∷ []) old new (Ok c.set_shutdown.new.self) =
+    marked_later chain 0 old (g.M.BlockMedium.disk c.usable_directory.new.medium) new (Ok c.in-Ok-set_shutdown.field-0) (Ok c.set_shutdown.new.self) c.in-Ok.ensures.same is c.in-Ok-set_shutdown.ensures.turns (λ P p. p) in
+    λ s files says. kept_then s old new chain made (1 ∷ []) files files (Ok c.set_shutdown.new.self) (marking s old.blocks chain 0 files says is) turns
+
 pub returns-in-Ok-set_shutdown-clause-moments : goal.returns-in-Ok-set_shutdown-clause-moments
 returns-in-Ok-set_shutdown-clause-moments g c =
     let old = g.M.BlockMedium.disk c.args.medium.now in
@@ -129,6 +143,17 @@ returns-in-Err-set_shutdown-clause-says g c =
     let turns : Turns {T = Directory} {E = ChainError} chain made [] (1 ∷ []) old new (Err Medium) =
     marked_later chain 0 old (g.M.BlockMedium.disk c.usable_directory.new.medium) new (Err c.in-Err-set_shutdown.field-0) (Err Medium) c.in-Ok.ensures.same is c.in-Err-set_shutdown.ensures.turns (λ P p. tt) in
     λ s files says. says_still s old new chain made (1 ∷ []) files (Err Medium) (marking s old.blocks chain 0 files says is) turns
+
+pub returns-in-Err-set_shutdown-clause-bytes : goal.returns-in-Err-set_shutdown-clause-bytes
+returns-in-Err-set_shutdown-clause-bytes g c =
+    let old = g.M.BlockMedium.disk c.args.medium.now in
+    let new = g.M.BlockMedium.disk c.set_shutdown.new.medium in
+    let chain = c.in-Ok.directory in
+    let made = with_shutdown 0 chain in
+    let is = c.in-Ok.ensures.usable.directory in
+    let turns : Turns {T = Directory} {E = ChainError} chain made [] (1 ∷ []) old new (Err Medium) =
+    marked_later chain 0 old (g.M.BlockMedium.disk c.usable_directory.new.medium) new (Err c.in-Err-set_shutdown.field-0) (Err Medium) c.in-Ok.ensures.same is c.in-Err-set_shutdown.ensures.turns (λ P p. tt) in
+    λ s files says. kept_then s old new chain made (1 ∷ []) files files (Err Medium) (marking s old.blocks chain 0 files says is) turns
 
 pub returns-in-Err-set_shutdown-clause-moments : goal.returns-in-Err-set_shutdown-clause-moments
 returns-in-Err-set_shutdown-clause-moments g c =

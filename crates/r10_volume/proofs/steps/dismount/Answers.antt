@@ -1,7 +1,7 @@
 use Rattle.std.proofs.Common.{[], ◌∷◌}
 use Rattle.r10_dirchain.specs.Chain.{at}
 use Rattle.r10_dirchain.specs.Steps.{with_shutdown}
-use Rattle.r10_volume.proofs.Turning.{directory_on, marked_rules, usable_on, held_on, leaves_still, marking, of_first, says_still, settled_still}
+use Rattle.r10_volume.proofs.Turning.{directory_on, marked_rules, usable_on, held_on, kept_then, leaves_still, marking, of_first, says_still, settled_still}
 use Rattle.r10_volume.proofs.steps.dismount.Goals as goal
 
 pub returns-clause-turns : goal.returns-clause-turns
@@ -46,4 +46,11 @@ returns-clause-settled g c = λ s files holds.
     let old = g.M.BlockMedium.disk c.args.medium.now in
     let new = g.M.BlockMedium.disk c.set_shutdown.new.medium in
     settled_still s old new c.args.directory.now (with_shutdown 0xFF c.args.directory.now) (1 ∷ []) files c.set_shutdown.result (marking s old.blocks c.args.directory.now 0xFF files holds.says holds.directory)
+    (of_first c.args.directory.now (with_shutdown 0xFF c.args.directory.now) old new c.set_shutdown.result c.requires c.set_shutdown.ensures.turns)
+
+pub returns-clause-bytes : goal.returns-clause-bytes
+returns-clause-bytes g c = λ s files holds.
+    let old = g.M.BlockMedium.disk c.args.medium.now in
+    let new = g.M.BlockMedium.disk c.set_shutdown.new.medium in
+    kept_then s old new c.args.directory.now (with_shutdown 0xFF c.args.directory.now) (1 ∷ []) files files c.set_shutdown.result (marking s old.blocks c.args.directory.now 0xFF files holds.says holds.directory)
     (of_first c.args.directory.now (with_shutdown 0xFF c.args.directory.now) old new c.set_shutdown.result c.requires c.set_shutdown.ensures.turns)

@@ -1,6 +1,6 @@
 use Rattle.std.proofs.Common.{[], ◌∷◌}
 use Rattle.r10_dirchain.specs.Steps.{emptied}
-use Rattle.r10_volume.proofs.Turning.{directory_on, emptied_rules, usable_on, emptied_on, emptying, leaves_then, on_err, says_then, settled_empty}
+use Rattle.r10_volume.proofs.Turning.{directory_on, emptied_rules, usable_on, emptied_on, emptying, kept_then, leaves_then, on_err, says_then, settled_empty}
 use Rattle.r10_volume.proofs.steps.erase.Goals as goal
 
 pub returns-clause-directory : goal.returns-clause-directory
@@ -35,4 +35,10 @@ pub returns-clause-settled : goal.returns-clause-settled
 returns-clause-settled g c = λ s files holds.
     let old = g.M.BlockMedium.disk c.args.medium.now in
     settled_empty s old (g.M.BlockMedium.disk c.erase.new.medium) c.args.directory.now (emptied c.args.directory.now) (1 ∷ []) files c.erase.result
+    (emptying s old.blocks c.args.directory.now files holds.says holds.directory) c.erase.ensures.turns
+
+pub returns-clause-bytes : goal.returns-clause-bytes
+returns-clause-bytes g c = λ s files holds.
+    let old = g.M.BlockMedium.disk c.args.medium.now in
+    kept_then s old (g.M.BlockMedium.disk c.erase.new.medium) c.args.directory.now (emptied c.args.directory.now) (1 ∷ []) files [] c.erase.result
     (emptying s old.blocks c.args.directory.now files holds.says holds.directory) c.erase.ensures.turns
