@@ -28,6 +28,7 @@ use Rattle.r10_holding.proofs.Found.{found_stays}
 use Rattle.r10_machine.specs.Config.{Config}
 use Rattle.r10_machine.specs.Machine.{File}
 use Rattle.r10_machine.specs.Room.{blocks_of}
+use Rattle.r10_standing.specs.Bytes.{KeepBytes}
 use Rattle.r10_standing.proofs.Said.{directory_keeps, directory_turns, last_said}
 use Rattle.r10_steps.specs.Says.{IsFound, Lists, MediumSays, SaysEach, SaysFile}
 use Rattle.r10_openfile.proofs.Ends.{all_front, all_with}
@@ -190,4 +191,17 @@ pub turn_reads : {T E : Type 0} (s : Config) (chain : List ChainBlock) (files : 
 turn_reads s chain files f g e old new result makes turns = ⊎_elim
     (λ turned. inl (subst (λ (l : Image). MediumSays s l (files ++ f ∷ [])) (sym (nowhere old.blocks new.blocks turned.others)) makes.says))
     (λ turned. inr (made_says s old.blocks chain files f g e makes new.blocks turned))
+    turns.reads
+
+-- the files keep their bytes
+keep_twice : (old mid new : Image) (files : List File) → KeepBytes old mid files → KeepBytes mid new files → KeepBytes old new files
+keep_twice old mid new [] keep keeps = tt
+keep_twice old mid new (f ∷ files) (here, keep) (there, keeps) = (there ∙ here, keep_twice old mid new files keep keeps)
+
+pub turn_bytes : {T E : Type 0} (s : Config) (chain : List ChainBlock) (files : List File) (f g : File) (e : Listed) (before : Image) (old new : Disk) (result : Result T E) → Makes s old.blocks chain files f g e
+    → Turns chain (updated e chain) [] (written_in chain) old new result → KeepBytes before old.blocks (files ++ f ∷ []) → KeepBytes before new.blocks (files ++ f ∷ [])
+turn_bytes s chain files f g e before old new result makes turns kept = ⊎_elim
+    (λ turned. subst (λ (l : Image). KeepBytes before l (files ++ f ∷ [])) (sym (nowhere old.blocks new.blocks turned.others)) kept)
+    (λ turned. keep_twice before old.blocks new.blocks (files ++ f ∷ []) kept
+    (directory_keeps s old.blocks new.blocks (written_in chain) (files ++ f ∷ []) makes.whole makes.says turned.others (reserved s old.blocks chain files f g e makes)))
     turns.reads
