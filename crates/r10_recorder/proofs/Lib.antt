@@ -2,3 +2,4 @@ mod Leading
 mod Mounts
 mod Dismounts
 mod Erases
+mod Bytes

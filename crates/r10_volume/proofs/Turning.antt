@@ -117,7 +117,7 @@ settled_still s old new chain made changed files result makes turns =
     kept image turned = directory_keeps s old.blocks image changed files (whole_reads old) makes.says turned.others makes.reserved
 
 -- the files keep their bytes
-own_bytes : (image : Image) (files : List File) → KeepBytes image image files
+pub own_bytes : (image : Image) (files : List File) → KeepBytes image image files
 own_bytes image [] = tt
 own_bytes image (f ∷ files) = (refl, own_bytes image files)
 

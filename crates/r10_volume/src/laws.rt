@@ -11,6 +11,7 @@ ghost use Rattle.r10_machine.specs.Checks.{is_sealed, is_taken};
 ghost use Rattle.r10_machine.specs.Config.{Config};
 ghost use Rattle.r10_machine.specs.Machine.{File};
 ghost use Rattle.r10_machine.specs.Room.{next_block};
+ghost use Rattle.r10_standing.specs.Bytes.{KeepBytes};
 ghost use Rattle.r10_steps.specs.Finding.{info_of};
 ghost use Rattle.r10_holding.specs.Holding.{Holds, Open};
 ghost use Rattle.r10_volume.specs.Listing.{block_behind, has_name, info_in, is_last_closed};
@@ -39,4 +40,9 @@ pub fn usable_directories_stay()
     ensures longer { (reserved : ℕ) (old new : Image) (chain : List ChainBlock) (e : Listing) → IsUsable reserved old chain → is_last_closed (listed_files chain) ≡ true → length (listed_files chain) < 4 * reserved
         → e.first_block ≡ block_behind reserved (listed_files chain) → 0 < e.size → e.block_count ≡ (e.size + 511) / 512 → e.first_block + e.block_count ≤ length old → length new ≡ length old
         → IsDirectory new (added e chain) → IsUsable reserved new (added e chain) }
+{}
+
+/// An image has the bytes of files that it has.
+pub fn an_image_keeps_its_bytes()
+    ensures { (image : Image) (files : List File) → KeepBytes image image files }
 {}

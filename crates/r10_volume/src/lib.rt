@@ -7,7 +7,7 @@ mod listing;
 mod mounting;
 mod steps;
 
-pub use laws::{listings_tell, usable_directories_stay};
+pub use laws::{an_image_keeps_its_bytes, listings_tell, usable_directories_stay};
 pub use listing::{count, is_sealed, is_taken, last_file, list, next_block};
 pub use mounting::mount;
 pub use steps::{dismount, erase};
