@@ -1,7 +1,6 @@
 -- Steps of a recorder and of the table of its readers' cursors.
 use Rattle.std.proofs.Common.{◌≡◌, ◌≤◌, ℕ, List, [], ◌∷◌, ◌++◌, Option, None, Some, IsSomeAnd, refl, sym, ap, ◌∙◌, subst, arith}
 use Rattle.std.specs.Prelude.{slice_get}
-use Rattle.std.specs.List.{AllByRecursion}
 use Rattle.r10_medium.specs.Disk.{Image}
 use Rattle.r10_body.specs.declared.entry.Entry.{Entry}
 use Rattle.r10_machine.specs.Calls.{Advances, Gives, Opens}
@@ -23,7 +22,7 @@ use Rattle.r10_reader.proofs.Sizes.{none_shrinks}
 use Rattle.r10_cursors.specs.Standing.{Stand}
 use Rattle.r10_cursors.specs.Steps.{StepsTo}
 use Rattle.r10_means.specs.Kept.{Kept, Work, unmounted, idle, recording, failed}
-use Rattle.r10_means.specs.Means.{HasFiles, LeadsTo, Means}
+use Rattle.r10_means.specs.Means.{HasFiles, LeadsTo}
 use Rattle.r10_joined.specs.Joined.{Joined, RunsOn, StepsOn}
 
 -- every step keeps a sound state sound, and steps that leave the cursors leave what they have read

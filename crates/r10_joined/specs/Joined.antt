@@ -1,6 +1,7 @@
 -- Which machines a recorder and the cursors of its readers stand for together.
-use Rattle.std.specs.Prelude.{◌≡◌, ℕ, List, Option}
+use Rattle.std.specs.Prelude.{◌≡◌, ℕ, List, Option, None, length, replicate}
 use Rattle.r10_medium.specs.Disk.{Image}
+use Rattle.r10_machine.specs.Config.{Config}
 use Rattle.r10_machine.specs.Machine.{Machine}
 use Rattle.r10_steps.specs.Says.{MediumSays}
 use Rattle.r10_steps.specs.Step.{Run, Step}
@@ -9,8 +10,20 @@ use Rattle.r10_steps.specs.declared.reply.Reply.{Reply as Answered}
 use Rattle.r10_reader.specs.declared.cursor.Cursor.{Cursor}
 use Rattle.r10_cursors.specs.Read.{HaveRead}
 use Rattle.r10_cursors.specs.Standing.{Stand}
-use Rattle.r10_means.specs.Kept.{Kept}
+use Rattle.r10_means.specs.Kept.{Kept, unmounted}
 use Rattle.r10_means.specs.Means.{Means}
+
+-- what a new recorder of these settings keeps
+abbrev pub new_kept : Config → Kept
+new_kept s = record {
+  config = s;
+  work = unmounted;
+  tick = None;
+  last_event = None;
+  generation = 0;
+  taken = replicate (length s.channels) 0;
+  erased = replicate (length s.channels) 0;
+}
 
 -- what a recorder keeps, over a medium that reads as an image and has failed so often, stands for the machine, and so does the table for
 -- its cursors, which are as far in their files as the machine's

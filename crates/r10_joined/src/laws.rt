@@ -5,8 +5,10 @@ ghost use Rattle.r10_medium.specs.Disk.{Image};
 ghost use Rattle.r10_body.specs.declared.entry.Entry.{Entry};
 ghost use Rattle.r10_machine.specs.Calls.{Advances, Gives, Opens};
 ghost use Rattle.r10_machine.specs.Limits.{IsConfig};
-ghost use Rattle.r10_machine.specs.Machine.{Machine, SetsCursor};
+ghost use Rattle.r10_machine.specs.Config.{Config};
+ghost use Rattle.r10_machine.specs.Machine.{File, Machine, SetsCursor, fresh};
 ghost use Rattle.r10_steps.specs.Checks.{refusal};
+ghost use Rattle.r10_steps.specs.Says.{MediumHas};
 ghost use Rattle.r10_steps.specs.declared.event.Event.{Event as Asked};
 ghost use Rattle.r10_steps.specs.declared.event.Event.TheVariants as events;
 ghost use Rattle.r10_steps.specs.declared.reply.Reply.{Reply as Answered};
@@ -17,10 +19,21 @@ ghost use Rattle.r10_cursors.specs.Read.{KeepsBytes};
 ghost use Rattle.r10_cursors.specs.Steps.{StepsTo};
 ghost use Rattle.r10_means.specs.Kept.{Kept};
 ghost use Rattle.r10_means.specs.Means.{LeadsTo, Means};
-ghost use Rattle.r10_joined.specs.Joined.{Joined, RunsOn, StepsOn};
+ghost use Rattle.r10_joined.specs.Joined.{Joined, RunsOn, StepsOn, new_kept};
 
 use r10_cursors::cursors_stay_over_steps;
-use r10_steps::{a_step_stays_sound, runs_join};
+use r10_steps::{
+    a_new_recorder_is_sound, a_step_stays_sound, files_on_a_medium_are_found, runs_join,
+};
+
+/// A new recorder over a medium that has files, joined by an empty table, stands for a machine that is unmounted, with these files and empty
+/// lanes.
+pub fn a_new_recorder_stands()
+    ensures { (s : Config) (image : Image) (files : List File) (failures : ℕ) → MediumHas s image files → Joined (new_kept s) image failures [] (fresh s.channels files failures) }
+{
+    a_new_recorder_is_sound();
+    files_on_a_medium_are_found();
+}
 
 /// A recorder that stands for a machine without cursors is joined by an empty table.
 pub fn a_recorder_without_readers()

@@ -5,5 +5,6 @@
 mod laws;
 
 pub use laws::{
-    a_recorder_without_readers, recorders_calls_are_steps, runs_go_on, tables_calls_are_steps,
+    a_new_recorder_stands, a_recorder_without_readers, recorders_calls_are_steps, runs_go_on,
+    tables_calls_are_steps,
 };
