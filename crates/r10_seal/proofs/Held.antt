@@ -40,6 +40,8 @@ use Rattle.r10_steps.specs.Calls.{closed_in}
 use Rattle.r10_steps.specs.Says.{IsFound, Lists, MediumSays, SaysFile}
 use Rattle.r10_volume.specs.Settling.{IsSettled, SaysAs}
 use Rattle.r10_volume.proofs.Turning.{keep_both}
+use Rattle.r10_seal.specs.Judging.{IsSealable}
+use Rattle.r10_seal.specs.declared.judging.Sealable.{Sealable}
 use Rattle.r10_seal.specs.Leftover.{IsEither, IsLeftOpen, SealsLast, shown_cost}
 use Rattle.r10_seal.specs.Sealing.{IsClosed, IsPartlySealed, IsSealing, IsUnsealed, Seals, sealed, sealed_bytes, sealed_entry}
 use Rattle.r10_seal.proofs.Left.{area_is, cost, its_packets, lists, long, packets, put_below, put_bytes, put_says, put_whole, said, say, unsealed, usable}
@@ -217,6 +219,16 @@ pub seals_cost : (s : Config) (old new : Image) (chain made : List ChainBlock) (
 seals_cost s old new chain made nodes files f e whole left last seals =
     omega (arith, seals.room, cost s old chain nodes files f left whole e seals.text seals.packets last seals.unsealed, area_is s old chain nodes files f left whole e last)
 
+-- what may be closed has room
+pub sealable_costs : (s : Config) (old : Image) (chain : List ChainBlock) (nodes area' : ℕ) (v : Sealable) (files : List File) (f : File) (e : Listed) → IsWhole old → IsLeftOpen s old chain nodes files f → last_or None (listed_files chain) ≡ Some e
+    → IsSealable (bytes_from old e.first_block e.size) nodes area' v → area' ≡ 512 * (length old - e.first_block) → shown_cost f ≤ area s f
+sealable_costs s old chain nodes area' v files f e whole left last is all =
+    omega (arith, is.room, all, cost s old chain nodes files f left whole e is.text is.packets last is.unsealed, area_is s old chain nodes files f left whole e last)
+
+-- where nothing was put, the files are said as they were
+pub still_said : (s : Config) (old new : Image) (chain : List ChainBlock) (nodes : ℕ) (files : List File) (f : File) → IsLeftOpen s old chain nodes files f → new ≡ old → MediumSays s new (files ++ f ∷ [])
+still_said s old new chain nodes files f left same = subst (λ (image : Image). MediumSays s image (files ++ f ∷ [])) (sym same) left.held.says
+
 module _ {T E : Type 0} (s : Config) (old new : Disk) (chain made : List ChainBlock) (nodes : ℕ) (files : List File) (f : File) (left : IsLeftOpen s old.blocks chain nodes files f) (e : Listed) (last : last_or None (listed_files chain) ≡ Some e)
     (result : Result T E) where
   abbrev all : List Packet
@@ -232,6 +244,7 @@ module _ {T E : Type 0} (s : Config) (old new : Disk) (chain made : List ChainBl
       record {
         packets = all;
         unsealed = unsealed s old.blocks chain nodes files f left whole;
+        grows = omega (arith, sealed_length all, long s old.blocks chain nodes files f left whole);
         holds = on_ok result (Settled Closed new) (Holds s new.blocks made None (files ++ g' ∷ []))
             (λ settled. closed_holds s old.blocks chain nodes files f left whole e last made new.blocks (settled_reads Closed new settled)) sure;
         reads = ⊎_elim

@@ -2,6 +2,7 @@
 use Rattle.std.specs.Prelude.{◌≡◌, ℕ, ◌*◌, ◌<◌, ◌≤◌, false, List, length, Some, None}
 use Rattle.r10_body.specs.Faults.{IsAtFault}
 use Rattle.r10_body.specs.Packets.{Packet}
+use Rattle.r10_medium.specs.Disk.{Disk, Unchanged}
 use Rattle.r10_tracks.specs.Times.{last_mark}
 use Rattle.r10_tracks.specs.Tracks.{IsTracked}
 use Rattle.r10_seal.specs.Sealing.{IsUnsealed, cost_of_packets}
@@ -49,3 +50,11 @@ IsReadFault bytes IndexFull = ⊥
 IsReadFault bytes MediumFull = ⊥
 IsReadFault bytes Medium = Unit {0}
 IsReadFault bytes OutOfMemory = Unit {0}
+
+-- a fault leaves the medium as it was, unless it failed
+abbrev pub IsUntouched : Disk → Disk → SealFault → Type 0
+IsUntouched old new (BadFile at) = Unchanged old new
+IsUntouched old new IndexFull = Unchanged old new
+IsUntouched old new MediumFull = Unchanged old new
+IsUntouched old new Medium = Unit {0}
+IsUntouched old new OutOfMemory = Unchanged old new

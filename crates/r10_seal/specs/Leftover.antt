@@ -1,5 +1,5 @@
 -- A last file that was left open, among the files that a recorder holds, and what a seal makes of it.
-use Rattle.std.specs.Prelude.{◌≡◌, ◌⊎◌, ℕ, ◌<◌, ◌++◌, false, List, [], ◌∷◌, None, Result, OnOk}
+use Rattle.std.specs.Prelude.{◌≡◌, ◌⊎◌, ℕ, ◌<◌, ◌≤◌, ◌++◌, false, List, [], ◌∷◌, None, Result, OnOk}
 use Rattle.r10_blockout.specs.Blocks.{bytes_from}
 use Rattle.r10_body.specs.Cost.{file_cost}
 use Rattle.r10_body.specs.Packets.{Packet}
@@ -39,10 +39,11 @@ IsLeftFault s f OutOfMemory = Unit {0}
 abbrev pub IsEither : Config → List File → File → List Packet → Image → Type 0
 IsEither s files f packets image = MediumSays s image (files ++ f ∷ []) ⊎ MediumSays s image (files ++ sealed packets f ∷ [])
 
--- The medium has these packets of the file. After an Ok the file is held closed with their index, and a stop leaves it so; else, and at every moment, the medium says the file as it was left, or so.
+-- The medium has these packets of the file, which with their index are no fewer bytes. After an Ok the file is held closed with their index, and a stop leaves it so; else, and at every moment, the medium says the file as it was left, or so.
 pub record SealsLast {T E : Type 0} (s : Config) (files : List File) (f : File) (old new : Disk) (made : List ChainBlock) (result : Result T E) : Type 0 where
   pub packets : List Packet
   pub unsealed : IsUnsealed (bytes_from old.blocks f.first_block f.size) f.setup packets
+  pub grows : f.size ≤ (sealed packets f).size
   pub holds : OnOk result (Holds s new.blocks made None (files ++ sealed packets f ∷ []))
   pub reads : IsEither s files f packets new.blocks
   pub moments : IsSettled s (files ++ f ∷ []) old → Leaves (IsEither s files f packets) old new
