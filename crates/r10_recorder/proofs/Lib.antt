@@ -3,3 +3,4 @@ mod Mounts
 mod Dismounts
 mod Erases
 mod Bytes
+mod Tellings

@@ -5,6 +5,7 @@
 mod clock;
 mod mounting;
 mod recorder;
+mod telling;
 mod work;
 
 pub use recorder::Recorder;
