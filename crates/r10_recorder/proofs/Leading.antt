@@ -44,7 +44,7 @@ memory_leads law k old new before now m event limits means same more fine asks r
   sizes = λ again. none_shrinks m.files;
 }
 
-still_there : (event : Asked) (lanes : List Lane) → LanesAfter event lanes lanes lanes
+pub still_there : (event : Asked) (lanes : List Lane) → LanesAfter event lanes lanes lanes
 still_there event [] = tt
 still_there event (l ∷ lanes) = ((0, omega arith, refl), still_there event lanes)
 

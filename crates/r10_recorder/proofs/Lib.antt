@@ -4,3 +4,4 @@ mod Dismounts
 mod Erases
 mod Bytes
 mod Tellings
+mod Seals

@@ -4,3 +4,4 @@ pub mod Owns
 pub mod Leading
 pub mod Checks
 pub mod Refused
+pub mod SealRefusals

@@ -5,6 +5,7 @@
 mod clock;
 mod mounting;
 mod recorder;
+mod sealing;
 mod telling;
 mod work;
 
