@@ -29,9 +29,17 @@ IsOf image chain written k = IsSomeAnd (finished_file written chain k.file) (λ 
 abbrev pub IsWriting : Image → Option Written → Type 0
 IsWriting image written = IfSome written (λ w. (packets : List Packet) × IsShown image w.first w.named.now packets × (length (file_bytes packets) < 2 ^ 63))
 
--- what a reader knows is what the medium shows: of each file that it has judged, and of the one that is written
+-- where the file is the one that is written, what is told of it is what the medium shows
+abbrev pub IsToldRight : Image → Option Written → ℕ → Type 0
+IsToldRight image written file = IsSomeAnd written (λ w. w.file ≡ file) → IsWriting image written
+
+-- what a reader keeps of the files that it has judged is what the medium shows of them
+abbrev pub HasJudged : Image → List ChainBlock → Option Written → Books → Type 0
+HasJudged image chain written books = AllByRecursion (IsOf image chain written) books.kept.items
+
+-- and so is what is told of the file that is written
 pub record Knows (image : Image) (chain : List ChainBlock) (written : Option Written) (books : Books) : Type 0 where
-  pub judged : AllByRecursion (IsOf image chain written) books.kept.items
+  pub judged : HasJudged image chain written books
   pub writing : IsWriting image written
 
 -- a file was judged, whose number and directory entry these are, and what is kept of it stands behind the others

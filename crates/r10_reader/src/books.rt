@@ -11,8 +11,8 @@ ghost use Rattle.r10_filein.specs.Files.{file_at};
 ghost use Rattle.r10_judge.specs.Judged.{IsKept};
 ghost use Rattle.r10_replay.specs.Shown.{IsShown};
 ghost use Rattle.r10_reader.specs.Files.{ShowsFile, bytes_in, finished_file};
-ghost use Rattle.r10_reader.specs.Knowing.{Knows, IsAdded, IsBook, IsLearned, IsOf, IsTold, IsUnder};
-ghost use Rattle.r10_reader.specs.Refusals.{IsUnread, Refuses};
+ghost use Rattle.r10_reader.specs.Knowing.{HasJudged, IsAdded, IsBook, IsLearned, IsOf, IsTold, IsToldRight, IsUnder};
+ghost use Rattle.r10_reader.specs.Refusals.{IsUnread, Refuses, RefusesToRead};
 
 use crate::kept::Kept;
 use crate::listing::finished_entry;
@@ -60,10 +60,11 @@ impl Books {
         buffer: &mut Vec<u8>,
     ) -> Result<usize, ReadRefusal>
         requires { length (M.disk medium.old).blocks ≤ 2 ^ 53 }
-        ensures learned { Knows (M.disk medium.old).blocks directory.now written.entry self.old
+        ensures learned { HasJudged (M.disk medium.old).blocks directory.now written.entry self.old
             → IfOk result (λ place. IsLearned (M.disk medium.old).blocks directory.now written.entry file self.new.kept.items place) }
-        ensures knows { Knows (M.disk medium.old).blocks directory.now written.entry self.old → Knows (M.disk medium.old).blocks directory.now written.entry self.new }
+        ensures judged { HasJudged (M.disk medium.old).blocks directory.now written.entry self.old → HasJudged (M.disk medium.old).blocks directory.now written.entry self.new }
         ensures refused { IfErr result (Refuses (M.disk medium.old) (M.disk medium.new) directory.now written.entry file) }
+        ensures unread { IfErr result (RefusesToRead (M.disk medium.old) (M.disk medium.new) directory.now written.entry file) }
         ensures same { Unchanged (M.disk medium.old) (M.disk medium.new) }
         ensures no_fewer { (M.disk medium.old).failures ≤ (M.disk medium.new).failures }
     {
@@ -84,8 +85,9 @@ impl Books {
         file: usize,
         place: usize,
     ) -> Option<Shown<'a>>
-        ensures told { (image : Image) (chain : List ChainBlock) → Knows image chain written.entry self.now → IsLearned image chain written.entry file self.now.kept.items place
+        ensures told { (image : Image) (chain : List ChainBlock) → IsToldRight image written.entry file → IsLearned image chain written.entry file self.now.kept.items place
             → IsSomeAnd result (IsTold image chain written.entry file) }
+        ensures there { (image : Image) (chain : List ChainBlock) → IsLearned image chain written.entry file self.now.kept.items place → result ≢ None }
         ensures shown { (image : Image) (chain : List ChainBlock) (packets : List StrictPacket) → IsLearned image chain written.entry file self.now.kept.items place → ShowsFile image chain written.entry file packets
             → IfSome result (λ shown. IsShown image shown.first shown.named.now packets) }
     {
