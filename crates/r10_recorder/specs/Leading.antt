@@ -8,6 +8,7 @@ use Rattle.r10_means.specs.Means.{LeadsTo, Means}
 use Rattle.r10_medium.specs.Disk.{Disk, Image}
 use Rattle.r10_reader.specs.Staying.{NoneShrinks}
 use Rattle.r10_recorder.specs.State.{State}
+use Rattle.r10_standing.specs.Bytes.{KeepBytes}
 use Rattle.r10_steps.specs.declared.event.Event.{Event as Asked}
 use Rattle.r10_steps.specs.declared.reply.Reply.{Reply as Answered}
 use Rattle.r10_steps.specs.declared.reply.Reply.TheVariants.{Refused}
@@ -38,3 +39,7 @@ pub record Leads (taken : ℕ → ℕ) (k : Kept) (m : Machine) (event : Asked) 
 abbrev pub Answers : {T : Type 0} → (ℕ → ℕ) → Kept → Image → ℕ → Asked → (T → Answered) → Result T Refusal → Kept → Image → ℕ → Type 0
 Answers taken k old before event reply result later new now =
     (m : Machine) → Means k old before m → MatchResult result (λ v. Leads taken k m event (reply v) later new now) (λ r. Leads taken k m event (Refused r) later new now)
+
+-- of each machine that is meant, the files keep the bytes that the medium shows of them
+abbrev pub KeepsShown : Kept → Image → ℕ → Image → Type 0
+KeepsShown k old before new = (m : Machine) → Means k old before m → KeepBytes old new m.files

@@ -99,6 +99,11 @@ module _ (s : Config) (old : Image) (chain : List ChainBlock) (nodes : ℕ) (fil
       → MediumSays s image (files ++ f ∷ [])
   partly_says from image whole_from says same put = put_says s files f ps from image whole_from size (same ∙ has) (subst (λ (n : ℕ). PutsSome n (file_blocks (sealed_bytes ps)) from image) first put) says
 
+  pub partly_keeps : (image : Image) → PutsSome e.first_block (file_blocks (sealed_bytes ps)) old image → KeepBytes old image (files ++ f ∷ [])
+  partly_keeps image put =
+      let there = here image put in
+      growing_kept s old image files f whole left.held.says 0 (put_below s files f ps old image whole size has there) (put_bytes s files f ps old image whole size has there ∙ sym has)
+
   module _ (made : List ChainBlock) (image : Image) (closed : IsClosed e ps chain made old image) where
     abbrev entry : Listed
     entry = sealed_entry ps closed.time.civil e
@@ -183,14 +188,11 @@ module _ (s : Config) (old : Image) (chain : List ChainBlock) (nodes : ℕ) (fil
       last = tt;
     }
 
-    -- the other files keep their bytes
-    pub closed_keeps : KeepBytes old image files
+    -- the files keep the bytes that they showed
+    pub closed_keeps : KeepBytes old image (files ++ f ∷ [])
     closed_keeps =
-        let Same : Image → Image → File → Type 0 = λ a b h. bytes_from b h.first_block h.size ≡ bytes_from a h.first_block h.size in
-        let to_mid : KeepBytes old mid (files ++ f ∷ []) = growing_kept s old mid files f whole left.held.says 0 mid_below mid_bytes in
-        let from_mid : KeepBytes mid image (files ++ f ∷ []) =
-        directory_keeps s mid image (written_in chain) (files ++ f ∷ []) mid_whole relists.says turned.others (reserved s mid chain files f g entry relists) in
-        both files (all_front (Same old mid) files f to_mid).0 (all_front (Same mid image) files f from_mid).0
+        both (files ++ f ∷ []) (growing_kept s old mid files f whole left.held.says 0 mid_below mid_bytes)
+        (directory_keeps s mid image (written_in chain) (files ++ f ∷ []) mid_whole relists.says turned.others (reserved s mid chain files f g entry relists))
       where
         both : (fs : List File) → KeepBytes old mid fs → KeepBytes mid image fs → KeepBytes old image fs
         both [] one two = tt
@@ -200,9 +202,12 @@ module _ (s : Config) (old : Image) (chain : List ChainBlock) (nodes : ℕ) (fil
   pub closed_as : (made other : List ChainBlock) (new image : Image) → IsClosed e ps chain made old new → IsClosed e ps chain other old image → SaysAs s (files ++ g ∷ []) new image
   closed_as made other new image one two = record {
     says = closed_says other image two;
-    bytes = all_with (λ (h : File). bytes_from image h.first_block h.size ≡ bytes_from new h.first_block h.size) files g (keep_both old new image files (closed_keeps made new one) (closed_keeps other image two))
+    bytes = all_with (λ (h : File). bytes_from image h.first_block h.size ≡ bytes_from new h.first_block h.size) files g (keep_both old new image files (others made new one) (others other image two))
         (closed_shows other image two ∙ sym (closed_shows made new one));
   }
+    where
+      others : (made : List ChainBlock) (image : Image) → IsClosed e ps chain made old image → KeepBytes old image files
+      others made image closed = (all_front (λ (h : File). bytes_from image h.first_block h.size ≡ bytes_from old h.first_block h.size) files f (closed_keeps made image closed)).0
 
 -- ---- a seal
 
@@ -247,6 +252,7 @@ module _ {T E : Type 0} (s : Config) (old new : Disk) (chain made : List ChainBl
         grows = omega (arith, sealed_length all, long s old.blocks chain nodes files f left whole);
         holds = on_ok result (Settled Closed new) (Holds s new.blocks made None (files ++ g' ∷ []))
             (λ settled. closed_holds s old.blocks chain nodes files f left whole e last made new.blocks (settled_reads Closed new settled)) sure;
+        bytes = ⊎_elim (λ put. partly_keeps s old.blocks chain nodes files f left whole e last new.blocks put) (λ closed. closed_keeps s old.blocks chain nodes files f left whole e last closed.0 new.blocks closed.1) reads;
         reads = ⊎_elim
             (λ put. inl (partly_says s old.blocks chain nodes files f left whole e last old.blocks new.blocks whole left.held.says refl put))
             (λ closed. inr (closed_says s old.blocks chain nodes files f left whole e last closed.0 new.blocks closed.1))

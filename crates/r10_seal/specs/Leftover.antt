@@ -10,6 +10,7 @@ use Rattle.r10_machine.specs.Machine.{File, shown_entries}
 use Rattle.r10_machine.specs.Room.{area}
 use Rattle.r10_medium.specs.Disk.{Disk, Image}
 use Rattle.r10_medium.specs.Stop.{Leaves}
+use Rattle.r10_standing.specs.Bytes.{KeepBytes}
 use Rattle.r10_steps.specs.Calls.{MayPassIndex}
 use Rattle.r10_steps.specs.Says.{MediumSays}
 use Rattle.r10_volume.specs.Settling.{IsSettled}
@@ -39,12 +40,13 @@ IsLeftFault s f OutOfMemory = Unit {0}
 abbrev pub IsEither : Config → List File → File → List Packet → Image → Type 0
 IsEither s files f packets image = MediumSays s image (files ++ f ∷ []) ⊎ MediumSays s image (files ++ sealed packets f ∷ [])
 
--- The medium has these packets of the file, which with their index are no fewer bytes. After an Ok the file is held closed with their index, and a stop leaves it so; else, and at every moment, the medium says the file as it was left, or so.
+-- The medium has these packets of the file, which with their index are no fewer bytes. After an Ok the file is held closed with their index, and a stop leaves it so; else, and at every moment, the medium says the file as it was left, or so. All files keep the bytes that they showed.
 pub record SealsLast {T E : Type 0} (s : Config) (files : List File) (f : File) (old new : Disk) (made : List ChainBlock) (result : Result T E) : Type 0 where
   pub packets : List Packet
   pub unsealed : IsUnsealed (bytes_from old.blocks f.first_block f.size) f.setup packets
   pub grows : f.size ≤ (sealed packets f).size
   pub holds : OnOk result (Holds s new.blocks made None (files ++ sealed packets f ∷ []))
+  pub bytes : KeepBytes old.blocks new.blocks (files ++ f ∷ [])
   pub reads : IsEither s files f packets new.blocks
   pub moments : IsSettled s (files ++ f ∷ []) old → Leaves (IsEither s files f packets) old new
   pub settled : OnOk result (IsSettled s (files ++ sealed packets f ∷ []) new)

@@ -1,17 +1,16 @@
-use Rattle.std.proofs.Common.{◌≡◌, List, None, refl, sym, ap, ◌∙◌, subst}
+use Rattle.std.proofs.Common.{◌≡◌, None, refl, sym, ap, ◌∙◌, subst}
 use Rattle.r10_body.specs.declared.refusal.Refusal.TheVariants as refusals
 use Rattle.r10_count.specs.Checks.{first_broken}
 use Rattle.r10_machine.specs.Checks.{idle_checks}
-use Rattle.r10_machine.specs.Machine.{File, Machine}
+use Rattle.r10_machine.specs.Machine.{Machine}
 use Rattle.r10_means.specs.Kept.{Kept, mode_of, idle}
-use Rattle.r10_means.specs.Means.{HasFiles, Means}
-use Rattle.r10_recorder.specs.Leading.{Leads, none_taken}
+use Rattle.r10_means.specs.Means.{Means}
+use Rattle.r10_recorder.specs.Leading.{KeepsShown, Leads, none_taken}
 use Rattle.r10_recorder.specs.State.{State}
 use Rattle.r10_recorder.specs.Work.{work_of}
 use Rattle.r10_recorder.specs.declared.work.Doing.{Doing}
 use Rattle.r10_recorder.proofs.Bytes.{holds_of}
 use Rattle.r10_recorder.proofs.Dismounts.{dismount_done, dismount_fails, dismount_refused, held}
-use Rattle.r10_standing.specs.Bytes.{KeepBytes}
 use Rattle.r10_steps.specs.declared.event.Event.TheVariants as events
 use Rattle.r10_steps.specs.declared.reply.Reply.TheVariants as replies
 use Rattle.r10_recorder.proofs.recorder.Recorder.dismount.Goals as goal
@@ -58,12 +57,12 @@ pub returns-in-Ok-clause-bytes : goal.returns-in-Ok-clause-bytes
 returns-in-Ok-clause-bytes g c =
     let w = c.self.inside in
     let disk = g.M.BlockMedium.disk in
-    subst (λ (v : State _ _). (files : List File) → HasFiles v.kept.config v.kept.work (disk v.medium).blocks files → KeepBytes (disk v.medium).blocks (disk c.dismount.new.medium).blocks files) c.self.view_is
-    (λ files has. c.dismount.ensures.bytes w.settings files (holds_of w.settings (work_of w.work) c.in-Idle.directory (disk w.medium).blocks files (ap work_of c.in-Idle.is) has))
+    subst (λ (v : State _ _). KeepsShown v.kept (disk v.medium).blocks (disk v.medium).failures (disk c.dismount.new.medium).blocks) c.self.view_is
+    (λ m means. c.dismount.ensures.bytes w.settings m.files (holds_of w.settings (work_of w.work) c.in-Idle.directory (disk w.medium).blocks m.files (ap work_of c.in-Idle.is) means.files))
 
 pub returns-in-Err-dismount-clause-bytes : goal.returns-in-Err-dismount-clause-bytes
 returns-in-Err-dismount-clause-bytes g c =
     let w = c.self.inside in
     let disk = g.M.BlockMedium.disk in
-    subst (λ (v : State _ _). (files : List File) → HasFiles v.kept.config v.kept.work (disk v.medium).blocks files → KeepBytes (disk v.medium).blocks (disk c.dismount.new.medium).blocks files) c.self.view_is
-    (λ files has. c.dismount.ensures.bytes w.settings files (holds_of w.settings (work_of w.work) c.in-Idle.directory (disk w.medium).blocks files (ap work_of c.in-Idle.is) has))
+    subst (λ (v : State _ _). KeepsShown v.kept (disk v.medium).blocks (disk v.medium).failures (disk c.dismount.new.medium).blocks) c.self.view_is
+    (λ m means. c.dismount.ensures.bytes w.settings m.files (holds_of w.settings (work_of w.work) c.in-Idle.directory (disk w.medium).blocks m.files (ap work_of c.in-Idle.is) means.files))

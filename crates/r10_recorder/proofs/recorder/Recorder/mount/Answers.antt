@@ -1,11 +1,11 @@
-use Rattle.std.proofs.Common.{◌≡◌, List, None, Option, Err, refl, sym, ap, ◌∙◌, subst}
+use Rattle.std.proofs.Common.{◌≡◌, None, Option, Err, refl, sym, ap, ◌∙◌, subst}
 use Rattle.r10_body.specs.declared.refusal.Refusal.TheVariants as refusals
 use Rattle.r10_count.specs.Checks.{first_broken}
 use Rattle.r10_machine.specs.Checks.{unmounted_checks}
-use Rattle.r10_machine.specs.Machine.{File, Machine}
+use Rattle.r10_machine.specs.Machine.{Machine}
 use Rattle.r10_means.specs.Kept.{Kept, Work, mode_of, idle, failed}
-use Rattle.r10_means.specs.Means.{HasFiles, Means}
-use Rattle.r10_recorder.specs.Leading.{Leads, none_taken}
+use Rattle.r10_means.specs.Means.{Means}
+use Rattle.r10_recorder.specs.Leading.{KeepsShown, Leads, none_taken}
 use Rattle.r10_recorder.specs.Refused.{Refuses, IsMountRefusal}
 use Rattle.r10_recorder.specs.State.{State}
 use Rattle.r10_recorder.specs.Work.{work_of}
@@ -13,7 +13,6 @@ use Rattle.r10_recorder.specs.declared.work.Doing.{Doing}
 use Rattle.r10_recorder.proofs.Bytes.{says_of}
 use Rattle.r10_recorder.proofs.Leading.{lacking}
 use Rattle.r10_recorder.proofs.Mounts.{mount_done, mount_fails, mount_lacks, mount_refused, said, unmounted_work}
-use Rattle.r10_standing.specs.Bytes.{KeepBytes}
 use Rattle.r10_steps.specs.declared.event.Event.TheVariants as events
 use Rattle.r10_steps.specs.declared.reply.Reply.TheVariants as replies
 use Rattle.r10_recorder.proofs.recorder.Recorder.mount.Goals as goal
@@ -97,13 +96,13 @@ returns-in-Ok-clause-bytes g c =
     let w = c.self.inside in
     let disk = g.M.BlockMedium.disk in
     let fine : first_broken (unmounted_checks (mode_of (work_of w.work))) ≡ None = ap (λ mode. first_broken (unmounted_checks mode)) (sym c.mode_in.ensures) ∙ c.in_default.ensures in
-    subst (λ (v : State _ _). (files : List File) → HasFiles v.kept.config v.kept.work (disk v.medium).blocks files → KeepBytes (disk v.medium).blocks (disk c.mount.new.medium).blocks files) c.self.view_is
-    (λ files has. c.mount.ensures.bytes w.settings files (says_of w.settings (work_of w.work) (disk w.medium).blocks files (unmounted_work (work_of w.work) fine) has))
+    subst (λ (v : State _ _). KeepsShown v.kept (disk v.medium).blocks (disk v.medium).failures (disk c.mount.new.medium).blocks) c.self.view_is
+    (λ m means. c.mount.ensures.bytes w.settings m.files (says_of w.settings (work_of w.work) (disk w.medium).blocks m.files (unmounted_work (work_of w.work) fine) means.files))
 
 pub returns-in-Err-Medium-clause-bytes : goal.returns-in-Err-Medium-clause-bytes
 returns-in-Err-Medium-clause-bytes g c =
     let w = c.self.inside in
     let disk = g.M.BlockMedium.disk in
     let fine : first_broken (unmounted_checks (mode_of (work_of w.work))) ≡ None = ap (λ mode. first_broken (unmounted_checks mode)) (sym c.mode_in.ensures) ∙ c.in_default.ensures in
-    subst (λ (v : State _ _). (files : List File) → HasFiles v.kept.config v.kept.work (disk v.medium).blocks files → KeepBytes (disk v.medium).blocks (disk c.mount.new.medium).blocks files) c.self.view_is
-    (λ files has. c.mount.ensures.bytes w.settings files (says_of w.settings (work_of w.work) (disk w.medium).blocks files (unmounted_work (work_of w.work) fine) has))
+    subst (λ (v : State _ _). KeepsShown v.kept (disk v.medium).blocks (disk v.medium).failures (disk c.mount.new.medium).blocks) c.self.view_is
+    (λ m means. c.mount.ensures.bytes w.settings m.files (says_of w.settings (work_of w.work) (disk w.medium).blocks m.files (unmounted_work (work_of w.work) fine) means.files))
