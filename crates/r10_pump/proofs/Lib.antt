@@ -1,6 +1,7 @@
 pub mod Coming
 pub mod Together
 pub mod SoFar
+pub mod Before
 pub mod Fitting
 pub mod Leaving
 pub mod Lanes

@@ -78,11 +78,12 @@ abbrev pub GoesThrough : (ℕ → ℕ) → Recording → ℕ → ℕ → List Pa
 GoesThrough most r nodes area [] = Unit {0}
 GoesThrough most r nodes area (p ∷ parts) = Ends r p.channel nodes area (most p.channel) (length p.samples) p.rest p.full × GoesOn p.full (GoesThrough most r nodes area parts) parts
 
--- From all lanes, in the order of these channels, so many samples were taken, no more of a channel than may be, and so many are left. They were taken into the file, which has room for them.
-pub record PumpsAll {Lane : Type 0} (took : Lane → List Sample → Lane → Type 0) (quiet : Lane → Option (List Sample)) (reached : Lane → ℕ) (spec_of : Lane → ChannelSpec) (order : List ℕ) (nodes area : ℕ)
+-- From all lanes, in the order of these channels, so many samples of each were taken, no more of a channel than may be, so many in all, and so many are left. They were taken into the file, which has room for them.
+pub record PumpsAll {Lane : Type 0} (took : Lane → List Sample → Lane → Type 0) (quiet : Lane → Option (List Sample)) (reached : Lane → ℕ) (spec_of : Lane → ChannelSpec) (order shares : List ℕ) (nodes area : ℕ)
     (lanes lanes' : List Lane) (old : Recording) (before : Disk) (new : Recording) (after : Disk) (stopped : Stopped) : Type 0 where
   pub parts : List Part
   pub order_is : map (λ p. p.channel) parts ≡ order
+  pub shares_are : map (λ p. length p.samples) parts ≡ shares
   pub taken : TookAll took spec_of parts lanes lanes'
   pub tells : AllByRecursion (Tells quiet spec_of lanes) parts
   pub within : AllByRecursion (λ p. length p.samples ≤ most_of (map spec_of lanes) p.channel) parts

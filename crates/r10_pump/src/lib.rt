@@ -14,5 +14,5 @@ pub use laws::{
     pumps_end_alike, stops_are_steps, stops_are_whole_steps, stops_count_the_rest,
     stops_leave_the_rest,
 };
-pub use single::{pump, ready_pump};
+pub use single::{first_lacks, pump, ready_pump};
 pub use stop::{pump_all, ready_all};
