@@ -1,12 +1,12 @@
 mod Behind
 mod Moments
 mod Turning
-mod Ends
-mod Written
+pub mod Ends
+pub mod Written
 mod Last
 mod Shown
-mod Grown
-mod Coming
+pub mod Grown
+pub mod Coming
 mod Going
 mod Closed
 mod Pumped
