@@ -5,3 +5,4 @@ mod Erases
 mod Bytes
 mod Tellings
 mod Seals
+mod Staying
