@@ -1,10 +1,10 @@
 -- A file that has begun: its last block, and then its entry in the directory.
 use Rattle.std.proofs.Common.{◌≡◌, false, Ok, Err, ℕ, ◌*◌, ◌<◌, ◌⊎◌, ⊎_elim, inl, List, [], ◌∷◌, ◌++◌, length, take, None, Some, Result, sym, ap, subst, ◌∙◌, arith}
-use Rattle.std.specs.Prelude.{OnOk}
+use Rattle.std.specs.Prelude.{◌≢◌, OnOk}
 use Rattle.std.specs.List.{All}
 use Rattle.std.proofs.lemmas.List.{append-nil}
-use Rattle.std.proofs.lemmas.List.Elements.{All-cons, All-from_get_or}
-use Rattle.r10_medium.specs.Disk.{Disk, Image, IsSynced, Unchanged}
+use Rattle.std.proofs.lemmas.List.Elements.{All-cons, All-from_get_or, All-tail}
+use Rattle.r10_medium.specs.Disk.{Disk, Image, IsSynced, Unchanged, block_at}
 use Rattle.r10_medium.specs.Stop.{Leaves, Settled}
 use Rattle.r10_medium.proofs.Stops.{below_puts, joined, settled_reads, then_stays, weakened, whole_reads}
 use Rattle.r10_blockout.specs.Blocks.{Shows, bytes_from, blocks_for, file_blocks, first_blocks}
@@ -80,6 +80,17 @@ listed_carries chain e r mid sure new result text entries there below spares sam
     on_ok result (Settled turned new) (Carries r new.blocks text entries)
     (λ settled. carries_behind r changed sure.blocks new.blocks text entries (settled_reads turned new settled).others less (subst (λ (l : Image). Carries r l text entries) (sym same.reads) carried))
     turns.settled
+
+-- the blocks in front of a file that is put stay
+pub front_put : (first k : ℕ) (blocks : Image) (old new : Disk) → Puts first blocks old new → k < first → block_at new.blocks k ≡ block_at old.blocks k
+front_put first k blocks old new put less = (below_puts first blocks old.blocks new.blocks put.reads).blocks k less
+
+-- and so they do while it is listed, but for the directory's
+pub front_listed : {T E : Type 0} (chain made : List ChainBlock) (first k n : ℕ) (unlinked : List ℕ) (blocks : Image) (old mid sure new : Disk) (result : Result T E) → Puts first blocks old mid → Unchanged mid sure
+    → Turns chain made unlinked (n ∷ unlinked) sure new result → k < first → All (λ (i : ℕ). k ≢ i) (n ∷ unlinked) → block_at new.blocks k ≡ block_at old.blocks k
+front_listed chain made first k n unlinked blocks old mid sure new result put same turns less apart =
+    ⊎_elim (λ was. was.others.others k (All-tail (λ (i : ℕ). k ≢ i) n unlinked apart)) (λ is. is.others.others k apart) turns.reads
+    ∙ ap (λ (l : Image). block_at l k) same.reads ∙ front_put first k blocks old mid put less
 
 -- a step of the directory, behind which it is sure
 pub turned_size : {T E : Type 0} (chain made : List ChainBlock) (unlinked changed : List ℕ) (old new : Disk) (result : Result T E) → Turns chain made unlinked changed old new result → length new.blocks ≡ length old.blocks

@@ -1,8 +1,8 @@
 //! Listing a file that has begun.
 
-ghost use Rattle.std.specs.Prelude.{◌≡◌, ◌<◌, ◌⊎◌, List, [], ◌∷◌, ◌++◌, ℕ, None, Some, true, length, OnOk, OnErr};
+ghost use Rattle.std.specs.Prelude.{◌≡◌, ◌≢◌, ◌<◌, ◌⊎◌, List, [], ◌∷◌, ◌++◌, ℕ, None, Some, true, length, OnOk, OnErr};
 ghost use Rattle.std.specs.List.{All};
-ghost use Rattle.r10_medium.specs.Disk.{Counts};
+ghost use Rattle.r10_medium.specs.Disk.{Counts, block_at};
 ghost use Rattle.r10_medium.specs.Stop.{Leaves, Settled};
 ghost use Rattle.r10_blockout.specs.Blocks.{bytes_from};
 ghost use Rattle.r10_blockout.specs.Output.{HasRoom, first_of};
@@ -12,7 +12,7 @@ ghost use Rattle.r10_dirblock.specs.Block.{has_room};
 ghost use Rattle.r10_dirchain.specs.Chain.{IsDirectory};
 ghost use Rattle.r10_dirchain.specs.OnMedium.{HasNext};
 ghost use Rattle.r10_dirchain.specs.Rooms.{room_for};
-ghost use Rattle.r10_dirchain.specs.Steps.{added, spare};
+ghost use Rattle.r10_dirchain.specs.Steps.{added, last_block, spare};
 ghost use Rattle.r10_dirchain.specs.declared.chain.ChainBlock.{ChainBlock};
 ghost use Rattle.r10_holding.specs.Holding.{Holds};
 ghost use Rattle.r10_machine.specs.Config.{Config};
@@ -56,6 +56,8 @@ pub fn list_file<M: BlockMedium>(
     ensures sure { OnOk result (Settled (λ image. IsDirectory image directory.new) (M.disk medium.new)) }
     ensures carries { (text : List ℕ) (entries : List Said) → Carries mux.now (M.disk medium.old).blocks text entries → All (λ (n : ℕ). n < first_of mux.now.out.blocks) (spare directory.old)
         → OnOk result (Carries mux.now (M.disk medium.new).blocks text entries) }
+    // The blocks in front of the file stay, but for the directory's that are written.
+    ensures front { (k : ℕ) → k < first_of mux.now.out.blocks → All (λ (n : ℕ). k ≢ n) ((last_block directory.old).number ∷ spare directory.old) → block_at (M.disk medium.new).blocks k ≡ block_at (M.disk medium.old).blocks k }
     ensures done { OnOk result (directory.new ≡ added entry directory.old) }
     ensures kept { OnErr result (directory.new ≡ directory.old) }
     ensures blocks { length (M.disk medium.new).blocks ≡ length (M.disk medium.old).blocks }

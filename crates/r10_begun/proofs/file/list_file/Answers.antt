@@ -1,5 +1,5 @@
 use Rattle.std.proofs.Common.{◌≡◌, ◌⊎◌, inl, List, [], ◌∷◌, ◌++◌, length, Some, sym, ap, ◌∙◌, subst}
-use Rattle.r10_medium.specs.Disk.{Image}
+use Rattle.r10_medium.specs.Disk.{Image, block_at}
 use Rattle.r10_medium.proofs.Stops.{then_stays}
 use Rattle.r10_blockout.specs.Blocks.{file_blocks}
 use Rattle.r10_blockout.specs.Output.{first_of}
@@ -8,7 +8,7 @@ use Rattle.r10_dirchain.specs.Steps.{added, last_block, spare}
 use Rattle.r10_dirchain.specs.declared.chain.ChainBlock.{ChainBlock}
 use Rattle.r10_holding.specs.Holding.{Holds}
 use Rattle.r10_steps.specs.Says.{MediumSays}
-use Rattle.r10_begun.proofs.Calls.{directory_stays, last_holds, last_moments, listed_carries, listed_holds, listed_moments, listed_reads, listed_settled, on_both, sure_of, turned_size}
+use Rattle.r10_begun.proofs.Calls.{directory_stays, front_listed, front_put, last_holds, last_moments, listed_carries, listed_holds, listed_moments, listed_reads, listed_settled, on_both, sure_of, turned_size}
 use Rattle.r10_begun.proofs.file.list_file.Goals as goal
 
 pub returns-in-Err-clause-either : goal.returns-in-Err-clause-either
@@ -140,3 +140,24 @@ returns-clause-blocks g c =
     let chain = c.args.directory.now in
     turned_size chain (added c.args.entry chain) (spare chain) ((last_block chain).number ∷ spare chain) (disk c.sync.new.self) (disk c.add.new.medium) c.add.result c.add.ensures.turns
     ∙ ap (λ (l : Image). length l) c.sync.ensures.same.reads ∙ c.commit_blocks.ensures.blocks
+
+pub returns-in-Err-clause-front : goal.returns-in-Err-clause-front
+returns-in-Err-clause-front g c =
+    let disk = g.M.BlockMedium.disk in
+    let it = c.requires.carries in
+    λ k less apart. front_put (first_of c.args.mux.now.out.blocks) k (file_blocks (file_bytes it.2.packets)) (disk c.args.medium.now) (disk c.commit_blocks.new.medium) (c.commit_blocks.ensures.puts it.0 it.1 it.2) less
+
+pub returns-in-Err-sync-clause-front : goal.returns-in-Err-sync-clause-front
+returns-in-Err-sync-clause-front g c =
+    let disk = g.M.BlockMedium.disk in
+    let it = c.requires.carries in
+    λ k less apart. ap (λ (l : Image). block_at l k) c.sync.ensures.same.reads
+    ∙ front_put (first_of c.args.mux.now.out.blocks) k (file_blocks (file_bytes it.2.packets)) (disk c.args.medium.now) (disk c.commit_blocks.new.medium) (c.commit_blocks.ensures.puts it.0 it.1 it.2) less
+
+pub returns-clause-front : goal.returns-clause-front
+returns-clause-front g c =
+    let disk = g.M.BlockMedium.disk in
+    let chain = c.args.directory.now in
+    let it = c.requires.carries in
+    λ k less apart. front_listed chain (added c.args.entry chain) (first_of c.args.mux.now.out.blocks) k (last_block chain).number (spare chain) (file_blocks (file_bytes it.2.packets)) (disk c.args.medium.now) (disk c.commit_blocks.new.medium)
+    (disk c.sync.new.self) (disk c.add.new.medium) c.add.result (c.commit_blocks.ensures.puts it.0 it.1 it.2) c.sync.ensures.same c.add.ensures.turns less apart
