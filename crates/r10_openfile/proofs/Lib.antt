@@ -18,3 +18,4 @@ mod Places
 mod Rooms
 mod Beginning
 mod Relisted
+mod Sorted

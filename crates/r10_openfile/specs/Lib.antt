@@ -1,3 +1,4 @@
+pub mod Channels
 pub mod Intake
 pub mod Keeping
 pub mod Putting

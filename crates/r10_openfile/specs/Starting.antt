@@ -1,5 +1,5 @@
 -- A file that begins behind those that a directory lists.
-use Rattle.std.specs.Prelude.{◌≡◌, ℕ, ◌+◌, Bool, true, false, List, [], ◌∷◌, length, nat_le}
+use Rattle.std.specs.Prelude.{◌≡◌, ℕ, ◌+◌, Bool, true, false, List, [], ◌∷◌, ◌++◌, length, nat_le}
 use Rattle.r10_body.specs.Cost.{entry_cost, file_cost}
 use Rattle.r10_body.specs.Packets.{file_bytes}
 use Rattle.r10_builder.specs.State.{State}
@@ -37,3 +37,9 @@ abbrev pub NotBegun : {M : Type 0} → Bool → M → M → List State → ℕ �
 NotBegun room medium medium' builders failures failures' (Full back) = (room ≡ false) × AreGivenBack builders back × (medium' ≡ medium)
 NotBegun room medium medium' builders failures failures' (Memory back) = (room ≡ true) × AreGivenBack builders back × (medium' ≡ medium)
 NotBegun room medium medium' builders failures failures' (Medium fault) = (room ≡ true) × Rose failures failures'
+
+-- behind these files one more is listed, from this block on
+pub record IsListedBehind (old new : List Listed) (first : ℕ) : Type 0 where
+  pub entry : Listed
+  pub behind : new ≡ old ++ entry ∷ []
+  pub place : entry.first_block ≡ first

@@ -3,6 +3,7 @@
 //! there were or those that the call makes.
 #![tactic(auto)]
 
+mod channels;
 mod data;
 mod entries;
 mod fault;
@@ -11,7 +12,8 @@ mod laws;
 mod opening;
 mod pumping;
 
+pub use channels::builders_of;
 pub use fault::BeginFault;
 pub use file::OpenFile;
 pub use laws::channels_end_apart;
-pub use opening::begin;
+pub use opening::{begin, has_room_to_begin};
