@@ -6,3 +6,5 @@ mod Bytes
 mod Tellings
 mod Seals
 mod Staying
+mod Lacking
+mod Starts

@@ -5,3 +5,4 @@ pub mod Leading
 pub mod Checks
 pub mod Refused
 pub mod SealRefusals
+pub mod Started

@@ -7,6 +7,7 @@ mod mounting;
 mod recorder;
 mod sealing;
 mod telling;
+mod starting;
 mod work;
 
 pub use recorder::Recorder;
