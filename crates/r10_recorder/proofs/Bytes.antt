@@ -1,13 +1,23 @@
 -- What a recorder's work says of the medium's files.
-use Rattle.std.proofs.Common.{◌≡◌, List, None, subst}
+use Rattle.std.proofs.Common.{◌≡◌, ℕ, List, [], ◌∷◌, None, subst}
+use Rattle.r10_blockout.specs.Blocks.{bytes_from}
+use Rattle.r10_dirblock.specs.declared.entry.Entry.{Entry as Listed}
+use Rattle.r10_dirchain.specs.Chain.{files as listed_files}
+use Rattle.r10_dirchain.proofs.Unique.{one_directory}
 use Rattle.r10_dirchain.specs.declared.chain.ChainBlock.{ChainBlock}
 use Rattle.r10_holding.specs.Holding.{Holds}
 use Rattle.r10_machine.specs.Config.{Config}
 use Rattle.r10_machine.specs.Machine.{File}
 use Rattle.r10_means.specs.Kept.{Work, unmounted, idle}
 use Rattle.r10_means.specs.Means.{HasFiles}
-use Rattle.r10_medium.specs.Disk.{Image}
-use Rattle.r10_steps.specs.Says.{MediumSays}
+use Rattle.r10_medium.specs.Disk.{Image, IsWhole}
+use Rattle.r10_reader.specs.Staying.{KeepListed}
+use Rattle.r10_recorder.proofs.Staying.{listed_keep}
+use Rattle.r10_standing.specs.Bytes.{KeepBytes}
+use Rattle.r10_steps.specs.Says.{MediumSays, SaysEach}
+use Rattle.r10_volume.specs.Front.{KeepsFront}
+use Rattle.r10_volume.specs.Listing.{block_behind}
+use Rattle.r10_volume.specs.Mounting.{IsUsable}
 
 -- nothing is in use
 pub says_of : (s : Config) (w : Work) (image : Image) (files : List File) → w ≡ unmounted → HasFiles s w image files → MediumSays s image files
@@ -16,3 +26,21 @@ says_of s w image files is has = (subst (λ (x : Work). HasFiles s x image files
 -- a directory is in use
 pub holds_of : (s : Config) (w : Work) (chain : List ChainBlock) (image : Image) (files : List File) → w ≡ idle chain → HasFiles s w image files → Holds s image chain None files
 holds_of s w chain image files is has = subst (λ (x : Work). HasFiles s x image files) is has
+
+-- the bytes of files are those of their entries
+each_keeps : (old new : Image) (entries : List Listed) (files : List File) → SaysEach old entries files → KeepListed old new entries → KeepBytes old new files
+each_keeps old new [] [] each keeps = tt
+each_keeps old new [] (f ∷ files) each keeps = absurd each
+each_keeps old new (e ∷ entries) [] each keeps = absurd each
+each_keeps old new (e ∷ entries) (f ∷ files) each keeps = (same e.first_block f.first_block e.size f.size each.0.first_block each.0.size keeps.0, each_keeps old new entries files each.2 keeps.1)
+  where
+    same : (n m size length : ℕ) → n ≡ m → size ≡ length → bytes_from new n size ≡ bytes_from old n size → bytes_from new m length ≡ bytes_from old m length
+    same n m size length at long is = subst (λ (k : ℕ). bytes_from new m k ≡ bytes_from old m k) long (subst (λ (k : ℕ). bytes_from new k size ≡ bytes_from old k size) at is)
+
+-- a file is put behind the others
+pub kept_behind : (s : Config) (old new : Image) (chain : List ChainBlock) (files : List File) → IsWhole old → IsUsable s.directory old chain → KeepsFront s.directory (block_behind s.directory (listed_files chain)) old new → Holds s old chain None files
+    → KeepBytes old new files
+kept_behind s old new chain files whole usable same held =
+    each_keeps old new (listed_files chain) files
+    (subst (λ (c : List ChainBlock). SaysEach old (listed_files c) files) (one_directory old held.says.chain chain held.says.directory held.directory) held.says.each)
+    (listed_keep s.directory old new chain whole usable same)

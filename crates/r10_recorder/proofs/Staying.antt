@@ -109,15 +109,17 @@ behind_sum blocks n k o (e ∷ entries) is stand =
     let place = placed_at blocks n e stand.0 in
     omega (arith, behind_sum blocks (n + e.block_count) k (Some e) entries (omega (arith, place.first)) stand.1, sum_by-cons (λ (x : Listed). x.block_count) e entries)
 
--- all files of a directory, and others behind them: no block changes in front of the one behind the files
+-- all files of a directory, where no block changes in front of the one behind them
+pub listed_keep : (reserved : ℕ) (old new : Image) (chain : List ChainBlock) → IsWhole old → IsUsable reserved old chain → KeepsFront reserved (block_behind reserved (listed_files chain)) old new → KeepListed old new (listed_files chain)
+listed_keep reserved old new chain whole usable same =
+    let stand = (usable_of reserved (length old) chain usable.rules).stand in
+    front_keeps reserved (block_behind reserved (listed_files chain)) (reserved + 1) old new (listed_files chain) whole same (omega arith) stand
+    (omega (arith, behind_sum (length old) (reserved + 1) (1 + reserved) None (listed_files chain) (omega arith) stand))
+
+-- and others behind them
 pub listed_stay : (reserved : ℕ) (old new : Image) (chain : List ChainBlock) (more : List Listed) (judged : List Judged) → IsWhole old → IsUsable reserved old chain → KeepsFront reserved (block_behind reserved (listed_files chain)) old new
     → AreJudged (listed_files chain) old judged → AreJudged (listed_files chain ++ more) new judged
-listed_stay reserved old new chain more judged whole usable same are =
-    let stand = (usable_of reserved (length old) chain usable.rules).stand in
-    still_judged old new (listed_files chain) more judged
-    (front_keeps reserved (block_behind reserved (listed_files chain)) (reserved + 1) old new (listed_files chain) whole same (omega arith) stand
-    (omega (arith, behind_sum (length old) (reserved + 1) (1 + reserved) None (listed_files chain) (omega arith) stand)))
-    are
+listed_stay reserved old new chain more judged whole usable same are = still_judged old new (listed_files chain) more judged (listed_keep reserved old new chain whole usable same) are
 
 -- a start, which lists one more behind them
 pub started_stays : (reserved : ℕ) (old new : Image) (chain made : List ChainBlock) (file : Open) (books : Books) → IsWhole old → IsUsable reserved old chain → KeepsFront reserved (block_behind reserved (listed_files chain)) old new
