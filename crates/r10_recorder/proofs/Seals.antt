@@ -8,6 +8,8 @@ use Rattle.r10_body.specs.declared.refusal.Refusal.TheVariants.{IndexFull, Mediu
 use Rattle.r10_body.specs.Packets.{Packet}
 use Rattle.r10_count.specs.Checks.{first_broken}
 use Rattle.r10_count.proofs.Rules.{rules_pass}
+use Rattle.r10_dirblock.specs.Block.{is_closed}
+use Rattle.r10_dirblock.specs.declared.entry.Entry.{Entry as Listed}
 use Rattle.r10_dirchain.specs.Chain.{files as listed_files}
 use Rattle.r10_dirchain.specs.declared.chain.ChainBlock.{ChainBlock}
 use Rattle.r10_holding.specs.Holding.{Holds}
@@ -73,6 +75,11 @@ left_unsealed false fine = refl
 
 pub seal_refused : StepsStaySound → (k : Kept) (image : Image) (n : ℕ) (m : Machine) (r : Refusal) → IsConfig k.config → Means k image n m → checked k ≡ Some r → Leads none_taken k m Seal (replies.Refused r) k image n
 seal_refused law k image n m r limits means is = refused_leads law k image n m Seal r limits means (same_check k image n m means ∙ is) (λ x. refl)
+
+-- where the last file is open, there is one
+pub sealed_some : (P : Listed → Type 0) (o : Option Listed) → elim o [ None ↦ true | Some e ↦ is_closed e ] ≡ false → ((e : Listed) → o ≡ Some e → P e) → IsSomeAnd o P
+sealed_some P None is each = absurd (cc)
+sealed_some P (Some e) is each = each e refl
 
 -- ---- the file that was left open
 
