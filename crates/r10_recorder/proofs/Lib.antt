@@ -8,3 +8,4 @@ mod Seals
 mod Staying
 mod Lacking
 mod Starts
+mod Offers

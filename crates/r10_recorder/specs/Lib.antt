@@ -6,3 +6,4 @@ pub mod Checks
 pub mod Refused
 pub mod SealRefusals
 pub mod Started
+pub mod Lanes

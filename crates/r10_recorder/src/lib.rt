@@ -4,6 +4,7 @@
 
 mod clock;
 mod mounting;
+mod offering;
 mod recorder;
 mod sealing;
 mod telling;
