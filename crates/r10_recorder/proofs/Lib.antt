@@ -9,3 +9,4 @@ mod Staying
 mod Lacking
 mod Starts
 mod Offers
+mod Statuses

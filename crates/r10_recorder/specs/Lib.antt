@@ -7,3 +7,4 @@ pub mod Refused
 pub mod SealRefusals
 pub mod Started
 pub mod Lanes
+pub mod Told

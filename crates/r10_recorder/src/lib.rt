@@ -7,6 +7,7 @@ mod mounting;
 mod offering;
 mod recorder;
 mod sealing;
+mod status;
 mod telling;
 mod starting;
 mod work;
