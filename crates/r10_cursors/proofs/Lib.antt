@@ -1,4 +1,4 @@
 mod Fronts
-mod Reading
+pub mod Reading
 mod Standing
 mod Stepping

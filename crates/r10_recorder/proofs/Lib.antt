@@ -10,3 +10,5 @@ mod Lacking
 mod Starts
 mod Offers
 mod Statuses
+mod Readings
+mod Finds

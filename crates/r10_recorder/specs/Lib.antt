@@ -8,3 +8,4 @@ pub mod SealRefusals
 pub mod Started
 pub mod Lanes
 pub mod Told
+pub mod Reading

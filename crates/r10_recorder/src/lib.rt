@@ -5,6 +5,7 @@
 mod clock;
 mod mounting;
 mod offering;
+mod reading;
 mod recorder;
 mod sealing;
 mod status;
