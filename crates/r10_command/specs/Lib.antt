@@ -2,4 +2,5 @@ pub mod Command
 pub mod Lines
 pub mod Sim
 pub mod Status
+pub mod Told
 pub mod Written

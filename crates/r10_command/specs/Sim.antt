@@ -1,5 +1,5 @@
 -- What `sim` does.
-use Rattle.std.specs.Prelude.{◌≡◌, ℕ, List, [], Option, Some}
+use Rattle.std.specs.Prelude.{◌≡◌, ℕ, List, [], map, Option, Some}
 use Rattle.std.specs.List.{concat}
 use Rattle.std.specs.Io.KnownBytes.{Appends}
 use Rattle.toml.specs.Data.{Members}
@@ -14,10 +14,12 @@ use Rattle.r10_medium.specs.Disk.{Image}
 use Rattle.r10_script.specs.Keys.{HasOnly}
 use Rattle.r10_script.specs.Script.{AreSettings, AreSteps, script_keys}
 use Rattle.r10_command.specs.Lines.{RunsAndWrites}
+use Rattle.r10_command.specs.Told.{step_of}
 
--- a text spells a script: these settings and these events
+-- a text spells a script: these settings, and the steps of these events
 abbrev pub IsScript : List ℕ → Config → List Event → Type 0
-IsScript text settings events = (table : Members) × (parse_document text ≡ Some table) × HasOnly script_keys table × AreSettings table settings × AreSteps settings.channels table events
+IsScript text settings events =
+    (table : Members) × (parse_document text ≡ Some table) × HasOnly script_keys table × AreSettings table settings × AreSteps settings.channels table (map step_of events)
 
 -- the events ran on a fresh recorder, and the lines of its replies were written behind what the writer held
 abbrev pub Plays : Config → List Event → Option (List ℕ) → Option (List ℕ) → Type 0

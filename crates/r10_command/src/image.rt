@@ -5,8 +5,8 @@ ghost use Rattle.r10_command.specs.Sim.{WritesLeft};
 
 use crate::fault::Fault;
 use crate::play::run_on_fresh;
+use crate::told::read_told;
 use r10_images::{read_whole, write_image};
-use r10_script::read_script;
 use std::alloc::Global;
 use std::io;
 use std::io::{Read, Write};
@@ -20,12 +20,9 @@ pub fn sim_image<R: Read, W: Write>(
     ensures { OnOk result (IfSome (R.remaining reader.old) (λ text. WritesLeft text (W.contents writer.old) (W.contents writer.new))) }
 {
     let text = read_whole(alloc, reader)?;
-    match read_script(alloc, text.as_slice()) {
-        Ok(script) => {
-            let mut medium = run_on_fresh(alloc, script, &mut io::sink())?.into_medium();
-            write_image(&mut medium, writer)?;
-            Ok(())
-        }
-        Err(fault) => Err(Fault::Script(fault)),
-    }
+    let (settings, events) = read_told(alloc, text.as_slice())?;
+    let world = run_on_fresh(alloc, settings, events, &mut io::sink())?;
+    let mut medium = world.into_medium();
+    write_image(&mut medium, writer)?;
+    Ok(())
 }

@@ -5,6 +5,7 @@ mod command;
 mod fault;
 mod image;
 mod play;
+mod told;
 
 pub use command::{report, run};
 pub use fault::Fault;

@@ -9,12 +9,12 @@ ghost use Rattle.r10_command.specs.Lines.{WritesLines, RunsAndWrites, IsReady};
 ghost use Rattle.r10_command.specs.Sim.{Leaves, Plays, Simulates};
 
 use crate::fault::Fault;
+use crate::told::read_told;
 use r10_body::Refusal;
 use r10_images::read_whole;
 use r10_lines::reply_line;
 use r10_machine::{Event, Reply, Settings};
 use r10_medium::{BlockMedium, Memory};
-use r10_script::{Script, read_script};
 use r10_world::World;
 use std::alloc::{AllocError, Global};
 use std::io::{Read, Write};
@@ -24,33 +24,34 @@ pub fn sim<R: Read, W: Write>(alloc: Global, reader: &mut R, writer: &mut W) -> 
     ensures { OnOk result (IfSome (R.remaining reader.old) (λ text. Simulates text (W.contents writer.old) (W.contents writer.new))) }
 {
     let text = read_whole(alloc, reader)?;
-    match read_script(alloc, text.as_slice()) {
-        Ok(script) => {
-            let _ = run_script(alloc, script, writer)?;
-            writer.flush().map_err(Fault::Write)
-        }
-        Err(fault) => Err(Fault::Script(fault)),
-    }
+    let (settings, events) = read_told(alloc, text.as_slice())?;
+    let _ = run_script(alloc, settings, events, writer)?;
+    writer.flush().map_err(Fault::Write)
 }
 
 /// Runs the steps of a script on a fresh medium, and gives the medium back.
-pub fn run_script<W: Write>(alloc: Global, script: Script, writer: &mut W) -> Result<Memory, Fault>
-    ensures { OnOk result (Plays script.settings script.events.items (W.contents writer.old) (W.contents writer.new)) }
+pub fn run_script<W: Write>(
+    alloc: Global,
+    settings: Settings,
+    events: Vec<Event>,
+    writer: &mut W,
+) -> Result<Memory, Fault>
+    ensures { OnOk result (Plays settings events.items (W.contents writer.old) (W.contents writer.new)) }
 {
-    let world = run_on_fresh(alloc, script, writer)?;
+    let world = run_on_fresh(alloc, settings, events, writer)?;
     Ok(world.into_medium())
 }
 
 /// The recorder as the steps of a script leave it, on a fresh medium.
 pub(crate) fn run_on_fresh<W: Write>(
     alloc: Global,
-    script: Script,
+    settings: Settings,
+    events: Vec<Event>,
     writer: &mut W,
 ) -> Result<World<Memory>, Fault>
-    ensures plays { OnOk result (Plays script.settings script.events.items (W.contents writer.old) (W.contents writer.new)) }
-    ensures leaves { IfOk result (λ world. Leaves script.settings script.events.items (memory_disk world.medium).blocks) }
+    ensures plays { OnOk result (Plays settings events.items (W.contents writer.old) (W.contents writer.new)) }
+    ensures leaves { IfOk result (λ world. Leaves settings events.items (memory_disk world.medium).blocks) }
 {
-    let Script { settings, events } = script;
     let medium = Memory::new(alloc, settings.blocks())?;
     let mut world = fresh_world(alloc, settings, medium)?;
     run_steps(alloc, &mut world, events.as_slice(), writer)?;

@@ -1,6 +1,6 @@
-pub mod Civil
 pub mod Keys
 pub mod Kinds
+pub mod Offers
 pub mod Script
 pub mod Steps
 pub mod Vectors

@@ -1,26 +1,11 @@
 //! What a script has where something else is wanted, as it is said in a fault.
 
+use r10_scripttext::Found;
 use std::alloc::{AllocError, Global};
-use thiserror::Error;
 use toml::Value;
 
 /// How many characters of a word of a script are said.
 const MOST: usize = 60;
-
-/// What a key has.
-#[derive(Debug, Drop, Error)]
-pub enum Found {
-    #[error("{0}")]
-    Number(i64),
-    #[error("{0}")]
-    Truth(bool),
-    /// The first characters of a text.
-    #[error("{0:?}")]
-    Text(String),
-    /// A value of another type, by the type's name.
-    #[error("{0}")]
-    Other(&'static str),
-}
 
 /// What is said of a value.
 pub fn found_of(alloc: Global, value: &Value) -> Result<Found, AllocError> {

@@ -7,13 +7,13 @@ ghost use Rattle.toml.specs.View.{table_view};
 ghost use Rattle.r10_script.specs.Keys.{HasOnly};
 ghost use Rattle.r10_script.specs.Script.{AreSettings, AreSteps, script_keys};
 
-use crate::fault::{Place, ScriptFault, Spot, Wrong};
-use crate::locate::line_of;
 use crate::settings::settings_of;
 use crate::step::event_of;
 use crate::table::Fields;
 use r10_body::ChannelSpec;
-use r10_machine::{Event, Settings};
+use r10_machine::Settings;
+use r10_scripttext::{Place, ScriptFault, Spot, Wrong};
+use r10_steps::Event;
 use std::alloc::{AllocError, Global};
 
 /// What a script asks for: a recorder of these settings, and these events in turn.
@@ -30,7 +30,7 @@ pub fn read_script(alloc: Global, text: &[u8]) -> Result<Script, ScriptFault>
 {
     match script_of(alloc, text) {
         Ok(script) => Ok(script),
-        Err(fault) => Err(located(text, fault)),
+        Err(fault) => Err(fault.located(text)),
     }
 }
 
@@ -90,25 +90,5 @@ fn toml_fault(alloc: Global, text: &[u8], error: &toml::de::Error) -> ScriptFaul
             wrong: Wrong::Toml { message },
         },
         Err(error) => ScriptFault::OutOfMemory(error),
-    }
-}
-
-/// The fault with the line of what it names, where it has none and the text has it in a line of its own.
-fn located(text: &[u8], fault: ScriptFault) -> ScriptFault {
-    match fault {
-        ScriptFault::Wrong {
-            spot: Spot { line: None, place },
-            wrong,
-        } => {
-            let line = match str::from_utf8(text) {
-                Ok(text) => line_of(text, place, wrong.key()),
-                Err(_) => None,
-            };
-            ScriptFault::Wrong {
-                spot: Spot { line, place },
-                wrong,
-            }
-        }
-        other => other,
     }
 }

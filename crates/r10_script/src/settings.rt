@@ -6,13 +6,13 @@ ghost use Rattle.r10_script.specs.Keys.{items_at, text_at, HasOnly};
 ghost use Rattle.r10_script.specs.Kinds.{channel_keys, kind_word};
 ghost use Rattle.r10_script.specs.Script.{AreSettings, EachAsks, IsBits, IsChannelTable};
 
-use crate::fault::{Place, ScriptFault};
 use crate::limits::{
     BITS, BLOCKS, BYTES, CAPACITY, CHECK, DIRECTORY, ID, NODES, NUMBER, VOLUME, limit_fault,
 };
 use crate::table::Fields;
 use r10_body::{ChannelSpec, Kind};
 use r10_machine::Settings;
+use r10_scripttext::{Place, ScriptFault};
 use std::alloc::Global;
 
 const KINDS: &str = "one of: uart, 1553, arinc, discrete, message";

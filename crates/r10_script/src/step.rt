@@ -1,44 +1,41 @@
 //! The steps of a script.
 
-ghost use Rattle.std.specs.Prelude.{◌≡◌, ◌==◌, pos, Some, codes, IfOk, List, [], ◌∷◌};
-ghost use Rattle.std.specs.List.{find};
+ghost use Rattle.std.specs.Prelude.{◌≡◌, pos, Some, codes, IfOk, IfSome, List, [], ◌∷◌};
+ghost use Rattle.toml.specs.Data.{Members};
 ghost use Rattle.toml.specs.View.{table_view};
-ghost use Rattle.r10_body.specs.declared.message.Kind.TheVariants as kinds;
 ghost use Rattle.r10_body.specs.declared.spec.ChannelSpec.{ChannelSpec as Spec};
 ghost use Rattle.r10_lines.specs.Civil.{civil_text};
 ghost use Rattle.r10_script.specs.Keys.{integer_at, text_at, HasOnly};
-ghost use Rattle.r10_script.specs.Kinds.{kind_word};
-ghost use Rattle.r10_script.specs.Steps.{IsOfKind, IsStep, offered_word};
+ghost use Rattle.r10_script.specs.Steps.{IsBareStep, IsStep};
 
-use crate::civil::parts_of;
-use crate::fault::{ScriptFault, Wrong};
-use crate::settings::kind_of;
+use crate::offer::offered_of;
 use crate::table::Fields;
-use r10_body::{ChannelSpec, Kind, Message};
+use r10_body::ChannelSpec;
 use r10_count::{Items, Parts};
-use r10_machine::Event;
+use r10_scripttext::{ScriptFault, parts_of};
+use r10_steps::Event;
 
 const CIVIL: &str = "a text of the form YYYY-MM-DD hh:mm:ss.cc";
 
-const STEPS: &str = "one of: mount, tick, start, offer, pump, stop, cursor, advance, next, close";
+/// The words of the steps that a recorder does today, as a fault says them. The other steps are read too.
+pub const STEPS: &str =
+    "one of: mount, tick, start, offer, pump, stop, cursor, advance, next, close";
 
 /// The event that a step's table spells.
 pub fn event_of(channels: &[ChannelSpec], fields: Fields<'_>) -> Result<Event, ScriptFault>
     ensures { IfOk result (λ event. IsStep channels.now (table_view fields.entry.table.now) event) }
 {
-    match fields.text("do", STEPS)? {
-        "mount" => {
-            fields.only(&["do"])?;
-            Ok(Event::Mount)
-        }
+    let word = fields.text("do", STEPS)?;
+    if let Some(event) = bare_of(word) {
+        fields.only(&["do"])?;
+        return Ok(event);
+    }
+    match word {
         "tick" => tick_of(fields),
         "start" => start_of(fields),
         "offer" => offer_of(channels, fields),
         "pump" => pump_of(fields),
-        "stop" => {
-            fields.only(&["do"])?;
-            Ok(Event::Stop)
-        }
+        "event" => recorded_of(fields),
         "cursor" => cursor_of(fields),
         "advance" => {
             let id = id_of(fields)?;
@@ -52,7 +49,26 @@ pub fn event_of(channels: &[ChannelSpec], fields: Fields<'_>) -> Result<Event, S
             let id = id_of(fields)?;
             Ok(Event::Close { id })
         }
+        "find" => find_of(fields),
+        "count_at" => count_at_of(fields),
         _ => Err(fields.refused("do", STEPS)),
+    }
+}
+
+/// The event that this word alone spells.
+fn bare_of(word: &str) -> Option<Event>
+    ensures { IfSome result (λ event. (channels : List Spec) → (table : Members) → IsBareStep word.now table → IsStep channels table event) }
+{
+    match word {
+        "mount" => Some(Event::Mount),
+        "dismount" => Some(Event::Dismount),
+        "commit" => Some(Event::Commit),
+        "stop" => Some(Event::Stop),
+        "seal" => Some(Event::Seal),
+        "erase" => Some(Event::Erase),
+        "files" => Some(Event::Files),
+        "status" => Some(Event::Status),
+        _ => None,
     }
 }
 
@@ -92,113 +108,11 @@ fn offer_of(channels: &[ChannelSpec], fields: Fields<'_>) -> Result<Event, Scrip
 {
     let channel = fields.short("channel")?;
     let count = fields.count("count")?;
-    let kind = offered_kind(channels, channel, fields)?;
-    let message = message_of(kind, fields)?;
+    let message = offered_of(channels, channel, fields)?;
     Ok(Event::Offer {
         channel,
         count,
         message,
-    })
-}
-
-/// The kind that the step names, or else that of its channel.
-fn offered_kind(
-    channels: &[ChannelSpec],
-    channel: u16,
-    fields: Fields<'_>,
-) -> Result<Kind, ScriptFault>
-    ensures { IfOk result (λ kind. offered_word channels.now channel (table_view fields.entry.table.now) ≡ Some (kind_word kind)) }
-{
-    if fields.has("kind") {
-        return kind_of(fields);
-    }
-    match spec_of(channels, channel) {
-        Some(spec) => Ok(spec.kind),
-        None => Err(fields.fault(Wrong::NoChannel { channel })),
-    }
-}
-
-/// The settings of a channel.
-fn spec_of(channels: &[ChannelSpec], channel: u16) -> Option<ChannelSpec>
-    ensures { result ≡ find (λ spec. spec.id == channel) channels.now }
-{
-    channels.iter().copied().find(|spec| spec.id == channel)
-}
-
-/// A message of this kind: a key that is absent is false, 0 or empty.
-fn message_of(kind: Kind, fields: Fields<'_>) -> Result<Message, ScriptFault>
-    ensures { IfOk result (λ message. IsOfKind kind (table_view fields.entry.table.now) message) }
-{
-    match kind {
-        Kind::Uart => uart_of(fields),
-        Kind::Bus1553 => bus_of(fields),
-        Kind::Arinc => arinc_of(fields),
-        Kind::Discrete => discrete_of(fields),
-        Kind::Message => bytes_of(fields),
-    }
-}
-
-fn uart_of(fields: Fields<'_>) -> Result<Message, ScriptFault>
-    ensures { IfOk result (λ message. IsOfKind kinds.Uart (table_view fields.entry.table.now) message) }
-{
-    fields.only(&["do", "channel", "count", "kind", "parity", "sub", "bytes"])?;
-    let parity = fields.truth_or_false("parity")?;
-    let sub = fields.short_or_zero("sub")?;
-    let bytes = Items::of(fields.bytes_or_none("bytes")?);
-    Ok(Message::Uart { parity, sub, bytes })
-}
-
-/// A message of a MIL-STD-1553 bus.
-fn bus_of(fields: Fields<'_>) -> Result<Message, ScriptFault>
-    ensures { IfOk result (λ message. IsOfKind kinds.Bus1553 (table_view fields.entry.table.now) message) }
-{
-    fields.only(&["do", "channel", "count", "kind", "status", "gap", "words"])?;
-    let status = fields.short_or_zero("status")?;
-    let gap = fields.short_or_zero("gap")?;
-    let words = Items::of(fields.words_or_none("words")?);
-    Ok(Message::Bus1553 { status, gap, words })
-}
-
-/// A word of an ARINC 429 bus.
-fn arinc_of(fields: Fields<'_>) -> Result<Message, ScriptFault>
-    ensures { IfOk result (λ message. IsOfKind kinds.Arinc (table_view fields.entry.table.now) message) }
-{
-    fields.only(&[
-        "do", "channel", "count", "kind", "bus", "format", "parity", "high", "data",
-    ])?;
-    Ok(Message::Arinc {
-        bus: fields.byte_or_zero("bus")?,
-        format: fields.truth_or_false("format")?,
-        parity: fields.truth_or_false("parity")?,
-        high: fields.truth_or_false("high")?,
-        word: fields.long_or_zero("data")?,
-    })
-}
-
-fn discrete_of(fields: Fields<'_>) -> Result<Message, ScriptFault>
-    ensures { IfOk result (λ message. IsOfKind kinds.Discrete (table_view fields.entry.table.now) message) }
-{
-    fields.only(&["do", "channel", "count", "kind", "states"])?;
-    let states = fields.long_or_zero("states")?;
-    Ok(Message::Discrete { states })
-}
-
-/// A message of a message channel.
-fn bytes_of(fields: Fields<'_>) -> Result<Message, ScriptFault>
-    ensures { IfOk result (λ message. IsOfKind kinds.Message (table_view fields.entry.table.now) message) }
-{
-    fields.only(&[
-        "do", "channel", "count", "kind", "data", "format", "sub", "bytes",
-    ])?;
-    let data_error = fields.truth_or_false("data")?;
-    let format = fields.truth_or_false("format")?;
-    let sub = fields.short_or_zero("sub")?;
-    let bytes = Items::of(fields.bytes_or_none("bytes")?);
-    Ok(Message::Message {
-        data_error,
-        format,
-        sub,
-        bytes,
     })
 }
 
@@ -209,6 +123,16 @@ fn pump_of(fields: Fields<'_>) -> Result<Event, ScriptFault>
     let channel = fields.short("channel")?;
     let most = fields.size("k")?;
     Ok(Event::Pump { channel, most })
+}
+
+/// A recording event.
+fn recorded_of(fields: Fields<'_>) -> Result<Event, ScriptFault>
+    ensures { IfOk result (λ event. (channels : List Spec) → text_at (table_view fields.entry.table.now) (codes "do") ≡ Some (codes "event") → IsStep channels (table_view fields.entry.table.now) event) }
+{
+    fields.only(&["do", "number", "count"])?;
+    let number = fields.short("number")?;
+    let count = fields.count("count")?;
+    Ok(Event::Event { number, count })
 }
 
 fn cursor_of(fields: Fields<'_>) -> Result<Event, ScriptFault>
@@ -233,4 +157,27 @@ fn id_of(fields: Fields<'_>) -> Result<usize, ScriptFault>
 {
     fields.only(&["do", "id"])?;
     fields.size("id")
+}
+
+fn find_of(fields: Fields<'_>) -> Result<Event, ScriptFault>
+    ensures { IfOk result (λ event. (channels : List Spec) → text_at (table_view fields.entry.table.now) (codes "do") ≡ Some (codes "find") → IsStep channels (table_view fields.entry.table.now) event) }
+{
+    fields.only(&["do", "file", "channel", "count"])?;
+    let file = fields.size("file")?;
+    let channel = fields.short("channel")?;
+    let count = fields.count("count")?;
+    Ok(Event::Find {
+        file,
+        channel,
+        count,
+    })
+}
+
+fn count_at_of(fields: Fields<'_>) -> Result<Event, ScriptFault>
+    ensures { IfOk result (λ event. (channels : List Spec) → text_at (table_view fields.entry.table.now) (codes "do") ≡ Some (codes "count_at") → IsStep channels (table_view fields.entry.table.now) event) }
+{
+    fields.only(&["do", "file", "civil"])?;
+    let file = fields.size("file")?;
+    let parts = civil_of(fields)?;
+    Ok(Event::CountAt { file, parts })
 }

@@ -2,9 +2,17 @@
 
 use crate::fault::Place;
 
+/// The line of a key or a table, as `line_of` says it, in a text that may not be UTF-8.
+pub fn line_in(text: &[u8], place: Place, key: &str) -> Option<usize> {
+    match str::from_utf8(text) {
+        Ok(text) => line_of(text, place, key),
+        Err(_) => None,
+    }
+}
+
 /// The line, from 1, of this key in the table at this place, or else of the table's head. None where the text has neither in a
 /// line of its own.
-pub fn line_of(text: &str, place: Place, key: &str) -> Option<usize> {
+fn line_of(text: &str, place: Place, key: &str) -> Option<usize> {
     let (name, wanted) = match place {
         Place::Text => return None,
         Place::Top => (key, 1),

@@ -2,7 +2,7 @@
 
 ghost use Rattle.std.specs.Prelude.{◌≡◌, ◌<◌, ◌+◌, ◌∷◌, ◌++◌, ℕ, List, IfSome, IfNone};
 ghost use Rattle.r10_lines.specs.Civil.{two_digits, civil_text};
-ghost use Rattle.r10_script.specs.Civil.{date_text, HasText};
+ghost use Rattle.r10_scripttext.specs.Civil.{date_text, HasText};
 
 use r10_count::Parts;
 

@@ -1,6 +1,8 @@
 //! Why a text is no script, and where.
 
-use crate::found::Found;
+ghost use Rattle.r10_scripttext.specs.Fault.{IsLocated};
+
+use crate::locate::line_in;
 use std::alloc::AllocError;
 use std::fmt;
 use thiserror::Error;
@@ -74,9 +76,46 @@ pub enum Wrong {
     },
 }
 
+/// What a key has.
+#[derive(Debug, Drop, Error)]
+pub enum Found {
+    #[error("{0}")]
+    Number(i64),
+    #[error("{0}")]
+    Truth(bool),
+    /// The first characters of a text.
+    #[error("{0:?}")]
+    Text(String),
+    /// A value of another type, by the type's name.
+    #[error("{0}")]
+    Other(&'static str),
+}
+
+impl ScriptFault {
+    /// The fault with the line of what it names, where it has none and the text has it in a line of its own.
+    pub fn located(self, text: &[u8]) -> ScriptFault
+        ensures { IsLocated self result }
+    {
+        match self {
+            ScriptFault::OutOfMemory(error) => ScriptFault::OutOfMemory(error),
+            ScriptFault::Wrong { spot, wrong } => {
+                let place = spot.place;
+                let line = match spot.line {
+                    Some(line) => Some(line),
+                    None => line_in(text, place, wrong.key()),
+                };
+                ScriptFault::Wrong {
+                    spot: Spot { line, place },
+                    wrong,
+                }
+            }
+        }
+    }
+}
+
 impl Wrong {
     /// The key that a person looks for, empty where there is none.
-    pub fn key(&self) -> &str {
+    fn key(&self) -> &str {
         match self {
             Wrong::Toml { .. } | Wrong::Tables { .. } => "",
             Wrong::Missing { key } => key,
