@@ -1,11 +1,13 @@
--- Keys written out.
-use Rattle.std.specs.Prelude.{◌≡◌, pos, true, false, [], Some, codes, refl}
+-- Keys and steps written out.
+use Rattle.std.specs.Prelude.{◌≡◌, pos, true, false, List, [], ◌∷◌, ℕ, Some, codes, refl}
 use Rattle.std.specs.List.{list_any}
 use Rattle.std.specs.Str.{bytes_eq}
-use Rattle.toml.specs.Data.{integer, no_members, member}
+use Rattle.toml.specs.Data.{Members, integer, string, no_members, member}
 use Rattle.r10_body.specs.declared.message.Kind.TheVariants as kinds
-use Rattle.r10_script.specs.Keys.{bytes_or_none_at, flag_or_false_at, integer_or_zero_at}
+use Rattle.r10_steps.specs.declared.event.Event.TheVariants as events
+use Rattle.r10_script.specs.Keys.{bytes_or_none_at, flag_or_false_at, integer_or_zero_at, HasOnly}
 use Rattle.r10_script.specs.Kinds.{channel_keys, offer_keys}
+use Rattle.r10_script.specs.Steps.{IsStep}
 
 -- what is absent
 pub absent-number : integer_or_zero_at no_members (codes "status") ≡ Some (pos 0)
@@ -30,3 +32,29 @@ message-bits = refl
 
 pub offered-bits : list_any (λ word. bytes_eq word (codes "bits")) (offer_keys kinds.Discrete) ≡ false
 offered-bits = refl
+
+-- steps, each with the keys that its table may have
+abbrev sealing : Members
+sealing = member (codes "do") (string (codes "seal")) no_members
+
+pub seal-step : HasOnly (codes "do" ∷ []) sealing → IsStep [] sealing events.Seal
+seal-step only = (refl, only)
+
+abbrev noting : Members
+noting = member (codes "count") (integer (pos 1010)) (member (codes "do") (string (codes "event")) (member (codes "number") (integer (pos 3)) no_members))
+
+pub event-step : HasOnly (codes "do" ∷ codes "number" ∷ codes "count" ∷ []) noting → IsStep [] noting (events.Event 3 1010)
+event-step only = (refl, refl, refl, only)
+
+abbrev finding : Members
+finding = member (codes "channel") (integer (pos 5)) (member (codes "count") (integer (pos 1500)) (member (codes "do") (string (codes "find")) (member (codes "file") (integer (pos 1)) no_members)))
+
+pub find-step : HasOnly (codes "do" ∷ codes "file" ∷ codes "channel" ∷ codes "count" ∷ []) finding → IsStep [] finding (events.Find 1 5 1500)
+find-step only = (refl, refl, refl, refl, only)
+
+abbrev dating : Members
+dating = member (codes "civil") (string (codes "2024-02-29 12:34:56.78")) (member (codes "do") (string (codes "count_at")) (member (codes "file") (integer (pos 2)) no_members))
+
+pub count-at-step : HasOnly (codes "do" ∷ codes "file" ∷ codes "civil" ∷ []) dating
+    → IsStep [] dating (events.CountAt 2 (record { year = 2024; month = 2; day = 29; hour = 12; minute = 34; second = 56; centi = 78 }))
+count-at-step only = (refl, refl, refl, only)
