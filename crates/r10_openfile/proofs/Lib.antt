@@ -12,7 +12,7 @@ mod Closed
 mod Pumped
 mod AllPumped
 mod Fronting
-mod Others
+pub mod Others
 mod Names
 mod Places
 mod Rooms
