@@ -1,5 +1,5 @@
 -- Steps that are refused because room is lacking.
-use Rattle.std.proofs.Common.{◌≡◌, ◌≤◌, ℕ, false, Option, None, refl, sym, ◌∙◌, subst}
+use Rattle.std.proofs.Common.{◌≡◌, ◌≤◌, ℕ, false, Option, None, refl, sym, ◌∙◌, subst, Some}
 use Rattle.r10_body.specs.declared.refusal.Refusal.{Refusal}
 use Rattle.r10_body.specs.declared.refusal.Refusal.TheVariants.{IndexFull, MediumFull}
 use Rattle.r10_machine.specs.Config.{Config}

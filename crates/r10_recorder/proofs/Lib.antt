@@ -12,3 +12,12 @@ mod Offers
 mod Statuses
 mod Readings
 mod Finds
+mod Intakes
+mod Lifts
+mod Apart
+mod Lacking
+mod Pumps
+mod Raises
+mod Recorded
+mod Exits
+mod Checked

@@ -9,3 +9,5 @@ pub mod Started
 pub mod Lanes
 pub mod Told
 pub mod Reading
+pub mod Taking
+pub mod Raising

@@ -6,6 +6,7 @@ mod clock;
 mod mounting;
 mod offering;
 mod reading;
+mod pumping;
 mod recorder;
 mod sealing;
 mod status;
