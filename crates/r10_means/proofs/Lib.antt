@@ -1,5 +1,5 @@
 pub mod Leading
-mod Lasting
-mod Growing
+pub mod Lasting
+pub mod Growing
 mod Taking
 mod Told

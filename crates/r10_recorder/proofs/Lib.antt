@@ -21,3 +21,5 @@ mod Raises
 mod Recorded
 mod Exits
 mod Checked
+mod Recordings
+mod Commits

@@ -11,3 +11,4 @@ pub mod Told
 pub mod Reading
 pub mod Taking
 pub mod Raising
+pub mod Recording

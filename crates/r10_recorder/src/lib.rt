@@ -12,6 +12,7 @@ mod sealing;
 mod status;
 mod telling;
 mod starting;
+mod recording;
 mod work;
 
 pub use recorder::Recorder;
