@@ -1,17 +1,19 @@
 -- What a recorder's work says of the medium's files.
-use Rattle.std.proofs.Common.{◌≡◌, ℕ, List, [], ◌∷◌, None, subst}
+use Rattle.std.proofs.Common.{◌≡◌, ℕ, List, [], ◌∷◌, ◌++◌, None, Some, sym, subst}
 use Rattle.r10_blockout.specs.Blocks.{bytes_from}
 use Rattle.r10_dirblock.specs.declared.entry.Entry.{Entry as Listed}
 use Rattle.r10_dirchain.specs.Chain.{files as listed_files}
 use Rattle.r10_dirchain.proofs.Unique.{one_directory}
 use Rattle.r10_dirchain.specs.declared.chain.ChainBlock.{ChainBlock}
-use Rattle.r10_holding.specs.Holding.{Holds}
+use Rattle.r10_holding.specs.Holding.{Holds, Open}
 use Rattle.r10_machine.specs.Config.{Config}
 use Rattle.r10_machine.specs.Machine.{File}
-use Rattle.r10_means.specs.Kept.{Work, unmounted, idle}
+use Rattle.r10_means.specs.Kept.{Kept, Work, unmounted, idle, recording}
 use Rattle.r10_means.specs.Means.{HasFiles}
 use Rattle.r10_medium.specs.Disk.{Image, IsWhole}
 use Rattle.r10_reader.specs.Staying.{KeepListed}
+use Rattle.r10_recorder.specs.Leading.{KeepsShown}
+use Rattle.r10_recorder.proofs.Recordings.{Last, last_held}
 use Rattle.r10_recorder.proofs.Staying.{listed_keep}
 use Rattle.r10_standing.specs.Bytes.{KeepBytes}
 use Rattle.r10_steps.specs.Says.{MediumSays, SaysEach}
@@ -44,3 +46,11 @@ kept_behind s old new chain files whole usable same held =
     each_keeps old new (listed_files chain) files
     (subst (λ (c : List ChainBlock). SaysEach old (listed_files c) files) (one_directory old held.says.chain chain held.says.directory held.directory) held.says.each)
     (listed_keep s.directory old new chain whole usable same)
+
+-- a file is recorded, and its calls leave the bytes of all files
+pub kept_recorded : (k : Kept) (old new : Image) (before : ℕ) (chain : List ChainBlock) (o : Open) → k.work ≡ recording chain o
+    → ((files : List File) (f : File) → Holds k.config old chain (Some o) (files ++ f ∷ []) → KeepBytes old new (files ++ f ∷ [])) → KeepsShown k old before new
+kept_recorded k old new before chain o at keeps m means =
+    let held : Holds k.config old chain (Some o) m.files = subst (λ (x : Work). HasFiles k.config x old m.files) at means.files in
+    let last : Last m.files = last_held k.config old chain o m.files held in
+    subst (λ (l : List File). KeepBytes old new l) (sym last.is) (keeps last.front last.file (subst (λ (l : List File). Holds k.config old chain (Some o) l) last.is held))

@@ -15,7 +15,6 @@ mod Finds
 mod Intakes
 mod Lifts
 mod Apart
-mod Lacking
 mod Pumps
 mod Raises
 mod Recorded
