@@ -22,3 +22,4 @@ mod Exits
 mod Checked
 mod Recordings
 mod Commits
+mod Rings

@@ -4,7 +4,7 @@ use Rattle.r10_count.specs.Checks.{first_broken}
 use Rattle.r10_body.specs.declared.message.Message.{Message}
 use Rattle.r10_body.specs.declared.refusal.Refusal.{Refusal}
 use Rattle.r10_lane.specs.Lanes.{reached}
-use Rattle.r10_machine.specs.Calls.{accepted, overflowed}
+use Rattle.r10_machine.specs.Calls.{accepted, overflowed, without}
 use Rattle.r10_machine.specs.Checks.{offer_checks, offer_refusal}
 use Rattle.r10_machine.specs.Machine.{Lane, Machine, change_first, is_channel}
 use Rattle.r10_means.specs.Kept.{Kept}
@@ -22,6 +22,10 @@ unerased lane = record lane { erased = 0 }
 -- these are the machine's lanes, but for what erases took
 abbrev pub AreLanes : List Lane → Machine → Type 0
 AreLanes lanes m = lanes ≡ map unerased m.lanes
+
+-- of each lane the first samples were taken, so many of its channel
+abbrev pub AreTaken : (ℕ → ℕ) → List Lane → List Lane → Type 0
+AreTaken taken old new = new ≡ map (λ (lane : Lane). without (taken lane.spec.id) lane) old
 
 -- a step leads to a machine that is meant then and has these lanes, and the same files and cursors
 pub record LeadsWith (k : Kept) (m : Machine) (event : Asked) (reply : Answered) (image : Image) (failures : ℕ) (lanes : List Lane) : Type 0 where

@@ -3,6 +3,7 @@
 #![tactic(auto)]
 
 mod clock;
+mod lanes;
 mod mounting;
 mod offering;
 mod reading;
@@ -15,4 +16,5 @@ mod starting;
 mod recording;
 mod work;
 
+pub use lanes::lanes_stay_the_machines;
 pub use recorder::Recorder;
