@@ -10,7 +10,7 @@ use Rattle.r10_machine.specs.Machine.{Cursor as Reader, File, Machine, SetsCurso
 use Rattle.r10_steps.specs.Checks.{refusal}
 use Rattle.r10_steps.specs.Says.{MediumSays}
 use Rattle.r10_steps.specs.Sound.{IsSound}
-use Rattle.r10_steps.specs.Step.{Run, Step}
+use Rattle.r10_steps.specs.Step.{Step}
 use Rattle.r10_steps.specs.declared.event.Event.{Event as Asked}
 use Rattle.r10_steps.specs.declared.event.Event.TheVariants as events
 use Rattle.r10_steps.specs.declared.reply.Reply.{Reply as Answered}
@@ -23,7 +23,7 @@ use Rattle.r10_cursors.specs.Standing.{Stand}
 use Rattle.r10_cursors.specs.Steps.{StepsTo}
 use Rattle.r10_means.specs.Kept.{Kept, Work, unmounted, idle, recording, failed}
 use Rattle.r10_means.specs.Means.{HasFiles, LeadsTo}
-use Rattle.r10_joined.specs.Joined.{Joined, RunsOn, StepsOn}
+use Rattle.r10_joined.specs.Joined.{Joined, SetsOn, StepsOn}
 
 -- every step keeps a sound state sound, and steps that leave the cursors leave what they have read
 abbrev pub StepsStaySound : Type 0
@@ -33,9 +33,6 @@ abbrev pub CursorsStay : Type 0
 CursorsStay = (s : Config) (old new : Image) (m later : Machine) (event : Asked) (reply : Answered) (slots : List (Option Cursor)) → IsSound s m → Step s m event reply later → later.cursors ≡ m.cursors → MediumSays s new later.files
     → (later.generation ≡ m.generation → NoneShrinks m.files later.files × KeepsBytes old new m.files) → Stand slots m.cursors → HaveRead old m.files m.generation slots m.cursors
     → Stand slots later.cursors × HaveRead new later.files later.generation slots later.cursors
-
-abbrev pub RunsJoin : Type 0
-RunsJoin = (s : Config) (old mid new : Machine) (es fs : List Asked) (rs qs : List Answered) (is ks : List Image) → Run s old es rs is mid → Run s mid fs qs ks new → Run s old (es ++ fs) (rs ++ qs) (is ++ ks) new
 
 -- the medium says the files of a machine that is meant
 said : (work : Work) (s : Config) (image : Image) (files : List File) → HasFiles s work image files → MediumSays s image files
@@ -47,18 +44,18 @@ said failed s image files has = has
 -- ---- calls of the recorder
 
 pub moves : CursorsStay → (k later : Kept) (old new : Image) (before now : ℕ) (m machine : Machine) (event : Asked) (reply : Answered) (slots : List (Option Cursor)) → Joined k old before slots m → LeadsTo k m event reply later new now machine
-    → machine.cursors ≡ m.cursors → later.config ≡ k.config → (machine.generation ≡ m.generation → NoneShrinks m.files machine.files × KeepsBytes old new m.files) → StepsOn k m event reply later new now slots
+    → machine.cursors ≡ m.cursors → later.config ≡ k.config → (machine.generation ≡ m.generation → NoneShrinks m.files machine.files × KeepsBytes old new m.files) → StepsOn k m event reply machine later new now slots
 moves law k later old new before now m machine event reply slots joined leads same config keeps =
     let says : MediumSays k.config new machine.files = subst (λ (s : Config). MediumSays s new machine.files) config (said later.work later.config new machine.files leads.means.files) in
     let both = law k.config old new m machine event reply slots joined.means.sound leads.step same says keeps joined.stand joined.read in
-    record { machine = machine; step = leads.step; says = says; joined = record { means = leads.means; stand = both.0; read = both.1 }; config = config }
+    record { step = leads.step; says = says; joined = record { means = leads.means; stand = both.0; read = both.1 }; config = config }
 
 bytes_stay : (image : Image) (files : List File) → KeepsBytes image image files
 bytes_stay image [] = tt
 bytes_stay image (f ∷ files) = (refl, bytes_stay image files)
 
 pub stays : CursorsStay → (k later : Kept) (old new : Image) (before now : ℕ) (m machine : Machine) (event : Asked) (reply : Answered) (slots : List (Option Cursor)) → Joined k old before slots m → LeadsTo k m event reply later new now machine
-    → machine.cursors ≡ m.cursors → later.config ≡ k.config → machine.files ≡ m.files → new ≡ old → StepsOn k m event reply later new now slots
+    → machine.cursors ≡ m.cursors → later.config ≡ k.config → machine.files ≡ m.files → new ≡ old → StepsOn k m event reply machine later new now slots
 stays law k later old new before now m machine event reply slots joined leads same config files image =
     moves law k later old new before now m machine event reply slots joined leads same config
     (λ again. (subst (NoneShrinks m.files) (sym files) (none_shrinks m.files), subst (λ (i : Image). KeepsBytes old i m.files) (sym image) (bytes_stay old m.files)))
@@ -71,26 +68,29 @@ changed m now cursors = record m { failures = now; cursors = cursors }
 
 sets_on : StepsStaySound → (k : Kept) (image : Image) (before now : ℕ) (m : Machine) (event : Asked) (reply : Answered) (slots later : List (Option Cursor)) (cursors : List (Option Reader)) → IsConfig k.config → Joined k image before slots m
     → Step k.config m event reply (changed m now cursors) → Stand later cursors
-    → (HaveRead image m.files m.generation slots m.cursors → HaveRead image m.files m.generation later cursors) → StepsOn k m event reply k image now later
+    → (HaveRead image m.files m.generation slots m.cursors → HaveRead image m.files m.generation later cursors) → SetsOn k m event reply image now later
 sets_on law k image before now m event reply slots later cursors limits joined step stand read =
     let means = joined.means in
     record {
       machine = changed m now cursors;
-      step = step;
-      says = said k.work k.config image m.files means.files;
-      joined = record {
-        means = record {
-          mode = means.mode;
-          tick = means.tick;
-          counted = refl;
-          files = means.files;
-          numbers = means.numbers;
-          sound = law k.config m event reply (changed m now cursors) limits means.sound step;
+      on = record {
+        step = step;
+        says = said k.work k.config image m.files means.files;
+        joined = record {
+          means = record {
+            mode = means.mode;
+            tick = means.tick;
+            counted = refl;
+            files = means.files;
+            numbers = means.numbers;
+            sound = law k.config m event reply (changed m now cursors) limits means.sound step;
+          };
+          stand = stand;
+          read = read joined.read;
         };
-        stand = stand;
-        read = read joined.read;
+        config = refl;
       };
-      config = refl;
+      lanes = refl;
     }
 
 more_failures : (k : Kept) (image : Image) (before now : ℕ) (m : Machine) (slots : List (Option Cursor)) → Joined k image before slots m → before ≤ now → m.failures ≤ now
@@ -108,7 +108,7 @@ some_then C (Some x) P holds then = then x holds
 
 pub opens : StepsStaySound → (k : Kept) (image : Image) (before now : ℕ) (m : Machine) (file : ℕ) (channels : List ℕ) (from to id : ℕ) (slots later : List (Option Cursor)) → IsConfig k.config → Joined k image before slots m → before ≤ now
     → refusal k.config m (events.Cursor file channels from to) ≡ None → StepsTo (Opens (record m { failures = now }) file channels from to id) (record m { failures = now }) image slots later
-    → StepsOn k m (events.Cursor file channels from to) (replies.Cursor id) k image now later
+    → SetsOn k m (events.Cursor file channels from to) (replies.Cursor id) image now later
 opens law k image before now m file channels from to id slots later limits joined more fine leads =
     let old : Machine = record m { failures = now } in
     let new = leads.machine in
@@ -118,7 +118,7 @@ opens law k image before now m file channels from to id slots later limits joine
     (read_at image m new now slots later is leads.read)
 
 pub gives : StepsStaySound → (k : Kept) (image : Image) (before now : ℕ) (m : Machine) (id : ℕ) (given : Option Entry) (slots later : List (Option Cursor)) → IsConfig k.config → Joined k image before slots m → before ≤ now
-    → refusal k.config m (events.Next id) ≡ None → StepsTo (Gives (record m { failures = now }) id given) (record m { failures = now }) image slots later → StepsOn k m (events.Next id) (replies.Next given) k image now later
+    → refusal k.config m (events.Next id) ≡ None → StepsTo (Gives (record m { failures = now }) id given) (record m { failures = now }) image slots later → SetsOn k m (events.Next id) (replies.Next given) image now later
 gives law k image before now m id given slots later limits joined more fine leads =
     let old : Machine = record m { failures = now } in
     let new = leads.machine in
@@ -128,7 +128,7 @@ gives law k image before now m id given slots later limits joined more fine lead
     (read_at image m new now slots later is leads.read)
 
 pub closes : StepsStaySound → (k : Kept) (image : Image) (before now : ℕ) (m : Machine) (id : ℕ) (slots later : List (Option Cursor)) → IsConfig k.config → Joined k image before slots m → before ≤ now
-    → refusal k.config m (events.Close id) ≡ None → StepsTo (λ new. SetsCursor (record m { failures = now }) new id None) (record m { failures = now }) image slots later → StepsOn k m (events.Close id) replies.Done k image now later
+    → refusal k.config m (events.Close id) ≡ None → StepsTo (λ new. SetsCursor (record m { failures = now }) new id None) (record m { failures = now }) image slots later → SetsOn k m (events.Close id) replies.Done image now later
 closes law k image before now m id slots later limits joined more fine leads =
     let old : Machine = record m { failures = now } in
     let new = leads.machine in
@@ -138,7 +138,7 @@ closes law k image before now m id slots later limits joined more fine leads =
     (read_at image m new now slots later is leads.read)
 
 pub advances : StepsStaySound → (k : Kept) (image : Image) (before now : ℕ) (m : Machine) (id n : ℕ) (slots later : List (Option Cursor)) → IsConfig k.config → Joined k image before slots m → before ≤ now
-    → refusal k.config m (events.Advance id) ≡ None → StepsTo (Advances (record m { failures = now }) id n) (record m { failures = now }) image slots later → StepsOn k m (events.Advance id) (replies.Advanced n) k image now later
+    → refusal k.config m (events.Advance id) ≡ None → StepsTo (Advances (record m { failures = now }) id n) (record m { failures = now }) image slots later → SetsOn k m (events.Advance id) (replies.Advanced n) image now later
 advances law k image before now m id n slots later limits joined more fine leads =
     let old : Machine = record m { failures = now } in
     let new = leads.machine in
@@ -147,20 +147,3 @@ advances law k image before now m id n slots later limits joined more fine leads
     let done : Advances old id n (changed m now new.cursors) = subst (Advances old id n) is leads.step in
     sets_on law k image before now m (events.Advance id) (replies.Advanced n) slots later new.cursors limits joined (more_failures k image before now m slots joined more, (fine, done)) leads.stand
     (read_at image m new now slots later is leads.read)
-
--- ---- runs
-
-pub go_on : RunsJoin → (k mid later : Kept) (m : Machine) (es : List Asked) (rs : List Answered) (event : Asked) (reply : Answered) (image new : Image) (failures now : ℕ) (slots after : List (Option Cursor))
-    → RunsOn k m es rs mid image failures slots → ((machine : Machine) → Joined mid image failures slots machine → StepsOn mid machine event reply later new now after)
-    → RunsOn k m (es ++ event ∷ []) (rs ++ reply ∷ []) later new now after
-go_on law k mid later m es rs event reply image new failures now slots after runs go =
-    let next = go runs.machine runs.joined in
-    let step : Step k.config runs.machine event reply next.machine = subst (λ (s : Config). Step s runs.machine event reply next.machine) runs.config next.step in
-    let says : MediumSays k.config new next.machine.files = subst (λ (s : Config). MediumSays s new next.machine.files) runs.config next.says in
-    record {
-      images = runs.images ++ new ∷ [];
-      machine = next.machine;
-      run = law k.config m runs.machine next.machine es (event ∷ []) rs (reply ∷ []) runs.images (new ∷ []) runs.run (next.machine, step, says, refl);
-      joined = next.joined;
-      config = next.config ∙ runs.config;
-    }

@@ -4,7 +4,7 @@ use Rattle.r10_medium.specs.Disk.{Image}
 use Rattle.r10_machine.specs.Config.{Config}
 use Rattle.r10_machine.specs.Machine.{Machine}
 use Rattle.r10_steps.specs.Says.{MediumSays}
-use Rattle.r10_steps.specs.Step.{Run, Step}
+use Rattle.r10_steps.specs.Step.{Step}
 use Rattle.r10_steps.specs.declared.event.Event.{Event as Asked}
 use Rattle.r10_steps.specs.declared.reply.Reply.{Reply as Answered}
 use Rattle.r10_reader.specs.declared.cursor.Cursor.{Cursor}
@@ -32,18 +32,15 @@ pub record Joined (k : Kept) (image : Image) (failures : ℕ) (slots : List (Opt
   pub stand : Stand slots m.cursors
   pub read : HaveRead image m.files m.generation slots m.cursors
 
--- the step leads to a machine for which both stand then, and whose files the medium says
-pub record StepsOn (k : Kept) (m : Machine) (event : Asked) (reply : Answered) (later : Kept) (image : Image) (failures : ℕ) (slots : List (Option Cursor)) : Type 0 where
-  pub machine : Machine
+-- the step leads to this machine, for which both stand then, and whose files the medium says
+pub record StepsOn (k : Kept) (m : Machine) (event : Asked) (reply : Answered) (machine : Machine) (later : Kept) (image : Image) (failures : ℕ) (slots : List (Option Cursor)) : Type 0 where
   pub step : Step k.config m event reply machine
   pub says : MediumSays k.config image machine.files
   pub joined : Joined later image failures slots machine
   pub config : later.config ≡ k.config
 
--- these replies to these events are a run to such a machine
-pub record RunsOn (k : Kept) (m : Machine) (events : List Asked) (replies : List Answered) (later : Kept) (image : Image) (failures : ℕ) (slots : List (Option Cursor)) : Type 0 where
-  pub images : List Image
+-- the step, which leaves what is kept, leads to a machine with the same lanes
+pub record SetsOn (k : Kept) (m : Machine) (event : Asked) (reply : Answered) (image : Image) (failures : ℕ) (slots : List (Option Cursor)) : Type 0 where
   pub machine : Machine
-  pub run : Run k.config m events replies images machine
-  pub joined : Joined later image failures slots machine
-  pub config : later.config ≡ k.config
+  pub on : StepsOn k m event reply machine k image failures slots
+  pub lanes : machine.lanes ≡ m.lanes

@@ -1,6 +1,6 @@
 //! Calls on a recorder and on the table of cursors, as calls that do nothing.
 
-ghost use Rattle.std.specs.Prelude.{◌≡◌, ◌≤◌, ◌∷◌, ◌++◌, [], ℕ, List, None, Option, Some};
+ghost use Rattle.std.specs.Prelude.{◌≡◌, ◌≤◌, [], ℕ, List, None, Option};
 ghost use Rattle.r10_medium.specs.Disk.{Image};
 ghost use Rattle.r10_body.specs.declared.entry.Entry.{Entry};
 ghost use Rattle.r10_machine.specs.Calls.{Advances, Gives, Opens};
@@ -19,11 +19,11 @@ ghost use Rattle.r10_cursors.specs.Read.{KeepsBytes};
 ghost use Rattle.r10_cursors.specs.Steps.{StepsTo};
 ghost use Rattle.r10_means.specs.Kept.{Kept};
 ghost use Rattle.r10_means.specs.Means.{LeadsTo, Means};
-ghost use Rattle.r10_joined.specs.Joined.{Joined, RunsOn, StepsOn, new_kept};
+ghost use Rattle.r10_joined.specs.Joined.{Joined, SetsOn, StepsOn, new_kept};
 
 use r10_cursors::cursors_stay_over_steps;
 use r10_steps::{
-    a_new_recorder_is_sound, a_step_stays_sound, files_on_a_medium_are_found, runs_join,
+    a_new_recorder_is_sound, a_step_stays_sound, files_on_a_medium_are_found,
 };
 
 /// A new recorder over a medium that has files, joined by an empty table, stands for a machine that is unmounted, with these files and empty
@@ -45,10 +45,10 @@ pub fn a_recorder_without_readers()
 pub fn recorders_calls_are_steps()
     ensures moves { (k : Kept) (later : Kept) (old : Image) (new : Image) (before : ℕ) (now : ℕ) (m : Machine) (machine : Machine) (event : Asked) (reply : Answered) (slots : List (Option Cursor))
         → Joined k old before slots m → LeadsTo k m event reply later new now machine → machine.cursors ≡ m.cursors → later.config ≡ k.config
-        → (machine.generation ≡ m.generation → NoneShrinks m.files machine.files × KeepsBytes old new m.files) → StepsOn k m event reply later new now slots }
+        → (machine.generation ≡ m.generation → NoneShrinks m.files machine.files × KeepsBytes old new m.files) → StepsOn k m event reply machine later new now slots }
     ensures stays { (k : Kept) (later : Kept) (old : Image) (new : Image) (before : ℕ) (now : ℕ) (m : Machine) (machine : Machine) (event : Asked) (reply : Answered) (slots : List (Option Cursor))
         → Joined k old before slots m → LeadsTo k m event reply later new now machine → machine.cursors ≡ m.cursors → later.config ≡ k.config → machine.files ≡ m.files → new ≡ old
-        → StepsOn k m event reply later new now slots }
+        → StepsOn k m event reply machine later new now slots }
 {
     cursors_stay_over_steps();
 }
@@ -58,26 +58,16 @@ pub fn tables_calls_are_steps()
     ensures opens { (k : Kept) (image : Image) (before : ℕ) (now : ℕ) (m : Machine) (file : ℕ) (channels : List ℕ) (from : ℕ) (to : ℕ) (id : ℕ) (slots : List (Option Cursor)) (later : List (Option Cursor))
         → IsConfig k.config → Joined k image before slots m → before ≤ now → refusal k.config m (events.Cursor file channels from to) ≡ None
         → StepsTo (Opens (record m { failures = now }) file channels from to id) (record m { failures = now }) image slots later
-        → StepsOn k m (events.Cursor file channels from to) (replies.Cursor id) k image now later }
+        → SetsOn k m (events.Cursor file channels from to) (replies.Cursor id) image now later }
     ensures advances { (k : Kept) (image : Image) (before : ℕ) (now : ℕ) (m : Machine) (id : ℕ) (n : ℕ) (slots : List (Option Cursor)) (later : List (Option Cursor))
         → IsConfig k.config → Joined k image before slots m → before ≤ now → refusal k.config m (events.Advance id) ≡ None
-        → StepsTo (Advances (record m { failures = now }) id n) (record m { failures = now }) image slots later → StepsOn k m (events.Advance id) (replies.Advanced n) k image now later }
+        → StepsTo (Advances (record m { failures = now }) id n) (record m { failures = now }) image slots later → SetsOn k m (events.Advance id) (replies.Advanced n) image now later }
     ensures gives { (k : Kept) (image : Image) (before : ℕ) (now : ℕ) (m : Machine) (id : ℕ) (given : Option Entry) (slots : List (Option Cursor)) (later : List (Option Cursor))
         → IsConfig k.config → Joined k image before slots m → before ≤ now → refusal k.config m (events.Next id) ≡ None
-        → StepsTo (Gives (record m { failures = now }) id given) (record m { failures = now }) image slots later → StepsOn k m (events.Next id) (replies.Next given) k image now later }
+        → StepsTo (Gives (record m { failures = now }) id given) (record m { failures = now }) image slots later → SetsOn k m (events.Next id) (replies.Next given) image now later }
     ensures closes { (k : Kept) (image : Image) (before : ℕ) (now : ℕ) (m : Machine) (id : ℕ) (slots : List (Option Cursor)) (later : List (Option Cursor))
         → IsConfig k.config → Joined k image before slots m → before ≤ now → refusal k.config m (events.Close id) ≡ None
-        → StepsTo (λ new. SetsCursor (record m { failures = now }) new id None) (record m { failures = now }) image slots later → StepsOn k m (events.Close id) replies.Done k image now later }
+        → StepsTo (λ new. SetsCursor (record m { failures = now }) new id None) (record m { failures = now }) image slots later → SetsOn k m (events.Close id) replies.Done image now later }
 {
     a_step_stays_sound();
-}
-
-/// No events are a run, and a run goes on with a step from each machine for which both stand then.
-pub fn runs_go_on()
-    ensures begin { (k : Kept) (image : Image) (failures : ℕ) (slots : List (Option Cursor)) (m : Machine) → Joined k image failures slots m → RunsOn k m [] [] k image failures slots }
-    ensures more { (k : Kept) (mid : Kept) (later : Kept) (m : Machine) (events : List Asked) (replies : List Answered) (event : Asked) (reply : Answered) (image : Image) (new : Image) (failures : ℕ) (now : ℕ)
-        (slots : List (Option Cursor)) (after : List (Option Cursor)) → RunsOn k m events replies mid image failures slots
-        → ((machine : Machine) → Joined mid image failures slots machine → StepsOn mid machine event reply later new now after) → RunsOn k m (events ++ event ∷ []) (replies ++ reply ∷ []) later new now after }
-{
-    runs_join();
 }
