@@ -23,3 +23,5 @@ mod Checked
 mod Recordings
 mod Commits
 mod Rings
+mod Entered
+mod Ticks
