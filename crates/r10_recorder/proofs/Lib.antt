@@ -25,3 +25,6 @@ mod Commits
 mod Rings
 mod Entered
 mod Ticks
+mod Closes
+mod Stops
+mod Leaves

@@ -170,7 +170,7 @@ means_readied k image n m chain o r at readied means = record {
   sound = means.sound;
 }
 
-leads_readied : (a b : ℕ → ℕ) (k : Kept) (m : Machine) (event : Asked) (reply : Answered) (image : Image) (n : ℕ) (chain : List ChainBlock) (o r : Open) → k.work ≡ recording chain o → IsReadied o r → ((c : ℕ) → a c ≡ b c)
+pub leads_readied : (a b : ℕ → ℕ) (k : Kept) (m : Machine) (event : Asked) (reply : Answered) (image : Image) (n : ℕ) (chain : List ChainBlock) (o r : Open) → k.work ≡ recording chain o → IsReadied o r → ((c : ℕ) → a c ≡ b c)
     → Leads a k m event reply k image n → Leads b k m event reply (record k { work = recording chain r }) image n
 leads_readied a b k m event reply image n chain o r at readied alike leads = record {
   machine = leads.machine;

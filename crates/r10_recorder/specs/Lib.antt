@@ -12,3 +12,4 @@ pub mod Reading
 pub mod Taking
 pub mod Raising
 pub mod Recording
+pub mod Closing

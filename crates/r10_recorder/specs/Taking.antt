@@ -1,6 +1,6 @@
 -- What a call takes from lanes.
-use Rattle.std.specs.Prelude.{◌≡◌, ℕ, ◌≤◌, List, [], ◌∷◌, ◌++◌, length, map, Option, None, Some, IfOk, IsSomeAnd, OnOk, Result, Ok, Err, MatchResult, slice_get}
-use Rattle.std.specs.List.{AllByRecursion}
+use Rattle.std.specs.Prelude.{◌≡◌, ◌⊎◌, ℕ, ◌-◌, ◌^◌, ◌≤◌, List, [], ◌∷◌, ◌++◌, length, map, min, Option, None, Some, IfOk, IsSomeAnd, OnOk, Result, Ok, Err, MatchResult, slice_get}
+use Rattle.std.specs.List.{AllByRecursion, sum_by}
 use Rattle.r10_body.specs.declared.entry.Entry.{Entry}
 use Rattle.r10_body.specs.declared.entry.Sample.{Sample}
 use Rattle.r10_body.specs.declared.refusal.Refusal.{Refusal}
@@ -14,6 +14,7 @@ use Rattle.r10_holding.specs.Holding.{Holds, Open}
 use Rattle.r10_machine.specs.Config.{Config}
 use Rattle.r10_machine.specs.Machine.{File, Machine, with_entries}
 use Rattle.r10_machine.specs.Room.{area as area_of, area_from}
+use Rattle.r10_machine.specs.declared.reply.Stopped.{Stopped}
 use Rattle.r10_means.specs.Grown.{AreGrown}
 use Rattle.r10_means.specs.Kept.{Kept, Work, recording, failed}
 use Rattle.r10_means.specs.Means.{Means}
@@ -42,24 +43,30 @@ taken_of parts channel = length (samples_on channel parts)
 abbrev pub one_part : ℕ → List Sample → List Sample → Part
 one_part channel samples rest = record { channel = channel; samples = samples; rest = rest; full = None }
 
--- Channel by channel in this order, up to some, a call took these parts from the lanes, no more of a channel than may be; of a lane that is quiet, a part and its rest are all that waited.
+-- Channel by channel in this order, up to some, a call took these parts from the lanes, no more of a channel than may be; of a lane that is quiet, a part and its rest are all that waited. Where the medium failed while they were taken, nothing is told of the rests.
 -- They are counted where the call succeeds. From each machine that is meant, and in whose lanes the parts and their rests wait, what the call answers leads to one that is meant then.
 pub record Takes {L T : Type 0} (took : L → List Sample → L → Type 0) (quiet : L → Option (List Sample)) (spec_of : L → ChannelSpec) (order : List ℕ) (most : ℕ → ℕ) (says : T → List Part → Type 0)
     (k : Kept) (old : Image) (before : ℕ) (event : Asked) (reply : T → Answered) (result : Result T Refusal) (later : Kept) (new : Image) (now : ℕ) (lanes lanes' : List L) : Type 0 where
   pub parts : List Part
+  pub known : List Part
+  pub told : (known ≡ parts) ⊎ ((known ≡ []) × (result ≡ Err Medium))
   pub passed : List ℕ
   pub order_is : map (λ (p : Part). p.channel) parts ++ passed ≡ order
   pub within : AllByRecursion (λ (p : Part). length p.samples ≤ most p.channel) parts
   pub taken : TookAll took spec_of parts lanes lanes'
-  pub waits : AllByRecursion (Tells quiet spec_of lanes) parts
+  pub waits : AllByRecursion (Tells quiet spec_of lanes) known
   pub tells : IfOk result (λ v. says v parts)
   pub counts : OnOk result (AreGrown (entries_of parts) k.config.channels k.taken later.taken)
-  pub steps : (m : Machine) → Means k old before m → AllByRecursion (HasWaiting m.lanes) parts
+  pub steps : (m : Machine) → Means k old before m → AllByRecursion (HasWaiting m.lanes) known
       → MatchResult result (λ v. Leads (taken_of parts) k m event (reply v) later new now) (λ r. Leads (taken_of parts) k m event (Refused r) later new now)
 
 -- so many were moved
 abbrev pub IsMoved : ℕ → List Part → Type 0
 IsMoved n parts = n ≡ length (entries_of parts)
+
+-- so many were taken, and so many are left, up to 2^64 - 1
+abbrev pub IsStopped : Stopped → List Part → Type 0
+IsStopped said parts = (said.taken ≡ length (entries_of parts)) × (said.left ≡ min (sum_by (λ (p : Part). length p.rest) parts) (2 ^ 64 - 1))
 
 -- for want of room
 abbrev pub IsOfRoom : Refusal → Type 0

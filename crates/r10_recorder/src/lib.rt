@@ -14,6 +14,7 @@ mod status;
 mod telling;
 mod starting;
 mod recording;
+mod stopping;
 mod work;
 
 pub use lanes::lanes_stay_the_machines;
