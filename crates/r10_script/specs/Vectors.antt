@@ -1,5 +1,5 @@
 -- Keys and steps written out.
-use Rattle.std.specs.Prelude.{◌≡◌, pos, true, false, List, [], ◌∷◌, ℕ, Some, codes, refl}
+use Rattle.std.specs.Prelude.{◌≡◌, pos, true, false, [], ◌∷◌, Some, codes, refl}
 use Rattle.std.specs.List.{list_any}
 use Rattle.std.specs.Str.{bytes_eq}
 use Rattle.toml.specs.Data.{Members, integer, string, no_members, member}
