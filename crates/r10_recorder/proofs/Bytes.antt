@@ -1,5 +1,5 @@
 -- What a recorder's work says of the medium's files.
-use Rattle.std.proofs.Common.{◌≡◌, ℕ, List, [], ◌∷◌, ◌++◌, None, Some, sym, subst}
+use Rattle.std.proofs.Common.{◌≡◌, ℕ, List, [], ◌∷◌, ◌++◌, None, Some, sym, subst, ◌∙◌}
 use Rattle.r10_blockout.specs.Blocks.{bytes_from}
 use Rattle.r10_dirblock.specs.declared.entry.Entry.{Entry as Listed}
 use Rattle.r10_dirchain.specs.Chain.{files as listed_files}
@@ -7,7 +7,8 @@ use Rattle.r10_dirchain.proofs.Unique.{one_directory}
 use Rattle.r10_dirchain.specs.declared.chain.ChainBlock.{ChainBlock}
 use Rattle.r10_holding.specs.Holding.{Holds, Open}
 use Rattle.r10_machine.specs.Config.{Config}
-use Rattle.r10_machine.specs.Machine.{File}
+use Rattle.r10_body.specs.declared.entry.Entry.{Entry}
+use Rattle.r10_machine.specs.Machine.{File, with_entries}
 use Rattle.r10_means.specs.Kept.{Kept, Work, unmounted, idle, recording}
 use Rattle.r10_means.specs.Means.{HasFiles}
 use Rattle.r10_medium.specs.Disk.{Image, IsWhole}
@@ -54,3 +55,8 @@ kept_recorded k old new before chain o at keeps m means =
     let held : Holds k.config old chain (Some o) m.files = subst (λ (x : Work). HasFiles k.config x old m.files) at means.files in
     let last : Last m.files = last_held k.config old chain o m.files held in
     subst (λ (l : List File). KeepBytes old new l) (sym last.is) (keeps last.front last.file (subst (λ (l : List File). Holds k.config old chain (Some o) l) last.is held))
+
+-- and entries that the last file took in change none of its bytes
+pub kept_through : (old mid new : Image) (files : List File) (f : File) (more : List Entry) → KeepBytes old mid (files ++ f ∷ []) → KeepBytes mid new (files ++ with_entries more f ∷ []) → KeepBytes old new (files ++ f ∷ [])
+kept_through old mid new [] f more (here, none) (there, nothing) = (there ∙ here, tt)
+kept_through old mid new (x ∷ files) f more (here, keep) (there, keeps) = (there ∙ here, kept_through old mid new files f more keep keeps)

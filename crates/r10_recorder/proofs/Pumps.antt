@@ -4,6 +4,7 @@ use Rattle.std.specs.Prelude.{IfSome, IsSomeAnd, is_some, slice_get}
 use Rattle.std.specs.List.{AllByRecursion, last_or}
 use Rattle.std.proofs.lemmas.Bool.{eq-eqb, eqb-true, le-leb, ne_eqb}
 use Rattle.std.proofs.lemmas.List.{append-nil, nil_from_length}
+use Rattle.r10_recorder.specs.Recording.{IsAskedFor}
 use Rattle.r10_body.specs.Cost.{entry_cost}
 use Rattle.r10_body.specs.declared.entry.Entry.{Entry}
 use Rattle.r10_body.specs.declared.entry.Sample.{Sample}
@@ -38,7 +39,7 @@ use Rattle.r10_reader.proofs.Sizes.{last_grows, none_shrinks}
 use Rattle.r10_reader.specs.Staying.{NoneShrinks}
 use Rattle.r10_recorder.specs.Checks.{refusal}
 use Rattle.r10_recorder.specs.Leading.{AreLeft, Leads, none_taken}
-use Rattle.r10_recorder.specs.Taking.{IsReadied, Moved, MovesAny, one_part, taken_of}
+use Rattle.r10_recorder.specs.Taking.{Moved, MovesAny, one_part, taken_of}
 use Rattle.r10_recorder.proofs.Apart.{apart_of}
 use Rattle.r10_recorder.proofs.Lacking.{index_full_leads, medium_full_leads}
 use Rattle.r10_recorder.proofs.Leading.{memory_leads}
@@ -160,7 +161,7 @@ room_at s m f channel (suc most) lane (x ∷ waiting) there last waits fits = rw
 
 -- ---- memory that was asked for
 
-pub means_readied : (k : Kept) (image : Image) (n : ℕ) (m : Machine) (chain : List ChainBlock) (o r : Open) → k.work ≡ recording chain o → IsReadied o r → Means k image n m → Means (record k { work = recording chain r }) image n m
+pub means_readied : (k : Kept) (image : Image) (n : ℕ) (m : Machine) (chain : List ChainBlock) (o r : Open) → k.work ≡ recording chain o → IsAskedFor o r → Means k image n m → Means (record k { work = recording chain r }) image n m
 means_readied k image n m chain o r at readied means = record {
   mode = means.mode ∙ ap mode_of at;
   tick = means.tick;
@@ -170,7 +171,7 @@ means_readied k image n m chain o r at readied means = record {
   sound = means.sound;
 }
 
-pub leads_readied : (a b : ℕ → ℕ) (k : Kept) (m : Machine) (event : Asked) (reply : Answered) (image : Image) (n : ℕ) (chain : List ChainBlock) (o r : Open) → k.work ≡ recording chain o → IsReadied o r → ((c : ℕ) → a c ≡ b c)
+pub leads_readied : (a b : ℕ → ℕ) (k : Kept) (m : Machine) (event : Asked) (reply : Answered) (image : Image) (n : ℕ) (chain : List ChainBlock) (o r : Open) → k.work ≡ recording chain o → IsAskedFor o r → ((c : ℕ) → a c ≡ b c)
     → Leads a k m event reply k image n → Leads b k m event reply (record k { work = recording chain r }) image n
 leads_readied a b k m event reply image n chain o r at readied alike leads = record {
   machine = leads.machine;
@@ -249,7 +250,7 @@ module _ (law : StepsStaySound) (led : PumpsAreLed) (k : Kept) (old new : Image)
   full_leads full.Index lacks same = index_full_leads law k old new before now m (Pump channel most) limits means same more checked lacks
   full_leads full.Medium lacks same = medium_full_leads law k old new before now m (Pump channel most) limits means same more checked lacks
 
-  pub pump_full : (f : Full) → samples ≡ [] → IsReadied o after → new ≡ old → MovesAny ends channel most nodes area 0 [] rest (Some f) o old after
+  pub pump_full : (f : Full) → samples ≡ [] → IsAskedFor o after → new ≡ old → MovesAny ends channel most nodes area 0 [] rest (Some f) o old after
       → Leads (taken_of (one_part channel samples rest ∷ [])) k m (Pump channel most) (replies.Refused (refusal_of f)) (record k { work = recording chain after }) new now
   pump_full f none readied same moves =
       let waits : lane.lane.waiting ≡ [] ++ rest = lane.waits ∙ ap (λ (xs : List Sample). xs ++ rest) none in
@@ -264,7 +265,7 @@ module _ (law : StepsStaySound) (led : PumpsAreLed) (k : Kept) (old new : Image)
       (subst (λ (c : ℕ). IfSome (slice_get (take most (samples ++ rest)) 0) (λ x. c + entry_cost (entry_on channel x) ≤ area)) (cost_is its.front its.file split) fits))
 
   -- memory is refused
-  pub pump_lacks : samples ≡ [] → IsReadied o after → new ≡ old → IfSome (slice_get (take most rest) 0) (λ x. o.recording.cost + entry_cost (entry_on channel x) ≤ area)
+  pub pump_lacks : samples ≡ [] → IsAskedFor o after → new ≡ old → IfSome (slice_get (take most rest) 0) (λ x. o.recording.cost + entry_cost (entry_on channel x) ≤ area)
       → Leads (taken_of (one_part channel samples rest ∷ [])) k m (Pump channel most) (replies.Refused OutOfMemory) (record k { work = recording chain after }) new now
   pump_lacks none readied same fits =
       leads_readied none_taken (taken_of (one_part channel samples rest ∷ [])) k m (Pump channel most) (replies.Refused OutOfMemory) new now chain o after at readied (none_of channel samples rest none)

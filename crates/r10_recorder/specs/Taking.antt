@@ -1,6 +1,8 @@
 -- What a call takes from lanes.
 use Rattle.std.specs.Prelude.{◌≡◌, ◌⊎◌, ℕ, ◌-◌, ◌^◌, ◌≤◌, List, [], ◌∷◌, ◌++◌, length, map, min, Option, None, Some, IfOk, IsSomeAnd, OnOk, Result, Ok, Err, MatchResult, slice_get}
 use Rattle.std.specs.List.{AllByRecursion, sum_by}
+use Rattle.r10_recorder.specs.Refused.{IsSameKept}
+use Rattle.r10_recorder.specs.Recording.{IsAskedFor}
 use Rattle.r10_body.specs.declared.entry.Entry.{Entry}
 use Rattle.r10_body.specs.declared.entry.Sample.{Sample}
 use Rattle.r10_body.specs.declared.refusal.Refusal.{Refusal}
@@ -76,24 +78,6 @@ IsOfRoom r = ⊥
 
 -- ---- the file
 
--- memory was asked for: what the file has, and may do, is the same
-pub record IsReadied (old new : Open) : Type 0 where
-  pub same : IsSame old.recording new.recording
-  pub packets : packets_of new.recording ≡ packets_of old.recording
-  pub shown : new.shown ≡ old.shown
-  pub again : AllByRecursion HasRoomForTwo old.recording.builders → AllByRecursion HasRoomForTwo new.recording.builders
-  pub carries : (image : Image) (text : List ℕ) (entries : List Entry) → Carries old.recording image text entries → Carries new.recording image text entries
-  pub holds : (s : Config) (image : Image) (chain : List ChainBlock) (files : List File) → Holds s image chain (Some old) files → Holds s image chain (Some new) files
-  pub on : (image : Image) (chain : List ChainBlock) → MayGoOn old image chain → MayGoOn new image chain
-
--- the same, but for the memory of the file that is recorded
-abbrev pub IsSameWork : Work → Work → Type 0
-IsSameWork (recording chain o) (recording made p) = (made ≡ chain) × IsSame o.recording p.recording × (p.shown ≡ o.shown)
-IsSameWork old new = new ≡ old
-
-abbrev pub IsSameKept : Kept → Kept → Type 0
-IsSameKept old new = (new ≡ record old { work = new.work }) × IsSameWork old.work new.work
-
 -- As a call that asked for memory is refused: the first check that doesn't hold, which leaves all; else what is lacking, which leaves the medium, and what is kept but for the memory of the file; or the medium failed, and the recorder with it.
 abbrev pub RefusesReadied : {M : Type 0} → (M → Disk) → Option Refusal → (Refusal → Type 0) → Kept → Kept → M → M → Refusal → Type 0
 RefusesReadied disk (Some first) lacks old new medium medium' r = (r ≡ first) × (new ≡ old) × (medium' ≡ medium)
@@ -137,7 +121,7 @@ pub record Moved (ends ends' : List Entry → Type 0) (channel most nodes area :
 pub record Stayed {M : Type 0} (ends ends' : List Entry → Type 0) (samples : List Sample) (old : Open) (medium : M) (new : Open) (medium' : M) : Type 0 where
   pub none : samples ≡ []
   pub same : medium' ≡ medium
-  pub file : IsReadied old new
+  pub file : IsAskedFor old new
   pub lasts : (entries : List Entry) → ends entries → ends' entries
 
 -- the first that waits has no room; or memory was refused where it has; or the medium failed, behind a first one that had room
