@@ -1,0 +1,5 @@
+mod Telling
+mod Going
+mod Tables
+mod Taking
+mod Beginning

@@ -1,0 +1,4 @@
+pub mod Standing
+pub mod State
+pub mod Telling
+pub mod Copies
