@@ -22,9 +22,7 @@ ghost use Rattle.r10_means.specs.Means.{LeadsTo, Means};
 ghost use Rattle.r10_joined.specs.Joined.{Joined, SetsOn, StepsOn, new_kept};
 
 use r10_cursors::cursors_stay_over_steps;
-use r10_steps::{
-    a_new_recorder_is_sound, a_step_stays_sound, files_on_a_medium_are_found,
-};
+use r10_steps::{a_new_recorder_is_sound, a_step_stays_sound, files_on_a_medium_are_found};
 
 /// A new recorder over a medium that has files, joined by an empty table, stands for a machine that is unmounted, with these files and empty
 /// lanes.
