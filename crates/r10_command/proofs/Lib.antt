@@ -1,3 +1,2 @@
 pub mod Rounds
-pub mod Leaving
-pub mod Telling
+pub mod Running

@@ -2,5 +2,4 @@ pub mod Command
 pub mod Lines
 pub mod Sim
 pub mod Status
-pub mod Told
 pub mod Written

@@ -4,9 +4,9 @@ ghost use Rattle.std.specs.Prelude.{OnOk, IfSome};
 ghost use Rattle.r10_command.specs.Sim.{WritesLeft};
 
 use crate::fault::Fault;
-use crate::play::run_on_fresh;
-use crate::told::read_told;
+use crate::play::{run_on_fresh, script_of};
 use r10_images::{read_whole, write_image};
+use r10_script::Script;
 use std::alloc::Global;
 use std::io;
 use std::io::{Read, Write};
@@ -20,7 +20,7 @@ pub fn sim_image<R: Read, W: Write>(
     ensures { OnOk result (IfSome (R.remaining reader.old) (λ text. WritesLeft text (W.contents writer.old) (W.contents writer.new))) }
 {
     let text = read_whole(alloc, reader)?;
-    let (settings, events) = read_told(alloc, text.as_slice())?;
+    let Script { settings, events } = script_of(alloc, text.as_slice())?;
     let world = run_on_fresh(alloc, settings, events, &mut io::sink())?;
     let mut medium = world.into_medium();
     write_image(&mut medium, writer)?;

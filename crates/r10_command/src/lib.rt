@@ -5,7 +5,6 @@ mod command;
 mod fault;
 mod image;
 mod play;
-mod told;
 
 pub use command::{report, run};
 pub use fault::Fault;

@@ -3,30 +3,40 @@
 ghost use Rattle.std.specs.Prelude.{◌≡◌, ◌<◌, ◌+◌, ◌^◌, ℕ, [], length, IfOk, IfSome, OnOk};
 ghost use Rattle.r10_machine.specs.Machine.{Machine, fresh};
 ghost use Rattle.r10_medium.specs.MemoryDisk.{memory_disk};
-ghost use Rattle.r10_control.specs.Files.{IsFormatted};
-ghost use Rattle.r10_control.specs.Saying.{MediumSays};
-ghost use Rattle.r10_command.specs.Lines.{WritesLines, RunsAndWrites, IsReady};
-ghost use Rattle.r10_command.specs.Sim.{Leaves, Plays, Simulates};
+ghost use Rattle.r10_session.specs.Telling.{StandsFor};
+ghost use Rattle.r10_command.specs.Lines.{WritesLines, RunsAndWrites};
+ghost use Rattle.r10_command.specs.Sim.{IsScript, Leaves, Plays, Simulates};
 
 use crate::fault::Fault;
-use crate::told::read_told;
 use r10_body::Refusal;
 use r10_images::read_whole;
-use r10_lines::reply_line;
-use r10_machine::{Event, Reply, Settings};
+use r10_lines::reply_lines;
+use r10_machine::Settings;
 use r10_medium::{BlockMedium, Memory};
-use r10_world::World;
+use r10_script::{Script, read_script};
+use r10_session::World;
+use r10_steps::{Event, Reply, runs_join};
 use std::alloc::{AllocError, Global};
 use std::io::{Read, Write};
 
-/// Reads a script, runs its steps on a fresh medium in memory, and writes the line of each reply.
+/// Reads a script, runs its steps on a fresh medium in memory, and writes the lines of each reply.
 pub fn sim<R: Read, W: Write>(alloc: Global, reader: &mut R, writer: &mut W) -> Result<(), Fault>
     ensures { OnOk result (IfSome (R.remaining reader.old) (λ text. Simulates text (W.contents writer.old) (W.contents writer.new))) }
 {
     let text = read_whole(alloc, reader)?;
-    let (settings, events) = read_told(alloc, text.as_slice())?;
+    let Script { settings, events } = script_of(alloc, text.as_slice())?;
     let _ = run_script(alloc, settings, events, writer)?;
     writer.flush().map_err(Fault::Write)
+}
+
+/// The script that the text spells.
+pub(crate) fn script_of(alloc: Global, text: &[u8]) -> Result<Script, Fault>
+    ensures { IfOk result (λ script. IsScript text.now script.settings script.events.items) }
+{
+    match read_script(alloc, text) {
+        Ok(script) => Ok(script),
+        Err(fault) => Err(Fault::Script(fault)),
+    }
 }
 
 /// Runs the steps of a script on a fresh medium, and gives the medium back.
@@ -50,7 +60,7 @@ pub(crate) fn run_on_fresh<W: Write>(
     writer: &mut W,
 ) -> Result<World<Memory>, Fault>
     ensures plays { OnOk result (Plays settings events.items (W.contents writer.old) (W.contents writer.new)) }
-    ensures leaves { IfOk result (λ world. Leaves settings events.items (memory_disk world.medium).blocks) }
+    ensures leaves { IfOk result (λ world. Leaves settings events.items (memory_disk world.recorder.medium).blocks) }
 {
     let medium = Memory::new(alloc, settings.blocks())?;
     let mut world = fresh_world(alloc, settings, medium)?;
@@ -58,19 +68,17 @@ pub(crate) fn run_on_fresh<W: Write>(
     Ok(world)
 }
 
-/// A recorder of these settings, over the medium that it formats.
+/// A recorder of these settings and its readers, over the medium that it formats.
 fn fresh_world<M: BlockMedium + Drop>(
     alloc: Global,
     settings: Settings,
     mut medium: M,
 ) -> Result<World<M>, Fault>
     requires { length (M.disk medium).blocks ≡ settings.blocks }
-    ensures config { IfOk result (λ w. w.config ≡ settings) }
-    ensures machine { IfOk result (λ w. w.machine ≡ fresh settings.channels [] (M.disk w.medium).failures) }
-    ensures formatted { IfOk result (λ w. IsFormatted (M.disk w.medium).blocks) }
-    ensures says { IfOk result (λ w. MediumSays (M.disk w.medium).blocks w.machine.files) }
+    ensures config { IfOk result (λ w. w.recorder.kept.config ≡ settings) }
+    ensures stands { IfOk result (λ w. (failures : ℕ) × StandsFor M.disk w (fresh settings.channels [] failures)) }
 {
-    match r10_control::format(&mut medium, &settings) {
+    match r10_formatting::format(&mut medium, &settings) {
         Ok(()) => (),
         Err(Refusal::OutOfMemory) => return Err(Fault::Memory(AllocError)),
         Err(refusal) => return Err(Fault::Format(refusal)),
@@ -81,22 +89,23 @@ fn fresh_world<M: BlockMedium + Drop>(
     }
 }
 
-/// Runs the steps and writes the line of each reply, numbered from 1. A run that ends early goes on behind its last step.
+/// Runs the steps and writes the lines of each reply, numbered from 1. A run that ends early goes on behind its last step.
 fn run_steps<M: BlockMedium, W: Write>(
     alloc: Global,
     world: &mut World<M>,
     events: &[Event],
     writer: &mut W,
 ) -> Result<(), Fault>
-    ensures says { OnOk result (MediumSays (M.disk world.old.medium).blocks world.old.machine.files → MediumSays (M.disk world.new.medium).blocks world.new.machine.files) }
-    ensures runs { OnOk result (IsReady world.old.machine (M.disk world.old.medium).blocks
-        → RunsAndWrites world.old.config world.old.machine events.now world.new.machine (W.contents writer.old) (W.contents writer.new)) }
+    ensures runs { OnOk result ((m : Machine) → StandsFor M.disk world.old m
+        → RunsAndWrites M.disk world.old.recorder.kept.config m events.now world.new (W.contents writer.old) (W.contents writer.new)) }
+    ensures config { OnOk result (world.new.recorder.kept.config ≡ world.old.recorder.kept.config) }
 {
+    runs_join();
     let mut replies = Vec::new(alloc);
     let mut done = 0;
     while done < events.len() {
         replies.clear();
-        let count = r10_world::run(world, &events[done..], &mut replies)?;
+        let count = r10_session::run(world, &events[done..], &mut replies)?;
         write_lines(alloc, done, replies.as_slice(), writer)?;
         done += count;
     }
@@ -116,8 +125,8 @@ fn write_lines<W: Write>(
     let mut number = done;
     for reply in replies {
         number += 1;
-        let line = reply_line(alloc, number, reply)?;
-        writer.write_all(line.as_bytes()).map_err(Fault::Write)?;
+        let lines = reply_lines(alloc, number, reply)?;
+        writer.write_all(lines.as_bytes()).map_err(Fault::Write)?;
     }
     Ok(())
 }

@@ -1,14 +1,8 @@
 // Whole bodies and whole files.
 
-ghost use Rattle.std.specs.Prelude.{◌≡◌};
-ghost use Rattle.r10_packing.specs.Follow.{IsTimeEntry};
-
-use r10_body::{
-    ChannelSpec, Entry, FileFault, Glance, Message, Refusal, Sample, Timed, decode, encode,
-};
+use r10_body::{Entry, FileFault, Glance, Message, Refusal, Sample, Timed, decode, encode};
 use r10_count::{Civil, Count, Items, Parts};
 use r10_entries::Reading;
-use r10_packing::Mux;
 use std::alloc::{AllocError, Global};
 use std::test::Fail;
 
@@ -148,50 +142,5 @@ fn refusals_print_number_name_and_values(rt: HostRuntime) -> Result<(), Fail> {
         let line = format!(in rt.alloc(); "{refusal}")?;
         assert_eq!(rt; line.as_str(), printed);
     }
-    Ok(())
-}
-
-/// A setup of ABCD, and the leap day at 1000 and again at 1010 on channel 1.
-const SETUP_AND_TIMES: [u8; 104] = [
-    0x25, 0xEB, 0x00, 0x00, 0x20, 0x00, 0x00, 0x00, 0x08, 0x00, 0x00, 0x00, 0x08, 0x00, 0x00, 0x01,
-    0xE8, 0x03, 0x00, 0x00, 0x00, 0x00, 0x3D, 0xF0, 0x0C, 0x00, 0x00, 0x00, 0x41, 0x42, 0x43, 0x44,
-    0x25, 0xEB, 0x01, 0x00, 0x24, 0x00, 0x00, 0x00, 0x0C, 0x00, 0x00, 0x00, 0x08, 0x00, 0x00, 0x11,
-    0xE8, 0x03, 0x00, 0x00, 0x00, 0x00, 0x46, 0x00, 0x01, 0x03, 0x00, 0x00, 0x78, 0x56, 0x34, 0x12,
-    0x29, 0x02, 0x24, 0x20, 0x25, 0xEB, 0x01, 0x00, 0x24, 0x00, 0x00, 0x00, 0x0C, 0x00, 0x00, 0x00,
-    0x08, 0x01, 0x00, 0x11, 0xF2, 0x03, 0x00, 0x00, 0x00, 0x00, 0x50, 0x01, 0x01, 0x03, 0x00, 0x00,
-    0x78, 0x56, 0x34, 0x12, 0x29, 0x02, 0x24, 0x20,
-];
-
-/// A time on channel 1.
-fn time(count: Count, civil: Civil) -> Entry
-    ensures channel { result.channel ≡ 1 }
-    ensures time { IsTimeEntry result }
-{
-    Entry {
-        channel: 1,
-        count,
-        message: Message::Time { civil },
-        gap: false,
-    }
-}
-
-/// Adds a time to a file without channels.
-fn add_time(mux: &mut Mux, alloc: Global, time: Entry) -> Result<(), AllocError>
-    requires channel { time.channel ≡ 1 }
-    requires time { IsTimeEntry time }
-{
-    let channels: [ChannelSpec; 0] = [];
-    mux.append_all(alloc, &[time], &channels)
-}
-
-#[test]
-fn a_file_grows(rt: HostRuntime) -> Result<(), Fail> {
-    let alloc = rt.alloc();
-    let civil = leap_day().ok_or("no such day")?;
-    let start = Count::of(1000).ok_or("no count")?;
-    let next = Count::of(1010).ok_or("no count")?;
-    let mut mux = Mux::begin(alloc, b"ABCD", &time(start, civil))?;
-    add_time(&mut mux, alloc, time(next, civil))?;
-    assert_eq!(rt; mux.bytes(), SETUP_AND_TIMES.as_slice());
     Ok(())
 }

@@ -1,5 +1,5 @@
--- The lines of entries, and the line that a step prints.
-use Rattle.std.specs.Prelude.{◌≡◌, ℕ, List, [], ◌∷◌, ◌++◌, Some, None, codes}
+-- The lines of entries.
+use Rattle.std.specs.Prelude.{ℕ, List, [], ◌∷◌, ◌++◌, codes}
 use Rattle.std.specs.Fmt.{decimal}
 use Rattle.std.specs.Int.{w16, w32, to_be_bytes}
 use Rattle.std.specs.List.{flat_map}
@@ -7,10 +7,7 @@ use Rattle.hex.specs.Hex.{encode_lower}
 use Rattle.r10_body.specs.declared.entry.Entry.{Entry}
 use Rattle.r10_body.specs.declared.message.Message.{Message}
 use Rattle.r10_body.specs.declared.message.Message.TheVariants as messages
-use Rattle.r10_machine.specs.declared.reply.Reply.{Reply}
-use Rattle.r10_machine.specs.declared.reply.Reply.TheVariants as replies
 use Rattle.r10_lines.specs.Civil.{civil_text}
-use Rattle.r10_lines.specs.Refusals.{refusal_text}
 use Rattle.r10_lines.specs.Words.{spaced, flag_text}
 
 -- bytes in pairs of hex digits of lower case, a dash where there are none
@@ -51,18 +48,3 @@ entry_text e = spaced (codes "entry" ∷ decimal e.channel ∷ decimal e.count �
 -- an entry on a line of its own
 abbrev pub entry_line : Entry → List ℕ
 entry_line e = entry_text e ++ codes "\n"
-
--- the words for each reply
-abbrev pub IsReplyText : Reply → List ℕ → Type 0
-IsReplyText replies.Done text = text ≡ codes "ok"
-IsReplyText (replies.Moved moved) text = text ≡ spaced (codes "moved" ∷ decimal moved ∷ [])
-IsReplyText (replies.Stopped stopped) text = text ≡ spaced (codes "stopped" ∷ decimal stopped.taken ∷ decimal stopped.left ∷ [])
-IsReplyText (replies.Cursor id) text = text ≡ spaced (codes "cursor" ∷ decimal id ∷ [])
-IsReplyText (replies.Advanced queued) text = text ≡ spaced (codes "advanced" ∷ decimal queued ∷ [])
-IsReplyText (replies.Next None) text = text ≡ codes "none"
-IsReplyText (replies.Next (Some entry)) text = text ≡ entry_text entry
-IsReplyText (replies.Refused refusal) text = text ≡ refusal_text refusal
-
--- the step's number, the reply's words, and a line feed
-abbrev pub IsReplyLine : ℕ → Reply → List ℕ → Type 0
-IsReplyLine number reply line = (text : List ℕ) × IsReplyText reply text × (line ≡ spaced (decimal number ∷ (text ++ 10 ∷ []) ∷ []))

@@ -7,10 +7,9 @@ use Rattle.r10_body.specs.declared.fault.FileFault.TheVariants as faults
 use Rattle.r10_body.specs.declared.message.Message.TheVariants as messages
 use Rattle.r10_body.specs.declared.refusal.Refusal.TheVariants as refusals
 use Rattle.r10_machine.specs.declared.reply.Mode.TheVariants as modes
-use Rattle.r10_machine.specs.declared.reply.Reply.TheVariants as replies
 use Rattle.r10_steps.specs.declared.reply.Reply.TheVariants as say
 use Rattle.r10_lines.specs.Civil.{civil_text}
-use Rattle.r10_lines.specs.Line.{message_text, words_bytes, IsReplyText}
+use Rattle.r10_lines.specs.Line.{message_text, words_bytes}
 use Rattle.r10_lines.specs.Refusals.{refusal_text}
 use Rattle.r10_lines.specs.Replies.{mode_text, reply_lines}
 
@@ -50,12 +49,9 @@ pub event-text : message_text (messages.Event 3 1) ≡ codes "event 3 1"
 unfolding digits
 event-text = refl
 
-pub stopped-text : IsReplyText (replies.Stopped (record { taken = 6; left = 1 })) (codes "stopped 6 1")
+pub nothing-lines : reply_lines 8 (say.Next None) ≡ codes "8 none\n"
 unfolding digits
-stopped-text = refl
-
-pub nothing-text : IsReplyText (replies.Next None) (codes "none")
-nothing-text = refl
+nothing-lines = refl
 
 -- ---- refusals
 

@@ -5,5 +5,5 @@ mod line;
 mod refusal;
 mod reply;
 
-pub use line::{entry_line, reply_line};
+pub use line::entry_line;
 pub use reply::reply_lines;

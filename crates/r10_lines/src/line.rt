@@ -1,41 +1,13 @@
-//! The lines of entries, and the line that a step prints.
+//! The lines of entries.
 
 ghost use Rattle.std.specs.Prelude.{◌≡◌, string_bytes, IfOk};
 ghost use Rattle.r10_lines.specs.Civil.{civil_text as civil_digits};
-ghost use Rattle.r10_lines.specs.Line.{IsReplyLine, IsReplyText, entry_line, entry_text as entry_words, message_text as message_words, bytes_text, long_text as eight_digits, word_text as four_digits, words_text as words_digits};
+ghost use Rattle.r10_lines.specs.Line.{entry_line, entry_text as entry_words, message_text as message_words, bytes_text, long_text as eight_digits, word_text as four_digits, words_text as words_digits};
 ghost use Rattle.r10_lines.specs.Words.{flag_text as flag_digit};
 
-use crate::refusal::refusal_text;
 use r10_body::{Entry, Message};
 use r10_count::Civil;
-use r10_machine::Reply;
 use std::alloc::{AllocError, Global};
-
-/// The line of the reply to the step of this number, with its line feed.
-pub fn reply_line(alloc: Global, number: usize, reply: &Reply) -> Result<String, AllocError>
-    ensures { IfOk result (λ line. IsReplyLine number reply.now (string_bytes line)) }
-{
-    let text = reply_text(alloc, reply)?;
-    format!(in alloc; "{number} {text}\n")
-}
-
-fn reply_text(alloc: Global, reply: &Reply) -> Result<String, AllocError>
-    ensures { IfOk result (λ text. IsReplyText reply.now (string_bytes text)) }
-{
-    match reply {
-        Reply::Done => String::from_str(alloc, "ok"),
-        Reply::Moved(moved) => format!(in alloc; "moved {moved}"),
-        Reply::Stopped(stopped) => {
-            let (taken, left) = (stopped.taken, stopped.left);
-            format!(in alloc; "stopped {taken} {left}")
-        }
-        Reply::Cursor(id) => format!(in alloc; "cursor {id}"),
-        Reply::Advanced(queued) => format!(in alloc; "advanced {queued}"),
-        Reply::Next(None) => String::from_str(alloc, "none"),
-        Reply::Next(Some(entry)) => entry_text(alloc, entry),
-        Reply::Refused(refusal) => refusal_text(alloc, refusal),
-    }
-}
 
 /// The line of an entry, with its line feed.
 pub fn entry_line(alloc: Global, entry: &Entry) -> Result<String, AllocError>

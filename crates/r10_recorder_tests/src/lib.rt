@@ -1,4 +1,4 @@
-//! The recorder and its parts called once each with ample memory, and what their contracts do not say.
+//! The parts of a recorder called once each with ample memory, and what their contracts do not say.
 #![tactic(auto)]
 
 #[cfg(test)]
@@ -7,7 +7,5 @@ mod builder;
 mod builders;
 #[cfg(test)]
 mod parts;
-#[cfg(test)]
-mod recorder;
 #[cfg(test)]
 mod writing;

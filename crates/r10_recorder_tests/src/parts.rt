@@ -1,11 +1,9 @@
-// Settings, lanes, cursors.
+// Lanes and instalments.
 
 use r10_body::{ChannelSpec, Entry, Kind, Message, Refusal};
 use r10_count::{Count, Items};
-use r10_cursor::{advance_cursor, next_entry, open_cursor};
 use r10_lane::{LaneOut, RingLane};
 use r10_machine::{instalment, rising};
-use slab::Slab;
 use std::alloc::{AllocError, Global};
 use std::test::Fail;
 
@@ -92,24 +90,5 @@ fn a_full_lane_marks_a_gap(rt: HostRuntime) -> Result<(), Fail> {
     let whole = (2, Some(1000), Some((1000, false)));
     let behind_gap = (1, Some(1000), Some((1000, true)));
     assert_eq!(rt; given, [whole, behind_gap, (0, None, None)]);
-    Ok(())
-}
-
-/// A cursor's second instalment has what is shown since the first.
-#[test]
-fn instalments_follow(rt: HostRuntime) -> Result<(), Fail> {
-    let alloc = rt.alloc();
-    let early = entries(alloc, &[(6, 20), (5, 10)])?;
-    let shown = entries(alloc, &[(6, 20), (5, 10), (5, 30)])?;
-    let channels = Items::of(Vec::from_slice(alloc, &[5])?);
-    let from = Count::of(0).ok_or("not a count")?;
-    let to = Count::of(99).ok_or("not a count")?;
-    let mut cursors = Slab::new(alloc);
-    let id = open_cursor(alloc, &mut cursors, &channels, from, to)?;
-    let first = advance_cursor(alloc, &mut cursors, id, &early);
-    let given = next_entry(&mut cursors, id);
-    let second = advance_cursor(alloc, &mut cursors, id, &shown);
-    assert_eq!(rt; (first, second), (Ok(1), Ok(1)));
-    assert_eq!(rt; given, Ok(entries(alloc, &[(5, 10)])?.pop()));
     Ok(())
 }

@@ -1,7 +1,8 @@
 -- What a case comes to, and how it is printed.
-use Rattle.std.specs.Prelude.{◌≡◌, ℕ, ◌==◌, Bool, true, false, List, [], ◌∷◌, ◌++◌, Option, Some, codes, drop, map, string_bytes, take, if◌then◌else◌}
+use Rattle.std.specs.Prelude.{◌≡◌, ℕ, ◌==◌, ◌-◌, ◌&&◌, Bool, true, false, List, [], ◌∷◌, ◌++◌, Option, Some, None, codes, drop, length, nat_le, map, string_bytes, take, if◌then◌else◌}
 use Rattle.std.specs.Fmt.{decimal}
 use Rattle.std.specs.Io.KnownBytes.{Appends}
+use Rattle.hex.specs.Hex.{encode_lower}
 use Rattle.r10_images.specs.declared.listing.Outcome.{Outcome}
 use Rattle.r10_verdicts.specs.Checked.{Judges}
 use Rattle.r10_command.specs.Command.{Does}
@@ -45,9 +46,18 @@ front_text words status wanted =
     if status == wanted then (head_text words ++ (10 ∷ decimal status ++ (10 ∷ [])))
     else (head_text words ++ (10 ∷ decimal status ++ (codes ", not " ++ (decimal wanted ++ (10 ∷ [])))))
 
+-- the bytes from a place up to another, where there are so many
+abbrev pub between : ℕ → ℕ → List ℕ → List ℕ
+between from to bytes = if nat_le from to && nat_le to (length bytes) then take (to - from) (drop from bytes) else []
+
+-- what the command printed, or those of its bytes that are shown, as a line of hex digits
+abbrev pub shown : Option (ℕ × ℕ) → List ℕ → List ℕ
+shown None bytes = bytes
+shown (Some (from, to)) bytes = encode_lower (between from to bytes) ++ (10 ∷ [])
+
 -- these two lines, what the command printed, and its fault
 abbrev pub printed : Case → Answer → List ℕ
-printed case answer = front_text (map string_bytes case.words.items) answer.status case.wanted ++ answer.lines.items ++ answer.said.items
+printed case answer = front_text (map string_bytes case.words.items) answer.status case.wanted ++ shown case.window answer.lines.items ++ answer.said.items
 
 -- the first bytes of the text are a case, and what it came to was printed
 abbrev pub AnswersFirst : List ℕ → ℕ → Option (List ℕ) → Option (List ℕ) → Type 0

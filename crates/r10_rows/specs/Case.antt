@@ -1,5 +1,5 @@
 -- What a case is.
-use Rattle.std.specs.Prelude.{◌≡◌, ◌≢◌, ℕ, ◌+◌, ◌==◌, Bool, true, false, List, [], ◌∷◌, ◌++◌, Ok, All, EachIndex, MatchBool, codes, map, nat_eq, replicate, slice_index, string_bytes, if◌then◌else◌}
+use Rattle.std.specs.Prelude.{◌≡◌, ◌≢◌, ℕ, ◌+◌, ◌==◌, Bool, true, false, List, [], ◌∷◌, ◌++◌, Option, Some, None, Ok, All, EachIndex, MatchBool, codes, map, nat_eq, replicate, slice_index, string_bytes, if◌then◌else◌}
 use Rattle.std.specs.Fmt.{decimal}
 use Rattle.std.specs.List.{flat_map, starts_with}
 use Rattle.hex.specs.Hex.{decode_of}
@@ -28,9 +28,15 @@ abbrev pub form_text : Bool → List ℕ
 form_text true = codes " hex"
 form_text false = []
 
+-- which bytes of the output are shown, in hex digits
+abbrev pub window_text : Option (ℕ × ℕ) → List ℕ
+window_text None = []
+window_text (Some (from, to)) = codes " bytes " ++ (decimal from ++ (32 ∷ decimal to))
+
 -- the line of its words, the line of the wanted status, and its input as it is given
 abbrev pub spelled : Case → List ℕ
-spelled case = head_text (map string_bytes case.words.items) ++ (10 ∷ decimal case.wanted ++ (form_text case.is_hex ++ (10 ∷ string_bytes case.body)))
+spelled case =
+    head_text (map string_bytes case.words.items) ++ (10 ∷ decimal case.wanted ++ (form_text case.is_hex ++ (window_text case.window ++ (10 ∷ string_bytes case.body))))
 
 abbrev pub IsCase : Case → Type 0
 IsCase case = All (λ word. IsWord (string_bytes word)) case.words.items

@@ -1,8 +1,9 @@
 //! What a case comes to.
 
-ghost use Rattle.std.specs.Prelude.{◌≡◌, ◌↔◌, IsTrue, IfOk, OnOk, map, string_bytes};
+ghost use Rattle.std.specs.Prelude.{◌≡◌, ◌↔◌, ◌++◌, ◌∷◌, [], IsTrue, IfOk, OnOk, map, string_bytes};
+ghost use Rattle.hex.specs.Hex.{encode_lower};
 ghost use Rattle.std.specs.Io.KnownBytes.{Appends};
-ghost use Rattle.r10_rows.specs.Answer.{Answers, AreBoth, AsksJudge, IsAnswer, IsCommanded, IsJudged, front_text, printed};
+ghost use Rattle.r10_rows.specs.Answer.{Answers, AreBoth, AsksJudge, IsAnswer, IsCommanded, IsJudged, between, front_text, printed, shown};
 
 use crate::case::{Case, head_line};
 use crate::fault::RowsFault;
@@ -104,9 +105,47 @@ pub fn print<W: Write>(
 {
     let front = front_lines(alloc, case.words.as_slice(), answer.status, case.wanted)?;
     writer.write_all(front.as_bytes())?;
-    writer.write_all(answer.lines.as_slice())?;
+    write_shown(alloc, case.window, answer.lines.as_slice(), writer)?;
     writer.write_all(answer.said.as_slice())?;
     Ok(())
+}
+
+/// Prints what the command printed, or those of its bytes that are shown.
+fn write_shown<W: Write>(
+    alloc: Global,
+    window: Option<(usize, usize)>,
+    lines: &[u8],
+    writer: &mut W,
+) -> Result<(), RowsFault>
+    ensures { OnOk result (Appends (W.contents writer.old) (W.contents writer.new) (shown window lines.now)) }
+{
+    match window {
+        Some((from, to)) => {
+            let line = hex_line(alloc, between(from, to, lines))?;
+            writer.write_all(line.as_bytes())?;
+        }
+        None => writer.write_all(lines)?,
+    }
+    Ok(())
+}
+
+/// The bytes from a place up to another, none where there are not so many.
+fn between(from: usize, to: usize, bytes: &[u8]) -> &[u8]
+    ensures { result.now ≡ between from to bytes.now }
+{
+    if from <= to && to <= bytes.len() {
+        &bytes[from..to]
+    } else {
+        &[]
+    }
+}
+
+/// A line of hex digits.
+fn hex_line(alloc: Global, bytes: &[u8]) -> Result<String, AllocError>
+    ensures { IfOk result (λ line. string_bytes line ≡ encode_lower bytes.now ++ (10 ∷ [])) }
+{
+    let digits = hex::encode(alloc, bytes)?;
+    format!(in alloc; "{digits}\n")
 }
 
 /// The line of the words, and the line of the status.

@@ -3,7 +3,7 @@
 ghost use Rattle.std.specs.Prelude.{◌≡◌, ◌++◌, IsTrue, IfOk, OnOk, All, Ok, map, string_bytes};
 ghost use Rattle.std.specs.List.{flat_map};
 ghost use Rattle.hex.specs.Hex.{decode_of};
-ghost use Rattle.r10_rows.specs.Case.{head_text, spelled, marks, IsCase, IsWord, IsInput};
+ghost use Rattle.r10_rows.specs.Case.{head_text, spelled, marks, window_text, IsCase, IsWord, IsInput};
 
 use crate::fault::RowsFault;
 use std::alloc::{AllocError, Global};
@@ -17,6 +17,8 @@ pub struct Case {
     pub wanted: u8,
     /// Whether the input is given in hex digits.
     pub is_hex: bool,
+    /// The bytes of the output that are shown, in hex digits: from a place up to another. Where there is none, all is shown as it is.
+    pub window: Option<(usize, usize)>,
     /// The input, as it is given.
     pub body: String,
 }
@@ -56,8 +58,9 @@ impl Case {
         let head = head_line(alloc, self.words.as_slice())?;
         let wanted = self.wanted;
         let form = if self.is_hex { " hex" } else { "" };
+        let window = window_text(alloc, self.window)?;
         let body = self.body.as_str();
-        format!(in alloc; "{head}\n{wanted}{form}\n{body}")
+        format!(in alloc; "{head}\n{wanted}{form}{window}\n{body}")
     }
 }
 
@@ -71,6 +74,16 @@ pub fn head_line(alloc: Global, words: &[String]) -> Result<String, AllocError>
         line.push_str(word.as_str())?;
     }
     Ok(line)
+}
+
+/// How the bytes that are shown are spelled.
+fn window_text(alloc: Global, window: Option<(usize, usize)>) -> Result<String, AllocError>
+    ensures { IfOk result (λ text. string_bytes text ≡ window_text window) }
+{
+    match window {
+        Some((from, to)) => format!(in alloc; " bytes {from} {to}"),
+        None => Ok(String::new(alloc)),
+    }
 }
 
 /// The bytes that the hex digits stand for.
@@ -123,6 +136,10 @@ fn guess(alloc: Global, bytes: &[u8]) -> Result<Option<Case>, AllocError> {
     let Some((wanted, body)) = rest.split_once('\n') else {
         return Ok(None);
     };
+    let (wanted, window) = match wanted.split_once(" bytes ") {
+        Some((wanted, places)) => (wanted, window_of(places)),
+        None => (wanted, None),
+    };
     let (digits, is_hex) = match wanted.strip_suffix(" hex") {
         Some(digits) => (digits, true),
         None => (wanted, false),
@@ -139,8 +156,18 @@ fn guess(alloc: Global, bytes: &[u8]) -> Result<Option<Case>, AllocError> {
         words,
         wanted,
         is_hex,
+        window,
         body,
     }))
+}
+
+/// The two places that a text may spell.
+fn window_of(places: &str) -> Option<(usize, usize)> {
+    let (from, to) = places.split_once(' ')?;
+    match (from.parse::<usize>(), to.parse::<usize>()) {
+        (Ok(from), Ok(to)) => Some((from, to)),
+        _ => None,
+    }
 }
 
 fn is_same(left: &[u8], right: &[u8]) -> bool

@@ -10,4 +10,3 @@ mod step;
 mod table;
 
 pub use script::{Script, read_script};
-pub use step::STEPS;

@@ -17,9 +17,9 @@ use r10_steps::Event;
 
 const CIVIL: &str = "a text of the form YYYY-MM-DD hh:mm:ss.cc";
 
-/// The words of the steps that a recorder does today, as a fault says them. The other steps are read too.
-pub const STEPS: &str =
-    "one of: mount, tick, start, offer, pump, stop, cursor, advance, next, close";
+/// The words of the steps, as a fault says them.
+const STEPS: &str =
+    "one of: mount, dismount, tick, start, offer, pump, event, commit, stop, seal, erase, files, status, cursor, advance, next, close, find, count_at";
 
 /// The event that a step's table spells.
 pub fn event_of(channels: &[ChannelSpec], fields: Fields<'_>) -> Result<Event, ScriptFault>

@@ -97,7 +97,8 @@ and a line for each of its steps goes to standard output. A whole script:
   [[step]]
   do = \"stop\"
 
-What a step may do: mount, tick, start, offer, pump, stop, cursor, advance, next, close.
+What a step may do: mount, dismount, tick, start, offer, pump, event, commit, stop, seal, erase,
+files, status, cursor, advance, next, close, find, count_at.
 docs/FORMAT.md has the keys of scripts, the form of the lines, the format of the
 files and the refusals by number; examples/ has a script for each kind of channel.
 

@@ -1,34 +1,53 @@
-use Rattle.std.proofs.Common.{rules, arith, ◌≡◌, ◌+◌, ◌≤◌, ◌-◌, length, length-drop, take, drop, vec_len}
+use Rattle.std.proofs.Common.{rules, arith, ◌≡◌, ◌+◌, ◌≤◌, ◌-◌, [], length, length-drop, take, drop, vec_len, refl}
 use Rattle.std.proofs.lemmas.List.{take_all}
-use Rattle.r10_machine.specs.Step.{Run}
-use Rattle.r10_command.specs.Lines.{WritesLines, IsReady}
-use Rattle.r10_command.proofs.Rounds.{round_more}
+use Rattle.r10_session.specs.Telling.{Runs}
+use Rattle.r10_command.specs.Lines.{RunsAndWrites, WritesLines}
+use Rattle.r10_command.proofs.Rounds.{no_lines}
+use Rattle.r10_command.proofs.Running.{Done, round_more}
 use Rattle.r10_command.proofs.play.run_steps.Goals as goal
+
+pub loop-done-init : goal.loop-done-init
+loop-done-init g c = record {
+  within = omega arith;
+  config = refl;
+  ran = λ m stands. (
+    record {
+      replies = [];
+      images = [];
+      machine = m;
+      run = refl;
+      stands = stands;
+      lines = no_lines (g.W.Write.contents c.args.writer.now) 0;
+    },
+    refl,
+  );
+}
 
 pub loop-done-preserved : goal.loop-done-preserved
 loop-done-preserved g c =
     let contents = g.W.Write.contents in
-    let s = c.args.world.now.config in
+    let disk = g.M.BlockMedium.disk in
     let events = c.args.events.now in
     let done = c.loop-done.done in
     let n = c.in_ok-count.count in
     let new = c.run.new.replies.items in
     let within : done + n ≤ length events = search rules in
     let many : length new ≡ n = search rules in
-    let disk = g.M.BlockMedium.disk in
     let left = drop done events in
     let rest : take (length events - done) left ≡ left = take_all (length events - done) left (omega (arith, length-drop done events)) in
     let emptied : vec_len c.clear.new.self ≡ 0 = c.clear.ensures.len in
-    let run : IsReady c.loop-done.world.machine (disk c.loop-done.world.medium).blocks → Run s c.loop-done.world.machine (take n (drop done events)) new c.run.new.world.machine =
-    λ begun. rw (c.loop-done.invariant.config, rest, emptied) at c.in_ok-count.ensures.run begun in
+    let ran : Runs disk c.loop-done.world (take n (drop done events)) new c.run.new.world = rw (rest, emptied) at c.in_ok-count.ensures.run in
     let wrote : WritesLines (contents c.loop-done.writer) (contents c.write_lines.new.writer) done new = search rules in
     record {
       within = within;
       config = search rules;
-      ready = λ begun. c.run.ensures.formatted (c.loop-done.invariant.ready begun);
-      says = λ said. c.run.ensures.says (c.loop-done.invariant.says said);
-      ran = λ begun. let so_far = c.loop-done.invariant.ran begun in
-          round_more s c.args.world.now.machine c.loop-done.world.machine c.run.new.world.machine events done n so_far.0 new
-          (contents c.args.writer.now) (contents c.loop-done.writer) (contents c.write_lines.new.writer)
-          c.loop-done.invariant.within so_far.3 many so_far.1 (run (c.loop-done.invariant.ready begun)) so_far.2 wrote;
+      ran = round_more disk c.args.world.now c.loop-done.world c.run.new.world events done n new (contents c.args.writer.now) (contents c.loop-done.writer) (contents c.write_lines.new.writer)
+          c.runs_join.ensures c.loop-done.invariant.within many c.loop-done.invariant.config c.loop-done.invariant.ran ran wrote;
     }
+
+pub returns-clause-runs : goal.returns-clause-runs
+returns-clause-runs g c =
+    let events = c.args.events.now in
+    let done = c.loop-done.done in
+    let all : take done events ≡ events = take_all done events (omega arith) in
+    λ m stands. rw all at (c.loop-done.invariant.ran m stands).0

@@ -1,4 +1,0 @@
-pub mod Follow
-pub mod Places
-pub mod Packing
-pub mod Vectors
