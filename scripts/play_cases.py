@@ -3,7 +3,8 @@
 
     scripts/play_cases.py cases            # what stands in crates/r10_rows/stdin from `== play-first` on, up to `== check-first`
     scripts/play_cases.py answers          # the same of crates/r10_rows/stdout
-    scripts/play_cases.py compare PROGRAM  # PROGRAM play and scripts/read_chapter10.py --entries print the same of each strict file
+    scripts/play_cases.py compare PROGRAM  # PROGRAM play and scripts/read_chapter10.py --entries print the same of each strict file,
+                                           # and of what PROGRAM sim --image records of each example
     scripts/play_cases.py image            # the image of a file with every kind of channel
 
 Packets and the directory are built here from IRIG 106-17, chapters 10 and 11, and the wanted lines stand beside them. Nothing is
@@ -17,6 +18,7 @@ from check_cases import CIVIL, FIRST, OPENING, event, flipped, index_of, letters
 from judge_recording import ARINC, TIME, UART, first_fault
 
 READER = pathlib.Path(__file__).with_name('read_chapter10.py')
+EXAMPLES = pathlib.Path(__file__).parent.parent / 'examples'
 BUS, DISCRETE, MESSAGE = 0x19, 0x29, 0x30
 OTHER_CIVIL = bytes.fromhex('010200009959592328020021')
 
@@ -164,7 +166,7 @@ def answer_text(name, words, _, status, lines):
 
 
 def compare(program):
-    """Runs both over each strict file, and answers how many do not print the same."""
+    """Runs both over each strict file, and over what the program records of each example, and answers how many do not print the same."""
     bad = 0
     for data, closed, lines in ((FIRST, True, FIRST_LINES), (KINDS, True, KIND_LINES), (b''.join(lost()), True, LOST_LINES), (FIRST[:124], False, FIRST_LINES)):
         image = alone(data, closed)
@@ -174,6 +176,14 @@ def compare(program):
         if not (played.stdout == read.stdout == wanted and played.returncode == read.returncode == 0):
             print('played', played.stdout, played.stderr, 'read', read.stdout, read.stderr, 'wanted', wanted)
             bad += 1
+    for script in sorted(EXAMPLES.glob('*.toml')):
+        image = subprocess.run([program, 'sim', '--image'], input=script.read_bytes(), capture_output=True).stdout
+        if subprocess.run([program, 'files'], input=image, capture_output=True).stdout:
+            played = subprocess.run([program, 'play'], input=image, capture_output=True)
+            read = subprocess.run([sys.executable, READER, '--entries'], input=image, capture_output=True)
+            if not (played.stdout == read.stdout != b'' and played.returncode == read.returncode == 0):
+                print(script.name, 'played', played.stdout, played.stderr, 'read', read.stdout, read.stderr)
+                bad += 1
     print('%d not the same' % bad)
     return bad
 
