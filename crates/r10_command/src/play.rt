@@ -46,7 +46,8 @@ pub fn run_script<W: Write>(
     events: Vec<Event>,
     writer: &mut W,
 ) -> Result<Memory, Fault>
-    ensures { OnOk result (Plays settings events.items (W.contents writer.old) (W.contents writer.new)) }
+    ensures plays { OnOk result (Plays settings events.items (W.contents writer.old) (W.contents writer.new)) }
+    ensures leaves { IfOk result (λ medium. Leaves settings events.items (memory_disk medium).blocks) }
 {
     let world = run_on_fresh(alloc, settings, events, writer)?;
     Ok(world.into_medium())
