@@ -64,6 +64,7 @@ carries_behind r numbers old new text entries same below carried =
           tail = has.bytes.tail;
         };
         named = has.named;
+        counted = has.counted;
         numbered = has.numbered;
       };
       says = carried.says;
@@ -138,6 +139,7 @@ module _ (s : Config) (chain : List ChainBlock) (files : List File) (f : File) (
       has = record {
         bytes = carries_past r.out.blocks bytes [] old mid may.carries.has.bytes (subst (λ (b : List ℕ). Puts (first_of r.out.blocks) (file_blocks b) old mid) (sym (append-nil bytes)) put);
         named = may.carries.has.named;
+        counted = may.carries.has.counted;
         numbered = may.carries.has.numbered;
       };
       says = may.carries.says;

@@ -165,6 +165,7 @@ module _ (s : Config) (old : Image) (chain : List ChainBlock) (files : List File
               tail = has.bytes.tail;
             };
             named = has.named;
+            counted = has.counted;
             numbered = has.numbered;
           };
           says = begun.carries.says;

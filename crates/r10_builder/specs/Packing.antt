@@ -75,6 +75,7 @@ pub record IsClosed (spec : ChannelSpec) (samples : List Sample) (closed : Close
   pub packet : Packet
   pub header : closed.header ≡ header_of packet
   pub body : closed.body.items ≡ packet_body packet
+  pub number : closed.entries ≡ length samples
   pub fits : FitsPacket packet
   pub says : packet_entries packet ≡ map (entry_on spec.id) samples
   pub channel : packet.channel ≡ spec.id

@@ -26,5 +26,7 @@ pub struct Closed {
     pub header: Header,
     /// The channel specific data word, and the messages.
     pub body: Vec<u8>,
+    /// How many messages the packet has.
+    pub entries: usize,
     pub reason: Reason,
 }

@@ -1,9 +1,9 @@
 -- Packets and builders that are those of one file, and how they go on.
-use Rattle.std.specs.Prelude.{◌≡◌, ℕ, ◌<◌, List, [], ◌∷◌, ◌++◌, Option, None, Some}
+use Rattle.std.specs.Prelude.{◌≡◌, ℕ, ◌<◌, List, [], ◌∷◌, ◌++◌, length, Option, None, Some}
 use Rattle.std.specs.List.{AllByRecursion}
 use Rattle.r10_body.specs.Content.{type_of}
 use Rattle.r10_body.specs.Files.{on_channel}
-use Rattle.r10_body.specs.Packets.{Packet, FitsPacket, header_of, packet_body}
+use Rattle.r10_body.specs.Packets.{Packet, FitsPacket, header_of, packet_body, packet_entries}
 use Rattle.r10_body.specs.Rules.{MayFollow, Rise}
 use Rattle.r10_body.specs.declared.entry.Entry.{Entry}
 use Rattle.r10_builder.specs.State.{State}
@@ -29,6 +29,7 @@ pub record HandsOn (closed : Closed) (packets : List Packet) (builders : List St
   pub fits : FitsPacket packet
   pub header : closed.header ≡ header_of packet
   pub body : closed.body.items ≡ packet_body packet
+  pub number : closed.entries ≡ length (packet_entries packet)
   -- it is on the channel of a builder, and no packet that the recorder makes itself
   pub on : HasNone packet.channel builders → ⊥
   pub data_type : 0x11 < type_of packet.content

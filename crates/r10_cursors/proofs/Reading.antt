@@ -184,7 +184,7 @@ written s image chain o f w count n is told held read = covered_so image f count
     had =
         let packets = is.carries.packets in
         let long : length (file_bytes (take o.shown packets)) ≡ f.size = sym (is.cut.size_is ∙ ap (λ (k : ℕ). length (file_bytes (take k packets))) is.shown) in
-        let shows = shown s image o f w is told in
+        let shows = (shown s image o f w is told).shown in
         record {
           all = take o.shown packets;
           bytes_are = ap (λ (k : ℕ). bytes_from image f.first_block k) (sym long) ∙ is.stands;
@@ -195,8 +195,8 @@ written s image chain o f w count n is told held read = covered_so image f count
     by : ShowsFile image chain (Some w) w.file held.packets → HasPackets (bytes_shown image f) held.packets
     by (in_writing v same number shows) =
         let here : v ≡ w = cc (same) in
-        let known : IsShown image w.first w.named.now held.packets = subst (λ (x : Written). IsShown image x.first x.named.now held.packets) here shows in
-        subst (HasPackets (bytes_shown image f)) (one_shown image w.first w.named.now (take o.shown is.carries.packets) held.packets (shown s image o f w is told) known) had
+        let known : IsShown image w.first w.named.now held.packets = subst (λ (x : Written). IsShown image x.first x.named.now held.packets) here shows.shown in
+        subst (HasPackets (bytes_shown image f)) (one_shown image w.first w.named.now (take o.shown is.carries.packets) held.packets (shown s image o f w is told).shown known) had
     by (in_directory e found has) = absurd (beyond w.file (listed_files chain) e found)
       where
         beyond : (k : ℕ) (entries : List Listed) (e : Listed) → slice_get (take k entries) k ≡ Some e → ⊥

@@ -13,12 +13,15 @@ fn one_packet_is_named(rt: HostRuntime) -> Result<(), Fail> {
     let mut root = Vec::new(alloc);
     let mut book = IndexBook::new(alloc);
     book.ready(1)?;
-    book.add(NodeEntry {
-        counter,
-        data_type: 1,
-        channel: 0,
-        offset: 0,
-    })?;
+    book.add(
+        NodeEntry {
+            counter,
+            data_type: 1,
+            channel: 0,
+            offset: 0,
+        },
+        0,
+    )?;
     book.write_node(counter, 0, &mut node)?;
     book.write_root(counter, 32, &mut root)?;
     let named = (book.entries().len(), book.nodes());
@@ -33,12 +36,15 @@ fn a_packet_is_found_on_its_channel(rt: HostRuntime) -> Result<(), Fail> {
     let counter = Count::of(1000).ok_or("no count")?;
     let mut book = IndexBook::new(alloc);
     for channel in 7..9 {
-        book.add(NodeEntry {
-            counter,
-            data_type: 0x50,
-            channel,
-            offset: 44 * u64::from(channel),
-        })?;
+        book.add(
+            NodeEntry {
+                counter,
+                data_type: 0x50,
+                channel,
+                offset: 44 * u64::from(channel),
+            },
+            1,
+        )?;
     }
     let mut found = book.candidates(Some(8), counter, counter);
     assert_eq!(rt; found.next().map(|entry| entry.offset), Some(352));

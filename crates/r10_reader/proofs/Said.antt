@@ -24,11 +24,10 @@ use Rattle.r10_judge.proofs.Places.{strict_apart}
 use Rattle.r10_cuts.specs.Cuts.{Agree}
 use Rattle.r10_machine.specs.Config.{Config}
 use Rattle.r10_machine.specs.Machine.{File, shown_entries}
-use Rattle.r10_replay.specs.Shown.{IsShown}
 use Rattle.r10_steps.specs.Finding.{ticks_of}
 use Rattle.r10_steps.specs.Says.{IsFound, Lists, MediumSays, SaysEach, SaysFile}
 use Rattle.r10_steps.specs.Sound.{IsEntry}
-use Rattle.r10_reader.specs.Files.{in_writing, in_directory, bytes_in, finished_file}
+use Rattle.r10_reader.specs.Files.{IsShownWith, in_writing, in_directory, bytes_in, finished_file}
 use Rattle.r10_reader.specs.Held.{IsHeld}
 use Rattle.r10_reader.specs.declared.written.Written.{Written}
 use Rattle.r10_reader.proofs.Clipping.{among_first}
@@ -142,7 +141,7 @@ own_held s image fs chain written file f says directory before at inside entries
     let said = listed.2 in
     held_by image chain written file e f (found_entry written chain file e before listed.1) said inside (same_ticks s (file_entries said.says.says.0) f.shown f.entries (record { on = said.says.says.2.entries_are }) entries)
 
-pub written_held : (s : Config) (image : Image) (chain : List ChainBlock) (w : Written) (packets : List Packet) (f : File) → IsShown image w.first w.named.now packets → Agree (file_entries packets) (shown_entries f)
+pub written_held : (s : Config) (image : Image) (chain : List ChainBlock) (w : Written) (packets : List Packet) (f : File) → IsShownWith image w.first w.named.now w.book.now packets → Agree (file_entries packets) (shown_entries f)
     → f.shown ≤ length f.entries → AllByRecursion (IsEntry s) f.entries → IsHeld image chain (Some w) w.file f
 written_held s image chain w packets f shown agree inside entries = record {
   packets = packets;

@@ -13,8 +13,9 @@ use Rattle.r10_dirchain.specs.declared.chain.ChainBlock.{ChainBlock}
 use Rattle.r10_holding.specs.Holding.{IsWritten, Open}
 use Rattle.r10_machine.specs.Config.{Config}
 use Rattle.r10_machine.specs.Machine.{File, shown_entries}
-use Rattle.r10_replay.specs.Shown.{IsShown}
 use Rattle.r10_steps.specs.Sound.{IsEntry}
+use Rattle.r10_index.specs.Counted.{IsBookOf, IsCounted}
+use Rattle.r10_reader.specs.Files.{IsShownWith}
 use Rattle.r10_reader.specs.Held.{IsHeld, IsToldOf}
 use Rattle.r10_reader.specs.Knowing.{IsWriting}
 use Rattle.r10_reader.specs.declared.written.Written.{Written}
@@ -26,15 +27,20 @@ named_first zero offset packets = refl
 named_first (suc n) offset [] = refl
 named_first (suc n) offset (p ∷ packets) = ap (λ (es : List NodeEntry). node_entry offset p ∷ es) (named_first n (offset + length (packet_bytes p)) packets)
 
-pub shown : (s : Config) (image : Image) (o : Open) (f : File) (w : Written) (is : IsWritten s image o f) → IsToldOf o w → IsShown image w.first w.named.now (take o.shown is.carries.packets)
+pub shown : (s : Config) (image : Image) (o : Open) (f : File) (w : Written) (is : IsWritten s image o f) → IsToldOf o w → IsShownWith image w.first w.named.now w.book.now (take o.shown is.carries.packets)
 shown s image o f w is told =
     let packets = is.carries.packets in
     let front = take o.shown packets in
     let first : f.first_block ≡ w.first = sym (told.first ∙ is.first) in
+    let has = is.carries.has in
+    let book : IsBookOf w.book.now packets = record { named = told.entries ∙ has.named; counted = subst (λ (numbers : List ℕ). IsCounted numbers packets) (sym told.counted) has.counted } in
     record {
-      shows = subst (λ (n : ℕ). Shows image n (file_bytes front)) first is.stands;
-      each = follows_front [] front (drop o.shown packets) (subst (EachFollows []) (sym (take-append-drop o.shown packets)) is.carries.says.packed.growing.each);
-      named_as = told.named ∙ ap (take o.shown) is.carries.has.named ∙ named_first o.shown 0 packets;
+      shown = record {
+        shows = subst (λ (n : ℕ). Shows image n (file_bytes front)) first is.stands;
+        each = follows_front [] front (drop o.shown packets) (subst (EachFollows []) (sym (take-append-drop o.shown packets)) is.carries.says.packed.growing.each);
+        named_as = told.named ∙ ap (take o.shown) has.named ∙ named_first o.shown 0 packets;
+      };
+      begins = (drop o.shown packets, subst (IsBookOf w.book.now) (sym (take-append-drop o.shown packets)) book);
     }
 
 pub is_writing : (s : Config) (image : Image) (o : Open) (f : File) (w : Written) → IsWritten s image o f → IsToldOf o w → IsWhole image → length image ≤ 2 ^ 53 → IsWriting image (Some w)

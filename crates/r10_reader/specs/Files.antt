@@ -5,8 +5,11 @@ use Rattle.r10_blockout.specs.Blocks.{bytes_from}
 use Rattle.r10_dirblock.specs.declared.entry.Entry.{Entry as Listed}
 use Rattle.r10_dirchain.specs.Chain.{files}
 use Rattle.r10_dirchain.specs.declared.chain.ChainBlock.{ChainBlock}
+use Rattle.r10_indexbody.specs.declared.entry.NodeEntry.{NodeEntry}
 use Rattle.r10_body.specs.Packets.{Packet, file_bytes}
 use Rattle.r10_body.specs.Rules.{EachFollows, is_data}
+use Rattle.r10_index.specs.Book.{Book}
+use Rattle.r10_index.specs.Counted.{BeginsWith}
 use Rattle.r10_replay.specs.Shown.{IsShown}
 use Rattle.r10_reader.specs.declared.written.Written.{Written}
 
@@ -30,7 +33,12 @@ pub record HasPackets (bytes : List ℕ) (packets : List Packet) : Type 0 where
   pub each : EachFollows [] all
   pub packets_are : packets ≡ filter is_data all
 
+-- the medium shows these packets of a file, whose first block this is, and a book has them first
+pub record IsShownWith (image : Image) (first : ℕ) (named : List NodeEntry) (book : Book) (packets : List Packet) : Type 0 where
+  pub shown : IsShown image first named packets
+  pub begins : BeginsWith book packets
+
 -- the medium shows these packets of a file
 pub data ShowsFile (image : Image) (chain : List ChainBlock) (written : Option Written) (file : ℕ) (packets : List Packet) : Type 0 where
-  in_writing : (w : Written) → written ≡ Some w → w.file ≡ file → IsShown image w.first w.named.now packets → ShowsFile image chain written file packets
+  in_writing : (w : Written) → written ≡ Some w → w.file ≡ file → IsShownWith image w.first w.named.now w.book.now packets → ShowsFile image chain written file packets
   in_directory : (e : Listed) → finished_file written chain file ≡ Some e → HasPackets (bytes_in image e) packets → ShowsFile image chain written file packets

@@ -33,7 +33,9 @@ pub record GoesOn (packets : List Packet) (f : File) (n : ℕ) (old new : Readin
   pub queue : Ordered (wanted old.channels old.from old.to (drop n (shown_entries f))) new.queue
   pub covered : IsCovered packets f new.covered f.shown
 
--- this is told of a file that is held as the one that is written: its first block, and what the index will say of the packets that the medium shows
+-- this is told of a file that is held as the one that is written: its first block, and what the index will say of the packets that the medium shows, and of all
 pub record IsToldOf (o : Open) (w : Written) : Type 0 where
   pub first : w.first ≡ first_of o.recording.out.blocks
   pub named : w.named.now ≡ take o.shown o.recording.out.entries
+  pub entries : w.book.now.entries ≡ o.recording.out.entries
+  pub counted : w.book.now.counted ≡ o.recording.out.counted

@@ -6,11 +6,11 @@ use Rattle.r10_dirblock.specs.Block.{is_closed}
 use Rattle.r10_dirblock.specs.declared.entry.Entry.{Entry as Listed}
 use Rattle.r10_dirchain.specs.declared.chain.ChainBlock.{ChainBlock}
 use Rattle.r10_body.specs.Packets.{Packet, file_bytes}
-use Rattle.r10_body.specs.Rules.{is_data, node_entries}
+use Rattle.r10_body.specs.Rules.{is_data}
+use Rattle.r10_index.specs.Counted.{IsBookOf}
 use Rattle.r10_judge.specs.Judged.{IsKept, SaysClosed}
-use Rattle.r10_replay.specs.Shown.{IsShown}
 use Rattle.r10_tracks.specs.Tracks.{IsTracked}
-use Rattle.r10_reader.specs.Files.{bytes_in, finished_file}
+use Rattle.r10_reader.specs.Files.{IsShownWith, bytes_in, finished_file}
 use Rattle.r10_reader.specs.declared.books.Books.{Books}
 use Rattle.r10_reader.specs.declared.kept.Kept.{Kept}
 use Rattle.r10_reader.specs.declared.written.Written.{Written}
@@ -25,9 +25,9 @@ pub record IsUnder (image : Image) (e : Listed) (k : Kept) : Type 0 where
 abbrev pub IsOf : Image → List ChainBlock → Option Written → Kept → Type 0
 IsOf image chain written k = IsSomeAnd (finished_file written chain k.file) (λ e. IsUnder image e k)
 
--- of the file that is written, the medium shows packets, and these are what nodes say of them
+-- of the file that is written, the medium shows packets, these are what nodes say of them, and the book has them first
 abbrev pub IsWriting : Image → Option Written → Type 0
-IsWriting image written = IfSome written (λ w. (packets : List Packet) × IsShown image w.first w.named.now packets × (length (file_bytes packets) < 2 ^ 63))
+IsWriting image written = IfSome written (λ w. (packets : List Packet) × IsShownWith image w.first w.named.now w.book.now packets × (length (file_bytes packets) < 2 ^ 63))
 
 -- where the file is the one that is written, what is told of it is what the medium shows
 abbrev pub IsToldRight : Image → Option Written → ℕ → Type 0
@@ -63,11 +63,12 @@ pub data IsLearned (image : Image) (chain : List ChainBlock) (written : Option W
 -- where the packets stand of a file that was judged, and what nodes say of them
 pub record IsBook (k : Kept) (shown : Shown) : Type 0 where
   pub first : shown.first ≡ k.first
-  pub named : (packets : List Packet) → IsTracked k.tracks packets → shown.named.now ≡ node_entries 0 (filter is_data packets)
+  pub named : shown.named.now ≡ shown.book.now.entries
+  pub book : (packets : List Packet) → IsTracked k.tracks packets → IsBookOf shown.book.now (filter is_data packets)
 
 -- the file is there, and this tells where packets of it stand that the medium shows, fewer than 2^63 bytes
 pub record IsTold (image : Image) (chain : List ChainBlock) (written : Option Written) (file : ℕ) (shown : Shown) : Type 0 where
   pub read : IsRead image chain written file
   pub packets : List Packet
-  pub is_shown : IsShown image shown.first shown.named.now packets
+  pub is_shown : IsShownWith image shown.first shown.named.now shown.book.now packets
   pub short : length (file_bytes packets) < 2 ^ 63

@@ -9,8 +9,7 @@ ghost use Rattle.r10_dirchain.specs.declared.chain.ChainBlock.{ChainBlock};
 ghost use Rattle.r10_body.specs.Packets.{Packet as StrictPacket};
 ghost use Rattle.r10_filein.specs.Files.{file_at};
 ghost use Rattle.r10_judge.specs.Judged.{IsKept};
-ghost use Rattle.r10_replay.specs.Shown.{IsShown};
-ghost use Rattle.r10_reader.specs.Files.{ShowsFile, bytes_in, finished_file};
+ghost use Rattle.r10_reader.specs.Files.{IsShownWith, ShowsFile, bytes_in, finished_file};
 ghost use Rattle.r10_reader.specs.Knowing.{HasJudged, IsAdded, IsBook, IsLearned, IsOf, IsTold, IsToldRight, IsUnder};
 ghost use Rattle.r10_reader.specs.Refusals.{IsUnread, Refuses, RefusesToRead};
 
@@ -89,7 +88,7 @@ impl Books {
             → IsSomeAnd result (IsTold image chain written.entry file) }
         ensures there { (image : Image) (chain : List ChainBlock) → IsLearned image chain written.entry file self.now.kept.items place → result ≢ None }
         ensures shown { (image : Image) (chain : List ChainBlock) (packets : List StrictPacket) → IsLearned image chain written.entry file self.now.kept.items place → ShowsFile image chain written.entry file packets
-            → IfSome result (λ shown. IsShown image shown.first shown.named.now packets) }
+            → IfSome result (λ shown. IsShownWith image shown.first shown.named.now shown.book.now packets) }
     {
         match told(written, file) {
             Some(told) => Some(told),
@@ -103,10 +102,14 @@ impl Books {
         ensures none { slice_get self.now.kept.items place ≡ None → result ≡ None }
     {
         match self.kept.get(place) {
-            Some(kept) => Some(Shown {
-                first: kept.first,
-                named: kept.tracks.book().entries(),
-            }),
+            Some(kept) => {
+                let book = kept.tracks.book();
+                Some(Shown {
+                    first: kept.first,
+                    named: book.entries(),
+                    book,
+                })
+            }
             None => None,
         }
     }
@@ -183,7 +186,7 @@ fn is_written(written: Option<Written<'_>>, file: usize) -> bool
 
 /// What is told of a file, where it is the one that is written.
 fn told<'a>(written: Option<Written<'a>>, file: usize) -> Option<Shown<'a>>
-    ensures some { IfSome result (λ shown. IsSomeAnd written.entry (λ w. (w.file ≡ file) × (shown.first ≡ w.first) × (shown.named.now ≡ w.named.now))) }
+    ensures some { IfSome result (λ shown. IsSomeAnd written.entry (λ w. (w.file ≡ file) × (shown.first ≡ w.first) × (shown.named.now ≡ w.named.now) × (shown.book.now ≡ w.book.now))) }
     ensures none { IfNone result (IfSome written.entry (λ w. w.file ≢ file)) }
 {
     let told = written?;
@@ -193,6 +196,7 @@ fn told<'a>(written: Option<Written<'a>>, file: usize) -> Option<Shown<'a>>
     Some(Shown {
         first: told.first,
         named: told.named,
+        book: told.book,
     })
 }
 

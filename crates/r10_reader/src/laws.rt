@@ -19,10 +19,9 @@ ghost use Rattle.r10_cuts.specs.Cuts.{Agree};
 ghost use Rattle.r10_holding.specs.Holding.{IsWritten, Open};
 ghost use Rattle.r10_machine.specs.Config.{Config};
 ghost use Rattle.r10_machine.specs.Machine.{File, shown_entries};
-ghost use Rattle.r10_replay.specs.Shown.{IsShown};
 ghost use Rattle.r10_steps.specs.Says.{IsFound, MediumSays};
 ghost use Rattle.r10_steps.specs.Sound.{IsEntry};
-ghost use Rattle.r10_reader.specs.Files.{bytes_in, finished};
+ghost use Rattle.r10_reader.specs.Files.{IsShownWith, bytes_in, finished};
 ghost use Rattle.r10_reader.specs.Held.{IsCovered, IsHeld, IsToldOf};
 ghost use Rattle.r10_reader.specs.Knowing.{IsWriting, Knows};
 ghost use Rattle.r10_reader.specs.Staying.{KeepListed, Stay};
@@ -70,6 +69,6 @@ pub fn files_that_are_said()
         → IfSome written (λ w. file < w.file) → slice_get machine file ≡ Some f → IsFound image f → IsHeld image chain written file f }
     ensures own { (s : Config) (image : Image) (machine : List File) (chain : List ChainBlock) (written : Option Written) (file : ℕ) (f : File) → MediumSays s image machine → IsDirectory image chain
         → IfSome written (λ w. file < w.file) → slice_get machine file ≡ Some f → f.shown ≤ length f.entries → AllByRecursion (IsEntry s) f.entries → IsHeld image chain written file f }
-    ensures written { (s : Config) (image : Image) (chain : List ChainBlock) (w : Written) (packets : List Packet) (f : File) → IsShown image w.first w.named.now packets → Agree (file_entries packets) (shown_entries f)
+    ensures written { (s : Config) (image : Image) (chain : List ChainBlock) (w : Written) (packets : List Packet) (f : File) → IsShownWith image w.first w.named.now w.book.now packets → Agree (file_entries packets) (shown_entries f)
         → f.shown ≤ length f.entries → AllByRecursion (IsEntry s) f.entries → IsHeld image chain (Some w) w.file f }
 {}

@@ -1,5 +1,6 @@
 //! The file that is written.
 
+use r10_index::IndexBook;
 use r10_indexbody::NodeEntry;
 
 /// What the medium shows of the file that is written.
@@ -11,6 +12,8 @@ pub struct Written<'a> {
     pub first: usize,
     /// What nodes say of the packets that the medium shows.
     pub named: &'a [NodeEntry],
+    /// What they say of all its packets, of which these are the first.
+    pub book: &'a IndexBook,
 }
 
 /// Where a file's packets stand that the medium shows.
@@ -20,4 +23,6 @@ pub(crate) struct Shown<'a> {
     pub first: usize,
     /// What nodes say of the packets.
     pub named: &'a [NodeEntry],
+    /// A book that has them first.
+    pub book: &'a IndexBook,
 }

@@ -10,18 +10,18 @@ use Rattle.r10_dirblock.specs.Block.{is_closed}
 use Rattle.r10_dirblock.specs.declared.entry.Entry.{Entry as Listed}
 use Rattle.r10_dirchain.specs.declared.chain.ChainBlock.{ChainBlock}
 use Rattle.r10_holding.specs.Holding.{Open}
+use Rattle.r10_index.specs.Book.{Book}
 use Rattle.r10_judge.specs.Judged.{SaysClosed}
 use Rattle.r10_machine.specs.Machine.{Machine}
 use Rattle.r10_means.specs.Kept.{Kept, Work, unmounted, idle, recording, failed}
 use Rattle.r10_medium.specs.Disk.{Image}
-use Rattle.r10_reader.specs.Files.{HasPackets, bytes_in}
+use Rattle.r10_reader.specs.Files.{HasPackets, IsShownWith, bytes_in}
 use Rattle.r10_reader.specs.Held.{IsToldOf}
 use Rattle.r10_reader.specs.declared.refusal.ReadRefusal.{ReadRefusal}
 use Rattle.r10_reader.specs.declared.refusal.ReadRefusal.TheVariants as reads
 use Rattle.r10_reader.specs.declared.written.Written.{Written}
 use Rattle.r10_recorder.specs.Checks.{files_of}
 use Rattle.r10_recorder.specs.Owns.{ended_files}
-use Rattle.r10_replay.specs.Shown.{IsShown}
 use Rattle.r10_steps.specs.Checks.{refusal}
 use Rattle.r10_steps.specs.Says.{MediumSays}
 use Rattle.r10_steps.specs.declared.event.Event.TheVariants.{Cursor}
@@ -62,9 +62,13 @@ pub record IsInUse (work : Work) (chain : List ChainBlock) (files : ℕ) (writte
 
 -- ---- what is shown
 
--- of the file that is recorded the medium shows these packets, and these are what an index would say of them
+-- what its book says of a file that is written
+abbrev pub book_of : Open → Book
+book_of o = record { entries = o.recording.out.entries; room = o.recording.out.room; counted = o.recording.out.counted }
+
+-- of the file that is recorded the medium shows these packets, these are what an index would say of them, and its book has them first
 abbrev pub ShowsOpen : Image → Open → List Packet → Type 0
-ShowsOpen image o packets = IsShown image (first_of o.recording.out.blocks) (take o.shown o.recording.out.entries) packets
+ShowsOpen image o packets = IsShownWith image (first_of o.recording.out.blocks) (take o.shown o.recording.out.entries) (book_of o) packets
 
 -- the medium shows these packets of the file of a number, without those of its index
 pub data ShowsAt (work : Work) (image : Image) (file : ℕ) (packets : List Packet) : Type 0 where

@@ -3,3 +3,4 @@ pub mod Searching
 pub mod Standing
 pub mod Ticks
 pub mod Wanting
+pub mod Starting

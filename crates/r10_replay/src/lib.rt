@@ -5,6 +5,7 @@
 mod count;
 mod cursor;
 mod fault;
+mod looked;
 mod packet;
 mod search;
 

@@ -71,6 +71,7 @@ fn put(
     medium: &mut Memory,
     header: &Header,
     body: &[u8],
+    entries: usize,
 ) -> Result<(), MediumFault>
     requires first { first_of out.old.blocks ≡ 1 }
     requires size { size_of out.old.blocks ≤ 1500 }
@@ -85,7 +86,7 @@ fn put(
     let Ok(()) = out.ready(1) else {
         return Err(MediumFault);
     };
-    out.put(medium, header, body)
+    out.put(medium, header, body, entries)
 }
 
 // The first recording from block 1 on, its third packet with these flags: bytes and packets before it
@@ -99,9 +100,9 @@ fn record(
     requires { 5 ≤ length (blocks_of medium.old) }
 {
     let mut out = PacketOut::begin(alloc, 1);
-    put(&mut out, medium, &header(0, 0x01, 0, counter), &SETUP)?;
-    put(&mut out, medium, &header(1, 0x11, 0, counter), &TIME)?;
-    put(&mut out, medium, &header(5, 0x50, flags, counter), &UART)?;
+    put(&mut out, medium, &header(0, 0x01, 0, counter), &SETUP, 0)?;
+    put(&mut out, medium, &header(1, 0x11, 0, counter), &TIME, 1)?;
+    put(&mut out, medium, &header(5, 0x50, flags, counter), &UART, 2)?;
     let (size, packets) = (out.size(), out.packets());
     out.commit_blocks(medium)?;
     out.close(medium, counter)?;

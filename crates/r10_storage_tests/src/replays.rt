@@ -1,6 +1,7 @@
 // The first recording, found again on a medium.
 use crate::packets::FIRST;
 use r10_count::{Civil, Count, Items, Parts};
+use r10_index::IndexBook;
 use r10_indexbody::NodeEntry;
 use r10_medium::Memory;
 use r10_replay::{Cursor, count_at, find, read_packet};
@@ -17,6 +18,15 @@ fn named(counter: Count) -> [NodeEntry; 3] {
     })
 }
 
+// a book of it: a setup, a time and two messages
+fn book(alloc: Global, named: &[NodeEntry; 3]) -> Result<IndexBook, AllocError> {
+    let mut book = IndexBook::new(alloc);
+    for (entry, entries) in named.iter().zip([0, 1, 2]) {
+        book.add(*entry, entries)?;
+    }
+    Ok(book)
+}
+
 // a medium that has it from block 0 on
 fn recorded(alloc: Global) -> Result<Memory, AllocError> {
     let mut block = [0; 512];
@@ -29,8 +39,18 @@ fn the_second_message_is_found(rt: HostRuntime) -> Result<(), Fail> {
     let mut medium = recorded(rt.alloc())?;
     let mut buffer = Vec::new(rt.alloc());
     let named = named(Count::of(1000).ok_or("no count")?);
+    let book = book(rt.alloc(), &named)?;
     let count = Count::of(1001).ok_or("no count")?;
-    let found = find(rt.alloc(), &mut medium, 0, &named, 5, count, &mut buffer);
+    let found = find(
+        rt.alloc(),
+        &mut medium,
+        0,
+        &named,
+        &book,
+        5,
+        count,
+        &mut buffer,
+    );
     let told = match &found {
         Ok(Some(found)) => Some((found.number, found.entry.count.get(), found.entry.gap)),
         _ => None,

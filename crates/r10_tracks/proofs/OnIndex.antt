@@ -12,11 +12,12 @@ use Rattle.r10_indexbody.specs.declared.entry.RootEntry.{RootEntry}
 use Rattle.r10_indexbody.proofs.Nodes.{one_node_body}
 use Rattle.r10_indexbody.proofs.Roots.{one_root_body}
 use Rattle.r10_body.specs.Content.{Content, FitsContent, setup, time, event, uart, bus, arinc, discrete, message, node, root, body_of}
-use Rattle.r10_body.specs.Packets.{Packet, FitsPacket, packet_body, packet_bytes, file_bytes}
+use Rattle.r10_body.specs.Packets.{Packet, FitsPacket, packet_body, packet_bytes, packet_entries, file_bytes}
 use Rattle.r10_body.specs.Rules.{MayFollow, EachFollows, KeepsIndex, IsNextNode, IsNextRoot, is_time, is_index, is_data, is_node, is_root, closed_from, node_entry, node_entries, root_entries, last_time}
 use Rattle.r10_laws.proofs.Indexes.{Part, datum, node_here, root_here, part_of, counted, counted_yes, counted_no, index_long}
 use Rattle.r10_laws.proofs.Rules.{bytes_more, follows_fit}
 use Rattle.r10_laws.proofs.Sentences.{type_fits}
+use Rattle.r10_index.specs.Counted.{IsBookOf, IsCounted}
 use Rattle.r10_index.specs.Written.{names}
 use Rattle.r10_index.proofs.Behind.{part_fits, last_more}
 use Rattle.r10_strict.specs.Facts.{Tells, kind_of}
@@ -317,6 +318,7 @@ node_added t ps p f bytes nodes ix tells may short kind bytes_is nodes_is =
     let most : count_by is_node (ps ++ p ∷ []) ≤ length (file_bytes (ps ++ p ∷ [])) = omega (arith, sym (length-filter is_node (ps ++ p ∷ [])), few (filter is_node (ps ++ p ∷ [])), fewer is_node (ps ++ p ∷ [])) in
     record {
       named = ix.named ∙ sym (ap (node_entries 0) (datas_no ps p i));
+      counted = subst (λ (qs : List Packet). IsCounted t.book.counted qs) (sym (datas_no ps p i)) ix.counted;
       end = ix.end ∙ sym (ap (λ (qs : List Packet). length (file_bytes qs)) (datas_no ps p i));
       bytes = bytes_grown t ps p f bytes ix tells short bytes_is;
       nodes = omega (arith, nodes_is, ix.nodes, counted is_node ps p, counted_yes is_node p n, most, short);
@@ -333,6 +335,7 @@ root_added t ps p f bytes ix tells may short kind bytes_is =
     let r : is_root p ≡ true = rw a.is refl in
     record {
       named = ix.named ∙ sym (ap (node_entries 0) (datas_no ps p i));
+      counted = subst (λ (qs : List Packet). IsCounted t.book.counted qs) (sym (datas_no ps p i)) ix.counted;
       end = ix.end ∙ sym (ap (λ (qs : List Packet). length (file_bytes qs)) (datas_no ps p i));
       bytes = bytes_grown t ps p f bytes ix tells short bytes_is;
       nodes = omega (arith, ix.nodes, counted is_node ps p, counted_no is_node p n);
@@ -347,9 +350,12 @@ plain p f tells not_node not_root (node_here es e i n r len) = absurd (not_node 
 plain p f tells not_node not_root (root_here es e i n r len) = absurd (not_root (tells.kind ∙ ap kind_of e))
 
 pub datum_added : (t u : IndexTracks) (ps : List Packet) (p : Packet) (f : Facts) → IsIndexed t ps → Tells f p → MayFollow ps p → length (file_bytes (ps ++ p ∷ [])) < 2 ^ 63 → (f.kind ≡ Node → ⊥) → (f.kind ≡ Root → ⊥)
-    → u.book.entries ≡ t.book.entries ++ record { counter = f.counter; data_type = f.data_type; channel = f.channel; offset = t.end } ∷ [] → u.end ≡ min (t.end + f.length) (2 ^ 64 - 1)
+    → u.book.entries ≡ t.book.entries ++ record { counter = f.counter; data_type = f.data_type; channel = f.channel; offset = t.end } ∷ []
+    → ((packets : List Packet) (q : Packet) → IsBookOf t.book packets → record { counter = f.counter; data_type = f.data_type; channel = f.channel; offset = t.end } ≡ node_entry (length (file_bytes packets)) q
+    → f.entries ≡ length (packet_entries q) → IsCounted u.book.counted (packets ++ q ∷ []))
+    → u.end ≡ min (t.end + f.length) (2 ^ 64 - 1)
     → u.bytes ≡ min (t.bytes + f.length) (2 ^ 64 - 1) → u.nodes ≡ t.nodes → u.closed ≡ t.closed → IsIndexed u (ps ++ p ∷ [])
-datum_added t u ps p f ix tells may short not_node not_root named_is end_is bytes_is nodes_is closed_is =
+datum_added t u ps p f ix tells may short not_node not_root named_is counts end_is bytes_is nodes_is closed_is =
     let parts = plain p f tells not_node not_root (part_of p) in
     let shut : t.closed ≡ false = open_is t.closed (count_by is_root ps) ix.roots may.index.0 in
     let datas = filter is_data ps in
@@ -361,6 +367,7 @@ datum_added t u ps p f ix tells may short not_node not_root named_is end_is byte
     record {
       named = named_is ∙ ap (λ (es : List NodeEntry). es ++ record { counter = f.counter; data_type = f.data_type; channel = f.channel; offset = t.end } ∷ []) ix.named
           ∙ ap (λ (e : NodeEntry). node_entries 0 datas ++ e ∷ []) entry ∙ sym (ap (node_entries 0) more ∙ entries_more 0 datas p ∙ ap (λ n. node_entries 0 datas ++ node_entry n p ∷ []) none_first);
+      counted = subst (λ (qs : List Packet). IsCounted u.book.counted qs) (sym more) (counts datas p (record { named = ix.named; counted = ix.counted }) entry tells.entries);
       end = omega (arith, end_is, ix.end, tells.length_is, all, fewer is_data (ps ++ p ∷ []), short);
       bytes = bytes_grown t ps p f u.bytes ix tells short bytes_is;
       nodes = omega (arith, nodes_is, ix.nodes, counted is_node ps p, counted_no is_node p parts.1);

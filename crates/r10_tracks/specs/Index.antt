@@ -2,11 +2,13 @@
 use Rattle.std.specs.Prelude.{◌≡◌, cond, List, length, filter, count_by}
 use Rattle.r10_body.specs.Packets.{Packet, file_bytes}
 use Rattle.r10_body.specs.Rules.{is_data, is_node, is_root, is_closed, node_entries}
+use Rattle.r10_index.specs.Counted.{IsCounted}
 use Rattle.r10_tracks.specs.declared.index.IndexTracks.{IndexTracks}
 
 pub record IsIndexed (t : IndexTracks) (packets : List Packet) : Type 0 where
   -- what nodes say of the packets that are no index packets
   pub named : t.book.entries ≡ node_entries 0 (filter is_data packets)
+  pub counted : IsCounted t.book.counted (filter is_data packets)
   -- the bytes of those packets, and of all
   pub end : t.end ≡ length (file_bytes (filter is_data packets))
   pub bytes : t.bytes ≡ length (file_bytes packets)
@@ -18,6 +20,7 @@ pub record IsIndexed (t : IndexTracks) (packets : List Packet) : Type 0 where
 -- all that is kept is the same
 pub record IsSameIndex (old new : IndexTracks) : Type 0 where
   pub named : new.book.entries ≡ old.book.entries
+  pub counted : new.book.counted ≡ old.book.counted
   pub end : new.end ≡ old.end
   pub bytes : new.bytes ≡ old.bytes
   pub nodes : new.nodes ≡ old.nodes

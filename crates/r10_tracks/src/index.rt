@@ -2,8 +2,9 @@
 
 ghost use Rattle.std.specs.Prelude.{◌≡◌, ◌+◌, ◌-◌, ◌*◌, ◌^◌, ◌<◌, ◌≤◌, ◌↔◌, ◌∷◌, [], ◌++◌, List, length, min, take, drop, IsTrue, OnOk};
 ghost use Rattle.r10_count.specs.Count.{IsCount};
-ghost use Rattle.r10_body.specs.Packets.{Packet, FitsPacket, packet_body, file_bytes};
-ghost use Rattle.r10_body.specs.Rules.{KeepsIndex, EachFollows, MayFollow, last_time};
+ghost use Rattle.r10_body.specs.Packets.{Packet, FitsPacket, packet_body, packet_entries, file_bytes};
+ghost use Rattle.r10_body.specs.Rules.{KeepsIndex, EachFollows, MayFollow, last_time, node_entry};
+ghost use Rattle.r10_index.specs.Counted.{IsBookOf, IsCounted};
 ghost use Rattle.r10_index.specs.Written.{names};
 ghost use Rattle.r10_indexbody.specs.Index.{root_body};
 ghost use Rattle.r10_strict.specs.Facts.{Tells};
@@ -117,19 +118,23 @@ impl IndexTracks {
         }
     }
 
-    /// Adds what a node says of a packet.
+    /// Adds what a node says of a packet, and how many entries it has.
     fn name(&mut self, facts: &Facts, size: u64)
         requires { length self.old.book.entries < self.old.book.room }
         ensures named { self.new.book.entries ≡ self.old.book.entries ++ record { counter = facts.now.counter; data_type = facts.now.data_type; channel = facts.now.channel; offset = self.old.end } ∷ [] }
+        ensures counted { (packets : List Packet) (p : Packet) → IsBookOf self.old.book packets
+            → record { counter = facts.now.counter; data_type = facts.now.data_type; channel = facts.now.channel; offset = self.old.end } ≡ node_entry (length (file_bytes packets)) p
+            → facts.now.entries ≡ length (packet_entries p) → IsCounted self.new.book.counted (packets ++ p ∷ []) }
         ensures end { self.new.end ≡ min (self.old.end + size) (2 ^ 64 - 1) }
         ensures same { (self.new.bytes ≡ self.old.bytes) × (self.new.nodes ≡ self.old.nodes) × (self.new.closed ≡ self.old.closed) }
     {
-        let _ = self.book.add(NodeEntry {
+        let entry = NodeEntry {
             counter: facts.counter,
             data_type: facts.data_type,
             channel: facts.channel,
             offset: self.end,
-        });
+        };
+        let _ = self.book.add(entry, facts.entries);
         self.end = self.end.saturating_add(size);
     }
 }

@@ -21,7 +21,7 @@ returns-in-Ok-advance-clause-entries g c =
     let kept : IsKept (is_closed file.entry) tracks (bytes_on image file.entry) =
     subst (λ (i : Image). IsKept (is_closed file.entry) tracks (bytes_on i file.entry)) c.in_ok-file.ensures.same.reads c.in_ok-tracks.ensures.kept in
     let is_shown : IsShown image file.entry.first_block c.entries.result.now (filter is_data kept.packets) =
-    kept_shown image file tracks kept c.entries.result.now c.book.result.now.entries c.entries.ensures c.book.ensures in
+    kept_shown image file tracks kept c.entries.result.now c.book.result.now.entries c.entries.ensures (λ packets tracked. (c.book.ensures packets tracked).named) in
     let there : IsShown (disk c.strict_tracks.new.medium).blocks file.entry.first_block c.entries.result.now (filter is_data kept.packets) =
     subst (λ (i : Image). IsShown i file.entry.first_block c.entries.result.now (filter is_data kept.packets)) (sym (c.in_ok-tracks.ensures.same.reads ∙ c.in_ok-file.ensures.same.reads)) is_shown in
     let counts : HasCounts s = (search rules, search rules) in
@@ -38,7 +38,7 @@ returns-clause-refused g c =
     let kept : IsKept (is_closed file.entry) tracks (bytes_on image file.entry) =
     subst (λ (i : Image). IsKept (is_closed file.entry) tracks (bytes_on i file.entry)) c.in_ok-file.ensures.same.reads c.in_ok-tracks.ensures.kept in
     let is_shown : IsShown image file.entry.first_block c.entries.result.now (filter is_data kept.packets) =
-    kept_shown image file tracks kept c.entries.result.now c.book.result.now.entries c.entries.ensures c.book.ensures in
+    kept_shown image file tracks kept c.entries.result.now c.book.result.now.entries c.entries.ensures (λ packets tracked. (c.book.ensures packets tracked).named) in
     let there : IsShown (disk c.strict_tracks.new.medium).blocks file.entry.first_block c.entries.result.now (filter is_data kept.packets) =
     subst (λ (i : Image). IsShown i file.entry.first_block c.entries.result.now (filter is_data kept.packets)) (sym (c.in_ok-tracks.ensures.same.reads ∙ c.in_ok-file.ensures.same.reads)) is_shown in
     absurd (c.in-Err-NoPacket.ensures.there (filter is_data kept.packets) there c.in-Err-NoPacket.field-0-is)

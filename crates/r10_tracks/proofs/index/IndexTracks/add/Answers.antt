@@ -10,4 +10,4 @@ returns-in-Root c = λ packets p ix tells may short. root_added c.args.self.now 
 
 pub returns-in_default : goal.returns-in_default
 returns-in_default c = λ packets p ix tells may short.
-    datum_added c.args.self.now c.name.new.self packets p c.args.facts.now ix tells may short c.in_default.not-Node c.in_default.not-Root c.name.ensures.named c.name.ensures.end (c.name.ensures.same.0 ∙ c.saturating_add-self.ensures) c.name.ensures.same.1 c.name.ensures.same.2
+    datum_added c.args.self.now c.name.new.self packets p c.args.facts.now ix tells may short c.in_default.not-Node c.in_default.not-Root c.name.ensures.named c.name.ensures.counted c.name.ensures.end (c.name.ensures.same.0 ∙ c.saturating_add-self.ensures) c.name.ensures.same.1 c.name.ensures.same.2
