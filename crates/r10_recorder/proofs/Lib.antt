@@ -28,3 +28,4 @@ mod Ticks
 mod Closes
 mod Stops
 mod Leaves
+mod Moments

@@ -36,6 +36,13 @@ pub record TakenAll {L : Type 0} (took : L → List Sample → L → Type 0) (qu
 abbrev pub closed_with : ℕ → List Part → File → File
 closed_with size parts f = closed_whole size (with_entries (entries_of parts) f)
 
+-- an image says the file closed, with what was taken from the lanes
+pub record SaysStopped {L : Type 0} (took : L → List Sample → L → Type 0) (spec_of : L → ChannelSpec) (lanes lanes' : List L) (s : Config) (files : List File) (f : File) (image : Image) : Type 0 where
+  pub parts : List Part
+  pub taken : TookAll took spec_of parts lanes lanes'
+  pub size : ℕ
+  pub says : MediumSays s image (files ++ closed_with size parts f ∷ [])
+
 -- the directory holds it so, no shorter than it was shown
 abbrev pub ClosesSo : {L : Type 0} → (L → ℕ) → (L → ChannelSpec) → List L → Open → Image → List ChainBlock → List ChainBlock → Image → ℕ → List Part → Type 0
 ClosesSo reached spec_of lanes old before chain made after size parts =
