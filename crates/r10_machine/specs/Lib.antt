@@ -9,4 +9,3 @@ pub mod Step
 pub mod Sound
 pub mod Vectors
 pub mod Cases
-pub mod Soundness

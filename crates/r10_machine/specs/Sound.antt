@@ -1,5 +1,5 @@
--- What is true of every state that a recorder comes to.
-use Rattle.std.specs.Prelude.{◌≡◌, ℕ, ◌<◌, ◌≤◌, Bool, true, false, not, ◌&&◌, List, [], ◌∷◌, ◌++◌, length, map, filter, Option, Some, None, IfSome, IsSomeAnd, slice_get}
+-- What is true of the lanes, entries and cursors of every state that a recorder comes to.
+use Rattle.std.specs.Prelude.{◌≡◌, ℕ, ◌≤◌, Bool, false, not, ◌&&◌, List, [], ◌∷◌, ◌++◌, length, map, filter, Option, Some, None, IsSomeAnd, slice_get}
 use Rattle.std.specs.List.{AllByRecursion, flat_map}
 use Rattle.r10_count.specs.Count.{IsCount}
 use Rattle.r10_count.specs.Civil.{IsCivil}
@@ -8,12 +8,9 @@ use Rattle.r10_body.specs.Channels.{spec_of}
 use Rattle.r10_body.specs.Files.{on_channel}
 use Rattle.r10_body.specs.declared.entry.Entry.{Entry}
 use Rattle.r10_body.specs.declared.message.Message.TheVariants.{Time}
-use Rattle.r10_machine.specs.declared.reply.Mode.{Mode}
-use Rattle.r10_machine.specs.declared.reply.Mode.TheVariants as modes
 use Rattle.r10_machine.specs.Config.{Config}
-use Rattle.r10_machine.specs.Machine.{Machine, Lane, File, Cursor, cursor_of, last_file}
-use Rattle.r10_machine.specs.Room.{cost_of, area}
-use Rattle.r10_machine.specs.Checks.{most_files, message_checks, is_recording, last_tick}
+use Rattle.r10_machine.specs.Machine.{Machine, Lane, File, Cursor, last_file}
+use Rattle.r10_machine.specs.Checks.{message_checks}
 
 -- counts that don't fall, from one on and up to another
 abbrev pub Climbs : ℕ → List ℕ → ℕ → Type 0
@@ -52,14 +49,6 @@ IsEntry s e = IsCount e.count × elim e.message [
   | _ ↦ IsSomeAnd (spec_of s.channels e.channel) (λ spec. first_broken (message_checks spec e.message) ≡ None)
 ]
 
--- a file of this recorder: its first entry is a time and is shown, it fits into its area, and shows all once it is closed
-pub record IsOwnFile (s : Config) (f : File) : Type 0 where
-  pub first : IsSomeAnd (slice_get f.entries 0) (λ e. e.channel ≡ s.time)
-  pub begun : 0 < f.shown
-  pub entries : AllByRecursion (IsEntry s) f.entries
-  pub room : cost_of f ≤ area s f
-  pub whole : f.closed ≡ true → f.shown ≡ length f.entries
-
 abbrev pub is_open : File → Bool
 is_open f = f.own && not f.closed
 
@@ -67,29 +56,8 @@ is_open f = f.own && not f.closed
 abbrev pub has_open : Machine → Bool
 has_open m = elim (last_file m) [ None ↦ false | Some f ↦ is_open f ]
 
--- ---- the whole
-
--- while the recorder works, these are its files, and a file is open where one is being recorded
-pub record IsSoundWork (s : Config) (m : Machine) : Type 0 where
-  pub recording : is_recording m.mode ≡ has_open m
-  pub own : AllByRecursion (IsOwnFile s) (own_files m.files)
-  pub lanes : AllByRecursion (LaneClimbs m.files) m.lanes
-  pub times : Climbs 0 (counts_on s.time m.files) (count_or_0 (last_tick m))
+-- ---- cursors
 
 -- a cursor isn't of a later generation, and one of this generation has its file and covers no more than is shown
 abbrev pub IsSoundCursor : Machine → Cursor → Type 0
 IsSoundCursor m c = (c.generation ≤ m.generation) × (c.generation ≡ m.generation → IsSomeAnd (slice_get m.files c.file) (λ f. c.covered ≤ f.shown))
-
--- a recorder that failed keeps what it shows, and no more
-abbrev pub SoundWork : Mode → Config → Machine → Type 0
-SoundWork modes.Failed s m = Unit {0}
-SoundWork mode s m = IsSoundWork s m
-
-pub record IsSound (s : Config) (m : Machine) : Type 0 where
-  pub channels : map (λ lane. lane.spec) m.lanes ≡ s.channels
-  pub lanes : AllByRecursion IsSoundLane m.lanes
-  pub tick : IfSome m.tick (λ tick. IsCount tick.count × IsCivil tick.civil)
-  pub most : length m.files ≤ most_files s
-  pub shown : AllByRecursion (λ f. f.shown ≤ length f.entries) m.files
-  pub cursors : (id : ℕ) → IfSome (cursor_of id m) (IsSoundCursor m)
-  pub work : SoundWork m.mode s m

@@ -1,6 +1,6 @@
--- Whole recordings: each reply is one that the machine gives, and these are the states between.
-use Rattle.std.specs.Prelude.{◌≡◌, ◌≢◌, ℕ, ◌+◌, Bool, true, false, not, ◌&&◌, List, [], ◌∷◌, ◌++◌, drop, refl, Option, Some, None, slice_index_or}
-use Rattle.std.proofs.Common.{lit<, lit≤, arith, subst, zero, suc, ◌≤◌}
+-- Worked values: settings, the states of whole recordings, and the order of what they replay.
+use Rattle.std.specs.Prelude.{◌≡◌, ℕ, ◌+◌, Bool, true, false, not, ◌&&◌, List, [], ◌∷◌, ◌++◌, refl, Some, slice_index_or}
+use Rattle.std.proofs.Common.{arith, subst, zero, suc}
 use Rattle.std.proofs.lemmas.Bool.{and_parts, not-true}
 use Rattle.std.proofs.lemmas.List.Sorted.{IsPermutation-refl}
 use Rattle.std.specs.List.Sorted.{IsSortedByKey}
@@ -11,16 +11,11 @@ use Rattle.r10_body.specs.declared.message.Message.{Message}
 use Rattle.r10_body.specs.declared.message.Message.TheVariants.{Uart, Time}
 use Rattle.r10_body.specs.declared.message.Kind.TheVariants as kinds
 use Rattle.r10_body.specs.declared.spec.ChannelSpec.{ChannelSpec}
-use Rattle.r10_body.specs.declared.refusal.Refusal.TheVariants as refusals
-use Rattle.r10_machine.specs.declared.event.Event.TheVariants as ask
-use Rattle.r10_machine.specs.declared.reply.Reply.TheVariants as say
 use Rattle.r10_machine.specs.declared.reply.Mode.TheVariants.{Idle, Recording}
 use Rattle.r10_machine.specs.Config.{Config}
-use Rattle.r10_machine.specs.Machine.{Machine, File, Cursor, Sets, fresh, with_lane}
-use Rattle.r10_machine.specs.Room.{TakesIn, room_for}
+use Rattle.r10_machine.specs.Machine.{Machine, File, Cursor, fresh, with_lane}
 use Rattle.r10_machine.specs.Replay.{Ordered, place_of, place_cmp}
 use Rattle.r10_machine.specs.Calls.{accepted, overflowed, without, fresh_cursor}
-use Rattle.r10_machine.specs.Step.{Run}
 
 abbrev pub leap_day : Parts
 leap_day = record { year = 2024; month = 2; day = 29; hour = 12; minute = 34; second = 56; centi = 78 }
@@ -53,7 +48,7 @@ setup = 0x41 ∷ 0x42 ∷ 0x43 ∷ 0x44 ∷ []
 abbrev pub begun : File
 begun = record { name = name; setup = setup; entries = time_entry ∷ []; shown = 1; closed = false; own = true; first_block = 3; size = 68 }
 
--- ---- words for the proofs
+-- ---- entries in order
 
 -- entries that stand in order already
 abbrev is_before : Entry → Entry → Bool
@@ -75,25 +70,6 @@ rising-sorted (x ∷ y ∷ ys) rising (suc k) d low high =
 
 stands : (entries : List Entry) → rises entries ≡ true → Ordered entries entries
 stands entries rising = record { same = IsPermutation-refl entries; sorted = rising-sorted entries rising; stable = λ x. refl }
-
--- all that fit go in
-all-of : {s : Config} {f : File} {entries : List Entry} {n : ℕ} → n ≤ room_for s f entries → room_for s f entries ≤ n → TakesIn s f entries n
-all-of low high = record { within = low; stops = λ less. absurd (omega (arith, less, high)) }
-
--- the first cursor
-first-set : (cursors : List (Option Cursor)) (old new : Option Cursor) → Sets (old ∷ cursors) (new ∷ cursors) 0 new
-first-set cursors old new = record { changed = refl; others = other-is }
-  where
-    other-is : (other : ℕ) → other ≢ 0 → slice_index_or (new ∷ cursors) other None ≡ slice_index_or (old ∷ cursors) other None
-    other-is zero differs = absurd (differs refl)
-    other-is (suc other) differs = refl
-
-first-new : (new : Option Cursor) → Sets [] (new ∷ []) 0 new
-first-new new = record { changed = refl; others = other-is }
-  where
-    other-is : (other : ℕ) → other ≢ 0 → slice_index_or (new ∷ []) other None ≡ slice_index_or [] other None
-    other-is zero differs = absurd (differs refl)
-    other-is (suc other) differs = refl
 
 -- ---- a recorder without files
 
@@ -133,72 +109,16 @@ both_offered = with_lane 5 (accepted 1010 (text [])) abc_offered
 abbrev pub both_pumped : Machine
 both_pumped = record (with_lane 5 (without 2) both_offered) { files = record begun { entries = time_entry ∷ two } ∷ [] }
 
--- the file in 152 bytes
+-- the file in 272 bytes, which r10_body's vectors write out
 abbrev pub small_stopped : Machine
-small_stopped = record both_pumped { mode = Idle; files = record begun { entries = time_entry ∷ two; shown = 3; closed = true; size = 152 } ∷ [] }
+small_stopped = record both_pumped { mode = Idle; files = record begun { entries = time_entry ∷ two; shown = 3; closed = true; size = 272 } ∷ [] }
 
 two-in-turn : rises two ≡ true
 unfolding rises
 two-in-turn = refl
 
-pub first-recording : Run small (fresh small.channels [] 0)
-    (ask.Mount ∷ ask.Tick 1000 leap_day ∷ ask.Start name setup
-    ∷ ask.Offer 5 1000 (text (0x41 ∷ 0x42 ∷ 0x43 ∷ [])) ∷ ask.Offer 5 1010 (text []) ∷ ask.Pump 5 2 ∷ ask.Stop
-    ∷ ask.Cursor 0 (5 ∷ []) 0 281474976710655 ∷ ask.Advance 0 ∷ ask.Next 0 ∷ ask.Next 0 ∷ ask.Next 0 ∷ [])
-    (say.Done ∷ say.Done ∷ say.Done
-    ∷ say.Done ∷ say.Done ∷ say.Moved 2 ∷ say.Stopped (record { taken = 0; left = 0 })
-    ∷ say.Cursor 0 ∷ say.Advanced 2
-    ∷ say.Next (Some (entry 5 1000 (text (0x41 ∷ 0x42 ∷ 0x43 ∷ [])) false)) ∷ say.Next (Some (entry 5 1010 (text []) false)) ∷ say.Next None ∷ [])
-    (read 3 [] small_stopped)
-first-recording = (
-  record (fresh small.channels [] 0) { mode = Idle },
-  (lit≤ tt, (refl, refl)),
-  (
-    record small_started { mode = Idle; files = [] },
-    (lit≤ tt, (refl, refl)),
-    (
-      small_started,
-      (lit≤ tt, (refl, (refl, refl))),
-      (
-        abc_offered,
-        (lit≤ tt, (refl, refl)),
-        (
-          both_offered,
-          (lit≤ tt, (refl, refl)),
-          (
-            both_pumped,
-            (lit≤ tt, (refl, (all-of (lit≤ tt) (lit≤ tt), λ some. lit< tt, refl))),
-            (
-              small_stopped,
-              (lit≤ tt, (refl, (all-of (lit≤ tt) (lit≤ tt), refl, refl))),
-              (
-                read 0 [] small_stopped,
-                (lit≤ tt, (refl, (refl, (first-new _, refl)))),
-                (
-                  read 3 two small_stopped,
-                  (lit≤ tt, (refl, (two, stands two two-in-turn, refl, (first-set _ _ _, refl)))),
-                  (
-                    read 3 (drop 1 two) small_stopped,
-                    (lit≤ tt, (refl, (refl, (first-set _ _ _, refl)))),
-                    (
-                      read 3 [] small_stopped,
-                      (lit≤ tt, (refl, (refl, (first-set _ _ _, refl)))),
-                      (
-                        read 3 [] small_stopped,
-                        (lit≤ tt, (refl, (refl, (first-set _ _ _, refl)))),
-                        refl,
-                      ),
-                    ),
-                  ),
-                ),
-              ),
-            ),
-          ),
-        ),
-      ),
-    ),
-  ),
-)
+pub two-in-order : Ordered two two
+two-in-order = stands two two-in-turn
 
 -- ---- a recording with a lost message
 
@@ -220,7 +140,7 @@ pumped = record (with_lane 5 (without 2) lost) { files = record begun { entries 
 abbrev pub resumed : Machine
 resumed = with_lane 5 (accepted 1004 (text (0x44 ∷ []))) pumped
 
--- the file with all four entries: each has a packet of its own
+-- the file with all four entries; the steps leave its size to the packing
 abbrev pub whole : File
 whole = record begun { entries = time_entry ∷ first_two ++ after_gap ∷ []; shown = 4; closed = true; size = 200 }
 
@@ -234,79 +154,8 @@ in-turn : rises replayed ≡ true
 unfolding rises
 in-turn = refl
 
-pub a-lost-message : Run settings new
-    (ask.Mount ∷ ask.Tick 1000 leap_day ∷ ask.Start name setup
-    ∷ ask.Offer 5 1001 (text (0x41 ∷ [])) ∷ ask.Offer 5 1002 (text (0x42 ∷ [])) ∷ ask.Offer 5 1003 (text (0x43 ∷ []))
-    ∷ ask.Pump 5 2 ∷ ask.Offer 5 1004 (text (0x44 ∷ [])) ∷ ask.Stop
-    ∷ ask.Cursor 0 (5 ∷ []) 0 281474976710655 ∷ ask.Advance 0 ∷ ask.Next 0 ∷ ask.Next 0 ∷ ask.Next 0 ∷ ask.Next 0 ∷ [])
-    (say.Done ∷ say.Done ∷ say.Done
-    ∷ say.Done ∷ say.Done ∷ say.Refused refusals.Overflow
-    ∷ say.Moved 2 ∷ say.Done ∷ say.Stopped (record { taken = 1; left = 0 })
-    ∷ say.Cursor 0 ∷ say.Advanced 3
-    ∷ say.Next (Some (entry 5 1001 (text (0x41 ∷ [])) false)) ∷ say.Next (Some (entry 5 1002 (text (0x42 ∷ [])) false))
-    ∷ say.Next (Some (entry 5 1004 (text (0x44 ∷ [])) true)) ∷ say.Next None ∷ [])
-    (read 4 [] stopped)
-a-lost-message = (
-  mounted,
-  (lit≤ tt, (refl, refl)),
-  (
-    ticked,
-    (lit≤ tt, (refl, refl)),
-    (
-      started,
-      (lit≤ tt, (refl, (refl, refl))),
-      (
-        with_lane 5 (accepted 1001 (text (0x41 ∷ []))) started,
-        (lit≤ tt, (refl, refl)),
-        (
-          filled,
-          (lit≤ tt, (refl, refl)),
-          (
-            lost,
-            (lit≤ tt, (refl, refl)),
-            (
-              pumped,
-              (lit≤ tt, (refl, (all-of (lit≤ tt) (lit≤ tt), λ some. lit< tt, refl))),
-              (
-                resumed,
-                (lit≤ tt, (refl, refl)),
-                (
-                  stopped,
-                  (lit≤ tt, (refl, (all-of (lit≤ tt) (lit≤ tt), refl, refl))),
-                  (
-                    read 0 [] stopped,
-                    (lit≤ tt, (refl, (refl, (first-new _, refl)))),
-                    (
-                      read 4 replayed stopped,
-                      (lit≤ tt, (refl, (replayed, stands replayed in-turn, refl, (first-set _ _ _, refl)))),
-                      (
-                        read 4 (drop 1 replayed) stopped,
-                        (lit≤ tt, (refl, (refl, (first-set _ _ _, refl)))),
-                        (
-                          read 4 (drop 2 replayed) stopped,
-                          (lit≤ tt, (refl, (refl, (first-set _ _ _, refl)))),
-                          (
-                            read 4 [] stopped,
-                            (lit≤ tt, (refl, (refl, (first-set _ _ _, refl)))),
-                            (
-                              read 4 [] stopped,
-                              (lit≤ tt, (refl, (refl, (first-set _ _ _, refl)))),
-                              refl,
-                            ),
-                          ),
-                        ),
-                      ),
-                    ),
-                  ),
-                ),
-              ),
-            ),
-          ),
-        ),
-      ),
-    ),
-  ),
-)
+pub replayed-in-order : Ordered replayed replayed
+replayed-in-order = stands replayed in-turn
 
 -- ---- the order of a replay
 

@@ -16,9 +16,8 @@ use Rattle.r10_machine.specs.Checks.{mounted_checks, idle_checks, recording_chec
 use Rattle.r10_machine.specs.Calls.{overflowed}
 use Rattle.r10_machine.specs.Step.{shown_part}
 use Rattle.r10_machine.specs.Sound.{IsSoundLane, IsSoundCursor}
-use Rattle.r10_machine.proofs.Steady.{checks_pass, parts_pass, some_each}
+use Rattle.r10_machine.proofs.Steady.{checks_pass, parts_pass, some_each, records_of, idle_works}
 use Rattle.r10_machine.proofs.Growing.{dropped_sound}
-use Rattle.r10_machine.proofs.Soundly.{records_of, idle_works}
 use Rattle.r10_steps.specs.declared.event.Event.{Event as Asked}
 use Rattle.r10_steps.specs.declared.event.Event.TheVariants.{Mount, Dismount, Tick, Start, Offer, Pump, Event, Commit, Stop, Seal, Erase, Files, Status, Cursor, Advance, Next, Close, Find, CountAt}
 use Rattle.r10_steps.specs.declared.reply.Reply.{Reply as Answered}

@@ -1,19 +1,19 @@
--- Single cases of the whole machine: the order of refusals, what is found, and what a recorder tells of itself.
-use Rattle.std.specs.Prelude.{◌≡◌, ℕ, ◌-◌, ◌^◌, true, false, [], ◌∷◌, refl, map, replicate, Some, None}
-use Rattle.std.proofs.Common.{lit≤}
+-- Single cases of the whole machine: the order of refusals, steps and what is none, what is found, and what a recorder tells of itself.
+use Rattle.std.specs.Prelude.{◌≡◌, ℕ, ◌-◌, ◌^◌, true, false, List, [], ◌∷◌, refl, length, map, replicate, Some, None}
+use Rattle.std.proofs.Common.{lit<, lit≤, arith, inl}
 use Rattle.r10_body.specs.declared.message.Message.TheVariants as messages
 use Rattle.r10_body.specs.declared.refusal.Refusal.TheVariants as refusals
-use Rattle.r10_machine.specs.declared.reply.Mode.TheVariants.{Recording, Failed}
-use Rattle.r10_machine.specs.Config.{Config}
-use Rattle.r10_machine.specs.Machine.{File, Lane, with_lane}
-use Rattle.r10_machine.specs.Calls.{overflowed}
-use Rattle.r10_machine.specs.Vectors.{settings, new, mounted, ticked, started, filled, stopped, begun, time_entry, leap_day, text, entry, read}
+use Rattle.r10_machine.specs.declared.reply.Mode.TheVariants.{Idle, Recording, Failed}
+use Rattle.r10_machine.specs.Machine.{Machine, File, Lane, with_lane}
+use Rattle.r10_machine.specs.Calls.{accepted, overflowed, without}
+use Rattle.r10_machine.specs.Cases.{narrow, four_bytes, full_file, one_node}
+use Rattle.r10_machine.specs.Vectors.{settings, channel, new, mounted, ticked, started, filled, lost, stopped, begun, time_entry, leap_day, name, text, entry, read}
 use Rattle.r10_steps.specs.declared.event.Event.TheVariants as ask
 use Rattle.r10_steps.specs.declared.reply.Reply.TheVariants as say
 use Rattle.r10_steps.specs.Finding.{found, count_at, status_of, free_bytes}
 use Rattle.r10_steps.specs.Checks.{refusal}
 use Rattle.r10_steps.specs.Calls.{event_entry, erased_with}
-use Rattle.r10_steps.specs.Step.{Step, has_room}
+use Rattle.r10_steps.specs.Step.{Step, Replies, has_room}
 
 -- ---- refusals in every mode
 
@@ -78,6 +78,218 @@ eighth-file = refl
 
 pub stale-cursor : refusal settings (record (read 0 [] stopped) { files = []; generation = 1 }) (ask.Advance 0) ≡ Some refusals.Stale
 stale-cursor = refl
+
+-- ---- the modes
+
+pub unmounted-pump : refusal settings new (ask.Pump 5 1) ≡ Some refusals.NotMounted
+unmounted-pump = refl
+
+pub mounted-again : refusal settings mounted ask.Mount ≡ Some refusals.AlreadyMounted
+mounted-again = refl
+
+pub mount-recording : refusal settings started ask.Mount ≡ Some refusals.AlreadyMounted
+mount-recording = refl
+
+pub stop-idle : refusal settings mounted ask.Stop ≡ Some refusals.NotRecording
+stop-idle = refl
+
+-- offers are taken in every mode, and nothing else by a recorder that failed
+abbrev pub failed : Machine
+failed = record started { mode = Failed }
+
+pub stop-failed : refusal settings failed ask.Stop ≡ Some refusals.Failed
+stop-failed = refl
+
+pub mount-failed : refusal settings failed ask.Mount ≡ Some refusals.Failed
+mount-failed = refl
+
+pub offer-unmounted : refusal settings new (ask.Offer 5 0 (text [])) ≡ None
+offer-unmounted = refl
+
+pub offer-failed : refusal settings failed (ask.Offer 5 1001 (text [])) ≡ None
+offer-failed = refl
+
+-- ---- starts and ticks
+
+pub no-time : refusal settings mounted (ask.Start [] []) ≡ Some refusals.NoTime
+no-time = refl
+
+pub setup-too-long : (text : List ℕ) → length text ≡ 524261 → refusal settings mounted (ask.Start [] text) ≡ Some refusals.TooLong
+setup-too-long text long = rw long refl
+
+pub bad-name : refusal settings ticked (ask.Start [] []) ≡ Some refusals.BadName
+bad-name = refl
+
+pub start-recording : refusal settings started (ask.Start [] []) ≡ Some refusals.Busy
+start-recording = refl
+
+pub taken-name : refusal settings stopped (ask.Start name []) ≡ Some refusals.NameTaken
+taken-name = refl
+
+-- two directory blocks have room for more files
+pub second-file : refusal settings stopped (ask.Start (0x46 ∷ []) []) ≡ None
+second-file = refl
+
+pub unsealed : refusal settings (record stopped { files = begun ∷ [] }) (ask.Start (0x46 ∷ []) []) ≡ Some refusals.Unsealed
+unsealed = refl
+
+pub no-such-date : refusal settings mounted (ask.Tick 1000 (record leap_day { year = 2023 })) ≡ Some refusals.BadCivil
+no-such-date = refl
+
+pub tick-back : refusal settings ticked (ask.Tick 999 leap_day) ≡ Some refusals.CountBack
+tick-back = refl
+
+pub tick-again : refusal settings ticked (ask.Tick 1000 leap_day) ≡ None
+tick-again = refl
+
+pub tick-out-of-range : refusal settings ticked (ask.Tick 281474976710656 leap_day) ≡ Some refusals.CountRange
+tick-out-of-range = refl
+
+-- a tick while recording is an entry
+pub tick-recording : Step settings started (ask.Tick 2000 leap_day) say.Done
+    (record started { tick = Some (record { count = 2000; civil = leap_day }); files = record begun { entries = time_entry ∷ record time_entry { count = 2000 } ∷ [] } ∷ [] })
+tick-recording = (lit≤ tt, (refl, (refl, refl)))
+
+-- ---- offers and pumps
+
+pub no-channel : refusal settings started (ask.Offer 99 1000 (text [])) ≡ Some refusals.NoSuchChannel
+no-channel = refl
+
+pub pump-no-channel : refusal settings started (ask.Pump 99 1) ≡ Some refusals.NoSuchChannel
+pump-no-channel = refl
+
+pub time-offered : refusal settings started (ask.Offer 5 1001 (messages.Time leap_day)) ≡ Some refusals.WrongKind
+time-offered = refl
+
+pub sub-too-large : refusal settings started (ask.Offer 5 281474976710656 (messages.Uart false 16384 [])) ≡ Some refusals.BadMessage
+sub-too-large = refl
+
+-- a packet of 128 bytes has room for a message of 88 without a checksum, and of 86 with one
+abbrev pub short : ℕ → Machine
+short check = record new { lanes = record { spec = record (channel 5 2) { check = check; bytes = 128 }; waiting = []; last = None; missed = 0; lost = 0; erased = 0 } ∷ [] }
+
+pub longest : refusal settings (short 0) (ask.Offer 5 1000 (text (replicate 88 0))) ≡ None
+longest = refl
+
+pub too-long : refusal settings (short 0) (ask.Offer 5 281474976710656 (text (replicate 89 0))) ≡ Some refusals.TooLong
+too-long = refl
+
+pub longest-checked : refusal settings (short 8) (ask.Offer 5 1000 (text (replicate 86 0))) ≡ None
+longest-checked = refl
+
+pub too-long-checked : refusal settings (short 8) (ask.Offer 5 1000 (text (replicate 88 0))) ≡ Some refusals.TooLong
+too-long-checked = refl
+
+pub highest-count : refusal settings started (ask.Offer 5 281474976710655 (text [])) ≡ None
+highest-count = refl
+
+pub count-too-large : refusal settings started (ask.Offer 5 281474976710656 (text [])) ≡ Some refusals.CountRange
+count-too-large = refl
+
+pub count-back-before-overflow : refusal settings filled (ask.Offer 5 1001 (text [])) ≡ Some refusals.CountBack
+count-back-before-overflow = refl
+
+pub overflow : refusal settings filled (ask.Offer 5 1002 (text [])) ≡ Some refusals.Overflow
+overflow = refl
+
+pub other-channel : refusal settings filled (ask.Offer 6 0 (text [])) ≡ None
+other-channel = refl
+
+-- a refusal that isn't an overflow is not counted
+pub refused-uncounted : Step settings filled (ask.Offer 5 1001 (text [])) (say.Refused refusals.CountBack) filled
+refused-uncounted = (lit≤ tt, (refl, refl))
+
+-- an entry that has room isn't left: a pump that moves nothing is no step
+pub moves-none : (next : Machine) → Replies settings 0 filled (ask.Pump 5 1) (say.Moved 0) next → ⊥
+moves-none next (fine, (takes, some, is)) = omega (arith, some (lit< tt))
+
+-- fewer than have room is no step while the index can't be full
+pub moves-one : (next : Machine) → Replies settings 0 filled (ask.Pump 5 2) (say.Moved 1) next → ⊥
+moves-one next (fine, (takes, some, is)) = false-is-true (takes.stops (lit< tt))
+  where
+    false-is-true : false ≡ true → ⊥
+    false-is-true is = cc
+
+-- ---- cursors
+
+pub file-not-there : refusal settings stopped (ask.Cursor 1 [] 0 5000) ≡ Some refusals.NoSuchFile
+file-not-there = refl
+
+pub range-before-file : refusal settings stopped (ask.Cursor 1 [] 0 281474976710656) ≡ Some refusals.CountRange
+range-before-file = refl
+
+pub unknown-idle : refusal settings mounted (ask.Advance 9) ≡ Some refusals.NoCursor
+unknown-idle = refl
+
+pub unknown-unmounted : refusal settings new (ask.Advance 9) ≡ Some refusals.NotMounted
+unknown-unmounted = refl
+
+pub next-unknown : refusal settings new (ask.Next 9) ≡ Some refusals.NoCursor
+next-unknown = refl
+
+pub close-unknown : refusal settings failed (ask.Close 0) ≡ Some refusals.NoCursor
+close-unknown = refl
+
+pub next-failed : refusal settings (read 0 [] failed) (ask.Next 0) ≡ None
+next-failed = refl
+
+pub not-read-out : refusal settings (read 0 (time_entry ∷ []) stopped) (ask.Advance 0) ≡ Some refusals.Unread
+not-read-out = refl
+
+pub stale-before-unread : refusal settings (record (read 0 (time_entry ∷ []) stopped) { generation = 1 }) (ask.Advance 0) ≡ Some refusals.Stale
+stale-before-unread = refl
+
+-- ---- room: a medium of three blocks, and a file with a setup of 100 bytes
+
+-- the second message waits
+abbrev pub full : Machine
+full = record (with_lane 5 (accepted 1002 (four_bytes 2)) started) { files = full_file ∷ [] }
+
+pub full-pump : Step narrow full (ask.Pump 5 1) (say.Refused refusals.MediumFull) full
+full-pump = (lit≤ tt, (refl, refl))
+
+pub full-pumps-none : Step narrow full (ask.Pump 5 0) (say.Moved 0) full
+full-pumps-none = (lit≤ tt, (refl, (record { within = lit≤ tt; stops = λ less. absurd (omega (arith, less)) }, λ some. absurd (omega (arith, some)), refl)))
+
+-- what has no room waits for another file
+pub full-stop : Step narrow full ask.Stop (say.Stopped (record { taken = 0; left = 1 }))
+    (record full { mode = Idle; files = record full_file { shown = 2; closed = true; size = 216 } ∷ [] })
+full-stop = (lit≤ tt, (refl, (record { within = lit≤ tt; stops = λ less. absurd (omega (arith, less)) }, refl, refl)))
+
+pub full-tick : Step narrow full (ask.Tick 2000 leap_day) (say.Refused refusals.MediumFull) full
+full-tick = (lit≤ tt, (refl, refl))
+
+-- a start whose setup and time have no room
+pub no-room-to-start : Step narrow (record ticked { lanes = full.lanes }) (ask.Start name (replicate 249 0)) (say.Refused refusals.MediumFull) (record ticked { lanes = full.lanes })
+no-room-to-start = (lit≤ tt, (refl, refl))
+
+pub room-to-start : has_room narrow ticked (ask.Start name (replicate 248 0)) ≡ true
+room-to-start = refl
+
+-- want of memory is no answer where there is no room
+pub no-memory-no-room : has_room narrow full (ask.Pump 5 1) ≡ false
+no-memory-no-room = refl
+
+pub full-index : Step one_node (record started { files = record begun { entries = replicate 99 time_entry } ∷ [] }) (ask.Tick 1000 leap_day) (say.Refused refusals.IndexFull) (record started { files = record begun { entries = replicate 99 time_entry } ∷ [] })
+full-index = (lit≤ tt, (refl, refl))
+
+-- ---- a failure of the medium
+
+-- a count that rose in a call that was answered
+pub counted : Step settings new ask.Mount say.Done (record mounted { failures = 3 })
+counted = (lit≤ tt, (refl, refl))
+
+-- a failure that wasn't counted is no answer
+pub uncounted : Step settings new ask.Mount (say.Refused refusals.Medium) (record new { mode = Failed }) → ⊥
+uncounted (more, (uses, room, rose, fails)) = omega (arith, rose (lit< tt))
+
+-- a pump that fails may lose what it was to take, and no more
+pub pump-fails : Step settings lost (ask.Pump 5 1) (say.Refused refusals.Medium) (record (with_lane 5 (without 1) lost) { mode = Failed; failures = 1 })
+pump-fails = (lit≤ tt, (refl, refl, λ less. lit< tt, record { end = record lost { failures = 1 }; either = inl refl; files = refl; lanes = ((1, lit≤ tt, refl), ((0, lit≤ tt, refl), tt)); rest = refl }))
+
+-- an offer doesn't fail
+pub offer-fails : (next : Machine) → Step settings started (ask.Offer 5 1001 (text [])) (say.Refused refusals.Medium) next → ⊥
+offer-fails next (more, (uses, room, rose, fails)) = cc
 
 -- ---- recording events
 
@@ -146,9 +358,6 @@ pub erased-counts : map (λ (l : Lane). l.erased) (map (erased_with stopped.file
 erased-counts = refl
 
 -- a medium of three blocks: a file that costs more than its area isn't sealed
-abbrev pub narrow : Config
-narrow = record settings { blocks = 3; directory = 1 }
-
 abbrev pub costly : File
 costly = record begun { setup = replicate 300 0; first_block = 2 }
 

@@ -4,5 +4,6 @@ pub mod Checks
 pub mod Calls
 pub mod Step
 pub mod Sound
+pub mod Vectors
 pub mod Cases
 pub mod Soundness

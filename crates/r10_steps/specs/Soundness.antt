@@ -1,11 +1,11 @@
--- A sound state, and states that are not: with another recorder's file, and an event in the open file.
+-- Sound states of the worked recordings, and states that are not: with another recorder's file, and an event in the open file.
 use Rattle.std.specs.Prelude.{◌≡◌, ℕ, ◌^◌, true, false, [], ◌∷◌, refl, IfSome, Some}
 use Rattle.std.proofs.Common.{lit<, lit≤, zero, suc, arith}
 use Rattle.r10_body.specs.declared.entry.Entry.{Entry}
 use Rattle.r10_body.specs.declared.message.Message.TheVariants.{Event}
 use Rattle.r10_machine.specs.Machine.{Machine, File, cursor_of}
 use Rattle.r10_machine.specs.Sound.{IsSoundCursor}
-use Rattle.r10_machine.specs.Vectors.{settings, mounted, started, begun, time_entry, read}
+use Rattle.r10_machine.specs.Vectors.{settings, new, mounted, started, stopped, begun, time_entry, read}
 use Rattle.r10_steps.specs.Calls.{event_entry}
 use Rattle.r10_steps.specs.Sound.{IsSound, IsEntry, IsFoundFile}
 
@@ -29,6 +29,50 @@ none-open m is id = rw is (nothing id)
 differ : true ≡ false → ⊥
 differ is = cc
 
+unclosed : false ≡ true → ⊥
+unclosed is = cc
+
+pub new-sound : IsSound settings new
+new-sound = record {
+  channels = refl;
+  lanes = (record { held = lit≤ tt; messages = tt; counts = tt }, (record { held = lit≤ tt; messages = tt; counts = tt }, tt));
+  tick = tt;
+  event = tt;
+  most = lit≤ tt;
+  shown = tt;
+  generation = lit< tt;
+  cursors = none-open new refl;
+  work = record { recording = refl; own = tt; others = tt; lanes = (lit≤ tt, (lit≤ tt, tt)); times = lit≤ tt; events = lit≤ tt };
+}
+
+pub started-sound : IsSound settings started
+started-sound = record {
+  channels = refl;
+  lanes = (record { held = lit≤ tt; messages = tt; counts = tt }, (record { held = lit≤ tt; messages = tt; counts = tt }, tt));
+  tick = (lit< tt, refl);
+  event = tt;
+  most = lit≤ tt;
+  shown = (lit≤ tt, tt);
+  generation = lit< tt;
+  cursors = none-open started refl;
+  work = record {
+    recording = refl;
+    own = (record { first = refl; begun = lit< tt; entries = ((lit< tt, (refl, refl, refl)), tt); room = lit≤ tt; whole = λ is. absurd (unclosed is) }, tt);
+    others = (λ foreign. absurd (differ foreign), tt);
+    lanes = (lit≤ tt, (lit≤ tt, tt));
+    times = (lit≤ tt, lit≤ tt);
+    events = lit≤ tt;
+  };
+}
+
+-- a recording machine without an open file isn't sound
+pub nothing-open : IsSound settings (record started { files = [] }) → ⊥
+nothing-open sound = differ sound.work.recording
+
+-- nor is one with a cursor that covers more than is shown
+pub covers-too-much : IsSound settings (read 5 [] stopped) → ⊥
+covers-too-much sound = omega (arith, (sound.cursors 0).1 refl)
+
 pub found-as-it-is : IsFoundFile found
 found-as-it-is = (refl, refl)
 
@@ -51,9 +95,6 @@ marked-sound = record {
     events = (lit≤ tt, lit≤ tt);
   };
 }
-  where
-    unclosed : false ≡ true → ⊥
-    unclosed is = cc
 
 -- the last event isn't before one that was recorded
 pub event-later : IsSound settings (record marked { last_event = Some 1000 }) → ⊥
