@@ -4,7 +4,7 @@ use r10_body::{ChannelSpec, Entry, Kind, Message, Refusal};
 use r10_count::{Count, Items, Parts};
 use r10_formatting::format;
 use r10_machine::{Settings, Stopped};
-use r10_medium::{BlockMedium, Faulty, Memory};
+use r10_medium::{BlockMedium, Memory};
 use r10_session::{World, run};
 use r10_steps::{Event, Found, Reply};
 use std::alloc::{AllocError, Global};
@@ -42,7 +42,7 @@ const FIRST: [u8; 272] = [
 ];
 
 /// 16 blocks, 2 of them for the directory, and a UART channel 5 that keeps two messages.
-fn settings(rt: &impl Abort, alloc: Global) -> Result<Settings, AllocError> {
+pub(crate) fn settings(rt: &impl Abort, alloc: Global) -> Result<Settings, AllocError> {
     let channel = ChannelSpec {
         id: 5,
         kind: Kind::Uart,
@@ -74,7 +74,7 @@ fn uart(alloc: Global, bytes: &[u8]) -> Result<Message, AllocError> {
 
 /// An event of a step. The channel is 5 and the cursor 0.
 #[derive(Clone, Copy)]
-enum Ask {
+pub(crate) enum Ask {
     Mount,
     Tick,
     Start,
@@ -91,7 +91,7 @@ enum Ask {
 
 /// The reply that it is to have.
 #[derive(Clone, Copy)]
-enum Want {
+pub(crate) enum Want {
     Done,
     Moved(usize),
     Found(usize, u64, &'static [u8]),
@@ -104,7 +104,7 @@ enum Want {
 }
 
 /// The first recording, found in while it is written, and its replay.
-const RECORDED: &[(Ask, Want)] = &[
+pub(crate) const RECORDED: &[(Ask, Want)] = &[
     (Ask::Mount, Want::Done),
     (Ask::Tick, Want::Done),
     (Ask::Start, Want::Done),
@@ -122,7 +122,7 @@ const RECORDED: &[(Ask, Want)] = &[
     (Ask::Dismount, Want::Done),
 ];
 
-fn event_of(alloc: Global, ask: Ask) -> Result<Event, AllocError> {
+pub(crate) fn event_of(alloc: Global, ask: Ask) -> Result<Event, AllocError> {
     Ok(match ask {
         Ask::Mount => Event::Mount,
         Ask::Tick => Event::Tick {
@@ -168,7 +168,7 @@ fn entry(alloc: Global, count: u64, bytes: &[u8]) -> Result<Entry, Fail> {
     })
 }
 
-fn reply_of(alloc: Global, want: Want) -> Result<Reply, Fail> {
+pub(crate) fn reply_of(alloc: Global, want: Want) -> Result<Reply, Fail> {
     Ok(match want {
         Want::Done => Reply::Done,
         Want::Moved(moved) => Reply::Moved(moved),
@@ -238,43 +238,5 @@ fn a_medium_without_a_directory_is_not_mounted(rt: HostRuntime) -> Result<(), Fa
     ];
     assert!(rt; replies(alloc, &mut world, &table)?);
     assert_eq!(rt; world.into_medium().failures(), 0);
-    Ok(())
-}
-
-/// A recorder over a new medium, which fails its call of that number.
-fn failing(
-    rt: &impl Abort,
-    alloc: Global,
-    fails: u64,
-) -> Result<World<Faulty<Memory>>, AllocError> {
-    let settings = settings(rt, alloc)?;
-    let mut medium = Memory::new(alloc, settings.blocks())?;
-    assert_eq!(rt; format(&mut medium, &settings), Ok(()));
-    let world = World::new(alloc, settings, Faulty::new(medium, fails));
-    world.ok().ok_or(AllocError)
-}
-
-/// Where the medium fails in a mount, or in a start, the recorder is Failed.
-#[test]
-fn a_medium_fails(rt: HostRuntime) -> Result<(), Fail> {
-    let alloc = rt.alloc();
-    let medium = Want::Refused(Refusal::Medium);
-    let failed = Want::Refused(Refusal::Failed);
-    for (fails, wanted) in [
-        (1, [medium, failed, failed, failed]),
-        (3, [medium, failed, failed, failed]),
-        (5, [Want::Done, Want::Done, medium, failed]),
-    ] {
-        let mut world = failing(&rt, alloc, fails)?;
-        let [mount, tick, start, stop] = wanted;
-        let table = [
-            (Ask::Mount, mount),
-            (Ask::Tick, tick),
-            (Ask::Start, start),
-            (Ask::Stop, stop),
-        ];
-        assert!(rt; replies(alloc, &mut world, &table)?);
-        assert_eq!(rt; world.into_medium().failures(), 1);
-    }
     Ok(())
 }
