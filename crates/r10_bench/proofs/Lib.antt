@@ -1,3 +1,4 @@
 mod Following
 mod Feeding
 mod Beginning
+mod Fresh

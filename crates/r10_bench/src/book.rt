@@ -43,7 +43,7 @@ fn entry(number: u32) -> NodeEntry {
 fn fill(alloc: Global, packets: u32) -> Result<IndexBook, Fault> {
     let mut book = IndexBook::new(alloc);
     for number in 0..packets {
-        book.add(entry(number))?;
+        book.add(entry(number), 1)?;
     }
     Ok(book)
 }

@@ -13,9 +13,12 @@ pub enum Fault {
     /// The clock, the command line or the output failed.
     #[error("{0}")]
     System(#[from] io::Error),
-    /// The lane refused a message.
+    /// A lane refused a message, or the recorder a call.
     #[error("{0}")]
     Refused(#[from] Refusal),
+    /// A recorder can't be set up so.
+    #[error("the settings are out of their limits")]
+    Settings,
     #[error("messages were lost")]
     Lost,
 }

@@ -66,7 +66,7 @@ fn make_four(alloc: Global, first: u32, message: usize) -> Result<[Vec<Timed>; 4
 }
 
 /// A medium in memory of so many blocks.
-fn make_medium(alloc: Global, blocks: usize) -> Result<Memory, AllocError>
+pub(crate) fn make_medium(alloc: Global, blocks: usize) -> Result<Memory, AllocError>
     ensures { IfOk result (λ m. length (memory_disk m).blocks ≡ blocks) }
 {
     Memory::new(alloc, blocks)

@@ -1,0 +1,117 @@
+//! A recorder over a medium in memory, which records a file of four UART channels.
+
+ghost use Rattle.std.specs.Prelude.{◌≡◌, map, IfOk};
+ghost use Rattle.r10_machine.specs.Machine.{fresh_lane};
+
+use crate::fault::Fault;
+use crate::recording::make_medium;
+use r10_body::{ChannelSpec, Kind};
+use r10_count::Parts;
+use r10_formatting::format;
+use r10_lane::RingLane;
+use r10_machine::Settings;
+use r10_medium::Memory;
+use r10_recorder::Recorder;
+use std::alloc::{AllocError, Global};
+
+/// A recorder over a medium in memory, with lanes of one thread.
+pub(crate) type InMemory = Recorder<Memory, RingLane>;
+
+/// The channels, which take messages in turn.
+pub(crate) const CHANNELS: [u16; 4] = [3, 4, 5, 6];
+
+/// How many messages may wait on a channel.
+pub(crate) const WAITING: usize = 256;
+
+/// What a recorder counts at most for a message of 32 bytes in a packet of its own, in bytes of the medium.
+const COST: u64 = 148;
+
+/// How many blocks a medium may have.
+const MOST_BLOCKS: u64 = 16_777_216;
+
+/// The time at count 0.
+const START: Parts = Parts {
+    year: 2026,
+    month: 11,
+    day: 24,
+    hour: 0,
+    minute: 0,
+    second: 0,
+    centi: 0,
+};
+
+/// The channel of the message of this number.
+pub(crate) fn channel_of(number: u64) -> u16 {
+    CHANNELS[(number % 4) as usize]
+}
+
+/// A channel of UART messages with a data checksum of 16 bits, and with so many in a packet at most.
+fn channel(id: u16, number: usize) -> ChannelSpec {
+    ChannelSpec {
+        id,
+        kind: Kind::Uart,
+        capacity: WAITING,
+        check: 16,
+        bytes: 524_288,
+        number,
+        bits: 0,
+    }
+}
+
+/// The channels, with so many messages in a packet at most.
+fn channels_for(alloc: Global, number: usize) -> Result<Vec<ChannelSpec>, AllocError> {
+    let mut channels = Vec::new(alloc);
+    for id in CHANNELS {
+        channels.push(channel(id, number))?;
+    }
+    Ok(channels)
+}
+
+/// The blocks of a medium with room for so many messages.
+fn blocks_for(messages: u32) -> usize {
+    let blocks = COST * u64::from(messages) / 512 + 64;
+    blocks.min(MOST_BLOCKS) as usize
+}
+
+/// Settings for so many messages, of which so many stand in a packet at most.
+fn settings_for(alloc: Global, messages: u32, number: usize) -> Result<Settings, Fault> {
+    let channels = channels_for(alloc, number)?;
+    let volume = Vec::from_slice(alloc, b"BENCH")?;
+    let blocks = blocks_for(messages);
+    let Ok(settings) = Settings::of(blocks, 2, volume, 32_765, 1, 2, channels) else {
+        return Err(Fault::Settings);
+    };
+    Ok(settings)
+}
+
+/// A lane for each channel, of which nothing has come yet.
+fn lanes_of(alloc: Global, channels: &[ChannelSpec]) -> Result<Vec<RingLane>, AllocError>
+    ensures { IfOk result (λ lanes. lanes.items ≡ map fresh_lane channels.now) }
+{
+    let mut lanes = Vec::new(alloc);
+    for spec in channels {
+        lanes.push(RingLane::new(alloc, *spec)?)?;
+    }
+    Ok(lanes)
+}
+
+/// A recorder over a formatted medium of these settings.
+fn make_recorder(alloc: Global, settings: Settings) -> Result<InMemory, Fault> {
+    let mut medium = make_medium(alloc, settings.blocks())?;
+    format(&mut medium, &settings)?;
+    let lanes = lanes_of(alloc, settings.channels())?;
+    match Recorder::new(alloc, settings, medium, lanes) {
+        Ok(recorder) => Ok(recorder),
+        Err(_) => Err(Fault::Memory(AllocError)),
+    }
+}
+
+/// A recorder that records a file, with room for so many messages, of which so many stand in a packet at most.
+pub(crate) fn begin(alloc: Global, messages: u32, number: usize) -> Result<InMemory, Fault> {
+    let settings = settings_for(alloc, messages, number)?;
+    let mut recorder = make_recorder(alloc, settings)?;
+    recorder.mount()?;
+    recorder.tick(0, START)?;
+    recorder.start(b"BENCH", b"ABCD")?;
+    Ok(recorder)
+}
