@@ -20,7 +20,7 @@ use Rattle.r10_holding.proofs.Found.{found_stays}
 use Rattle.r10_machine.specs.Config.{Config}
 use Rattle.r10_machine.specs.Machine.{File}
 use Rattle.r10_machine.specs.Room.{next_block}
-use Rattle.r10_standing.proofs.Said.{closed_kept, closed_stand}
+use Rattle.r10_steps.proofs.Said.{closed_kept, closed_stand}
 use Rattle.r10_steps.specs.Says.{MediumSays}
 use Rattle.r10_begun.specs.Begun.{IsPut}
 use Rattle.r10_begun.proofs.Places.{behind, behind_all}

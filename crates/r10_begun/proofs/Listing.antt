@@ -14,7 +14,7 @@ use Rattle.r10_body.specs.Packets.{Packet, file_bytes, file_entries}
 use Rattle.r10_body.specs.declared.entry.Entry.{Entry}
 use Rattle.r10_carry.specs.Carries.{Recording}
 use Rattle.r10_carry.proofs.Closing.{has_length}
-use Rattle.r10_cuts.specs.Cuts.{Agree}
+use Rattle.r10_machine.specs.Cuts.{Agree}
 use Rattle.r10_dirblock.specs.declared.entry.Entry.{Entry as Listed}
 use Rattle.r10_dirchain.specs.Chain.{at, files as listed_files}
 use Rattle.r10_dirchain.specs.Mount.{blocks_in, mount_rules, stands}
@@ -29,12 +29,12 @@ use Rattle.r10_dirchain.proofs.Unique.{one_directory}
 use Rattle.r10_dirchain.proofs.Usable.{placed}
 use Rattle.r10_holding.specs.Holding.{Holds, IsWritten, Open}
 use Rattle.r10_holding.proofs.Found.{found_stays}
-use Rattle.r10_laws.proofs.Lengths.{file_some}
+use Rattle.r10_body.proofs.Lengths.{file_some}
 use Rattle.r10_machine.specs.Checks.{is_sealed}
 use Rattle.r10_machine.specs.Config.{Config}
 use Rattle.r10_machine.specs.Machine.{File, shown_entries}
 use Rattle.r10_machine.specs.Room.{blocks_of}
-use Rattle.r10_standing.proofs.Said.{directory_keeps, directory_turns, one_more_said}
+use Rattle.r10_steps.proofs.Said.{directory_keeps, directory_turns, one_more_said}
 use Rattle.r10_steps.specs.Checks.{most_files}
 use Rattle.r10_steps.specs.Says.{IsFound, Lists, MediumSays, SaysEach, SaysFile}
 use Rattle.r10_begun.specs.Begun.{IsBegun}

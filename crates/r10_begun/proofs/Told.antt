@@ -10,11 +10,11 @@ use Rattle.r10_body.specs.declared.entry.Entry.{Entry}
 use Rattle.r10_body.specs.declared.entry.Timed.{Timed}
 use Rattle.r10_carry.specs.Carries.{Carries, Recording, packets_of}
 use Rattle.r10_carry.proofs.Closing.{has_length}
-use Rattle.r10_cuts.specs.Cuts.{Agree}
-use Rattle.r10_cuts.proofs.Replays.{agree-permutation}
-use Rattle.r10_follow.specs.Grows.{all_held, taken_in}
-use Rattle.r10_laws.proofs.Indexes.{none_at, part_of}
-use Rattle.r10_laws.proofs.Lengths.{not_setup}
+use Rattle.r10_machine.specs.Cuts.{Agree}
+use Rattle.r10_machine.proofs.Replays.{agree-permutation}
+use Rattle.r10_builder.specs.Grows.{all_held, taken_in}
+use Rattle.r10_body.proofs.Indexes.{none_at, part_of}
+use Rattle.r10_body.proofs.Lengths.{not_setup}
 use Rattle.r10_medium.specs.Disk.{Image}
 use Rattle.r10_mux.proofs.Putting.{open_some}
 

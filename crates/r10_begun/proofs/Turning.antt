@@ -24,7 +24,7 @@ use Rattle.r10_holding.specs.Holding.{Holds}
 use Rattle.r10_machine.specs.Checks.{is_sealed}
 use Rattle.r10_machine.specs.Config.{Config}
 use Rattle.r10_machine.specs.Machine.{File}
-use Rattle.r10_standing.proofs.Said.{directory_turns}
+use Rattle.r10_steps.proofs.Said.{directory_turns}
 use Rattle.r10_steps.specs.Checks.{most_files}
 use Rattle.r10_steps.specs.Says.{Lists, MediumSays, SaysEach}
 use Rattle.r10_begun.specs.Begun.{IsBegun}

@@ -9,7 +9,7 @@ use Rattle.r10_body.specs.Packets.{file_bytes}
 use Rattle.r10_carry.specs.Carries.{Carries, Recording}
 use Rattle.r10_dirblock.specs.declared.entry.Entry.{Entry as Listed}
 use Rattle.r10_dirchain.specs.declared.chain.ChainBlock.{ChainBlock}
-use Rattle.r10_follow.specs.Grows.{all_held}
+use Rattle.r10_builder.specs.Grows.{all_held}
 use Rattle.r10_holding.specs.Holding.{Holds}
 use Rattle.r10_machine.specs.Checks.{is_sealed}
 use Rattle.r10_machine.specs.Config.{Config}

@@ -10,10 +10,10 @@ use Rattle.r10_body.specs.Files.{on_channel}
 use Rattle.r10_body.specs.Rules.{Rise, entry_on as is_on}
 use Rattle.r10_body.specs.declared.entry.Entry.{Entry}
 use Rattle.r10_body.specs.declared.entry.Sample.{Sample}
-use Rattle.r10_laws.specs.Channels.{last_count}
+use Rattle.r10_body.specs.Sequence.{last_count}
 use Rattle.r10_builder.specs.State.{State}
-use Rattle.r10_builders.specs.Settings.{specs_of}
-use Rattle.r10_follow.specs.Grows.{is_open}
+use Rattle.r10_builder.specs.Settings.{specs_of}
+use Rattle.r10_builder.specs.Grows.{is_open}
 use Rattle.r10_packetout.specs.Output.{IsReady, Writing}
 use Rattle.r10_packetout.proofs.Having.{ready_fewer}
 use Rattle.r10_carry.specs.Carries.{Carries, Recording, packets_of}

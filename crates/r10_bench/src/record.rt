@@ -1,7 +1,7 @@
 //! A recording: messages through four lanes and a multiplexer onto a medium in memory.
 
 ghost use Rattle.std.specs.Prelude.{◌≡◌, ◌≤◌, IfOk, IsTrue, OnOk};
-ghost use Rattle.r10_builders.specs.Settings.{specs_of};
+ghost use Rattle.r10_builder.specs.Settings.{specs_of};
 ghost use Rattle.r10_lane.specs.Lanes.{reached};
 ghost use Rattle.r10_machine.specs.Machine.{Lane};
 ghost use Rattle.r10_machine.specs.Sound.{count_or_0};

@@ -7,7 +7,7 @@ ghost use Rattle.r10_machine.specs.Machine.{fresh_lane};
 use crate::fault::Fault;
 use crate::record::Lanes;
 use r10_body::{ChannelSpec, Kind};
-use r10_builders::Builders;
+use r10_builder::Builders;
 use r10_count::{Civil, Count, Parts};
 use r10_lane::RingLane;
 use r10_medium::BlockMedium;

@@ -10,3 +10,4 @@ pub mod Files
 pub mod Foreign
 pub mod Faults
 pub mod Vectors
+pub mod Sequence

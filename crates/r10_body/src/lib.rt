@@ -1,15 +1,19 @@
 //! Messages, entries and refusals, and what a file of them is: a message has one body and one cost,
 //! a body is read as exactly the messages that this recorder writes so, and a channel refuses a
-//! message by the first check that it fails.
+//! message by the first check that it fails. Bytes have one list of packets at most, and a packet more keeps
+//! the rules of a file where it may follow.
 #![tactic(auto)]
 
 mod channels;
 mod costs;
 mod entry;
 mod fault;
+mod follows;
 mod laws;
+mod length;
 mod meaning;
 mod message;
+mod one_spelling;
 mod opaque;
 mod refusal;
 mod spec;
@@ -18,9 +22,12 @@ mod spelling;
 pub use costs::{ENTRY_COST, FILE_COST, cost};
 pub use entry::{Entry, Sample, Timed};
 pub use fault::FileFault;
+pub use follows::{bytes_and_entries, counts_rise, one_packet_more, sequence_numbers};
 pub use laws::{lone_packet, one_sentence, strict_is_lenient};
+pub use length::file_length;
 pub use meaning::decode;
 pub use message::{Kind, Message};
+pub use one_spelling::{one_list_of_packets, one_meaning, one_packet, packet_sentence};
 pub use opaque::is_opaque;
 pub use refusal::{Glance, Refusal};
 pub use spec::ChannelSpec;

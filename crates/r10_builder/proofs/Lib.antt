@@ -6,3 +6,11 @@ pub mod Contents
 pub mod Closing
 pub mod Frames
 pub mod Steps
+pub mod Rising
+pub mod Following
+pub mod Growing
+pub mod Places
+pub mod Taking
+pub mod First
+pub mod EachSteps
+mod Ready

@@ -4,3 +4,9 @@ pub mod Held
 pub mod Read
 pub mod State
 pub mod Vectors
+pub mod Next
+pub mod Grows
+pub mod Losses
+pub mod Settings
+pub mod Packed
+pub mod ManyVectors

@@ -10,12 +10,12 @@ use Rattle.r10_body.specs.Files.{on_channel}
 use Rattle.r10_body.specs.Packets.{Packet}
 use Rattle.r10_body.specs.Rules.{Rise}
 use Rattle.r10_body.specs.declared.entry.Entry.{Entry}
-use Rattle.r10_laws.specs.Channels.{next_sequence, numbered}
+use Rattle.r10_body.specs.Sequence.{next_sequence, numbered}
 use Rattle.r10_builder.specs.State.{State}
-use Rattle.r10_follow.specs.Grows.{HasNone, all_held, taken_in}
-use Rattle.r10_follow.specs.Next.{setup_packet, time_packet}
-use Rattle.r10_follow.proofs.Following.{begins}
-use Rattle.r10_builders.specs.Settings.{AreSettings, specs_of}
+use Rattle.r10_builder.specs.Grows.{HasNone, all_held, taken_in}
+use Rattle.r10_builder.specs.Next.{setup_packet, time_packet}
+use Rattle.r10_builder.proofs.Following.{begins}
+use Rattle.r10_builder.specs.Settings.{AreSettings, specs_of}
 use Rattle.r10_packetout.specs.Output.{Has, Writing}
 use Rattle.r10_carry.specs.Carries.{AreCounted, Carries, Recording, Says, StandApart, time_entry}
 use Rattle.r10_carry.proofs.Own.{keeps_none}

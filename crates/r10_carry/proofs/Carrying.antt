@@ -13,16 +13,16 @@ use Rattle.r10_body.specs.Files.{PacketsSay, on_channel}
 use Rattle.r10_body.specs.Packets.{Packet, file_bytes, file_entries}
 use Rattle.r10_body.specs.Rules.{entry_on as is_on, is_time, last_time}
 use Rattle.r10_body.specs.declared.entry.Entry.{Entry}
-use Rattle.r10_laws.proofs.Lengths.{packets_covered}
+use Rattle.r10_body.proofs.Lengths.{packets_covered}
 use Rattle.r10_builder.specs.State.{State}
 use Rattle.r10_builder.specs.declared.closed.Closed.{Closed}
-use Rattle.r10_follow.specs.Grows.{Grows, HasNone, all_held, taken_in}
-use Rattle.r10_follow.specs.Next.{HasType}
-use Rattle.r10_laws.specs.Channels.{numbered}
-use Rattle.r10_follow.proofs.Following.{says_so}
-use Rattle.r10_follow.proofs.Growing.{cost_more}
-use Rattle.r10_builders.specs.Packed.{HandsOn, TakesIn}
-use Rattle.r10_builders.proofs.Places.{all_more}
+use Rattle.r10_builder.specs.Grows.{Grows, HasNone, all_held, taken_in}
+use Rattle.r10_builder.specs.Next.{HasType}
+use Rattle.r10_body.specs.Sequence.{numbered}
+use Rattle.r10_builder.proofs.Following.{says_so}
+use Rattle.r10_builder.proofs.Growing.{cost_more}
+use Rattle.r10_builder.specs.Packed.{HandsOn, TakesIn}
+use Rattle.r10_builder.proofs.Places.{all_more}
 use Rattle.r10_packetout.specs.Output.{Has, Writing}
 use Rattle.r10_carry.specs.Carries.{Carries, HasNoEvents, Recording, Says, StandApart}
 use Rattle.r10_carry.proofs.Events.{counted_on, held_closed, held_joined, no_events}

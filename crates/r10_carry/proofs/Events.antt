@@ -17,13 +17,13 @@ use Rattle.r10_body.specs.declared.message.Kind.{Kind}
 use Rattle.r10_body.specs.declared.message.Kind.TheVariants as kinds
 use Rattle.r10_body.specs.declared.message.Message.{Message}
 use Rattle.r10_body.specs.declared.message.Message.TheVariants as messages
-use Rattle.r10_laws.proofs.Rules.{entries_more}
-use Rattle.r10_laws.proofs.Sums.{same_sum}
+use Rattle.r10_body.proofs.Rules.{entries_more}
+use Rattle.r10_body.proofs.Sums.{same_sum}
 use Rattle.r10_builder.specs.Packing.{entry_on, last_count}
 use Rattle.r10_builder.specs.State.{State}
 use Rattle.r10_builder.proofs.Messages.{taken}
-use Rattle.r10_follow.specs.Grows.{Grows, all_held, taken_in}
-use Rattle.r10_builders.specs.Settings.{Takes, is_of}
+use Rattle.r10_builder.specs.Grows.{Grows, all_held, taken_in}
+use Rattle.r10_builder.specs.Settings.{Takes, is_of}
 use Rattle.r10_carry.specs.Carries.{AreCounted, HasNoEvents, occurrences}
 
 -- ---- a packet of another type has none

@@ -15,16 +15,16 @@ use Rattle.r10_body.specs.Packets.{Packet, file_entries, packet_entries}
 use Rattle.r10_body.specs.Rules.{EachFollows, MayFollow, Rise, is_index, is_time, last_time}
 use Rattle.r10_body.specs.declared.entry.Entry.{Entry}
 use Rattle.r10_body.specs.declared.message.Message.TheVariants as messages
-use Rattle.r10_laws.specs.Channels.{last_count, numbered}
-use Rattle.r10_laws.proofs.Channels.{packet_off_channel, rises}
+use Rattle.r10_body.specs.Sequence.{last_count, numbered}
+use Rattle.r10_body.proofs.ChannelLists.{packet_off_channel, rises}
 use Rattle.r10_builder.specs.State.{State}
-use Rattle.r10_follow.specs.Grows.{Grows, HasNone, taken_in}
-use Rattle.r10_follow.specs.Next.{GoesOn, IsGrowing, event_packet, time_packet}
-use Rattle.r10_follow.proofs.Following.{event_follows, grows_on, time_follows}
-use Rattle.r10_follow.proofs.Growing.{between, both, none_held}
-use Rattle.r10_builders.specs.Packed.{Packed}
-use Rattle.r10_builders.specs.Settings.{KeepsSettings, specs_of}
-use Rattle.r10_builders.proofs.Places.{all_more}
+use Rattle.r10_builder.specs.Grows.{Grows, HasNone, taken_in}
+use Rattle.r10_builder.specs.Next.{GoesOn, IsGrowing, event_packet, time_packet}
+use Rattle.r10_builder.proofs.Following.{event_follows, grows_on, time_follows}
+use Rattle.r10_builder.proofs.Growing.{between, both, none_held}
+use Rattle.r10_builder.specs.Packed.{Packed}
+use Rattle.r10_builder.specs.Settings.{KeepsSettings, specs_of}
+use Rattle.r10_builder.proofs.Places.{all_more}
 use Rattle.r10_packetout.specs.Output.{Has, Writing}
 use Rattle.r10_carry.specs.Carries.{AreCounted, Carries, Recording, Says, StandApart, event_entry, occurrences, time_entry}
 use Rattle.r10_carry.proofs.Carrying.{costs_more, entries_more, last_same}

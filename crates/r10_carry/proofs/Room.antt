@@ -13,15 +13,15 @@ use Rattle.r10_body.specs.Files.{on_channel}
 use Rattle.r10_body.specs.Packets.{Packet, file_bytes, packet_bytes}
 use Rattle.r10_body.specs.Rules.{Rise}
 use Rattle.r10_body.specs.declared.entry.Entry.{Entry}
-use Rattle.r10_laws.specs.Channels.{last_count, next_sequence, numbered}
-use Rattle.r10_laws.proofs.Rules.{bytes_more}
+use Rattle.r10_body.specs.Sequence.{last_count, next_sequence, numbered}
+use Rattle.r10_body.proofs.Rules.{bytes_more}
 use Rattle.r10_builder.specs.State.{State}
 use Rattle.r10_builder.specs.declared.closed.Closed.{Closed}
-use Rattle.r10_follow.specs.Grows.{all_held, packet_count}
-use Rattle.r10_follow.specs.Next.{event_packet, setup_packet, time_packet}
-use Rattle.r10_follow.proofs.Rising.{rise_behind}
-use Rattle.r10_builders.specs.Packed.{HandsOn}
-use Rattle.r10_builders.specs.Settings.{AreSettings, specs_of}
+use Rattle.r10_builder.specs.Grows.{all_held, packet_count}
+use Rattle.r10_builder.specs.Next.{event_packet, setup_packet, time_packet}
+use Rattle.r10_builder.proofs.Rising.{rise_behind}
+use Rattle.r10_builder.specs.Packed.{HandsOn}
+use Rattle.r10_builder.specs.Settings.{AreSettings, specs_of}
 use Rattle.r10_packetout.specs.Packets.{Describes, bare, index_size, packet_size}
 use Rattle.r10_packetout.proofs.Framing.{described}
 use Rattle.r10_carry.specs.Carries.{AreCounted, Carries, HasNoEvents, Recording, Says, StandApart, event_entry, packets_of, time_entry}

@@ -9,10 +9,10 @@ use Rattle.r10_blockout.specs.Blocks.{bytes_from}
 use Rattle.r10_indexbody.specs.declared.entry.NodeEntry.{NodeEntry}
 use Rattle.r10_body.specs.Packets.{Packet, FitsPacket, packet_bytes, file_bytes}
 use Rattle.r10_body.specs.Rules.{EachFollows, is_data, is_index}
-use Rattle.r10_laws.proofs.Indexes.{counted_first, counted_yes}
-use Rattle.r10_laws.proofs.Injective.{one_packet, one_packet_way, one_file}
-use Rattle.r10_laws.proofs.Lists.{same_behind}
-use Rattle.r10_laws.proofs.Rules.{follows_fit}
+use Rattle.r10_body.proofs.Indexes.{counted_first, counted_yes}
+use Rattle.r10_body.proofs.Injective.{one_packet, one_packet_way, one_file}
+use Rattle.r10_body.proofs.Lists.{same_behind}
+use Rattle.r10_body.proofs.Rules.{follows_fit}
 use Rattle.r10_carry.proofs.Closing.{named_length}
 use Rattle.r10_replay.specs.Shown.{IsShown}
 use Rattle.r10_reader.specs.Files.{HasPackets}

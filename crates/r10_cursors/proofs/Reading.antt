@@ -7,7 +7,7 @@ use Rattle.r10_medium.specs.Disk.{Image}
 use Rattle.r10_blockout.specs.Blocks.{bytes_from}
 use Rattle.r10_body.specs.Packets.{Packet, file_bytes, file_entries}
 use Rattle.r10_body.specs.Rules.{EachFollows, is_data}
-use Rattle.r10_cuts.specs.Cuts.{Agree}
+use Rattle.r10_machine.specs.Cuts.{Agree}
 use Rattle.r10_dirblock.specs.declared.entry.Entry.{Entry as Listed}
 use Rattle.r10_dirchain.specs.Chain.{IsDirectory, files as listed_files}
 use Rattle.r10_dirchain.specs.declared.chain.ChainBlock.{ChainBlock}

@@ -22,8 +22,8 @@ use Rattle.r10_body.specs.Content.{Content, setup, time, event, uart, bus, arinc
 use Rattle.r10_body.specs.Files.{IsStrict}
 use Rattle.r10_body.specs.Foreign.{known_types, selects_other, is_opaque, opaque_at, IsForeignBody, IsForeignPacket, IsForeignFile}
 use Rattle.r10_body.specs.Packets.{Packet, FitsPacket, packet_body, packet_rest, packet_bytes, header_of}
-use Rattle.r10_laws.proofs.Sentences.{packet_sentence, rest_length, rest_words}
-use Rattle.r10_laws.proofs.Rules.{follows_fit}
+use Rattle.r10_body.proofs.Sentences.{packet_sentence, rest_length, rest_words}
+use Rattle.r10_body.proofs.Rules.{follows_fit}
 
 -- ---- no packet of the recorder's is opaque
 

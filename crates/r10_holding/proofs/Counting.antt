@@ -6,8 +6,8 @@ use Rattle.r10_body.specs.Content.{Content, FitsContent, setup, time, event, uar
 use Rattle.r10_body.specs.Packets.{Packet, file_entries, packet_entries, with_gaps}
 use Rattle.r10_body.specs.Rules.{EachFollows, MayFollow, is_index, is_setup}
 use Rattle.r10_body.specs.declared.entry.Timed.{Timed}
-use Rattle.r10_laws.proofs.Indexes.{none_at, part_of}
-use Rattle.r10_laws.proofs.Lengths.{not_setup}
+use Rattle.r10_body.proofs.Indexes.{none_at, part_of}
+use Rattle.r10_body.proofs.Lengths.{not_setup}
 
 -- ---- each packet behind the first has an entry
 

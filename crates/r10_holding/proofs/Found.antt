@@ -3,7 +3,7 @@ use Rattle.std.proofs.Common.{List, [], ◌∷◌, ◌∙◌}
 use Rattle.r10_holding.specs.Holding.{OthersAreFound}
 use Rattle.r10_machine.specs.Machine.{File}
 use Rattle.r10_medium.specs.Disk.{Image}
-use Rattle.r10_standing.specs.Bytes.{KeepBytes}
+use Rattle.r10_steps.specs.Bytes.{KeepBytes}
 
 pub found_stays : (old new : Image) (files : List File) → KeepBytes old new files → OthersAreFound old files → OthersAreFound new files
 found_stays old new [] keep found = tt

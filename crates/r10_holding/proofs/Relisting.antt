@@ -26,7 +26,7 @@ use Rattle.r10_holding.proofs.Staying.{bytes_behind}
 use Rattle.r10_machine.specs.Config.{Config}
 use Rattle.r10_machine.specs.Machine.{File}
 use Rattle.r10_machine.specs.Room.{blocks_of}
-use Rattle.r10_standing.proofs.Said.{directory_keeps, directory_turns, last_said}
+use Rattle.r10_steps.proofs.Said.{directory_keeps, directory_turns, last_said}
 use Rattle.r10_steps.specs.Says.{IsFound, Lists, MediumSays, SaysEach, SaysFile}
 
 -- ---- files back to back

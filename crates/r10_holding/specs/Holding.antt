@@ -6,7 +6,7 @@ use Rattle.r10_blockout.specs.Output.{first_of}
 use Rattle.r10_medium.specs.Disk.{Image}
 use Rattle.r10_body.specs.Packets.{file_bytes}
 use Rattle.r10_carry.specs.Carries.{Carries, Recording}
-use Rattle.r10_cuts.specs.Cuts.{Cut}
+use Rattle.r10_machine.specs.Cuts.{Cut}
 use Rattle.r10_dirchain.specs.Chain.{IsDirectory}
 use Rattle.r10_dirchain.specs.declared.chain.ChainBlock.{ChainBlock}
 use Rattle.r10_machine.specs.Config.{Config}

@@ -3,7 +3,7 @@
 ghost use Rattle.std.specs.Prelude.{List};
 ghost use Rattle.r10_machine.specs.Machine.{File};
 ghost use Rattle.r10_medium.specs.Disk.{Image};
-ghost use Rattle.r10_standing.specs.Bytes.{KeepBytes};
+ghost use Rattle.r10_steps.specs.Bytes.{KeepBytes};
 ghost use Rattle.r10_holding.specs.Holding.{OthersAreFound};
 
 /// The files that another recorder began are found again where the files' bytes stay.

@@ -16,10 +16,10 @@ use Rattle.r10_indexbody.proofs.Nodes.{body-length as node_length}
 use Rattle.r10_indexbody.proofs.Roots.{body-length as root_length}
 use Rattle.r10_body.specs.Packets.{Packet, FitsPacket, packet_bytes, file_bytes, file_entries}
 use Rattle.r10_body.specs.Rules.{MayFollow, EachFollows, IsFile, Rise, is_setup, is_time, is_index, is_data, is_node, is_root, is_closed, closed_from, packet_on, entry_on, node_entries, root_entries, last_time}
-use Rattle.r10_laws.proofs.Channels.{rises}
-use Rattle.r10_laws.proofs.Indexes.{counted, counted_first, counted_yes, index_long, no_nodes, no_roots, none_at, part_of}
-use Rattle.r10_laws.proofs.Rules.{follows_more, follows_fit, bytes_more}
-use Rattle.r10_laws.proofs.Sentences.{type_fits, rest_length}
+use Rattle.r10_body.proofs.ChannelLists.{rises}
+use Rattle.r10_body.proofs.Indexes.{counted, counted_first, counted_yes, index_long, no_nodes, no_roots, none_at, part_of}
+use Rattle.r10_body.proofs.Rules.{follows_more, follows_fit, bytes_more}
+use Rattle.r10_body.proofs.Sentences.{type_fits, rest_length}
 use Rattle.r10_index.specs.Written.{node_packet, first_nodes, node_count, root_packet, index_of, FitsIndex}
 
 no : false ≡ true → ⊥

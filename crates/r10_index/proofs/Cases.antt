@@ -6,8 +6,8 @@ use Rattle.r10_body.specs.Files.{IsStrict}
 use Rattle.r10_body.specs.Packets.{Packet, packet_bytes, file_bytes}
 use Rattle.r10_body.specs.Rules.{IsFile}
 use Rattle.r10_body.specs.Vectors.{node_packet, data_packets, recording}
-use Rattle.r10_laws.proofs.Injective.{one_file}
-use Rattle.r10_laws.proofs.Rules.{follows_fit}
+use Rattle.r10_body.proofs.Injective.{one_file}
+use Rattle.r10_body.proofs.Rules.{follows_fit}
 
 abbrev with_node : List Packet
 with_node = data_packets ++ node_packet ∷ []

@@ -18,9 +18,9 @@ use Rattle.r10_body.specs.Vectors.{data_packets, data-len, node_packet}
 use Rattle.r10_body.specs.declared.entry.Entry.{Entry}
 use Rattle.r10_body.specs.declared.fault.FileFault.TheVariants.{Rule}
 use Rattle.r10_foreign.proofs.Written.{packet_foreign}
-use Rattle.r10_laws.proofs.Indexes.{counted, no_nodes, no_roots}
-use Rattle.r10_laws.proofs.Rules.{follows_more, follows_fit, bytes_more, entries_more}
-use Rattle.r10_laws.proofs.Sentences.{type_fits, rest_length}
+use Rattle.r10_body.proofs.Indexes.{counted, no_nodes, no_roots}
+use Rattle.r10_body.proofs.Rules.{follows_more, follows_fit, bytes_more, entries_more}
+use Rattle.r10_body.proofs.Sentences.{type_fits, rest_length}
 use Rattle.r10_tracks.specs.Broken as broken
 use Rattle.r10_judge.specs.Judged.{KeepRules, BreaksIn, broken_rule, in_open_file, stopped_at}
 use Rattle.r10_judge.specs.Copies.{copy, copies, node_of_99}

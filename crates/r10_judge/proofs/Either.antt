@@ -15,8 +15,8 @@ use Rattle.r10_body.specs.declared.fault.FileFault.TheVariants.{Truncated, DataS
 use Rattle.r10_foreign.specs.Tracks.{named}
 use Rattle.r10_foreign.proofs.Faults.{framing_is}
 use Rattle.r10_foreign.proofs.Fronts.{first_joined, is_foreign}
-use Rattle.r10_laws.proofs.Indexes.{counted, counted_no, not_closed}
-use Rattle.r10_laws.proofs.Rules.{follows_more, bytes_more}
+use Rattle.r10_body.proofs.Indexes.{counted, counted_no, not_closed}
+use Rattle.r10_body.proofs.Rules.{follows_more, bytes_more}
 use Rattle.r10_judge.specs.Judged.{KeepRules, SaysClosed}
 use Rattle.r10_judge.proofs.Judging.{begins}
 

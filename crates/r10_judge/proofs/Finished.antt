@@ -1,7 +1,7 @@
 -- What is kept of a file that is judged to its end.
 use Rattle.std.proofs.Common.{ℕ, Bool, List, sym, ◌∙◌, subst}
 use Rattle.r10_body.specs.Packets.{Packet}
-use Rattle.r10_laws.proofs.Meaning.{one_list}
+use Rattle.r10_body.proofs.OneMeaning.{one_list}
 use Rattle.r10_tracks.specs.Tracks.{IsTracked}
 use Rattle.r10_tracks.specs.declared.tracks.Tracks.{Tracks}
 use Rattle.r10_judge.specs.Judged.{GoesOn, IsKept, SaysClosed}

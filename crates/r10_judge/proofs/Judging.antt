@@ -13,10 +13,10 @@ use Rattle.r10_body.specs.Faults as faults
 use Rattle.r10_foreign.specs.declared.file.Fault.{Fault}
 use Rattle.r10_foreign.proofs.Ways.{packet_long, first_again}
 use Rattle.r10_foreign.proofs.Written.{packet_foreign}
-use Rattle.r10_laws.proofs.Injective.{one_packet}
-use Rattle.r10_laws.proofs.Meaning.{one_list}
-use Rattle.r10_laws.proofs.Rules.{follows_more, bytes_more}
-use Rattle.r10_laws.proofs.Indexes.{counted, counted_no}
+use Rattle.r10_body.proofs.Injective.{one_packet}
+use Rattle.r10_body.proofs.OneMeaning.{one_list}
+use Rattle.r10_body.proofs.Rules.{follows_more, bytes_more}
+use Rattle.r10_body.proofs.Indexes.{counted, counted_no}
 use Rattle.r10_strict.proofs.Spelled.{framed}
 use Rattle.r10_tracks.specs.Broken.{Breaks}
 use Rattle.r10_tracks.specs.Broken as broken

@@ -5,9 +5,9 @@ use Rattle.std.proofs.lemmas.List.{append-nil, length-append}
 use Rattle.r10_body.proofs.Lone.{packet-length}
 use Rattle.r10_body.specs.Packets.{Packet, FitsPacket, packet_bytes, file_bytes}
 use Rattle.r10_body.specs.Rules.{EachFollows, MayFollow}
-use Rattle.r10_laws.proofs.Injective.{one_packet}
-use Rattle.r10_laws.proofs.Lists.{same_behind}
-use Rattle.r10_laws.proofs.Rules.{follows_fit}
+use Rattle.r10_body.proofs.Injective.{one_packet}
+use Rattle.r10_body.proofs.Lists.{same_behind}
+use Rattle.r10_body.proofs.Rules.{follows_fit}
 
 -- a packet that may stand behind others, first in these bytes
 abbrev pub Next : List Packet → List ℕ → Type 0

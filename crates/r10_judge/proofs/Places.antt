@@ -14,9 +14,9 @@ use Rattle.r10_foreign.proofs.Faults.{one_fault, apart}
 use Rattle.r10_foreign.proofs.Fronts.{first_joined}
 use Rattle.r10_foreign.proofs.Ways.{packet_long, first_again}
 use Rattle.r10_foreign.proofs.Written.{packet_foreign}
-use Rattle.r10_laws.proofs.Indexes.{none_at, part_of}
-use Rattle.r10_laws.proofs.Injective.{one_packet}
-use Rattle.r10_laws.proofs.Lists.{same_behind}
+use Rattle.r10_body.proofs.Indexes.{none_at, part_of}
+use Rattle.r10_body.proofs.Injective.{one_packet}
+use Rattle.r10_body.proofs.Lists.{same_behind}
 use Rattle.r10_judge.specs.Judged.{SaysClosed, BreaksIn, broken_rule, in_open_file}
 use Rattle.r10_judge.proofs.Judging.{from_bytes, may_break_none}
 

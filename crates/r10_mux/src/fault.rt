@@ -1,7 +1,7 @@
 //! What keeps an entry out of a file.
 
 use r10_body::Sample;
-use r10_builders::Builders;
+use r10_builder::Builders;
 use r10_medium::MediumFault;
 
 /// Why a file was not begun.

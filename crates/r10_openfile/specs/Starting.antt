@@ -3,11 +3,11 @@ use Rattle.std.specs.Prelude.{◌≡◌, ℕ, ◌+◌, Bool, true, false, List, 
 use Rattle.r10_body.specs.Cost.{entry_cost, file_cost}
 use Rattle.r10_body.specs.Packets.{file_bytes}
 use Rattle.r10_builder.specs.State.{State}
-use Rattle.r10_builders.specs.Settings.{specs_of}
+use Rattle.r10_builder.specs.Settings.{specs_of}
 use Rattle.r10_carry.specs.Carries.{time_entry}
 use Rattle.r10_count.specs.declared.civil.Parts.{Parts}
 use Rattle.r10_dirblock.specs.declared.entry.Entry.{Entry as Listed}
-use Rattle.r10_follow.specs.Grows.{all_held}
+use Rattle.r10_builder.specs.Grows.{all_held}
 use Rattle.r10_machine.specs.Calls.{empty_file, shown_whole}
 use Rattle.r10_machine.specs.Config.{Config}
 use Rattle.r10_machine.specs.Machine.{File, with_entries}

@@ -1,6 +1,6 @@
 //! What keeps a file from beginning.
 
-use r10_builders::Builders;
+use r10_builder::Builders;
 use r10_medium::MediumFault;
 
 /// Why no file was begun.

@@ -2,8 +2,8 @@
 use Rattle.std.proofs.Common.{◌≡◌, ℕ, zero, suc, ◌+◌, ◌%◌, ◌<◌, ◌≤◌, Bool, true, false, cond, ◌==◌, List, [], ◌∷◌, ◌++◌, length, get_or, set, refl, sym, ap, ◌∙◌, arith}
 use Rattle.std.proofs.lemmas.Bool.{eqb-true, eqb-false}
 use Rattle.r10_body.specs.Packets.{Packet}
-use Rattle.r10_laws.specs.Channels.{next_sequence}
-use Rattle.r10_laws.proofs.Channels.{sequence_same, sequence_other}
+use Rattle.r10_body.specs.Sequence.{next_sequence}
+use Rattle.r10_body.proofs.ChannelLists.{sequence_same, sequence_other}
 use Rattle.r10_packetout.specs.Numbers.{next_of, IsNumbered}
 use Rattle.r10_packetout.specs.Places.{IsPlace}
 use Rattle.r10_packetout.specs.declared.numbers.Number.{Number}

@@ -12,7 +12,7 @@ use Rattle.r10_body.specs.Content.{Content, setup, time, event, uart, bus, arinc
 use Rattle.r10_body.specs.declared.entry.Entry.{Entry}
 use Rattle.r10_body.specs.Packets.{Packet, packet_bytes, packet_entries, file_bytes, file_entries}
 use Rattle.r10_body.specs.Rules.{MayFollow, EachFollows, KeepsIndex, is_data, is_index, is_node, is_root, node_entries}
-use Rattle.r10_laws.proofs.Indexes.{Part, datum, node_here, root_here, part_of, counted, counted_yes, counted_no}
+use Rattle.r10_body.proofs.Indexes.{Part, datum, node_here, root_here, part_of, counted, counted_yes, counted_no}
 use Rattle.r10_replay.specs.Shown.{IsShown}
 
 -- ---- the index stands at the end

@@ -4,9 +4,9 @@ use Rattle.std.proofs.lemmas.List.{length-append, take_all, take-append-drop, ta
 use Rattle.std.proofs.lemmas.List.Concat.{flat_map-append}
 use Rattle.r10_body.specs.Packets.{Packet, packet_entries, file_entries}
 use Rattle.r10_body.specs.declared.entry.Entry.{Entry}
-use Rattle.r10_cuts.specs.Cuts.{Agree}
-use Rattle.r10_cuts.proofs.Agreeing.{agree-is, agree-rest}
-use Rattle.r10_cuts.proofs.Replays.{replay_by_channels}
+use Rattle.r10_machine.specs.Cuts.{Agree}
+use Rattle.r10_machine.proofs.Agreeing.{agree-is, agree-rest}
+use Rattle.r10_machine.proofs.Replays.{replay_by_channels}
 use Rattle.r10_machine.specs.Machine.{File, shown_entries}
 use Rattle.r10_replay.specs.Replays.{Reading, Advances}
 use Rattle.r10_reader.specs.Held.{IsCovered, GoesOn}

@@ -13,8 +13,8 @@ use Rattle.r10_body.specs.Content.{Content, setup, time, event, uart, bus, arinc
 use Rattle.r10_body.specs.declared.entry.Timed.{Timed}
 use Rattle.r10_body.specs.Packets.{Packet, packet_bytes, packet_entries, file_bytes, file_entries, with_gaps}
 use Rattle.r10_body.specs.Rules.{MayFollow, EachFollows, KeepsIndex, is_data, is_index, is_node, is_root}
-use Rattle.r10_laws.proofs.Indexes.{Part, datum, node_here, root_here, part_of, counted, counted_yes, counted_no}
-use Rattle.r10_laws.proofs.Sentences.{rest_length}
+use Rattle.r10_body.proofs.Indexes.{Part, datum, node_here, root_here, part_of, counted, counted_yes, counted_no}
+use Rattle.r10_body.proofs.Sentences.{rest_length}
 use Rattle.r10_strict.specs.Tally.{timed_cost}
 use Rattle.r10_strict.proofs.Tallies.{content_cheap}
 

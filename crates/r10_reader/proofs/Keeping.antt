@@ -7,8 +7,8 @@ use Rattle.r10_dirblock.specs.declared.entry.Entry.{Entry as Listed}
 use Rattle.r10_indexbody.specs.declared.entry.NodeEntry.{NodeEntry}
 use Rattle.r10_body.specs.Packets.{Packet, file_bytes}
 use Rattle.r10_body.specs.Rules.{EachFollows, is_data, node_entries}
-use Rattle.r10_laws.proofs.Injective.{one_file}
-use Rattle.r10_laws.proofs.Rules.{follows_fit}
+use Rattle.r10_body.proofs.Injective.{one_file}
+use Rattle.r10_body.proofs.Rules.{follows_fit}
 use Rattle.r10_replay.specs.Shown.{IsShown}
 use Rattle.r10_reader.specs.Files.{HasPackets, bytes_in}
 use Rattle.r10_reader.proofs.Fronts.{data_first, follows_front, shows_front, bytes_front}

@@ -17,11 +17,11 @@ use Rattle.r10_body.specs.Packets.{Packet, packet_entries, file_entries}
 use Rattle.r10_body.specs.Rules.{is_data, is_index}
 use Rattle.r10_body.specs.declared.entry.Entry.{Entry}
 use Rattle.r10_body.specs.declared.fault.FileFault.{FileFault}
-use Rattle.r10_laws.proofs.Injective.{one_file}
-use Rattle.r10_laws.proofs.Rules.{follows_fit}
+use Rattle.r10_body.proofs.Injective.{one_file}
+use Rattle.r10_body.proofs.Rules.{follows_fit}
 use Rattle.r10_judge.specs.Judged.{SaysClosed}
 use Rattle.r10_judge.proofs.Places.{strict_apart}
-use Rattle.r10_cuts.specs.Cuts.{Agree}
+use Rattle.r10_machine.specs.Cuts.{Agree}
 use Rattle.r10_machine.specs.Config.{Config}
 use Rattle.r10_machine.specs.Machine.{File, shown_entries}
 use Rattle.r10_steps.specs.Finding.{ticks_of}

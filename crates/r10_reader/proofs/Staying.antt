@@ -14,7 +14,7 @@ use Rattle.r10_dirchain.specs.Mount.{blocks_in, mount_rules, stands}
 use Rattle.r10_dirchain.specs.OnMedium.{SameButIn}
 use Rattle.r10_dirchain.specs.declared.chain.ChainBlock.{ChainBlock}
 use Rattle.r10_dirchain.proofs.Standing.{Stand, Stand-take, usable_of}
-use Rattle.r10_standing.proofs.Said.{bytes_stay}
+use Rattle.r10_steps.proofs.Said.{bytes_stay}
 use Rattle.r10_reader.specs.Files.{finished}
 use Rattle.r10_reader.specs.Staying.{KeepListed}
 use Rattle.r10_reader.specs.declared.written.Written.{Written}

@@ -9,8 +9,8 @@ use Rattle.r10_body.specs.Rules.{entry_on}
 use Rattle.r10_body.specs.declared.entry.Entry.{Entry}
 use Rattle.r10_body.specs.declared.message.Message.{Message}
 use Rattle.r10_body.specs.declared.message.Message.TheVariants as messages
-use Rattle.r10_cuts.specs.Cuts.{Agree}
-use Rattle.r10_cuts.proofs.Replays.{agree-permutation}
+use Rattle.r10_machine.specs.Cuts.{Agree}
+use Rattle.r10_machine.proofs.Replays.{agree-permutation}
 use Rattle.r10_machine.specs.Config.{Config}
 use Rattle.r10_machine.specs.Machine.{Tick}
 use Rattle.r10_steps.specs.Finding.{ticks_of}

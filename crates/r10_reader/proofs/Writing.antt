@@ -8,7 +8,7 @@ use Rattle.r10_blockout.proofs.Showing.{shown_length}
 use Rattle.r10_indexbody.specs.declared.entry.NodeEntry.{NodeEntry}
 use Rattle.r10_body.specs.Packets.{Packet, packet_bytes, file_bytes, file_entries}
 use Rattle.r10_body.specs.Rules.{EachFollows, node_entry, node_entries}
-use Rattle.r10_cuts.specs.Cuts.{Agree}
+use Rattle.r10_machine.specs.Cuts.{Agree}
 use Rattle.r10_dirchain.specs.declared.chain.ChainBlock.{ChainBlock}
 use Rattle.r10_holding.specs.Holding.{IsWritten, Open}
 use Rattle.r10_machine.specs.Config.{Config}

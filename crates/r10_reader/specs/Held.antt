@@ -5,7 +5,7 @@ use Rattle.r10_holding.specs.Holding.{Open}
 use Rattle.r10_medium.specs.Disk.{Image}
 use Rattle.r10_dirchain.specs.declared.chain.ChainBlock.{ChainBlock}
 use Rattle.r10_body.specs.Packets.{Packet, file_entries}
-use Rattle.r10_cuts.specs.Cuts.{Agree}
+use Rattle.r10_machine.specs.Cuts.{Agree}
 use Rattle.r10_machine.specs.Machine.{File, shown_entries}
 use Rattle.r10_machine.specs.Replay.{wanted, Ordered}
 use Rattle.r10_replay.specs.Replays.{Reading}

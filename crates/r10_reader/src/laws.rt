@@ -15,7 +15,7 @@ ghost use Rattle.r10_body.specs.Faults.{IsAtFault};
 ghost use Rattle.r10_body.specs.Packets.{Packet, file_entries};
 ghost use Rattle.r10_body.specs.declared.entry.Entry.{Entry};
 ghost use Rattle.r10_body.specs.declared.fault.FileFault.{FileFault};
-ghost use Rattle.r10_cuts.specs.Cuts.{Agree};
+ghost use Rattle.r10_machine.specs.Cuts.{Agree};
 ghost use Rattle.r10_holding.specs.Holding.{IsWritten, Open};
 ghost use Rattle.r10_machine.specs.Config.{Config};
 ghost use Rattle.r10_machine.specs.Machine.{File, shown_entries};

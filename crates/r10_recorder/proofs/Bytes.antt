@@ -16,7 +16,7 @@ use Rattle.r10_reader.specs.Staying.{KeepListed}
 use Rattle.r10_recorder.specs.Leading.{KeepsShown}
 use Rattle.r10_recorder.proofs.Recordings.{Last, last_held}
 use Rattle.r10_recorder.proofs.Staying.{listed_keep}
-use Rattle.r10_standing.specs.Bytes.{KeepBytes}
+use Rattle.r10_steps.specs.Bytes.{KeepBytes}
 use Rattle.r10_steps.specs.Says.{MediumSays, SaysEach}
 use Rattle.r10_volume.specs.Front.{KeepsFront}
 use Rattle.r10_volume.specs.Listing.{block_behind}

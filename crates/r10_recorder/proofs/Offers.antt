@@ -11,7 +11,7 @@ use Rattle.r10_body.specs.declared.refusal.Refusal.TheVariants.{CountBack}
 use Rattle.r10_body.specs.declared.spec.ChannelSpec.{ChannelSpec}
 use Rattle.r10_count.specs.Checks.{first_broken}
 use Rattle.r10_body.specs.Files.{on_channel}
-use Rattle.r10_laws.specs.Channels.{last_count}
+use Rattle.r10_body.specs.Sequence.{last_count}
 use Rattle.r10_lane.specs.Lanes.{Offers, reached}
 use Rattle.r10_lane.proofs.Waiting.{refused_before_room}
 use Rattle.r10_machine.specs.Calls.{accepted, overflowed}

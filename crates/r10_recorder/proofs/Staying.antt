@@ -19,7 +19,7 @@ use Rattle.r10_reader.specs.Staying.{KeepListed}
 use Rattle.r10_reader.specs.declared.books.Books.{Books}
 use Rattle.r10_reader.specs.declared.kept.Kept.{Kept as Judged}
 use Rattle.r10_recorder.specs.Owns.{AreJudged, OwnsBooks}
-use Rattle.r10_standing.proofs.Said.{bytes_stay}
+use Rattle.r10_steps.proofs.Said.{bytes_stay}
 use Rattle.r10_volume.specs.Front.{KeepsFront}
 use Rattle.r10_volume.specs.Listing.{block_behind}
 use Rattle.r10_volume.specs.Mounting.{IsUsable}

@@ -8,7 +8,7 @@ use Rattle.r10_means.specs.Means.{LeadsTo, Means}
 use Rattle.r10_medium.specs.Disk.{Disk, Image}
 use Rattle.r10_reader.specs.Staying.{NoneShrinks}
 use Rattle.r10_recorder.specs.State.{State}
-use Rattle.r10_standing.specs.Bytes.{KeepBytes}
+use Rattle.r10_steps.specs.Bytes.{KeepBytes}
 use Rattle.r10_steps.specs.declared.event.Event.{Event as Asked}
 use Rattle.r10_steps.specs.declared.reply.Reply.{Reply as Answered}
 use Rattle.r10_steps.specs.declared.reply.Reply.TheVariants.{Refused}

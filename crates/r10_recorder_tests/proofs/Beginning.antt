@@ -6,8 +6,8 @@ use Rattle.r10_medium.specs.Disk.{Image}
 use Rattle.r10_blockout.specs.Output.{first_of}
 use Rattle.r10_body.specs.declared.spec.ChannelSpec.{ChannelSpec}
 use Rattle.r10_builder.specs.State.{State}
-use Rattle.r10_follow.specs.Grows.{HasNone}
-use Rattle.r10_builders.specs.Settings.{AreSettings, specs_of}
+use Rattle.r10_builder.specs.Grows.{HasNone}
+use Rattle.r10_builder.specs.Settings.{AreSettings, specs_of}
 use Rattle.r10_packetout.specs.Output.{Writing}
 use Rattle.r10_carry.specs.Carries.{Carries, Recording, StandApart, time_entry}
 use Rattle.r10_mux.specs.Begun.{begun}

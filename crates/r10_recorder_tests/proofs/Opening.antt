@@ -10,10 +10,10 @@ use Rattle.r10_body.specs.Cost.{entry_cost}
 use Rattle.r10_body.specs.Files.{on_channel}
 use Rattle.r10_body.specs.Rules.{Rise}
 use Rattle.r10_body.specs.declared.entry.Entry.{Entry}
-use Rattle.r10_laws.specs.Channels.{last_count}
+use Rattle.r10_body.specs.Sequence.{last_count}
 use Rattle.r10_body.specs.Packets.{file_bytes}
-use Rattle.r10_follow.specs.Grows.{is_open}
-use Rattle.r10_follow.proofs.Rising.{rise_join}
+use Rattle.r10_builder.specs.Grows.{is_open}
+use Rattle.r10_builder.proofs.Rising.{rise_join}
 use Rattle.r10_packetout.specs.Output.{IsReady, Writing}
 use Rattle.r10_packetout.proofs.Having.{ready_fewer}
 use Rattle.r10_carry.specs.Carries.{Carries, Recording, packets_of}

@@ -1,7 +1,7 @@
 //! The builders of two channels.
 
 use r10_body::{ChannelSpec, Kind, Message, Sample};
-use r10_builders::Builders;
+use r10_builder::Builders;
 use r10_count::Count;
 use std::alloc::Global;
 use std::test::Fail;

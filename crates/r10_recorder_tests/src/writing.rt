@@ -4,7 +4,7 @@ ghost use Rattle.std.specs.Prelude.{◌≡◌, ◌≤◌, length, IfOk, OnOk};
 ghost use Rattle.r10_recorder_tests.specs.Open.{IsOpen, line};
 
 use r10_body::{ChannelSpec, Kind, Message, Sample};
-use r10_builders::Builders;
+use r10_builder::Builders;
 use r10_count::{Civil, Count, Items, Parts};
 use r10_medium::{BlockMedium, Choice, Crashing, Faulty, Memory};
 use r10_mux::Mux;

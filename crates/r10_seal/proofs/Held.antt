@@ -30,12 +30,12 @@ use Rattle.r10_holding.proofs.Ends.{all_front, all_with}
 use Rattle.r10_holding.proofs.Found.{found_stays}
 use Rattle.r10_holding.proofs.Relisting.{Relists, made_bytes, made_found, made_says, reserved, written_in}
 use Rattle.r10_index.specs.Written.{index_of}
-use Rattle.r10_laws.proofs.Meaning.{one_list}
+use Rattle.r10_body.proofs.OneMeaning.{one_list}
 use Rattle.r10_machine.specs.Config.{Config}
 use Rattle.r10_machine.specs.Machine.{File, shown_entries}
 use Rattle.r10_machine.specs.Room.{area}
-use Rattle.r10_standing.specs.Bytes.{KeepBytes}
-use Rattle.r10_standing.proofs.Said.{directory_keeps, growing_kept}
+use Rattle.r10_steps.specs.Bytes.{KeepBytes}
+use Rattle.r10_steps.proofs.Said.{directory_keeps, growing_kept}
 use Rattle.r10_steps.specs.Calls.{closed_in}
 use Rattle.r10_steps.specs.Says.{IsFound, Lists, MediumSays, SaysFile}
 use Rattle.r10_volume.specs.Settling.{IsSettled, SaysAs}

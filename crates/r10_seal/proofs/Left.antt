@@ -18,8 +18,8 @@ use Rattle.r10_body.specs.Cost.{entry_cost, file_cost}
 use Rattle.r10_body.specs.Files.{PacketsSay, on_channel}
 use Rattle.r10_body.specs.Packets.{Packet, file_bytes, file_entries, packet_bytes}
 use Rattle.r10_body.specs.declared.entry.Entry.{Entry}
-use Rattle.r10_cuts.specs.Cuts.{Agree}
-use Rattle.r10_cuts.proofs.Replays.{agree-permutation}
+use Rattle.r10_machine.specs.Cuts.{Agree}
+use Rattle.r10_machine.proofs.Replays.{agree-permutation}
 use Rattle.r10_dirblock.specs.declared.entry.Entry.{Entry as Listed}
 use Rattle.r10_dirchain.specs.Chain.{files as listed_files}
 use Rattle.r10_dirchain.specs.Mount.{mount_rules}
@@ -31,11 +31,11 @@ use Rattle.r10_holding.proofs.Counting.{packets_some}
 use Rattle.r10_holding.proofs.Relisting.{last_file_listed, last_file_said}
 use Rattle.r10_index.specs.Written.{index_of}
 use Rattle.r10_judge.proofs.Places.{strict_apart}
-use Rattle.r10_laws.proofs.Sums.{same_sum}
+use Rattle.r10_body.proofs.Sums.{same_sum}
 use Rattle.r10_machine.specs.Config.{Config}
 use Rattle.r10_machine.specs.Machine.{File, shown_entries}
 use Rattle.r10_machine.specs.Room.{area, cost_of}
-use Rattle.r10_standing.proofs.Said.{growing_stands}
+use Rattle.r10_steps.proofs.Said.{growing_stands}
 use Rattle.r10_steps.specs.Says.{IsFound, Lists, MediumSays, SaysEach, SaysFile}
 use Rattle.r10_volume.specs.Mounting.{IsUsable}
 use Rattle.r10_seal.specs.Judging.{IsSealFault}

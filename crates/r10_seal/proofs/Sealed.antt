@@ -10,9 +10,9 @@ use Rattle.r10_carry.proofs.Closing.{index_says, named_length}
 use Rattle.r10_index.proofs.Behind.{all_data, index_closes}
 use Rattle.r10_index.specs.Written.{FitsIndex, first_nodes, index_of, node_count, root_packet}
 use Rattle.r10_judge.specs.Judged.{IsKept}
-use Rattle.r10_laws.proofs.Lengths.{file_covered}
-use Rattle.r10_laws.proofs.Meaning.{one_list}
-use Rattle.r10_laws.proofs.Rules.{bytes_more}
+use Rattle.r10_body.proofs.Lengths.{file_covered}
+use Rattle.r10_body.proofs.OneMeaning.{one_list}
+use Rattle.r10_body.proofs.Rules.{bytes_more}
 use Rattle.r10_packetout.specs.Packets.{index_packets, index_size, nodes_size, root_size}
 use Rattle.r10_packetout.proofs.Indexing.{nodes_whole, root_size_is}
 use Rattle.r10_seal.specs.Sealing.{IsUnsealed, cost_of_packets, sealed_bytes}

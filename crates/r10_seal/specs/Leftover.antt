@@ -10,7 +10,7 @@ use Rattle.r10_machine.specs.Machine.{File, shown_entries}
 use Rattle.r10_machine.specs.Room.{area}
 use Rattle.r10_medium.specs.Disk.{Disk, Image}
 use Rattle.r10_medium.specs.Stop.{Leaves}
-use Rattle.r10_standing.specs.Bytes.{KeepBytes}
+use Rattle.r10_steps.specs.Bytes.{KeepBytes}
 use Rattle.r10_steps.specs.Calls.{MayPassIndex}
 use Rattle.r10_steps.specs.Says.{MediumSays}
 use Rattle.r10_volume.specs.Settling.{IsSettled}

@@ -14,7 +14,7 @@ use Rattle.r10_recorder.specs.Leading.{Answers, AreLeft, KeepsShown, Leads, none
 use Rattle.r10_recorder.specs.State.{State as Recorded}
 use Rattle.r10_session.specs.Standing.{Goes, Stands}
 use Rattle.r10_session.specs.Telling.{StandsWith, TellsOf}
-use Rattle.r10_standing.specs.Bytes.{KeepBytes}
+use Rattle.r10_steps.specs.Bytes.{KeepBytes}
 use Rattle.r10_steps.specs.declared.event.Event.{Event as Asked}
 use Rattle.r10_steps.specs.declared.reply.Reply.{Reply as Answered}
 use Rattle.r10_steps.specs.declared.reply.Reply.TheVariants as replies

@@ -21,7 +21,7 @@ use Rattle.r10_body.specs.Content.{Content}
 use Rattle.r10_body.specs.Packets.{Packet, FitsPacket, packet_body, packet_rest, packet_bytes, header_of}
 use Rattle.r10_body.specs.Rules.{KeepsChecksums}
 use Rattle.r10_body.specs.Faults.{KeepsHeader, KeepsFiller, Reads}
-use Rattle.r10_laws.proofs.Sentences.{packet_sentence, rest_words}
+use Rattle.r10_body.proofs.Sentences.{packet_sentence, rest_words}
 use Rattle.r10_strict.specs.Header.{packet_of}
 
 -- ---- lists

@@ -18,7 +18,7 @@ use Rattle.r10_body.specs.Packets.{packet_bytes, with_gaps}
 use Rattle.r10_body.specs.Rules.{Rise}
 use Rattle.r10_body.specs.declared.entry.Timed.{Timed}
 use Rattle.r10_body.specs.declared.message.Message.TheVariants as messages
-use Rattle.r10_laws.specs.Channels.{last_count}
+use Rattle.r10_body.specs.Sequence.{last_count}
 use Rattle.r10_count.specs.Bytes.{bit_of}
 use Rattle.r10_packet.specs.declared.header.Header.{Header}
 use Rattle.r10_strict.specs.Facts.{Tells, TellsCounts, kind_of}

@@ -6,7 +6,7 @@ use Rattle.r10_body.specs.Cost.{entry_cost}
 use Rattle.r10_body.specs.Packets.{Packet, packet_bytes, packet_entries}
 use Rattle.r10_body.specs.Rules.{Rise}
 use Rattle.r10_body.specs.declared.entry.Entry.{Entry}
-use Rattle.r10_laws.specs.Channels.{last_count}
+use Rattle.r10_body.specs.Sequence.{last_count}
 use Rattle.r10_strict.specs.declared.facts.Facts.{Facts}
 use Rattle.r10_strict.specs.declared.facts.Spread.{Spread}
 use Rattle.r10_strict.specs.declared.facts.PacketKind.{PacketKind}

@@ -3,7 +3,7 @@ use Rattle.std.proofs.Common.{◌≡◌, ℕ, ◌≤◌, Bool, true, false, IsTr
 use Rattle.r10_body.specs.Faults.{Reads, BreaksRule, version, filler, body, start, channels, sequence, counts, index, unclosed, counters, events}
 use Rattle.r10_body.specs.Packets.{Packet}
 use Rattle.r10_body.specs.Rules.{KeepsStart, KeepsChannels, KeepsSequence, KeepsCounts, KeepsIndex, KeepsCounters, KeepsEvents, is_index}
-use Rattle.r10_laws.proofs.Injective.{one_packet}
+use Rattle.r10_body.proofs.Injective.{one_packet}
 use Rattle.r10_tracks.specs.Broken.{Breaks}
 use Rattle.r10_tracks.specs.Broken as broken
 use Rattle.r10_tracks.proofs.Either.{no}

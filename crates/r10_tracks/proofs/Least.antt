@@ -4,7 +4,7 @@ use Rattle.std.specs.Prelude.{◌↔◌, nat_eq, count_by}
 use Rattle.std.proofs.lemmas.Bool.{eqb-true}
 use Rattle.r10_body.specs.Packets.{Packet}
 use Rattle.r10_body.specs.Rules.{KeepsStart, KeepsChannels, KeepsSequence, KeepsCounts, KeepsIndex, KeepsCounters, is_index, is_node, is_root}
-use Rattle.r10_laws.proofs.Indexes.{Part, datum, node_here, root_here, part_of, counted_first, counted_yes, counted_no}
+use Rattle.r10_body.proofs.Indexes.{Part, datum, node_here, root_here, part_of, counted_first, counted_yes, counted_no}
 use Rattle.r10_tracks.specs.Broken.{Breaks, start, channels, sequence, counts, index, counters, events}
 use Rattle.r10_tracks.proofs.Either.{no}
 

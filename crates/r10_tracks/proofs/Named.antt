@@ -6,7 +6,7 @@ use Rattle.std.proofs.lemmas.List.Concat.{flat_map-append}
 use Rattle.r10_count.specs.Bytes.{le_bytes}
 use Rattle.r10_indexbody.specs.Index.{root_entry, root_body}
 use Rattle.r10_indexbody.specs.declared.entry.RootEntry.{RootEntry}
-use Rattle.r10_laws.proofs.Rules.{flat_map_more}
+use Rattle.r10_body.proofs.Rules.{flat_map_more}
 use Rattle.r10_index.specs.Written.{names}
 use Rattle.r10_tracks.specs.Names.{root_at}
 use Rattle.r10_tracks.proofs.Fronts.{Missing, found_then, missing_then}

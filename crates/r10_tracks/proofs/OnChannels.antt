@@ -11,9 +11,9 @@ use Rattle.r10_body.specs.Files.{on_channel}
 use Rattle.r10_body.specs.Packets.{Packet, packet_entries, file_entries}
 use Rattle.r10_body.specs.Rules.{EachFollows, KeepsChannels, KeepsSequence, KeepsCounts, Rise, packet_on, entry_on}
 use Rattle.r10_body.specs.declared.entry.Entry.{Entry}
-use Rattle.r10_laws.specs.Channels.{next_sequence, last_count}
-use Rattle.r10_laws.proofs.Channels.{packet_off_channel, channel_same, channel_other, sequence_same, sequence_other, rises}
-use Rattle.r10_laws.proofs.Indexes.{counted, counted_first, counted_yes, counted_no}
+use Rattle.r10_body.specs.Sequence.{next_sequence, last_count}
+use Rattle.r10_body.proofs.ChannelLists.{packet_off_channel, channel_same, channel_other, sequence_same, sequence_other, rises}
+use Rattle.r10_body.proofs.Indexes.{counted, counted_first, counted_yes, counted_no}
 use Rattle.r10_strict.specs.Facts.{Tells, Spans, TellsCounts}
 use Rattle.r10_strict.specs.declared.facts.Facts.{Facts}
 use Rattle.r10_strict.specs.declared.facts.Spread.{Spread}

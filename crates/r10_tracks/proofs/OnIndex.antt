@@ -14,9 +14,9 @@ use Rattle.r10_indexbody.proofs.Roots.{one_root_body}
 use Rattle.r10_body.specs.Content.{Content, FitsContent, setup, time, event, uart, bus, arinc, discrete, message, node, root, body_of}
 use Rattle.r10_body.specs.Packets.{Packet, FitsPacket, packet_body, packet_bytes, packet_entries, file_bytes}
 use Rattle.r10_body.specs.Rules.{MayFollow, EachFollows, KeepsIndex, IsNextNode, IsNextRoot, is_time, is_index, is_data, is_node, is_root, closed_from, node_entry, node_entries, root_entries, last_time}
-use Rattle.r10_laws.proofs.Indexes.{Part, datum, node_here, root_here, part_of, counted, counted_yes, counted_no, index_long}
-use Rattle.r10_laws.proofs.Rules.{bytes_more, follows_fit}
-use Rattle.r10_laws.proofs.Sentences.{type_fits}
+use Rattle.r10_body.proofs.Indexes.{Part, datum, node_here, root_here, part_of, counted, counted_yes, counted_no, index_long}
+use Rattle.r10_body.proofs.Rules.{bytes_more, follows_fit}
+use Rattle.r10_body.proofs.Sentences.{type_fits}
 use Rattle.r10_index.specs.Counted.{IsBookOf, IsCounted}
 use Rattle.r10_index.specs.Written.{names}
 use Rattle.r10_index.proofs.Behind.{part_fits, last_more}

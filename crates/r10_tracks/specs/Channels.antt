@@ -6,7 +6,7 @@ use Rattle.r10_body.specs.Content.{type_of}
 use Rattle.r10_body.specs.Files.{on_channel}
 use Rattle.r10_body.specs.Packets.{Packet, file_entries}
 use Rattle.r10_body.specs.Rules.{packet_on}
-use Rattle.r10_laws.specs.Channels.{next_sequence, last_count}
+use Rattle.r10_body.specs.Sequence.{next_sequence, last_count}
 use Rattle.r10_tracks.specs.declared.channels.ChannelTrack.{ChannelTrack}
 
 -- the packets on a channel have this data type

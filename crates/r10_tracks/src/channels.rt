@@ -7,7 +7,7 @@ ghost use Rattle.r10_body.specs.Files.{on_channel};
 ghost use Rattle.r10_body.specs.Packets.{Packet, packet_entries, file_entries};
 ghost use Rattle.r10_body.specs.Rules.{EachFollows, KeepsChannels, KeepsSequence, KeepsCounts, is_setup, is_time, is_event, is_index};
 ghost use Rattle.r10_strict.specs.Facts.{Tells};
-ghost use Rattle.r10_laws.specs.Channels.{next_sequence, last_count};
+ghost use Rattle.r10_body.specs.Sequence.{next_sequence, last_count};
 ghost use Rattle.r10_tracks.specs.Channels.{HaveType, IsKept, AreKept};
 
 use crate::kinds::{is_data_kind, is_index_kind, is_setup_kind};

@@ -21,8 +21,8 @@ use Rattle.r10_holding.specs.Holding.{Holds, OthersAreFound}
 use Rattle.r10_holding.proofs.Found.{found_stays}
 use Rattle.r10_machine.specs.Config.{Config}
 use Rattle.r10_machine.specs.Machine.{File}
-use Rattle.r10_standing.specs.Bytes.{KeepBytes}
-use Rattle.r10_standing.proofs.Said.{directory_keeps, directory_turns}
+use Rattle.r10_steps.specs.Bytes.{KeepBytes}
+use Rattle.r10_steps.proofs.Said.{directory_keeps, directory_turns}
 use Rattle.r10_steps.specs.Says.{MediumSays, SaysEach}
 use Rattle.r10_volume.specs.Mounting.{IsUsable}
 use Rattle.r10_volume.specs.Settling.{IsSettled}

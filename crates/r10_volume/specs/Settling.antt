@@ -4,7 +4,7 @@ use Rattle.r10_machine.specs.Config.{Config}
 use Rattle.r10_machine.specs.Machine.{File}
 use Rattle.r10_medium.specs.Disk.{Disk, Image}
 use Rattle.r10_medium.specs.Stop.{Settled}
-use Rattle.r10_standing.specs.Bytes.{KeepBytes}
+use Rattle.r10_steps.specs.Bytes.{KeepBytes}
 use Rattle.r10_steps.specs.Says.{MediumSays}
 
 -- an image says these files, and has the bytes of them that are read

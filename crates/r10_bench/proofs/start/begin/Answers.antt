@@ -1,5 +1,5 @@
 use Rattle.std.proofs.Common.{◌∙◌, ap, arith}
-use Rattle.r10_builders.specs.Settings.{specs_of}
+use Rattle.r10_builder.specs.Settings.{specs_of}
 use Rattle.r10_carry.specs.Carries.{Recording}
 use Rattle.r10_bench.proofs.Beginning.{fed, lines, settings, stands, width}
 use Rattle.r10_bench.proofs.start.begin.Goals as goal

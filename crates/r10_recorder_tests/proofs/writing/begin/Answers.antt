@@ -1,6 +1,6 @@
 use Rattle.std.proofs.Common.{◌∙◌, ◌∷◌, [], ap, arith}
 use Rattle.r10_body.specs.declared.spec.ChannelSpec.{ChannelSpec}
-use Rattle.r10_builders.specs.Settings.{specs_of}
+use Rattle.r10_builder.specs.Settings.{specs_of}
 use Rattle.r10_recorder_tests.proofs.Beginning.{begins, settings, stands}
 use Rattle.r10_recorder_tests.proofs.writing.begin.Goals as goal
 

@@ -1,6 +1,6 @@
 use Rattle.std.proofs.Common.{◌∙◌, sym, refl, true≢false}
 use Rattle.r10_body.specs.Faults as faults
-use Rattle.r10_laws.proofs.Indexes.{not_closed}
+use Rattle.r10_body.proofs.Indexes.{not_closed}
 use Rattle.r10_judge.proofs.judge.Judge.missing_index.Goals as goal
 
 pub returns-then-not-self : goal.returns-then-not-self

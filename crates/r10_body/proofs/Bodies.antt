@@ -1,0 +1,116 @@
+-- Bodies that are read back in one way only.
+use Rattle.std.proofs.Common.{◌≡◌, ℕ, ◌+◌, ◌*◌, ◌/◌, ◌%◌, ◌^◌, ◌<◌, Bool, true, false, List, [], ◌++◌, length, drop, take, refl, sym, ap, subst, ◌∙◌, arith, append_assoc}
+use Rattle.std.specs.List.{AllByRecursion, flat_map}
+use Rattle.r10_count.specs.Bytes.{le_bytes, flag_at}
+use Rattle.r10_count.specs.Count.{stamp}
+use Rattle.r10_count.specs.Civil.{IsCivil}
+use Rattle.r10_count.proofs.Fronts.{same_u16, same_u32, same_stamp}
+use Rattle.r10_count.specs.declared.civil.Parts.{Parts}
+use Rattle.r10_entries.specs.Padding.{padding}
+use Rattle.r10_uart.specs.Uart.{FitsUart, uart_entry, uart_header, uart_body}
+use Rattle.r10_uart.specs.declared.entry.UartEntry.{UartEntry}
+use Rattle.r10_timebody.specs.Time.{two_digits, digits_word, time_body}
+use Rattle.r10_event.proofs.Events.{one_event_body}
+use Rattle.r10_b1553.proofs.Bodies.{one_bus_body}
+use Rattle.r10_a429.proofs.Bodies.{one_arinc_body}
+use Rattle.r10_a429.specs.Arinc.{arinc_body, FitsPacket as FitsArincBody}
+use Rattle.r10_discrete.proofs.Bodies.{one_discrete_body}
+use Rattle.r10_message.proofs.Bodies.{one_message_body}
+use Rattle.r10_indexbody.specs.Index.{node_entry, root_entry}
+use Rattle.r10_indexbody.proofs.Nodes.{one_node_body}
+use Rattle.r10_indexbody.proofs.Roots.{one_root_body}
+use Rattle.r10_body.specs.Content.{Content, setup, time, event, uart, bus, arinc, discrete, message, node, root, type_of, body_of, FitsContent}
+use Rattle.r10_body.proofs.Lists.{same_front, IsOneWay, one_list}
+use Rattle.r10_body.proofs.CivilParts.{in_range, day_below}
+
+-- ---- UART
+
+-- the parts of an intra-packet data header
+one_header : (b c : Bool) (s t m n : ℕ) → s < 2 ^ 14 → t < 2 ^ 14 → m < 2 ^ 16 → n < 2 ^ 16
+    → flag_at 31 b + 2 ^ 16 * s + m ≡ flag_at 31 c + 2 ^ 16 * t + n → (b ≡ c) × (s ≡ t) × (m ≡ n)
+one_header true true s t m n hs ht hm hn e = (refl, omega arith, omega arith)
+one_header false false s t m n hs ht hm hn e = (refl, omega arith, omega arith)
+one_header true false s t m n hs ht hm hn e = absurd (omega arith)
+one_header false true s t m n hs ht hm hn e = absurd (omega arith)
+
+header_fits : (b : Bool) (s n : ℕ) → s < 2 ^ 14 → n < 2 ^ 16 → flag_at 31 b + 2 ^ 16 * s + n < 2 ^ 32
+header_fits true s n hs hn = omega arith
+header_fits false s n hs hn = omega arith
+
+same_entry : (e f : UartEntry) → e.count ≡ f.count → e.parity ≡ f.parity → e.sub ≡ f.sub → e.bytes ≡ f.bytes → e ≡ f
+same_entry e f a b c d =
+    ap (λ x. record e { count = x }) a ∙ ap (λ x. record e { count = f.count; parity = x }) b
+    ∙ ap (λ x. record e { count = f.count; parity = f.parity; sub = x }) c ∙ ap (λ x. record f { bytes = x }) d
+
+pub one_uart_entry : (e f : UartEntry) (x y : List ℕ) → FitsUart e → FitsUart f → uart_entry e ++ x ≡ uart_entry f ++ y → e ≡ f
+one_uart_entry e f x y fe ff same =
+    let stamps : stamp e.count ≡ stamp f.count = ap (take 8) same in
+    let counts : e.count ≡ f.count = (same_stamp e.count f.count [] [] fe.count ff.count stamps).0 in
+    let words : le_bytes 4 (uart_header e) ≡ le_bytes 4 (uart_header f) = ap (λ b. take 4 (drop 8 b)) same in
+    let headers : uart_header e ≡ uart_header f = (same_u32 (uart_header e) (uart_header f) [] [] (header_fits e.parity e.sub (length e.bytes) fe.sub fe.bytes) (header_fits f.parity f.sub (length f.bytes) ff.sub ff.bytes) words).0 in
+    let parts = one_header e.parity f.parity e.sub f.sub (length e.bytes) (length f.bytes) fe.sub ff.sub fe.bytes ff.bytes headers in
+    let texts : (e.bytes ++ padding (length e.bytes)) ++ x ≡ (f.bytes ++ padding (length f.bytes)) ++ y = ap (drop 12) same in
+    let apart : e.bytes ++ (padding (length e.bytes) ++ x) ≡ f.bytes ++ (padding (length f.bytes) ++ y) = sym (append_assoc e.bytes (padding (length e.bytes)) x) ∙ texts ∙ append_assoc f.bytes (padding (length f.bytes)) y in
+    same_entry e f counts parts.0 parts.1 (same_front e.bytes f.bytes (padding (length e.bytes) ++ x) (padding (length f.bytes) ++ y) parts.2 apart)
+
+entry_some : (e : UartEntry) → 0 < length (uart_entry e)
+entry_some e = omega arith
+
+pub one_uart_way : IsOneWay FitsUart uart_entry
+one_uart_way = record { some = entry_some; one = one_uart_entry }
+
+pub one_uart_body : (es fs : List UartEntry) → AllByRecursion FitsUart es → AllByRecursion FitsUart fs → uart_body es ≡ uart_body fs → es ≡ fs
+one_uart_body es fs fe ff same = one_list FitsUart uart_entry es fs one_uart_way fe ff (ap (drop 4) same)
+
+-- ---- time
+
+-- a word of two numbers below 100
+one_digits_word : (a b c d : ℕ) → a < 100 → b < 100 → c < 100 → d < 100 → digits_word a b ≡ digits_word c d → (a ≡ c) × (b ≡ d)
+one_digits_word a b c d ha hb hc hd same =
+    let whole : 256 * two_digits a + two_digits b ≡ 256 * two_digits c + two_digits d = (same_u16 (256 * two_digits a + two_digits b) (256 * two_digits c + two_digits d) [] [] (omega arith) (omega arith) same).0 in
+    (omega arith, omega arith)
+
+same_parts : (p q : Parts) → p.year ≡ q.year → p.month ≡ q.month → p.day ≡ q.day → p.hour ≡ q.hour → p.minute ≡ q.minute → p.second ≡ q.second → p.centi ≡ q.centi → p ≡ q
+same_parts p q a b c d e f g =
+    ap (λ x. record p { year = x }) a ∙ ap (λ x. record p { year = q.year; month = x }) b
+    ∙ ap (λ x. record p { year = q.year; month = q.month; day = x }) c
+    ∙ ap (λ x. record q { hour = x; minute = p.minute; second = p.second; centi = p.centi }) d
+    ∙ ap (λ x. record q { minute = x; second = p.second; centi = p.centi }) e
+    ∙ ap (λ x. record q { second = x; centi = p.centi }) f ∙ ap (λ x. record q { centi = x }) g
+
+pub one_time_body : (p q : Parts) → IsCivil p → IsCivil q → time_body p ≡ time_body q → p ≡ q
+one_time_body p q fp fq same =
+    let ip = in_range p fp in
+    let iq = in_range q fq in
+    let seconds = one_digits_word p.second p.centi q.second q.centi (omega arith) (omega arith) (omega arith) (omega arith) (ap (λ b. take 2 (drop 4 b)) same) in
+    let hours = one_digits_word p.hour p.minute q.hour q.minute (omega arith) (omega arith) (omega arith) (omega arith) (ap (λ b. take 2 (drop 6 b)) same) in
+    let months = one_digits_word p.month p.day q.month q.day (omega arith) (day_below p ip) (omega arith) (day_below q iq) (ap (λ b. take 2 (drop 8 b)) same) in
+    let years = one_digits_word (p.year / 100) (p.year % 100) (q.year / 100) (q.year % 100) (omega arith) (omega arith) (omega arith) (omega arith) (ap (λ b. take 2 (drop 10 b)) same) in
+    same_parts p q (omega arith) months.0 months.1 hours.0 hours.1 seconds.0 seconds.1
+
+-- ---- contents
+
+-- contents of one type with one body, in packets of one counter, are one
+pub one_content : (m n : ℕ) (c d : Content) → m ≡ n → FitsContent m c → FitsContent n d → type_of c ≡ type_of d → body_of m c ≡ body_of n d → c ≡ d
+one_content m n (setup s) (setup t) counters f g k e = ap (λ x. setup x) (ap (drop 4) e)
+one_content m n (time p) (time q) counters f g k e = ap (λ x. time x) (one_time_body p q f g e)
+one_content m n (event p) (event q) counters f g k e = ap (λ x. event x) (one_event_body p q f g e)
+one_content m n (uart es) (uart fs) counters f g k e = ap (λ x. uart x) (one_uart_body es fs f.1 g.1 e)
+one_content m n (bus es) (bus fs) counters f g k e = ap (λ x. bus x) (one_bus_body es fs f.fields g.fields e)
+one_content m n (arinc es) (arinc fs) counters f g k e =
+    let fits : FitsArincBody m fs = subst (λ counter. FitsArincBody counter fs) (sym counters) g in
+    let same : arinc_body m es ≡ arinc_body m fs = subst (λ counter. arinc_body m es ≡ arinc_body counter fs) (sym counters) e in
+    ap (λ x. arinc x) (one_arinc_body m es fs f fits same)
+one_content m n (discrete bits es) (discrete others fs) counters f g k e =
+    let same = one_discrete_body bits others es fs f g e in
+    ap (λ x. discrete x es) same.0 ∙ ap (λ x. discrete others x) same.1
+one_content m n (message es) (message fs) counters f g k e = ap (λ x. message x) (one_message_body es fs f.fields g.fields e)
+one_content m n (node es) (node fs) counters f g k e = ap (λ x. node x) (one_node_body es fs f.fields g.fields e)
+one_content m n (root es) (root fs) counters f g k e = ap (λ x. root x) (one_root_body es fs f.fields g.fields e)
+one_content m n (node es) (root fs) counters f g k e =
+    let words = same_u32 (2147483648 + length es) (length fs) (flat_map node_entry es) (flat_map root_entry fs) (omega (arith, f.counted)) (omega (arith, g.counted)) e in
+    absurd (omega (arith, words.0, g.counted))
+one_content m n (root es) (node fs) counters f g k e =
+    let words = same_u32 (length es) (2147483648 + length fs) (flat_map root_entry es) (flat_map node_entry fs) (omega (arith, f.counted)) (omega (arith, g.counted)) e in
+    absurd (omega (arith, words.0, f.counted))
+one_content m n c d counters f g k e = absurd (omega arith)

@@ -1,0 +1,139 @@
+-- How long a file is: no longer than its cost.
+use Rattle.std.proofs.Common.{◌≡◌, ℕ, ◌+◌, ◌*◌, ◌<◌, ◌≤◌, Bool, true, false, ◌==◌, List, [], ◌∷◌, ◌++◌, length, map, take, refl, ap, arith}
+use Rattle.std.specs.Prelude.{count_by}
+use Rattle.std.specs.List.{sum_by}
+use Rattle.std.proofs.lemmas.Bool.{false_from_ne_true}
+use Rattle.std.proofs.lemmas.List.{length-append}
+use Rattle.std.proofs.lemmas.List.Sums.{sum_by-append, sum_by-cons}
+use Rattle.r10_packet.proofs.Lengths.{checksum_width}
+use Rattle.r10_uart.specs.Uart.{entry_size as uart_size}
+use Rattle.r10_uart.proofs.Bodies.{body-length as uart_length}
+use Rattle.r10_b1553.specs.Bus.{entry_size as bus_size}
+use Rattle.r10_b1553.proofs.Bodies.{body-length as bus_length}
+use Rattle.r10_a429.proofs.Bodies.{body-length as arinc_length}
+use Rattle.r10_discrete.proofs.Bodies.{body-length as discrete_length}
+use Rattle.r10_message.specs.Message.{entry_size as message_size}
+use Rattle.r10_message.proofs.Bodies.{body-length as message_length}
+use Rattle.r10_body.proofs.Lone.{packet-length}
+use Rattle.r10_body.specs.Content.{Content, setup, time, event, uart, bus, arinc, discrete, message, node, root, type_of, body_of, FitsContent, timed, messages_of}
+use Rattle.r10_body.specs.Cost.{each_file, message_cost, entry_cost, file_cost}
+use Rattle.r10_body.specs.Files.{FileSays}
+use Rattle.r10_body.specs.Packets.{Packet, FitsPacket, packet_body, packet_bytes, packet_entries, with_gaps, file_bytes, file_entries}
+use Rattle.r10_body.specs.Rules.{MayFollow, EachFollows, is_setup, is_index, is_data}
+use Rattle.r10_body.specs.declared.entry.Entry.{Entry}
+use Rattle.r10_body.specs.declared.entry.Timed.{Timed}
+use Rattle.r10_body.specs.declared.message.Message.TheVariants as messages
+use Rattle.r10_body.proofs.Sentences.{rest_length}
+use Rattle.r10_body.proofs.Sums.{same_sum}
+use Rattle.r10_body.proofs.Indexes.{index_len, index_bytes, index_long, counted_first, sized}
+
+-- header, body, and at most filler and checksum
+pub packet_short : (p : Packet) → length (packet_bytes p) ≤ length (packet_body p) + 31
+packet_short p = omega (arith, packet-length p, rest_length p, checksum_width p.check)
+
+-- ---- entries
+
+-- a message costs as much as the bytes of its entry, but for one of filler
+abbrev IsPaid : {E : Type 0} → (E → ℕ) → (E → Timed) → E → Type 0
+IsPaid size said e = size e ≤ 1 + message_cost (said e).message
+
+entries_paid : {E : Type 0} (size : E → ℕ) (said : E → Timed) (paid : (e : E) → IsPaid size said e) (es : List E) (channel : ℕ) (gap : Bool)
+    → sum_by size es + 103 * length es ≤ sum_by entry_cost (with_gaps channel gap (map said es))
+entries_paid size said paid [] channel gap = omega arith
+entries_paid size said paid (e ∷ es) channel gap =
+    let one : Entry = record { channel = channel; count = (said e).count; message = (said e).message; gap = gap } in
+    let rest : List Entry = with_gaps channel false (map said es) in
+    let more : sum_by size es + 103 * length es ≤ sum_by entry_cost rest = entries_paid size said paid es channel false in
+    let sum : sum_by entry_cost (one ∷ rest) ≡ entry_cost one + sum_by entry_cost rest = sum_by-cons entry_cost one rest in
+    let sizes : sum_by size (e ∷ es) ≡ size e + sum_by size es = sum_by-cons size e es in
+    omega (arith, paid e)
+
+same_sizes : {E : Type 0} (n : ℕ) (es : List E) → sum_by (λ e. n) es ≡ n * length es
+same_sizes n [] = omega arith
+same_sizes n (e ∷ es) = omega (arith, same_sizes n es, sum_by-cons (λ e. n) e es)
+
+-- ---- packets
+
+content_covered : (c : Content) (counter channel : ℕ) (gap : Bool) → type_of c == 1 ≡ false → type_of c == 3 ≡ false → FitsContent counter c
+    → length (body_of counter c) + 95 ≤ sum_by entry_cost (with_gaps channel gap (messages_of counter c))
+content_covered (setup text) counter channel gap other plain fits = absurd (let no : true ≡ false = other in cc)
+content_covered (node es) counter channel gap other plain fits = absurd (let no : true ≡ false = plain in cc)
+content_covered (root es) counter channel gap other plain fits = absurd (let no : true ≡ false = plain in cc)
+content_covered (time civil) counter channel gap other plain fits = omega arith
+content_covered (event e) counter channel gap other plain fits = omega arith
+content_covered (uart es) counter channel gap other plain fits =
+    omega (arith, uart_length es, entries_paid uart_size (λ e. timed e.count (messages.Uart e.parity e.sub e.bytes)) (λ e. omega arith) es channel gap, fits.0)
+content_covered (bus es) counter channel gap other plain fits =
+    omega (arith, bus_length es, entries_paid bus_size (λ e. timed e.count (messages.Bus1553 e.status e.gap e.words)) (λ e. omega arith) es channel gap, fits.some)
+content_covered (arinc es) counter channel gap other plain fits =
+    omega (arith, arinc_length counter es, same_sizes 8 es, entries_paid (λ e. 8) (λ e. timed e.count (messages.Arinc e.bus e.format e.parity e.high e.word)) (λ e. omega arith) es channel gap, fits.some)
+content_covered (discrete bits es) counter channel gap other plain fits =
+    omega (arith, discrete_length bits es, same_sizes 12 es, entries_paid (λ e. 12) (λ e. timed e.count (messages.Discrete e.states)) (λ e. omega arith) es channel gap, fits.some)
+content_covered (message es) counter channel gap other plain fits =
+    omega (arith, message_length es, entries_paid message_size (λ e. timed e.count (messages.Message e.data_error e.format e.sub e.bytes)) (λ e. omega arith) es channel gap, fits.some)
+
+-- a packet of data leaves 64 bytes of its entries' cost to the index
+data_covered : (p : Packet) → FitsPacket p → is_setup p ≡ false → is_index p ≡ false → length (packet_bytes p) + 64 ≤ sum_by entry_cost (packet_entries p)
+data_covered p fits other plain = omega (arith, packet_short p, content_covered p.content p.counter p.channel p.flagged other plain fits.content)
+
+packet_covered : (before : List Packet) (p : Packet) (b : Bool) → is_index p ≡ b → MayFollow before p → is_setup p ≡ false
+    → length (packet_bytes p) + 64 * count_by is_data (p ∷ []) ≤ sum_by entry_cost (packet_entries p) + index_len p.content
+packet_covered before p true is may other =
+    let none : count_by is_data (p ∷ []) ≡ 0 = rw is refl in omega (arith, none, index_long p may.checksums is)
+packet_covered before p false is may other =
+    let one : count_by is_data (p ∷ []) ≡ 1 = rw is refl in omega (arith, one, data_covered p may.fits other is)
+
+-- ---- files
+
+-- behind the first packet there is no setup packet
+pub not_setup : (before : List Packet) (p : Packet) → 0 < length before → MayFollow before p → is_setup p ≡ false
+not_setup before p some may = false_from_ne_true (is_setup p) (λ h. let none : length before ≡ 0 = may.start.0.0 h in omega arith)
+
+rest_covered : (before ps : List Packet) → 0 < length before → EachFollows before ps → length (file_bytes ps) + 64 * count_by is_data ps ≤ sum_by entry_cost (file_entries ps) + index_bytes ps
+rest_covered before [] some each = omega arith
+rest_covered before (p ∷ ps) some each =
+    let first = packet_covered before p (is_index p) refl each.0 (not_setup before p some each.0) in
+    let more : 0 < length (before ++ p ∷ []) = omega (arith, length-append before (p ∷ [])) in
+    let rest = rest_covered (before ++ p ∷ []) ps more each.1 in
+    let bytes : length (packet_bytes p ++ file_bytes ps) ≡ length (packet_bytes p) + length (file_bytes ps) = length-append (packet_bytes p) (file_bytes ps) in
+    let sums : sum_by entry_cost (packet_entries p ++ file_entries ps) ≡ sum_by entry_cost (packet_entries p) + sum_by entry_cost (file_entries ps) = sum_by-append entry_cost (packet_entries p) (file_entries ps) in
+    let longs : index_bytes (p ∷ ps) ≡ index_len p.content + index_bytes ps = sum_by-cons (λ (q : Packet). index_len q.content) p ps in
+    omega (arith, first, rest, bytes, sums, longs, counted_first is_data p ps)
+
+setup_short : (counter : ℕ) (c : Content) (text : List ℕ) → c ≡ setup text → length (body_of counter c) ≤ 4 + length text
+setup_short counter c text is = rw is (omega arith)
+
+content_is : (c : Content) (text : List ℕ) → c ∷ [] ≡ setup text ∷ [] → c ≡ setup text
+content_is c text same = cc
+
+-- the cost covers the packets
+pub packets_covered : (ps : List Packet) (text : List ℕ) → EachFollows [] ps → map (λ p. p.content) (take 1 ps) ≡ setup text ∷ [] → length (file_bytes ps) ≤ each_file + length text + sum_by entry_cost (file_entries ps)
+packets_covered [] text each says = omega arith
+packets_covered (p ∷ ps) text each says =
+    let is : p.content ≡ setup text = content_is p.content text says in
+    let first : length (packet_bytes p) ≤ length text + 35 = omega (arith, packet_short p, setup_short p.counter p.content text is) in
+    let rest = rest_covered (p ∷ []) ps (omega arith) each.1 in
+    let index : index_bytes (p ∷ ps) ≤ 64 * count_by is_data (p ∷ ps) + 44 = sized (p ∷ ps) each in
+    let longs : index_bytes (p ∷ ps) ≡ index_len p.content + index_bytes ps = sum_by-cons (λ (q : Packet). index_len q.content) p ps in
+    let own : index_len p.content ≡ 0 = rw is refl in
+    let datas : count_by is_data (p ∷ []) ≡ 1 = rw is refl in
+    let bytes : length (packet_bytes p ++ file_bytes ps) ≡ length (packet_bytes p) + length (file_bytes ps) = length-append (packet_bytes p) (file_bytes ps) in
+    let sums : sum_by entry_cost (packet_entries p ++ file_entries ps) ≡ sum_by entry_cost (packet_entries p) + sum_by entry_cost (file_entries ps) = sum_by-append entry_cost (packet_entries p) (file_entries ps) in
+    omega (arith, first, rest, index, longs, own, datas, counted_first is_data p ps, bytes, sums)
+
+pub file_covered : (bytes text : List ℕ) (entries : List Entry) (closed : Bool) → FileSays bytes text entries closed → length bytes ≤ file_cost text entries
+file_covered bytes text entries closed says =
+    let same : length bytes ≡ length (file_bytes says.0) = ap (λ (t : List ℕ). length t) says.1 in
+    let covered : length (file_bytes says.0) ≤ each_file + length text + sum_by entry_cost (file_entries says.0) = packets_covered says.0 text says.2.file.each says.2.setup_is in
+    let sums : sum_by entry_cost (file_entries says.0) ≡ sum_by entry_cost entries = same_sum entry_cost (file_entries says.0) entries says.2.entries_are in
+    omega arith
+
+packets_some : (ps : List Packet) → 0 < length ps → 0 < length (file_bytes ps)
+packets_some [] some = absurd (omega arith)
+packets_some (p ∷ ps) some = omega (arith, packet-length p, length-append (packet_bytes p) (file_bytes ps))
+
+pub file_some : (bytes text : List ℕ) (entries : List Entry) (closed : Bool) → FileSays bytes text entries closed → 0 < length bytes
+file_some bytes text entries closed says =
+    let same : length bytes ≡ length (file_bytes says.0) = ap (λ (t : List ℕ). length t) says.1 in
+    let two : 2 ≤ length says.0 = says.2.file.start in
+    omega (arith, packets_some says.0 (omega arith))

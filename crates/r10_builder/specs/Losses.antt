@@ -1,0 +1,66 @@
+-- Two packets of a channel on which a message was lost: the packet behind the loss is flagged, not the one before it.
+use Rattle.std.specs.Prelude.{◌≡◌, ℕ, Bool, true, false, List, [], ◌∷◌, ◌++◌, take, drop, refl}
+use Rattle.r10_packet.specs.Header.{header_bytes}
+use Rattle.r10_body.specs.Content.{uart}
+use Rattle.r10_body.specs.Packets.{Packet, packet_bytes}
+use Rattle.r10_body.specs.Vectors.{channel_of, setup_packet, time_packet}
+use Rattle.r10_body.specs.declared.entry.Entry.{Entry}
+use Rattle.r10_body.specs.declared.message.Kind.TheVariants as kinds
+use Rattle.r10_body.specs.declared.message.Message.TheVariants.{Uart}
+use Rattle.r10_builder.specs.State.{State}
+use Rattle.r10_uart.specs.declared.entry.UartEntry.{UartEntry}
+use Rattle.r10_builder.specs.Grows.{packet_count, taken_in}
+use Rattle.r10_body.specs.Sequence.{numbered}
+
+abbrev letter : ℕ → ℕ → UartEntry
+letter count byte = record { count = count; parity = false; sub = 0; bytes = byte ∷ [] }
+
+abbrev letters : Bool → ℕ → List UartEntry → Packet
+letters flagged counter es = record { channel = 5; sequence = 0; flagged = flagged; check = 0; counter = counter; content = uart es }
+
+abbrev begun : List Packet
+begun = setup_packet ∷ time_packet ∷ []
+
+abbrev a_and_b : Packet
+a_and_b = numbered begun (letters false 1000 (letter 1000 0x41 ∷ letter 1001 0x42 ∷ []))
+
+abbrev d_alone : Packet
+d_alone = numbered (begun ++ a_and_b ∷ []) (letters true 1003 (letter 1003 0x44 ∷ []))
+
+-- sequence number and flags
+abbrev number_and_flags : Packet → List ℕ
+number_and_flags p = take 2 (drop 13 (packet_bytes p))
+
+pub before-the-loss : number_and_flags a_and_b ≡ 0x00 ∷ 0x00 ∷ []
+unfolding packet_bytes header_bytes
+before-the-loss = refl
+
+pub behind-the-loss : number_and_flags d_alone ≡ 0x01 ∷ 0x10 ∷ []
+unfolding packet_bytes header_bytes
+behind-the-loss = refl
+
+-- while D is open in its builder, and when it is written
+abbrev said : ℕ → ℕ → Bool → Entry
+said count byte gap = record { channel = 5; count = count; message = Uart false 0 (byte ∷ []); gap = gap }
+
+abbrev all_three : List Entry
+all_three = said 1001 0x42 false ∷ said 1003 0x44 true ∷ []
+
+abbrev open_d : State
+open_d = record { spec = record (channel_of kinds.Uart 0) { id = 5 }; samples = record { count = 1003; message = Uart false 0 (0x44 ∷ []); gap = true } ∷ []; room = 0; next_room = 0 }
+
+abbrev none_open : State
+none_open = record open_d { samples = [] }
+
+pub open-in-its-builder : drop 2 (taken_in (begun ++ a_and_b ∷ []) (open_d ∷ [])) ≡ all_three
+open-in-its-builder = refl
+
+pub written-in-a-packet : drop 2 (taken_in (begun ++ a_and_b ∷ d_alone ∷ []) (none_open ∷ [])) ≡ all_three
+written-in-a-packet = refl
+
+-- three packets and an open one, and four
+pub counted-while-open : packet_count (begun ++ a_and_b ∷ []) (open_d ∷ []) ≡ 4
+counted-while-open = refl
+
+pub counted-when-written : packet_count (begun ++ a_and_b ∷ d_alone ∷ []) (none_open ∷ []) ≡ 4
+counted-when-written = refl

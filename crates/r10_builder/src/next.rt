@@ -1,0 +1,49 @@
+//! Which packet may come next, as calls that do nothing.
+
+ghost use Rattle.std.specs.Prelude.{◌≡◌, ◌<◌, ◌≤◌, ◌^◌, ◌++◌, ℕ, false, List, [], ◌∷◌, length, map, take};
+ghost use Rattle.r10_count.specs.Civil.{IsCivil};
+ghost use Rattle.r10_count.specs.Count.{IsCount};
+ghost use Rattle.r10_count.specs.declared.civil.Parts.{Parts};
+ghost use Rattle.r10_body.specs.Content.{setup};
+ghost use Rattle.r10_body.specs.Files.{PacketsSay, on_channel};
+ghost use Rattle.r10_body.specs.Messages.{kind_type};
+ghost use Rattle.r10_body.specs.Packets.{Packet, file_entries};
+ghost use Rattle.r10_body.specs.Rules.{MayFollow, is_index};
+ghost use Rattle.r10_body.specs.declared.entry.Entry.{Entry};
+ghost use Rattle.r10_body.specs.declared.entry.Sample.{Sample};
+ghost use Rattle.r10_body.specs.declared.spec.ChannelSpec.{ChannelSpec};
+ghost use Rattle.r10_builder.specs.Packing.{IsClosed, first_count};
+ghost use Rattle.r10_builder.specs.declared.closed.Closed.{Closed};
+ghost use Rattle.r10_builder.specs.Next.{GoesOn, IsGrowing, event_packet, setup_packet, time_packet};
+ghost use Rattle.r10_body.specs.Sequence.{numbered};
+
+/// What a builder hands out may come next, with its channel's next number.
+pub fn handed_out_may_follow()
+    ensures { (packets : List Packet) (spec : ChannelSpec) (samples : List Sample) (closed : Closed) (closes : IsClosed spec samples closed)
+        → IsGrowing packets → GoesOn packets spec.id (kind_type spec.kind) (first_count samples) → MayFollow packets (numbered packets closes.packet) }
+{}
+
+/// A time may come next, on a channel of times.
+pub fn time_may_follow()
+    ensures { (packets : List Packet) (channel : ℕ) (count : ℕ) (civil : Parts) → IsGrowing packets → GoesOn packets channel 0x11 count → channel < 2 ^ 16 → IsCount count → IsCivil civil
+        → MayFollow packets (numbered packets (time_packet channel count civil)) }
+{}
+
+/// An event may come next, on a channel of events. It tells how many of its number came before it.
+pub fn event_may_follow()
+    ensures { (packets : List Packet) (channel : ℕ) (count : ℕ) (number : ℕ) → IsGrowing packets → GoesOn packets channel 0x02 count → channel < 2 ^ 16 → IsCount count → number < 2 ^ 12
+        → MayFollow packets (numbered packets (event_packet channel count number packets)) }
+{}
+
+/// A setup text of at most 524,260 bytes and a time begin a file.
+pub fn file_begins()
+    ensures { (text : List ℕ) (channel : ℕ) (count : ℕ) (civil : Parts) → length text ≤ 524_260 → 0 < channel → channel < 2 ^ 16 → IsCount count → IsCivil civil
+        → IsGrowing (setup_packet count text ∷ time_packet channel count civil ∷ []) }
+{}
+
+/// A file that grows by a packet that may come next goes on growing, and at each moment it is a file.
+pub fn one_more_grows()
+    ensures more { (packets : List Packet) (p : Packet) → IsGrowing packets → MayFollow packets p → is_index p ≡ false → IsGrowing (packets ++ p ∷ []) }
+    ensures file { (packets : List Packet) (text : List ℕ) (entries : List Entry) → IsGrowing packets → map (λ p. p.content) (take 1 packets) ≡ setup text ∷ []
+        → ((channel : ℕ) → on_channel channel (file_entries packets) ≡ on_channel channel entries) → PacketsSay packets text entries false }
+{}

@@ -1,3 +1,0 @@
-pub mod Settings
-pub mod Packed
-pub mod Vectors

@@ -1,3 +1,0 @@
-pub mod Agreeing
-pub mod Replays
-pub mod Cutting

@@ -1,5 +1,0 @@
-use Rattle.r10_follow.proofs.Following.{event_follows}
-use Rattle.r10_follow.proofs.next.event_may_follow.Goals as goal
-
-pub returns : goal.returns
-returns c = event_follows

@@ -1,5 +1,0 @@
-use Rattle.r10_follow.proofs.Following.{handed_out_follows}
-use Rattle.r10_follow.proofs.next.handed_out_may_follow.Goals as goal
-
-pub returns : goal.returns
-returns c = handed_out_follows

@@ -1,5 +1,0 @@
-use Rattle.r10_follow.proofs.Following.{grows_on, says_so}
-use Rattle.r10_follow.proofs.next.one_more_grows.Goals as goal
-
-pub returns : goal.returns
-returns c = record { more = grows_on; file = says_so }

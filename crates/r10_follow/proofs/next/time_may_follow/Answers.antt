@@ -1,5 +1,0 @@
-use Rattle.r10_follow.proofs.Following.{time_follows}
-use Rattle.r10_follow.proofs.next.time_may_follow.Goals as goal
-
-pub returns : goal.returns
-returns c = time_follows

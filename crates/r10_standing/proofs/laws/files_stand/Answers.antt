@@ -1,5 +1,0 @@
-use Rattle.r10_standing.proofs.Said.{closed_stand, growing_stands}
-use Rattle.r10_standing.proofs.laws.files_stand.Goals as goal
-
-pub returns : goal.returns
-returns c = record { closed = closed_stand; growing = growing_stands }
