@@ -2,7 +2,7 @@
 use Rattle.std.proofs.Common.{◌≡◌, false, Ok, Err, ℕ, ◌*◌, ◌<◌, ◌⊎◌, ⊎_elim, inl, List, [], ◌∷◌, ◌++◌, length, take, None, Some, Result, sym, ap, subst, ◌∙◌, arith}
 use Rattle.std.specs.Prelude.{◌≢◌, OnOk}
 use Rattle.std.specs.List.{All}
-use Rattle.std.proofs.lemmas.List.{append-nil}
+use Rattle.std.proofs.lemmas.List.{append-nil, take_all}
 use Rattle.std.proofs.lemmas.List.Elements.{All-cons, All-from_get_or, All-tail}
 use Rattle.r10_medium.specs.Disk.{Disk, Image, IsSynced, Unchanged, block_at}
 use Rattle.r10_medium.specs.Stop.{Leaves, Settled}
@@ -11,9 +11,10 @@ use Rattle.r10_blockout.specs.Blocks.{Shows, bytes_from, blocks_for, file_blocks
 use Rattle.r10_blockout.specs.Output.{Puts, first_of}
 use Rattle.r10_blockout.proofs.Joining.{carries_past}
 use Rattle.r10_body.specs.Files.{FileSays}
-use Rattle.r10_body.specs.Packets.{file_bytes}
+use Rattle.r10_body.specs.Packets.{Packet, file_bytes}
 use Rattle.r10_body.specs.declared.entry.Entry.{Entry}
 use Rattle.r10_carry.specs.Carries.{Carries, Recording}
+use Rattle.r10_carry.proofs.Closing.{has_length}
 use Rattle.r10_dirblock.specs.declared.entry.Entry.{Entry as Listed}
 use Rattle.r10_dirchain.specs.Chain.{Holds as HasBlock, IsDirectory, at, blank_block}
 use Rattle.r10_dirchain.specs.OnMedium.{HasNext, SameButIn, Turned, Turns}
@@ -21,7 +22,7 @@ use Rattle.r10_dirchain.specs.Steps.{added, last_block, last_place, spare}
 use Rattle.r10_dirchain.specs.declared.chain.ChainBlock.{ChainBlock}
 use Rattle.r10_dirchain.proofs.Directories.{some_block, still_holds}
 use Rattle.r10_dirchain.proofs.Turning.{on_ok}
-use Rattle.r10_holding.specs.Holding.{Holds}
+use Rattle.r10_holding.specs.Holding.{Holds, IsCarried}
 use Rattle.r10_machine.specs.Config.{Config}
 use Rattle.r10_machine.specs.Machine.{File}
 use Rattle.r10_machine.specs.Room.{next_block}
@@ -49,37 +50,60 @@ directory_stays old new sure chain first blocks there below put same =
 pub next_stays : (old new sure : Disk) (chain : List ChainBlock) → HasNext old.blocks chain → length new.blocks ≡ length old.blocks → Unchanged new sure → HasNext sure.blocks chain
 next_stays old new sure chain next long same = record { in_order = next.in_order; within = omega (arith, next.within, long, ap (λ (l : Image). length l) same.reads) }
 
--- what is carried stays where blocks below it change
-pub carries_behind : (r : Recording) (numbers : List ℕ) (old new : Image) (text : List ℕ) (entries : List Entry) → SameButIn numbers old new → All (λ (n : ℕ). n < first_of r.out.blocks) numbers → Carries r old text entries
-    → Carries r new text entries
-carries_behind r numbers old new text entries same below carried =
+-- what is carried and shown stays where blocks below it change
+carried_behind : (r : Recording) (numbers : List ℕ) (old new : Image) (text : List ℕ) (entries : List Entry) (carried : Carries r old text entries) → Shows old (first_of r.out.blocks) (file_bytes carried.packets) → SameButIn numbers old new
+    → All (λ (n : ℕ). n < first_of r.out.blocks) numbers → IsCarried new (record { recording = r; shown = length r.out.entries }) text entries
+carried_behind r numbers old new text entries carried shows same below =
+    let packets = carried.packets in
     let has = carried.has in
-    let front = take (512 * r.out.blocks.full) (file_bytes carried.packets) in
+    let front = take (512 * r.out.blocks.full) (file_bytes packets) in
+    let count : length packets ≡ length r.out.entries = sym (has_length r.out old packets has) in
+    let taken : packets ≡ take (length r.out.entries) packets = sym (ap (λ (n : ℕ). take n packets) (sym count) ∙ take_all (length packets) packets (omega arith)) in
     record {
-      packets = carried.packets;
-      has = record {
-        bytes = record {
-          size = has.bytes.size;
-          blocks = same_from old new (first_of r.out.blocks) (length front) numbers same below ∙ has.bytes.blocks;
-          tail = has.bytes.tail;
+      carries = record {
+        packets = packets;
+        has = record {
+          bytes = record {
+            size = has.bytes.size;
+            blocks = same_from old new (first_of r.out.blocks) (length front) numbers same below ∙ has.bytes.blocks;
+            tail = has.bytes.tail;
+          };
+          named = has.named;
+          counted = has.counted;
+          numbered = has.numbered;
         };
-        named = has.named;
-        counted = has.counted;
-        numbered = has.numbered;
+        says = carried.says;
       };
-      says = carried.says;
+      within = omega (arith, count);
+      stands = subst (λ (l : List Packet). Shows new (first_of r.out.blocks) (file_bytes l)) taken (same_from old new (first_of r.out.blocks) (length (file_bytes packets)) numbers same below ∙ shows);
     }
 
--- so it does while a file is listed
-pub listed_carries : {T E : Type 0} (chain : List ChainBlock) (e : Listed) (r : Recording) (mid sure new : Disk) (result : Result T E) (text : List ℕ) (entries : List Entry) → IsDirectory sure.blocks chain
-    → All (λ (b : ChainBlock). b.number < first_of r.out.blocks) chain → All (λ (n : ℕ). n < first_of r.out.blocks) (spare chain) → Unchanged mid sure
-    → Turns chain (added e chain) (spare chain) ((last_block chain).number ∷ spare chain) sure new result → Carries r mid.blocks text entries → OnOk result (Carries r new.blocks text entries)
-listed_carries chain e r mid sure new result text entries there below spares same turns carried =
+-- the packets, with the last block
+abbrev past_carries : (r : Recording) (old mid : Disk) (text : List ℕ) (entries : List Entry) (carried : Carries r old.blocks text entries) → Puts (first_of r.out.blocks) (file_blocks (file_bytes carried.packets)) old mid → Carries r mid.blocks text entries
+past_carries r old mid text entries carried put = record {
+  packets = carried.packets;
+  has = record {
+    bytes = carries_past r.out.blocks (file_bytes carried.packets) [] old mid carried.has.bytes
+        (subst (λ (b : List ℕ). Puts (first_of r.out.blocks) (file_blocks b) old mid) (sym (append-nil (file_bytes carried.packets))) put);
+    named = carried.has.named;
+    counted = carried.has.counted;
+    numbered = carried.has.numbered;
+  };
+  says = carried.says;
+}
+
+-- so it is while a file is listed
+pub listed_carried : {T E : Type 0} (chain : List ChainBlock) (e : Listed) (r : Recording) (old mid sure new : Disk) (result : Result T E) (text : List ℕ) (entries : List Entry) (carried : Carries r old.blocks text entries) → IsDirectory sure.blocks chain
+    → All (λ (b : ChainBlock). b.number < first_of r.out.blocks) chain → All (λ (n : ℕ). n < first_of r.out.blocks) (spare chain) → Puts (first_of r.out.blocks) (file_blocks (file_bytes carried.packets)) old mid
+    → Shows mid.blocks (first_of r.out.blocks) (file_bytes carried.packets) → Unchanged mid sure
+    → Turns chain (added e chain) (spare chain) ((last_block chain).number ∷ spare chain) sure new result → OnOk result (IsCarried new.blocks (record { recording = r; shown = length r.out.entries }) text entries)
+listed_carried chain e r old mid sure new result text entries carried there below spares put shows same turns =
     let changed = (last_block chain).number ∷ spare chain in
     let turned : Image → Type 0 = Turned (added e chain) changed sure.blocks in
     let less = All-cons (λ (n : ℕ). n < first_of r.out.blocks) (last_block chain).number (spare chain) (below (last_place chain) blank_block (omega (arith, some_block sure.blocks chain there))) spares in
-    on_ok result (Settled turned new) (Carries r new.blocks text entries)
-    (λ settled. carries_behind r changed sure.blocks new.blocks text entries (settled_reads turned new settled).others less (subst (λ (l : Image). Carries r l text entries) (sym same.reads) carried))
+    on_ok result (Settled turned new) (IsCarried new.blocks (record { recording = r; shown = length r.out.entries }) text entries)
+    (λ settled. carried_behind r changed mid.blocks new.blocks text entries (past_carries r old mid text entries carried put) shows
+    (subst (λ (l : Image). SameButIn changed l new.blocks) same.reads (settled_reads turned new settled).others) less)
     turns.settled
 
 -- the blocks in front of a file that is put stay
@@ -134,16 +158,7 @@ module _ (s : Config) (chain : List ChainBlock) (files : List File) (f : File) (
     own = may.own;
     whole = may.whole;
     none = may.none;
-    carries = record {
-      packets = may.carries.packets;
-      has = record {
-        bytes = carries_past r.out.blocks bytes [] old mid may.carries.has.bytes (subst (λ (b : List ℕ). Puts (first_of r.out.blocks) (file_blocks b) old mid) (sym (append-nil bytes)) put);
-        named = may.carries.has.named;
-        counted = may.carries.has.counted;
-        numbered = may.carries.has.numbered;
-      };
-      says = may.carries.says;
-    };
+    carries = past_carries r old mid f.setup f.entries may.carries put;
     shows = subst (λ (n : ℕ). Shows mid.blocks n bytes) may.first shows;
     says = says;
   }

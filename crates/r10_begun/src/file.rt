@@ -14,7 +14,7 @@ ghost use Rattle.r10_dirchain.specs.OnMedium.{HasNext};
 ghost use Rattle.r10_dirchain.specs.Rooms.{room_for};
 ghost use Rattle.r10_dirchain.specs.Steps.{added, last_block, spare};
 ghost use Rattle.r10_dirchain.specs.declared.chain.ChainBlock.{ChainBlock};
-ghost use Rattle.r10_holding.specs.Holding.{Holds};
+ghost use Rattle.r10_holding.specs.Holding.{Holds, IsCarried};
 ghost use Rattle.r10_machine.specs.Config.{Config};
 ghost use Rattle.r10_machine.specs.Machine.{File};
 ghost use Rattle.r10_steps.specs.Says.{MediumSays};
@@ -52,10 +52,10 @@ pub fn list_file<M: BlockMedium>(
         → Leaves (λ image. MediumSays s image files ⊎ MediumSays s image (files ++ f ∷ [])) (M.disk medium.old) (M.disk medium.new) }
     ensures settled { (s : Config) (files : List File) (f : File) → MayList s (M.disk medium.old).blocks directory.old files mux.now f entry
         → OnOk result (Settled (λ image. MediumSays s image (files ++ f ∷ []) × (bytes_from image f.first_block f.size ≡ bytes_from (M.disk medium.new).blocks f.first_block f.size) × IsDirectory image (added entry directory.old)) (M.disk medium.new)) }
-    // Whatever files there are: the directory is sure, and behind its blocks the file carries what it carried.
+    // Whatever files there are: the directory is sure, and behind its blocks the file carries what it carried, and shows all its packets.
     ensures sure { OnOk result (Settled (λ image. IsDirectory image directory.new) (M.disk medium.new)) }
     ensures carries { (text : List ℕ) (entries : List Said) → Carries mux.now (M.disk medium.old).blocks text entries → All (λ (n : ℕ). n < first_of mux.now.out.blocks) (spare directory.old)
-        → OnOk result (Carries mux.now (M.disk medium.new).blocks text entries) }
+        → OnOk result (IsCarried (M.disk medium.new).blocks (record { recording = mux.now; shown = length mux.now.out.entries }) text entries) }
     // The blocks in front of the file stay, but for the directory's that are written.
     ensures front { (k : ℕ) → k < first_of mux.now.out.blocks → All (λ (n : ℕ). k ≢ n) ((last_block directory.old).number ∷ spare directory.old) → block_at (M.disk medium.new).blocks k ≡ block_at (M.disk medium.old).blocks k }
     ensures done { OnOk result (directory.new ≡ added entry directory.old) }

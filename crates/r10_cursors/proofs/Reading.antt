@@ -12,6 +12,7 @@ use Rattle.r10_dirblock.specs.declared.entry.Entry.{Entry as Listed}
 use Rattle.r10_dirchain.specs.Chain.{IsDirectory, files as listed_files}
 use Rattle.r10_dirchain.specs.declared.chain.ChainBlock.{ChainBlock}
 use Rattle.r10_holding.specs.Holding.{IsWritten, Open}
+use Rattle.r10_holding.proofs.Carried.{carried_of}
 use Rattle.r10_machine.specs.Config.{Config}
 use Rattle.r10_machine.specs.Machine.{File, Cursor as Reader, cursor_at, shown_entries}
 use Rattle.r10_replay.specs.Shown.{IsShown}
@@ -184,7 +185,7 @@ written s image chain o f w count n is told held read = covered_so image f count
     had =
         let packets = is.carries.packets in
         let long : length (file_bytes (take o.shown packets)) ≡ f.size = sym (is.cut.size_is ∙ ap (λ (k : ℕ). length (file_bytes (take k packets))) is.shown) in
-        let shows = (shown s image o f w is told).shown in
+        let shows = (shown image o f.setup f.entries w (carried_of s image o f is) told).shown in
         record {
           all = take o.shown packets;
           bytes_are = ap (λ (k : ℕ). bytes_from image f.first_block k) (sym long) ∙ is.stands;
@@ -196,7 +197,7 @@ written s image chain o f w count n is told held read = covered_so image f count
     by (in_writing v same number shows) =
         let here : v ≡ w = cc (same) in
         let known : IsShown image w.first w.named.now held.packets = subst (λ (x : Written). IsShown image x.first x.named.now held.packets) here shows.shown in
-        subst (HasPackets (bytes_shown image f)) (one_shown image w.first w.named.now (take o.shown is.carries.packets) held.packets (shown s image o f w is told).shown known) had
+        subst (HasPackets (bytes_shown image f)) (one_shown image w.first w.named.now (take o.shown is.carries.packets) held.packets (shown image o f.setup f.entries w (carried_of s image o f is) told).shown known) had
     by (in_directory e found has) = absurd (beyond w.file (listed_files chain) e found)
       where
         beyond : (k : ℕ) (entries : List Listed) (e : Listed) → slice_get (take k entries) k ≡ Some e → ⊥

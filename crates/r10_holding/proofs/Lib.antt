@@ -3,3 +3,4 @@ pub mod Ends
 pub mod Staying
 pub mod Counting
 pub mod Relisting
+pub mod Carried

@@ -1,10 +1,11 @@
 -- What a recorder holds of a medium that it uses: the directory, the files, and the file that it writes.
-use Rattle.std.specs.Prelude.{◌≡◌, ℕ, false, true, List, take, Option, None, IfSome, IsSomeAnd}
+use Rattle.std.specs.Prelude.{◌≡◌, ◌≤◌, ℕ, false, true, List, length, take, Option, None, IfSome, IsSomeAnd}
 use Rattle.std.specs.List.{AllByRecursion, last_or}
 use Rattle.r10_blockout.specs.Blocks.{Shows}
 use Rattle.r10_blockout.specs.Output.{first_of}
 use Rattle.r10_medium.specs.Disk.{Image}
 use Rattle.r10_body.specs.Packets.{file_bytes}
+use Rattle.r10_body.specs.declared.entry.Entry.{Entry}
 use Rattle.r10_carry.specs.Carries.{Carries, Recording}
 use Rattle.r10_machine.specs.Cuts.{Cut}
 use Rattle.r10_dirchain.specs.Chain.{IsDirectory}
@@ -17,6 +18,12 @@ use Rattle.r10_steps.specs.Says.{IsFound, MediumSays}
 pub record Open : Type 0 where
   pub recording : Recording
   pub shown : ℕ
+
+-- Whatever files the medium has: over the image the file carries this setup and these entries, and the first of its packets, as many as are shown, stand there.
+pub record IsCarried (image : Image) (o : Open) (text : List ℕ) (entries : List Entry) : Type 0 where
+  pub carries : Carries o.recording image text entries
+  pub within : o.shown ≤ length carries.packets
+  pub stands : Shows image (first_of o.recording.out.blocks) (file_bytes (take o.shown carries.packets))
 
 -- Over the image the file carries its setup and entries; its first packets, so many, are what the medium shows of it: they
 -- stand there, and on each channel they say the entries that it shows.

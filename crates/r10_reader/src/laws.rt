@@ -16,7 +16,7 @@ ghost use Rattle.r10_body.specs.Packets.{Packet, file_entries};
 ghost use Rattle.r10_body.specs.declared.entry.Entry.{Entry};
 ghost use Rattle.r10_body.specs.declared.fault.FileFault.{FileFault};
 ghost use Rattle.r10_machine.specs.Cuts.{Agree};
-ghost use Rattle.r10_holding.specs.Holding.{IsWritten, Open};
+ghost use Rattle.r10_holding.specs.Holding.{IsCarried, IsWritten, Open};
 ghost use Rattle.r10_machine.specs.Config.{Config};
 ghost use Rattle.r10_machine.specs.Machine.{File, shown_entries};
 ghost use Rattle.r10_steps.specs.Says.{IsFound, MediumSays};
@@ -45,9 +45,10 @@ pub fn listed_files_keep_their_bytes()
         → SameButIn numbers old new → All (λ k. k ≤ reserved) numbers → KeepListed old new (finished written (files chain)) }
 {}
 
-/// Of the file that a recorder holds as the one that is written, the packets are shown of which it tells, and they are the machine's.
+/// Of the file that a recorder holds as the one that is written, the packets are shown of which it tells, whatever files the medium has; and
+/// where they are a machine's, they are its.
 pub fn what_is_written_is_shown()
-    ensures writing { (s : Config) (image : Image) (o : Open) (f : File) (w : Written) → IsWritten s image o f → IsToldOf o w → IsWhole image → length image ≤ 2 ^ 53 → IsWriting image (Some w) }
+    ensures writing { (image : Image) (o : Open) (text : List ℕ) (entries : List Entry) (w : Written) → IsCarried image o text entries → IsToldOf o w → IsWhole image → length image ≤ 2 ^ 53 → IsWriting image (Some w) }
     ensures held { (s : Config) (image : Image) (chain : List ChainBlock) (o : Open) (f : File) (w : Written) → IsWritten s image o f → IsToldOf o w → AllByRecursion (IsEntry s) f.entries → IsHeld image chain (Some w) w.file f }
 {}
 

@@ -5,11 +5,11 @@ use Rattle.r10_blockout.specs.Output.{first_of}
 use Rattle.r10_body.specs.declared.entry.Entry.{Entry}
 use Rattle.r10_body.specs.declared.spec.ChannelSpec.{ChannelSpec}
 use Rattle.r10_builder.specs.State.{IsReady as HasRoomForTwo}
-use Rattle.r10_carry.specs.Carries.{Carries, packets_of}
+use Rattle.r10_carry.specs.Carries.{packets_of}
 use Rattle.r10_dirblock.specs.declared.entry.Entry.{Entry as Listed}
 use Rattle.r10_dirchain.specs.Chain.{files as listed_files}
 use Rattle.r10_dirchain.specs.declared.chain.ChainBlock.{ChainBlock}
-use Rattle.r10_holding.specs.Holding.{Open}
+use Rattle.r10_holding.specs.Holding.{IsCarried, Open}
 use Rattle.r10_machine.specs.Config.{Config}
 use Rattle.r10_machine.specs.Limits.{IsConfig}
 use Rattle.r10_machine.specs.Machine.{Tick}
@@ -29,12 +29,12 @@ abbrev pub tick_count : Option Tick → Option ℕ
 tick_count None = None
 tick_count (Some tick) = Some tick.count
 
--- The file that is recorded goes on with times, events and what the lanes give: it carries entries of which none is later than what may come.
+-- The file that is recorded goes on with times, events and what the lanes give: it carries entries of which none is later than what may come, and the medium shows the first of its packets, as many as are shown.
 -- It has no more packets than its index may name, and costs no more than there is of the medium; the directory lists it last.
 pub record IsRecorded {L : Type 0} (spec_of : L → ChannelSpec) (reached : L → ℕ) (s : Config) (tick : Option Tick) (last_event : Option ℕ) (image : Image) (chain : List ChainBlock) (o : Open) (lanes : List L) : Type 0 where
   pub text : List ℕ
   pub entries : List Entry
-  pub carries : Carries o.recording image text entries
+  pub carries : IsCarried image o text entries
   pub lanes_end : AllEnd spec_of reached lanes entries
   pub times_end : EndsBy s.time (count_or_0 (tick_count tick)) entries
   pub events_end : EndsBy s.event (count_or_0 last_event) entries

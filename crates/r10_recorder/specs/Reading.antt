@@ -3,7 +3,7 @@ use Rattle.std.specs.Prelude.{◌≡◌, ℕ, ◌+◌, ◌^◌, ◌<◌, ◌≤�
 use Rattle.std.specs.List.{last_or}
 use Rattle.r10_blockout.specs.Output.{first_of}
 use Rattle.r10_body.specs.Faults.{IsAtFault}
-use Rattle.r10_body.specs.Packets.{Packet, file_bytes}
+use Rattle.r10_body.specs.Packets.{Packet}
 use Rattle.r10_body.specs.declared.refusal.Refusal.{Refusal}
 use Rattle.r10_body.specs.declared.refusal.Refusal.TheVariants as refusals
 use Rattle.r10_dirblock.specs.Block.{is_closed}
@@ -75,15 +75,10 @@ pub data ShowsAt (work : Work) (image : Image) (file : ℕ) (packets : List Pack
   of_ended : (e : Listed) → slice_get (ended_files work) file ≡ Some e → HasPackets (bytes_in image e) packets → ShowsAt work image file packets
   of_recorded : (o : Open) → open_of work ≡ Some o → length (files_of work) ≡ file + 1 → ShowsOpen image o packets → ShowsAt work image file packets
 
--- the file of a number is there: it is strict with the closing of its directory entry, or the one that is recorded
+-- the file of a number is there: it is strict with the closing of its directory entry, or the one that is recorded, of which the medium shows packets
 pub data IsReadAt (work : Work) (image : Image) (file : ℕ) : Type 0 where
   is_ended : (e : Listed) → slice_get (ended_files work) file ≡ Some e → SaysClosed (bytes_in image e) (is_closed e) → IsReadAt work image file
-  is_recorded : (o : Open) → open_of work ≡ Some o → length (files_of work) ≡ file + 1 → IsReadAt work image file
-
--- where the file is the one that is recorded, the medium shows packets of it, fewer than 2^63 bytes
-abbrev pub IsShownAt : Work → Image → ℕ → Type 0
-IsShownAt work image file =
-    length (files_of work) ≡ file + 1 → IfSome (open_of work) (λ o. (packets : List Packet) × ShowsOpen image o packets × (length (file_bytes packets) < 2 ^ 63))
+  is_recorded : (o : Open) (packets : List Packet) → open_of work ≡ Some o → length (files_of work) ≡ file + 1 → ShowsOpen image o packets → IsReadAt work image file
 
 -- ---- what is refused
 
@@ -92,11 +87,6 @@ abbrev pub IsFileRefusal : Work → Image → ℕ → Refusal → Type 0
 IsFileRefusal work image file refusals.NoSuchFile = length (files_of work) ≤ file
 IsFileRefusal work image file (refusals.BadFile offset fault) = IsSomeAnd (slice_get (ended_files work) file) (λ e. IsAtFault (bytes_in image e) (is_closed e) offset fault)
 IsFileRefusal work image file r = ⊥
-
--- and where packets are read, too: the file that is recorded isn't at fault where the medium shows it
-abbrev pub IsReadRefusal : Work → Image → ℕ → Refusal → Type 0
-IsReadRefusal work image file (refusals.BadFile offset fault) = IsShownAt work image file → IsFileRefusal work image file (refusals.BadFile offset fault)
-IsReadRefusal work image file r = IsFileRefusal work image file r
 
 -- the refusal of a file that isn't read, and what the recorder does then
 abbrev pub refusal_of : ReadRefusal → Refusal

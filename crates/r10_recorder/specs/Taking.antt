@@ -1,4 +1,5 @@
 -- What a call takes from lanes.
+use Rattle.r10_blockout.specs.Output.{first_of}
 use Rattle.std.specs.Prelude.{◌≡◌, ◌⊎◌, ℕ, ◌-◌, ◌^◌, ◌≤◌, List, [], ◌∷◌, ◌++◌, length, map, min, Option, None, Some, IfOk, IsSomeAnd, OnOk, Result, Ok, Err, MatchResult, slice_get}
 use Rattle.std.specs.List.{AllByRecursion, sum_by}
 use Rattle.r10_recorder.specs.Refused.{IsSameKept}
@@ -9,10 +10,10 @@ use Rattle.r10_body.specs.declared.refusal.Refusal.{Refusal}
 use Rattle.r10_body.specs.declared.refusal.Refusal.TheVariants.{IndexFull, Medium, MediumFull, OutOfMemory}
 use Rattle.r10_body.specs.declared.spec.ChannelSpec.{ChannelSpec}
 use Rattle.r10_builder.specs.State.{IsReady as HasRoomForTwo}
-use Rattle.r10_carry.specs.Carries.{Carries, packets_of}
+use Rattle.r10_carry.specs.Carries.{packets_of}
 use Rattle.r10_dirblock.specs.declared.entry.Entry.{Entry as Listed}
 use Rattle.r10_dirchain.specs.declared.chain.ChainBlock.{ChainBlock}
-use Rattle.r10_holding.specs.Holding.{Holds, Open}
+use Rattle.r10_holding.specs.Holding.{Holds, IsCarried, Open}
 use Rattle.r10_machine.specs.Config.{Config}
 use Rattle.r10_machine.specs.Machine.{File, Machine, with_entries}
 use Rattle.r10_machine.specs.Room.{area as area_of, area_from}
@@ -23,6 +24,7 @@ use Rattle.r10_means.specs.Means.{Means}
 use Rattle.r10_medium.specs.Disk.{Disk, Image, Rose}
 use Rattle.r10_mux.specs.Writes.{IsSame, IsSameFile}
 use Rattle.r10_mux.specs.declared.fault.Full.{Full}
+use Rattle.r10_mux.specs.declared.fault.Full.TheVariants as full
 use Rattle.r10_openfile.specs.Intake.{IsMovedIn}
 use Rattle.r10_openfile.specs.Keeping.{MayGoOn}
 use Rattle.r10_pump.specs.Machines.{HasWaiting}
@@ -70,12 +72,6 @@ IsMoved n parts = n ≡ length (entries_of parts)
 abbrev pub IsStopped : Stopped → List Part → Type 0
 IsStopped said parts = (said.taken ≡ length (entries_of parts)) × (said.left ≡ min (sum_by (λ (p : Part). length p.rest) parts) (2 ^ 64 - 1))
 
--- for want of room
-abbrev pub IsOfRoom : Refusal → Type 0
-IsOfRoom IndexFull = Unit {0}
-IsOfRoom MediumFull = Unit {0}
-IsOfRoom r = ⊥
-
 -- ---- the file
 
 -- As a call that asked for memory is refused: the first check that doesn't hold, which leaves all; else what is lacking, which leaves the medium, and what is kept but for the memory of the file; or the medium failed, and the recorder with it.
@@ -87,7 +83,7 @@ RefusesReadied disk None lacks old new medium medium' r = lacks r × IsSameKept 
 
 -- The file took these entries in, and goes on: no packet of it lacks a place in an index of so many nodes, and it costs no more than there is, where that was so before.
 pub record WentOn (nodes area : ℕ) (ends ends' : List Entry → Type 0) (more : List Entry) (old : Open) (before : Image) (new : Open) (after : Image) : Type 0 where
-  pub carries : (text : List ℕ) (entries : List Entry) → Carries old.recording before text entries → ends entries → Carries new.recording after text (entries ++ more)
+  pub carries : (text : List ℕ) (entries : List Entry) → IsCarried before old text entries → ends entries → IsCarried after new text (entries ++ more)
   pub follows : (entries : List Entry) → ends entries → ends' (entries ++ more)
   pub file : IsSameFile old.recording new.recording
   pub counts : length new.recording.counts ≡ length old.recording.counts
@@ -103,6 +99,21 @@ area_behind s None = 0
 area_behind s (Some e) = area_from s e.first_block
 
 -- ---- a pump
+
+-- the first that waits in the channel's lane has no room in the file, where one may be moved; of a lane that is quiet all of this waits
+abbrev pub HasNoPlace : {L : Type 0} → (L → Option (List Sample)) → (L → ChannelSpec) → List L → Config → Open → ℕ → ℕ → Full → Type 0
+HasNoPlace quiet spec_of lanes s o channel most lacks =
+    (waiting : List Sample) × Tells quiet spec_of lanes (one_part channel [] waiting) × Begins o.recording channel s.nodes (area_from s (first_of o.recording.out.blocks)) most waiting (Some lacks)
+
+abbrev pub IsForFirst : {L : Type 0} → (L → Option (List Sample)) → (L → ChannelSpec) → List L → Config → Open → ℕ → ℕ → Refusal → Type 0
+IsForFirst quiet spec_of lanes s o channel most IndexFull = HasNoPlace quiet spec_of lanes s o channel most full.Index
+IsForFirst quiet spec_of lanes s o channel most MediumFull = HasNoPlace quiet spec_of lanes s o channel most full.Medium
+IsForFirst quiet spec_of lanes s o channel most r = ⊥
+
+-- so it is refused for want of room, in the file that is recorded
+abbrev pub FirstLacks : {L : Type 0} → (L → Option (List Sample)) → (L → ChannelSpec) → List L → Config → Work → ℕ → ℕ → Refusal → Type 0
+FirstLacks quiet spec_of lanes s (recording chain o) channel most r = IsForFirst quiet spec_of lanes s o channel most r
+FirstLacks quiet spec_of lanes s work channel most r = ⊥
 
 -- these samples are moved into the machine's file, whichever it is
 abbrev pub MovesAny : (List Entry → Type 0) → ℕ → ℕ → ℕ → ℕ → ℕ → List Sample → List Sample → Option Full → Open → Image → Open → Type 0
@@ -127,7 +138,7 @@ pub record Stayed {M : Type 0} (ends ends' : List Entry → Type 0) (samples : L
 -- the first that waits has no room; or memory was refused where it has; or the medium failed, behind a first one that had room
 abbrev pub MovedNone : {M : Type 0} → (M → Disk) → (List Entry → Type 0) → (List Entry → Type 0) → ℕ → ℕ → ℕ → ℕ → List Sample → List Sample → Open → M → Open → M → PumpFault → Type 0
 MovedNone disk ends ends' channel most nodes area samples rest old medium new medium' (fault.Full full) =
-    Stayed ends ends' samples old medium new medium' × MovesAny ends channel most nodes area 0 [] rest (Some full) old (disk medium).blocks new
+    Stayed ends ends' samples old medium new medium' × MovesAny ends channel most nodes area 0 [] rest (Some full) old (disk medium).blocks new × Begins new.recording channel nodes area most rest (Some full)
 MovedNone disk ends ends' channel most nodes area samples rest old medium new medium' fault.Memory = Stayed ends ends' samples old medium new medium' × Begins old.recording channel nodes area most rest None
 MovedNone disk ends ends' channel most nodes area samples rest old medium new medium' fault.Medium =
     Rose (disk medium).failures (disk medium').failures × IsSomeAnd (slice_get samples 0) (HasRoom old.recording channel area)

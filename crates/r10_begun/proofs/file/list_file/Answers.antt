@@ -8,7 +8,7 @@ use Rattle.r10_dirchain.specs.Steps.{added, last_block, spare}
 use Rattle.r10_dirchain.specs.declared.chain.ChainBlock.{ChainBlock}
 use Rattle.r10_holding.specs.Holding.{Holds}
 use Rattle.r10_steps.specs.Says.{MediumSays}
-use Rattle.r10_begun.proofs.Calls.{directory_stays, front_listed, front_put, last_holds, last_moments, listed_carries, listed_holds, listed_moments, listed_reads, listed_settled, on_both, sure_of, turned_size}
+use Rattle.r10_begun.proofs.Calls.{directory_stays, front_listed, front_put, last_holds, last_moments, listed_carried, listed_holds, listed_moments, listed_reads, listed_settled, on_both, sure_of, turned_size}
 use Rattle.r10_begun.proofs.file.list_file.Goals as goal
 
 pub returns-in-Err-clause-either : goal.returns-in-Err-clause-either
@@ -132,7 +132,8 @@ returns-clause-carries g c =
     let new = disk c.add.new.medium in
     let it = c.requires.carries in
     let there = directory_stays old mid sure chain (first_of r.out.blocks) (file_blocks (file_bytes it.2.packets)) c.requires.stands c.requires.below (c.commit_blocks.ensures.puts it.0 it.1 it.2) c.sync.ensures.same in
-    λ text entries carried spares. listed_carries chain c.args.entry r mid sure new c.add.result text entries there c.requires.below spares c.sync.ensures.same c.add.ensures.turns (c.commit_blocks.ensures.carries text entries carried)
+    λ text entries carried spares. listed_carried chain c.args.entry r old mid sure new c.add.result text entries carried there c.requires.below spares (c.commit_blocks.ensures.puts text entries carried)
+    (c.in_default.ensures.shows text entries carried) c.sync.ensures.same c.add.ensures.turns
 
 pub returns-clause-blocks : goal.returns-clause-blocks
 returns-clause-blocks g c =
