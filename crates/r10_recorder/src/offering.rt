@@ -1,14 +1,17 @@
 //! Offers to the lanes of one thread.
 
-ghost use Rattle.std.specs.Prelude.{◌≡◌, option_map};
+ghost use Rattle.std.specs.Prelude.{◌≡◌, ◌≤◌, ◌^◌, None, Some, option_map};
 ghost use Rattle.std.specs.List.{position};
+ghost use Rattle.r10_count.specs.Checks.{first_broken};
+ghost use Rattle.r10_machine.specs.Checks.{taking_checks};
 ghost use Rattle.r10_machine.specs.Machine.{is_channel, lane_in};
 ghost use Rattle.r10_recorder.specs.Lanes.{AnswersWith, HaveRisen, OffersTo};
 ghost use Rattle.r10_steps.specs.declared.event.Event.TheVariants as events;
 ghost use Rattle.r10_steps.specs.declared.reply.Reply.TheVariants as replies;
 
 use crate::recorder::Recorder;
-use r10_body::{Message, Refusal};
+use r10_body::{ChannelSpec, Message, Refusal};
+use r10_count::Count;
 use r10_lane::{LaneOut, RingLane};
 use r10_machine::check_offer;
 use r10_means::offers_are_steps;
@@ -57,11 +60,24 @@ fn offer_to(
         return Err(Refusal::NoSuchChannel);
     };
     let lane = &mut lanes[at];
-    let count = match check_offer(&lane.spec(), None, count, &message) {
-        Ok(count) => count,
-        Err(refusal) => return Err(refusal),
+    let Some(now) = Count::of(count) else {
+        return Err(refuse_late(&lane.spec(), count, &message));
     };
-    lane.offer(count, message)
+    lane.offer(now, message)
+}
+
+/// Why a message is refused whose count has more than 48 bits: what its channel refuses of it, or else its count.
+fn refuse_late(spec: &ChannelSpec, count: u64, message: &Message) -> Refusal
+    requires { 2 ^ 48 ≤ count }
+    ensures { first_broken (taking_checks spec.now None count message.now) ≡ Some result }
+{
+    match check_offer(spec, None, count, message) {
+        Ok(now) => {
+            let _ = now.get();
+            Refusal::CountRange
+        }
+        Err(refusal) => refusal,
+    }
 }
 
 /// What a channel's lane has lost.

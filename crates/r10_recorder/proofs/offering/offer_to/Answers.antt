@@ -17,14 +17,14 @@ returns-in_default-clause-offers c =
 pub returns-in_default-clause-risen : goal.returns-in_default-clause-risen
 returns-in_default-clause-risen c = none_risen c.args.lanes.now.items
 
-pub returns-in-Err-clause-offers : goal.returns-in-Err-clause-offers
-returns-in-Err-clause-offers c =
+pub returns-in_default-of-clause-offers : goal.returns-in_default-of-clause-offers
+returns-in_default-of-clause-offers c =
     let items = c.args.lanes.now.items in
     let old = c.index_mut-lane.result.now in
     let e : position (is_channel c.args.channel) items ≡ Some c.in-Some.at = ap (position (is_channel c.args.channel)) (sym c.as_slice.ensures.value) ∙ sym c.place_of.ensures ∙ c.in-Some.is in
-    let first : first_broken (taking_checks old.spec None c.args.count c.args.message) ≡ Some c.in-Err.refusal =
-    subst (λ (s : ChannelSpec). first_broken (taking_checks s None c.args.count c.args.message) ≡ Some c.in-Err.refusal) c.spec.ensures c.in-Err.ensures in
-    offers_at c.args.channel items c.in-Some.at old old c.args.count c.args.message (Err c.in-Err.refusal) e c.index_mut-lane.ensures.value (refused_early old c.args.count c.args.message c.in-Err.refusal first)
+    let first : first_broken (taking_checks old.spec None c.args.count c.args.message) ≡ Some c.refuse_late.result =
+    subst (λ (s : ChannelSpec). first_broken (taking_checks s None c.args.count c.args.message) ≡ Some c.refuse_late.result) c.spec.ensures c.refuse_late.ensures in
+    offers_at c.args.channel items c.in-Some.at old old c.args.count c.args.message (Err c.refuse_late.result) e c.index_mut-lane.ensures.value (refused_early old c.args.count c.args.message c.refuse_late.result first)
 
 pub returns-clause-offers : goal.returns-clause-offers
 returns-clause-offers c =
@@ -32,10 +32,10 @@ returns-clause-offers c =
     let old = c.index_mut-lane.result.now in
     let e : position (is_channel c.args.channel) items ≡ Some c.in-Some.at = ap (position (is_channel c.args.channel)) (sym c.as_slice.ensures.value) ∙ sym c.place_of.ensures ∙ c.in-Some.is in
     offers_at c.args.channel items c.in-Some.at old c.offer.new.self c.args.count c.args.message c.offer.result e c.index_mut-lane.ensures.value
-    (subst (λ (n : ℕ). Offers old n c.args.message c.offer.result c.offer.new.self) c.in-Ok.ensures.0 c.offer.ensures.offers)
+    (subst (λ (n : ℕ). Offers old n c.args.message c.offer.result c.offer.new.self) (c.in-Some-of.ensures.1) c.offer.ensures.offers)
 
 pub returns-clause-risen : goal.returns-clause-risen
 returns-clause-risen c = one_risen c.args.lanes.now.items c.in-Some.at c.index_mut-lane.result.now c.offer.new.self c.index_mut-lane.ensures.value c.offer.ensures.spec c.offer.ensures.climbs
 
-pub returns-in-Err-clause-risen : goal.returns-in-Err-clause-risen
-returns-in-Err-clause-risen c = one_risen c.args.lanes.now.items c.in-Some.at c.index_mut-lane.result.now c.index_mut-lane.result.now c.index_mut-lane.ensures.value refl (omega arith)
+pub returns-in_default-of-clause-risen : goal.returns-in_default-of-clause-risen
+returns-in_default-of-clause-risen c = one_risen c.args.lanes.now.items c.in-Some.at c.index_mut-lane.result.now c.index_mut-lane.result.now c.index_mut-lane.ensures.value refl (omega arith)
