@@ -1,101 +1,15 @@
 -- The packets of a file in front of its index are shown, and have all its entries.
-use Rattle.std.proofs.Common.{◌≡◌, ℕ, ◌+◌, ◌<◌, ◌≤◌, Bool, true, false, List, [], ◌∷◌, ◌++◌, length, take, drop, refl, sym, ap, subst, ◌∙◌, arith, append_assoc}
-use Rattle.std.specs.Prelude.{count_by, filter}
-use Rattle.std.specs.List.{concat}
-use Rattle.std.proofs.lemmas.List.{append-nil, length-append, length-take, take-take, take_at}
-use Rattle.std.proofs.lemmas.List.Concat.{flat_map-append}
-use Rattle.std.proofs.lemmas.List.Elements.{filter-append}
+use Rattle.std.proofs.Common.{◌≡◌, ℕ, Bool, true, false, List, [], ◌∷◌, ◌++◌, refl, sym, ap, subst, ◌∙◌}
+use Rattle.std.specs.Prelude.{filter}
 use Rattle.r10_medium.specs.Disk.{Image}
-use Rattle.r10_blockout.specs.Blocks.{Shows, bytes_from}
+use Rattle.r10_blockout.specs.Blocks.{bytes_from}
 use Rattle.r10_indexbody.specs.declared.entry.NodeEntry.{NodeEntry}
 use Rattle.r10_body.specs.Content.{Content, setup, time, event, uart, bus, arinc, discrete, message, node, root}
 use Rattle.r10_body.specs.declared.entry.Entry.{Entry}
-use Rattle.r10_body.specs.Packets.{Packet, packet_bytes, packet_entries, file_bytes, file_entries}
-use Rattle.r10_body.specs.Rules.{MayFollow, EachFollows, KeepsIndex, is_data, is_index, is_node, is_root, node_entries}
-use Rattle.r10_body.proofs.Indexes.{Part, datum, node_here, root_here, part_of, counted, counted_yes, counted_no}
+use Rattle.r10_body.specs.Packets.{Packet, packet_entries, file_bytes, file_entries}
+use Rattle.r10_body.specs.Rules.{EachFollows, is_data, is_index, node_entries}
 use Rattle.r10_replay.specs.Shown.{IsShown}
-
--- ---- the index stands at the end
-
--- there is no index yet, or it stands behind the other packets
-data Fronted (ps : List Packet) : Type 0 where
-  plain : count_by is_node ps ≡ 0 → count_by is_root ps ≡ 0 → filter is_data ps ≡ ps → Fronted ps
-  indexed : (index : List Packet) → ps ≡ filter is_data ps ++ index → 0 < count_by is_node ps + count_by is_root ps → Fronted ps
-
-kept_yes : (ps : List Packet) (p : Packet) → is_index p ≡ false → filter is_data (ps ++ p ∷ []) ≡ filter is_data ps ++ p ∷ []
-kept_yes ps p is = let one : filter is_data (p ∷ []) ≡ p ∷ [] = rw is refl in filter-append is_data ps (p ∷ []) ∙ ap (λ (qs : List Packet). filter is_data ps ++ qs) one
-
-kept_no : (ps : List Packet) (p : Packet) → is_index p ≡ true → filter is_data (ps ++ p ∷ []) ≡ filter is_data ps
-kept_no ps p is = let none : filter is_data (p ∷ []) ≡ [] = rw is refl in filter-append is_data ps (p ∷ []) ∙ ap (λ (qs : List Packet). filter is_data ps ++ qs) none ∙ append-nil (filter is_data ps)
-
-unlike : true ≡ false → ⊥
-unlike e = absurd (cc)
-
--- no node stands before a packet that is none of an index
-no_nodes : (ps : List Packet) (p : Packet) → is_index p ≡ false → KeepsIndex ps p → count_by is_node ps ≡ 0
-no_nodes ps p i keeps = by p.content refl
-  where
-    by : (c : Content) → p.content ≡ c → count_by is_node ps ≡ 0
-    by (setup text) e = rw e at keeps.1
-    by (time civil) e = rw e at keeps.1
-    by (event one) e = rw e at keeps.1
-    by (uart es) e = rw e at keeps.1
-    by (bus es) e = rw e at keeps.1
-    by (arinc es) e = rw e at keeps.1
-    by (discrete bits es) e = rw e at keeps.1
-    by (message es) e = rw e at keeps.1
-    by (node es) e = let yes : is_index p ≡ true = rw e refl in absurd (unlike (sym yes ∙ i))
-    by (root es) e = let yes : is_index p ≡ true = rw e refl in absurd (unlike (sym yes ∙ i))
-
--- an index packet behind others
-behind : (ps : List Packet) (p : Packet) → is_index p ≡ true → Fronted ps → (index : List Packet) × (ps ++ p ∷ [] ≡ filter is_data (ps ++ p ∷ []) ++ index)
-behind ps p i (plain nodes roots all) = (p ∷ [], ap (λ (qs : List Packet). qs ++ p ∷ []) (sym all ∙ sym (kept_no ps p i)))
-behind ps p i (indexed index is some) = (
-  index ++ p ∷ [],
-  ap (λ (qs : List Packet). qs ++ p ∷ []) is ∙ append_assoc (filter is_data ps) index (p ∷ []) ∙ ap (λ (qs : List Packet). qs ++ (index ++ p ∷ [])) (sym (kept_no ps p i)),
-)
-
-more_fronted : (ps : List Packet) (p : Packet) → MayFollow ps p → Part p → Fronted ps → Fronted (ps ++ p ∷ [])
-more_fronted ps p may (datum i n r len) (plain nodes roots all) = plain
-    (omega (arith, nodes, counted is_node ps p, counted_no is_node p n))
-    (omega (arith, roots, counted is_root ps p, counted_no is_root p r))
-    (kept_yes ps p i ∙ ap (λ (qs : List Packet). qs ++ p ∷ []) all)
-more_fronted ps p may (datum i n r len) (indexed index is some) = absurd (omega (arith, some, no_nodes ps p i may.index, may.index.0))
-more_fronted ps p may (node_here es e i n r len) fronted =
-    let b = behind ps p i fronted in
-    indexed b.0 b.1 (omega (arith, counted is_node ps p, counted_yes is_node p n))
-more_fronted ps p may (root_here es e i n r len) fronted =
-    let b = behind ps p i fronted in
-    indexed b.0 b.1 (omega (arith, counted is_root ps p, counted_yes is_root p r))
-
-fronted_from : (before ps : List Packet) → EachFollows before ps → Fronted before → Fronted (before ++ ps)
-fronted_from before [] each fronted = subst Fronted (sym (append-nil before)) fronted
-fronted_from before (p ∷ ps) each fronted =
-    subst Fronted (append_assoc before (p ∷ []) ps) (fronted_from (before ++ p ∷ []) ps each.1 (more_fronted before p each.0 (part_of p) fronted))
-
-index_of : (ps : List Packet) → Fronted ps → (index : List Packet) × (ps ≡ filter is_data ps ++ index)
-index_of ps (plain nodes roots all) = ([], sym all ∙ sym (append-nil (filter is_data ps)))
-index_of ps (indexed index is some) = (index, is)
-
--- what stands behind a file's other packets is its index
-data_first : (ps : List Packet) → EachFollows [] ps → (index : List Packet) × (ps ≡ filter is_data ps ++ index)
-data_first ps each = index_of ps (fronted_from [] ps each (plain refl refl refl))
-
--- ---- the front of a file
-
-follows_front : (before xs ys : List Packet) → EachFollows before (xs ++ ys) → EachFollows before xs
-follows_front before [] ys each = tt
-follows_front before (x ∷ xs) ys each = (each.0, follows_front (before ++ x ∷ []) xs ys each.1)
-
--- the front of bytes that are shown is shown
-shows_front : (image : Image) (first size : ℕ) (front rest : List ℕ) → bytes_from image first size ≡ front ++ rest → Shows image first front
-shows_front image first size front rest is =
-    let all : List ℕ = concat (drop first image) in
-    let within : length front ≤ size = omega (arith, ap (λ (l : List ℕ). length l) is, length-append front rest, length-take size all) in
-    sym (take-take (length front) size all within) ∙ ap (take (length front)) is ∙ take_at front rest (length front) refl
-
-bytes_front : (xs ys : List Packet) → file_bytes (xs ++ ys) ≡ file_bytes xs ++ file_bytes ys
-bytes_front xs ys = flat_map-append packet_bytes xs ys
+use Rattle.r10_replay.proofs.Fronts.{bytes_front, data_first, follows_front, shows_front, unlike}
 
 pub shown : (image : Image) (first size : ℕ) (all : List Packet) (named : List NodeEntry) → bytes_from image first size ≡ file_bytes all → EachFollows [] all → named ≡ node_entries 0 (filter is_data all)
     → IsShown image first named (filter is_data all)

@@ -11,7 +11,7 @@ use Rattle.r10_body.proofs.Injective.{one_file}
 use Rattle.r10_body.proofs.Rules.{follows_fit}
 use Rattle.r10_replay.specs.Shown.{IsShown}
 use Rattle.r10_reader.specs.Files.{HasPackets, bytes_in}
-use Rattle.r10_reader.proofs.Fronts.{data_first, follows_front, shows_front, bytes_front}
+use Rattle.r10_replay.proofs.Fronts.{data_first, follows_front, shows_front, bytes_front}
 
 -- a file's packets are one list
 pub one_reading : (bytes : List ℕ) (packets all : List Packet) → bytes ≡ file_bytes all → EachFollows [] all → HasPackets bytes packets → packets ≡ filter is_data all

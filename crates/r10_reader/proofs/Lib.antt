@@ -1,6 +1,6 @@
 mod Clipping
 pub mod Covering
-pub mod Fronts
+mod Few
 mod Keeping
 mod Reading
 pub mod Said

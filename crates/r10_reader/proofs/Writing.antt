@@ -22,7 +22,7 @@ use Rattle.r10_reader.specs.Files.{IsShownWith}
 use Rattle.r10_reader.specs.Held.{IsHeld, IsToldOf}
 use Rattle.r10_reader.specs.Knowing.{IsWriting}
 use Rattle.r10_reader.specs.declared.written.Written.{Written}
-use Rattle.r10_reader.proofs.Fronts.{follows_front}
+use Rattle.r10_replay.proofs.Fronts.{follows_front}
 use Rattle.r10_reader.proofs.Said.{written_held}
 
 named_first : (n offset : ℕ) (packets : List Packet) → take n (node_entries offset packets) ≡ node_entries offset (take n packets)

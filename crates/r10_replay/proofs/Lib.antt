@@ -4,3 +4,4 @@ pub mod Standing
 pub mod Ticks
 pub mod Wanting
 pub mod Starting
+pub mod Fronts

@@ -1,22 +1,16 @@
 -- The packets of a file in front of its index.
-use Rattle.std.proofs.Common.{◌≡◌, ℕ, ◌+◌, ◌*◌, ◌<◌, ◌≤◌, Bool, true, false, List, [], ◌∷◌, ◌++◌, length, take, drop, refl, sym, ap, subst, ◌∙◌, arith, append_assoc}
+use Rattle.std.proofs.Common.{◌≡◌, ℕ, ◌+◌, ◌<◌, ◌≤◌, true, false, List, [], ◌∷◌, ◌++◌, length, take, drop, refl, sym, ap, subst, ◌∙◌, arith, append_assoc}
 use Rattle.std.specs.Prelude.{count_by, filter}
-use Rattle.std.specs.List.{concat, sum_by}
+use Rattle.std.specs.List.{concat}
 use Rattle.std.proofs.lemmas.List.{append-nil, length-append, length-take, take-take, take_at}
 use Rattle.std.proofs.lemmas.List.Concat.{flat_map-append}
 use Rattle.std.proofs.lemmas.List.Elements.{filter-append}
-use Rattle.std.proofs.lemmas.List.Sums.{sum_by-cons}
 use Rattle.r10_medium.specs.Disk.{Image}
 use Rattle.r10_blockout.specs.Blocks.{Shows, bytes_from}
-use Rattle.r10_body.proofs.Lone.{packet-length}
-use Rattle.r10_body.specs.Content.{Content, setup, time, event, uart, bus, arinc, discrete, message, node, root, messages_of}
-use Rattle.r10_body.specs.declared.entry.Timed.{Timed}
-use Rattle.r10_body.specs.Packets.{Packet, packet_bytes, packet_entries, file_bytes, file_entries, with_gaps}
+use Rattle.r10_body.specs.Content.{Content, setup, time, event, uart, bus, arinc, discrete, message, node, root}
+use Rattle.r10_body.specs.Packets.{Packet, packet_bytes, file_bytes}
 use Rattle.r10_body.specs.Rules.{MayFollow, EachFollows, KeepsIndex, is_data, is_index, is_node, is_root}
 use Rattle.r10_body.proofs.Indexes.{Part, datum, node_here, root_here, part_of, counted, counted_yes, counted_no}
-use Rattle.r10_body.proofs.Sentences.{rest_length}
-use Rattle.r10_strict.specs.Tally.{timed_cost}
-use Rattle.r10_strict.proofs.Tallies.{content_cheap}
 
 -- ---- the index stands at the end
 
@@ -31,7 +25,7 @@ kept_yes ps p is = let one : filter is_data (p ∷ []) ≡ p ∷ [] = rw is refl
 kept_no : (ps : List Packet) (p : Packet) → is_index p ≡ true → filter is_data (ps ++ p ∷ []) ≡ filter is_data ps
 kept_no ps p is = let none : filter is_data (p ∷ []) ≡ [] = rw is refl in filter-append is_data ps (p ∷ []) ∙ ap (λ (qs : List Packet). filter is_data ps ++ qs) none ∙ append-nil (filter is_data ps)
 
-unlike : true ≡ false → ⊥
+pub unlike : true ≡ false → ⊥
 unlike e = absurd (cc)
 
 -- no node stands before a packet that is none of an index
@@ -99,28 +93,3 @@ shows_front image first size front rest is =
 
 pub bytes_front : (xs ys : List Packet) → file_bytes (xs ++ ys) ≡ file_bytes xs ++ file_bytes ys
 bytes_front xs ys = flat_map-append packet_bytes xs ys
-
--- ---- entries are fewer than bytes
-
-timed_length : (channel : ℕ) (gap : Bool) (ms : List Timed) → length (with_gaps channel gap ms) ≡ length ms
-timed_length channel gap [] = refl
-timed_length channel gap (m ∷ ms) = omega (arith, timed_length channel false ms)
-
-messages_few : (ms : List Timed) → 104 * length ms ≤ sum_by timed_cost ms
-messages_few [] = omega arith
-messages_few (m ∷ ms) = omega (arith, messages_few ms, sum_by-cons timed_cost m ms)
-
-packet_few : (p : Packet) → length (packet_entries p) ≤ length (packet_bytes p)
-packet_few p = omega (
-  arith,
-  timed_length p.channel p.flagged (messages_of p.counter p.content),
-  messages_few (messages_of p.counter p.content),
-  content_cheap p.counter p.content,
-  rest_length p,
-  packet-length p,
-)
-
--- a file has no more entries than bytes
-pub entries_few : (ps : List Packet) → length (file_entries ps) ≤ length (file_bytes ps)
-entries_few [] = omega arith
-entries_few (p ∷ ps) = omega (arith, packet_few p, entries_few ps, length-append (packet_entries p) (file_entries ps), length-append (packet_bytes p) (file_bytes ps))
