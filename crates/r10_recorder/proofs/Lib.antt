@@ -29,3 +29,5 @@ mod Closes
 mod Stops
 mod Leaves
 mod Moments
+mod Stopped
+mod Works

@@ -13,3 +13,4 @@ pub mod Taking
 pub mod Raising
 pub mod Recording
 pub mod Closing
+pub mod Stopped

@@ -7,10 +7,12 @@ use Rattle.r10_means.specs.Kept.{Kept, mode_of, idle}
 use Rattle.r10_means.specs.Means.{Means}
 use Rattle.r10_recorder.specs.Leading.{KeepsShown, Leads, none_taken}
 use Rattle.r10_recorder.specs.State.{State}
+use Rattle.r10_recorder.specs.Stopped.{LeavesShown, none_made}
 use Rattle.r10_recorder.specs.Work.{work_of}
 use Rattle.r10_recorder.specs.declared.work.Doing.{Doing}
 use Rattle.r10_recorder.proofs.Bytes.{holds_of}
 use Rattle.r10_recorder.proofs.Dismounts.{dismount_done, dismount_fails, dismount_refused, held}
+use Rattle.r10_recorder.proofs.Stopped.{idle_leaves, left_alone}
 use Rattle.r10_steps.specs.declared.event.Event.TheVariants as events
 use Rattle.r10_steps.specs.declared.reply.Reply.TheVariants as replies
 use Rattle.r10_recorder.proofs.recorder.Recorder.dismount.Goals as goal
@@ -66,3 +68,28 @@ returns-in-Err-dismount-clause-bytes g c =
     let disk = g.M.BlockMedium.disk in
     subst (λ (v : State _ _). KeepsShown v.kept (disk v.medium).blocks (disk v.medium).failures (disk c.dismount.new.medium).blocks) c.self.view_is
     (λ m means. c.dismount.ensures.bytes w.settings m.files (holds_of w.settings (work_of w.work) c.in-Idle.directory (disk w.medium).blocks m.files (ap work_of c.in-Idle.is) means.files))
+
+pub returns-in-Err-clause-moments : goal.returns-in-Err-clause-moments
+returns-in-Err-clause-moments g c =
+    let w = c.self.inside in
+    let disk = g.M.BlockMedium.disk in
+    let k : Kept = record { config = w.settings; work = work_of w.work; tick = w.tick; last_event = w.last_event; generation = w.generation; taken = w.taken.items; erased = w.erased.items } in
+    subst (λ (v : State _ _). LeavesShown none_made v.kept (disk v.medium) (disk v.medium)) c.self.view_is (left_alone none_made k (disk w.medium))
+
+pub returns-in-Ok-clause-moments : goal.returns-in-Ok-clause-moments
+returns-in-Ok-clause-moments g c =
+    let w = c.self.inside in
+    let disk = g.M.BlockMedium.disk in
+    let later = disk c.dismount.new.medium in
+    let k : Kept = record { config = w.settings; work = work_of w.work; tick = w.tick; last_event = w.last_event; generation = w.generation; taken = w.taken.items; erased = w.erased.items } in
+    subst (λ (v : State _ _). LeavesShown none_made v.kept (disk v.medium) later) c.self.view_is
+    (idle_leaves none_made k (disk w.medium) later c.in-Idle.directory (ap work_of c.in-Idle.is) (λ files held settled. c.dismount.ensures.moments k.config files held settled))
+
+pub returns-in-Err-dismount-clause-moments : goal.returns-in-Err-dismount-clause-moments
+returns-in-Err-dismount-clause-moments g c =
+    let w = c.self.inside in
+    let disk = g.M.BlockMedium.disk in
+    let later = disk c.dismount.new.medium in
+    let k : Kept = record { config = w.settings; work = work_of w.work; tick = w.tick; last_event = w.last_event; generation = w.generation; taken = w.taken.items; erased = w.erased.items } in
+    subst (λ (v : State _ _). LeavesShown none_made v.kept (disk v.medium) later) c.self.view_is
+    (idle_leaves none_made k (disk w.medium) later c.in-Idle.directory (ap work_of c.in-Idle.is) (λ files held settled. c.dismount.ensures.moments k.config files held settled))

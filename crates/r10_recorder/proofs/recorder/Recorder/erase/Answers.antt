@@ -8,11 +8,13 @@ use Rattle.r10_means.specs.Kept.{Kept, mode_of, idle}
 use Rattle.r10_means.specs.Means.{Means}
 use Rattle.r10_recorder.specs.Leading.{KeepsShown, Leads, none_taken}
 use Rattle.r10_recorder.specs.State.{State}
+use Rattle.r10_recorder.specs.Stopped.{LeavesShown, erase_made}
 use Rattle.r10_recorder.specs.Work.{work_of}
 use Rattle.r10_recorder.specs.declared.work.Doing.{Doing}
 use Rattle.r10_recorder.proofs.Bytes.{holds_of}
 use Rattle.r10_recorder.proofs.Dismounts.{held}
 use Rattle.r10_recorder.proofs.Erases.{checked, erase_done, erase_fails, erase_lacks, erase_refused}
+use Rattle.r10_recorder.proofs.Stopped.{idle_becomes, left_alone}
 use Rattle.r10_steps.specs.Checks.{erase_checks}
 use Rattle.r10_steps.specs.declared.event.Event.TheVariants as events
 use Rattle.r10_steps.specs.declared.reply.Reply.TheVariants as replies
@@ -93,3 +95,42 @@ returns-in-Err-erase-clause-bytes g c =
     let disk = g.M.BlockMedium.disk in
     subst (λ (v : State _ _). KeepsShown v.kept (disk v.medium).blocks (disk v.medium).failures (disk c.erase.new.medium).blocks) c.self.view_is
     (λ m means. c.erase.ensures.bytes w.settings m.files (holds_of w.settings (work_of w.work) c.in-Idle.directory (disk w.medium).blocks m.files (ap work_of c.in-Idle.is) means.files))
+
+pub returns-in-Err-clause-moments : goal.returns-in-Err-clause-moments
+returns-in-Err-clause-moments g c =
+    let w = c.self.inside in
+    let disk = g.M.BlockMedium.disk in
+    let k : Kept = record { config = w.settings; work = work_of w.work; tick = w.tick; last_event = w.last_event; generation = w.generation; taken = w.taken.items; erased = w.erased.items } in
+    subst (λ (v : State _ _). LeavesShown (erase_made v.kept.config) v.kept (disk v.medium) (disk v.medium)) c.self.view_is (left_alone (erase_made k.config) k (disk w.medium))
+
+pub returns-in-Err-check_erase-clause-moments : goal.returns-in-Err-check_erase-clause-moments
+returns-in-Err-check_erase-clause-moments g c =
+    let w = c.self.inside in
+    let disk = g.M.BlockMedium.disk in
+    let k : Kept = record { config = w.settings; work = work_of w.work; tick = w.tick; last_event = w.last_event; generation = w.generation; taken = w.taken.items; erased = w.erased.items } in
+    subst (λ (v : State _ _). LeavesShown (erase_made v.kept.config) v.kept (disk v.medium) (disk v.medium)) c.self.view_is (left_alone (erase_made k.config) k (disk w.medium))
+
+pub returns-in_default-from_slice-clause-moments : goal.returns-in_default-from_slice-clause-moments
+returns-in_default-from_slice-clause-moments g c =
+    let w = c.self.inside in
+    let disk = g.M.BlockMedium.disk in
+    let k : Kept = record { config = w.settings; work = work_of w.work; tick = w.tick; last_event = w.last_event; generation = w.generation; taken = w.taken.items; erased = w.erased.items } in
+    subst (λ (v : State _ _). LeavesShown (erase_made v.kept.config) v.kept (disk v.medium) (disk v.medium)) c.self.view_is (left_alone (erase_made k.config) k (disk w.medium))
+
+pub returns-in-Ok-erase-clause-moments : goal.returns-in-Ok-erase-clause-moments
+returns-in-Ok-erase-clause-moments g c =
+    let w = c.self.inside in
+    let disk = g.M.BlockMedium.disk in
+    let later = disk c.erase.new.medium in
+    let k : Kept = record { config = w.settings; work = work_of w.work; tick = w.tick; last_event = w.last_event; generation = w.generation; taken = w.taken.items; erased = w.erased.items } in
+    subst (λ (v : State _ _). LeavesShown (erase_made v.kept.config) v.kept (disk v.medium) later) c.self.view_is
+    (idle_becomes (erase_made k.config) k (disk w.medium) later c.in-Idle.directory (ap work_of c.in-Idle.is) (λ files held settled. c.erase.ensures.moments k.config files held settled))
+
+pub returns-in-Err-erase-clause-moments : goal.returns-in-Err-erase-clause-moments
+returns-in-Err-erase-clause-moments g c =
+    let w = c.self.inside in
+    let disk = g.M.BlockMedium.disk in
+    let later = disk c.erase.new.medium in
+    let k : Kept = record { config = w.settings; work = work_of w.work; tick = w.tick; last_event = w.last_event; generation = w.generation; taken = w.taken.items; erased = w.erased.items } in
+    subst (λ (v : State _ _). LeavesShown (erase_made v.kept.config) v.kept (disk v.medium) later) c.self.view_is
+    (idle_becomes (erase_made k.config) k (disk w.medium) later c.in-Idle.directory (ap work_of c.in-Idle.is) (λ files held settled. c.erase.ensures.moments k.config files held settled))

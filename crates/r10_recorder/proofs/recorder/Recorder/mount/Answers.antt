@@ -8,11 +8,13 @@ use Rattle.r10_means.specs.Means.{Means}
 use Rattle.r10_recorder.specs.Leading.{KeepsShown, Leads, none_taken}
 use Rattle.r10_recorder.specs.Refused.{Refuses, IsMountRefusal}
 use Rattle.r10_recorder.specs.State.{State}
+use Rattle.r10_recorder.specs.Stopped.{LeavesShown, none_made}
 use Rattle.r10_recorder.specs.Work.{work_of}
 use Rattle.r10_recorder.specs.declared.work.Doing.{Doing}
 use Rattle.r10_recorder.proofs.Bytes.{says_of}
 use Rattle.r10_recorder.proofs.Leading.{lacking}
 use Rattle.r10_recorder.proofs.Mounts.{mount_done, mount_fails, mount_lacks, mount_refused, said, unmounted_work}
+use Rattle.r10_recorder.proofs.Stopped.{left_alone, unmounted_leaves}
 use Rattle.r10_steps.specs.declared.event.Event.TheVariants as events
 use Rattle.r10_steps.specs.declared.reply.Reply.TheVariants as replies
 use Rattle.r10_recorder.proofs.recorder.Recorder.mount.Goals as goal
@@ -106,3 +108,50 @@ returns-in-Err-Medium-clause-bytes g c =
     let fine : first_broken (unmounted_checks (mode_of (work_of w.work))) ≡ None = ap (λ mode. first_broken (unmounted_checks mode)) (sym c.mode_in.ensures) ∙ c.in_default.ensures in
     subst (λ (v : State _ _). KeepsShown v.kept (disk v.medium).blocks (disk v.medium).failures (disk c.mount.new.medium).blocks) c.self.view_is
     (λ m means. c.mount.ensures.bytes w.settings m.files (says_of w.settings (work_of w.work) (disk w.medium).blocks m.files (unmounted_work (work_of w.work) fine) means.files))
+
+pub returns-in-Err-clause-moments : goal.returns-in-Err-clause-moments
+returns-in-Err-clause-moments g c =
+    let w = c.self.inside in
+    let disk = g.M.BlockMedium.disk in
+    let k : Kept = record { config = w.settings; work = work_of w.work; tick = w.tick; last_event = w.last_event; generation = w.generation; taken = w.taken.items; erased = w.erased.items } in
+    subst (λ (v : State _ _). LeavesShown none_made v.kept (disk v.medium) (disk v.medium)) c.self.view_is (left_alone none_made k (disk w.medium))
+
+pub returns-in-Ok-clause-moments : goal.returns-in-Ok-clause-moments
+returns-in-Ok-clause-moments g c =
+    let w = c.self.inside in
+    let disk = g.M.BlockMedium.disk in
+    let later = disk c.mount.new.medium in
+    let k : Kept = record { config = w.settings; work = work_of w.work; tick = w.tick; last_event = w.last_event; generation = w.generation; taken = w.taken.items; erased = w.erased.items } in
+    let fine : first_broken (unmounted_checks (mode_of k.work)) ≡ None = ap (λ mode. first_broken (unmounted_checks mode)) (sym c.mode_in.ensures) ∙ c.in_default.ensures in
+    subst (λ (v : State _ _). LeavesShown none_made v.kept (disk v.medium) later) c.self.view_is
+    (unmounted_leaves none_made k (disk w.medium) later (unmounted_work k.work fine) (λ files settled. c.mount.ensures.moments k.config files settled))
+
+pub returns-in-Err-BadDirectory-clause-moments : goal.returns-in-Err-BadDirectory-clause-moments
+returns-in-Err-BadDirectory-clause-moments g c =
+    let w = c.self.inside in
+    let disk = g.M.BlockMedium.disk in
+    let later = disk c.mount.new.medium in
+    let k : Kept = record { config = w.settings; work = work_of w.work; tick = w.tick; last_event = w.last_event; generation = w.generation; taken = w.taken.items; erased = w.erased.items } in
+    let fine : first_broken (unmounted_checks (mode_of k.work)) ≡ None = ap (λ mode. first_broken (unmounted_checks mode)) (sym c.mode_in.ensures) ∙ c.in_default.ensures in
+    subst (λ (v : State _ _). LeavesShown none_made v.kept (disk v.medium) later) c.self.view_is
+    (unmounted_leaves none_made k (disk w.medium) later (unmounted_work k.work fine) (λ files settled. c.mount.ensures.moments k.config files settled))
+
+pub returns-in-Err-OutOfMemory-clause-moments : goal.returns-in-Err-OutOfMemory-clause-moments
+returns-in-Err-OutOfMemory-clause-moments g c =
+    let w = c.self.inside in
+    let disk = g.M.BlockMedium.disk in
+    let later = disk c.mount.new.medium in
+    let k : Kept = record { config = w.settings; work = work_of w.work; tick = w.tick; last_event = w.last_event; generation = w.generation; taken = w.taken.items; erased = w.erased.items } in
+    let fine : first_broken (unmounted_checks (mode_of k.work)) ≡ None = ap (λ mode. first_broken (unmounted_checks mode)) (sym c.mode_in.ensures) ∙ c.in_default.ensures in
+    subst (λ (v : State _ _). LeavesShown none_made v.kept (disk v.medium) later) c.self.view_is
+    (unmounted_leaves none_made k (disk w.medium) later (unmounted_work k.work fine) (λ files settled. c.mount.ensures.moments k.config files settled))
+
+pub returns-in-Err-Medium-clause-moments : goal.returns-in-Err-Medium-clause-moments
+returns-in-Err-Medium-clause-moments g c =
+    let w = c.self.inside in
+    let disk = g.M.BlockMedium.disk in
+    let later = disk c.mount.new.medium in
+    let k : Kept = record { config = w.settings; work = work_of w.work; tick = w.tick; last_event = w.last_event; generation = w.generation; taken = w.taken.items; erased = w.erased.items } in
+    let fine : first_broken (unmounted_checks (mode_of k.work)) ≡ None = ap (λ mode. first_broken (unmounted_checks mode)) (sym c.mode_in.ensures) ∙ c.in_default.ensures in
+    subst (λ (v : State _ _). LeavesShown none_made v.kept (disk v.medium) later) c.self.view_is
+    (unmounted_leaves none_made k (disk w.medium) later (unmounted_work k.work fine) (λ files settled. c.mount.ensures.moments k.config files settled))
