@@ -11,7 +11,7 @@ mod reading;
 mod split;
 mod write;
 
-pub use append::append_all;
+pub use append::{append_all, append_text};
 pub use body::{read_body, write_body};
 pub use entry::BodyEntry;
 pub use padding::unpadded;

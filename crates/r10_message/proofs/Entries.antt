@@ -34,12 +34,3 @@ entry_read bytes rest behind text count header lc lt e1 e2 e3 n =
       record { count = lc; sub = omega arith; bytes = omega (arith, n) },
       e1 ∙ ap (λ t. stamp count ++ t) (e2 ∙ ap (λ t. le_bytes 4 header ++ t) e3) ∙ ap (λ h. stamp count ++ le_bytes 4 h ++ padded text) (sym is),
     )
-
-zeros : (k : ℕ) → k < 2 → take {A = ℕ} k (0 ∷ []) ≡ replicate k 0
-zeros zero lt = refl
-zeros (suc zero) lt = refl
-zeros (suc (suc k)) lt = absurd (omega arith)
-
--- the four parts that are written
-pub four_parts : (count header : ℕ) (text : List ℕ) → stamp count ++ (le_bytes 4 header ++ (text ++ (take {A = ℕ} (length text % 2) (0 ∷ []) ++ []))) ≡ stamp count ++ le_bytes 4 header ++ padded text
-four_parts count header text = ap (λ t. stamp count ++ (le_bytes 4 header ++ (text ++ t))) (append-nil (take {A = ℕ} (length text % 2) (0 ∷ [])) ∙ zeros (length text % 2) (omega arith))

@@ -6,7 +6,7 @@ ghost use Rattle.r10_entries.specs.Append.{Appends};
 ghost use Rattle.r10_message.specs.Message.{FitsMessage, message_entry, message_of, message_word};
 
 use r10_count::{Count, Items, split_u32};
-use r10_entries::{BodyEntry, append_all, unpadded};
+use r10_entries::{BodyEntry, append_text, unpadded};
 use std::alloc::{AllocError, Global};
 
 /// A message with its time.
@@ -56,6 +56,7 @@ fn data_header(data_error: bool, format: bool, sub: u16, length: usize) -> u32
 /// Adds the bytes of one message from its parts: a stamp of 8 bytes, a header of 4, the bytes, and
 /// a zero byte where their number is odd. Where memory is refused, nothing is added.
 /// Source: IRIG 106-17 chapter 11, message data packets, format 0.
+#[inline(always)]
 pub fn push_entry(
     out: &mut Vec<u8>,
     count: Count,
@@ -70,7 +71,7 @@ pub fn push_entry(
 {
     let stamp = count.stamp();
     let header = data_header(data_error, format, sub, bytes.len()).to_le_bytes();
-    append_all(out, &[&stamp, &header, bytes, &[0][..bytes.len() % 2]])
+    append_text(out, stamp, header, bytes)
 }
 
 impl BodyEntry for MessageEntry {

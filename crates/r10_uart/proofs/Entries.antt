@@ -39,12 +39,3 @@ header_is bytes rest behind count header e lc lt e1 e2 fits is =
     let first = same_stamp count e.count rest (le_bytes 4 (uart_header e) ++ padded e.bytes) lc fits.count (sym e1 ∙ is) in
     let second = same_u32 header (uart_header e) behind (padded e.bytes) lt (header-fits e.parity e.sub (length e.bytes) fits.sub fits.bytes) (sym e2 ∙ first.1) in
     (first.0, second.0, second.1)
-
-zeros : (k : ℕ) → k < 2 → take {A = ℕ} k (0 ∷ []) ≡ replicate k 0
-zeros zero lt = refl
-zeros (suc zero) lt = refl
-zeros (suc (suc k)) lt = absurd (omega arith)
-
--- the four parts that are written
-pub four_parts : (count header : ℕ) (text : List ℕ) → stamp count ++ (le_bytes 4 header ++ (text ++ (take {A = ℕ} (length text % 2) (0 ∷ []) ++ []))) ≡ stamp count ++ le_bytes 4 header ++ padded text
-four_parts count header text = ap (λ t. stamp count ++ (le_bytes 4 header ++ (text ++ t))) (append-nil (take {A = ℕ} (length text % 2) (0 ∷ [])) ∙ zeros (length text % 2) (omega arith))
