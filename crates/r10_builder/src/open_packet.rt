@@ -1,6 +1,6 @@
 //! What is known of the packet that is being filled.
 
-ghost use Rattle.std.specs.Prelude.{◌≡◌, [], ◌∷◌};
+ghost use Rattle.std.specs.Prelude.{◌≡◌, ◌+◌, ◌<◌, ◌^◌, Some};
 
 use r10_body::Sample;
 use r10_count::Count;
@@ -29,5 +29,18 @@ impl OpenPacket {
             number: 1,
             gap: sample.gap,
         }
+    }
+}
+
+/// Counts a message into an open packet, which is this one, behind its last.
+#[inline(always)]
+pub(crate) fn count_in(place: &mut Option<OpenPacket>, packet: &OpenPacket, count: Count)
+    requires is { place.old ≡ Some packet.now }
+    requires few { packet.now.number + 1 < 2 ^ 64 }
+    ensures { place.new ≡ Some (record { first = packet.now.first; last = count; number = packet.now.number + 1; gap = packet.now.gap }) }
+{
+    if let Some(open) = place {
+        open.last = count;
+        open.number += 1;
     }
 }

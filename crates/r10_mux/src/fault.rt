@@ -1,6 +1,5 @@
 //! What keeps an entry out of a file.
 
-use r10_body::Sample;
 use r10_builder::Builders;
 use r10_medium::MediumFault;
 
@@ -13,18 +12,9 @@ pub enum BeginFault {
     Medium(MediumFault),
 }
 
-/// Why a sample was not taken in.
-#[derive(Debug, Drop)]
-pub enum TakeFault {
-    /// There is no memory for it. It comes back, and the file is as it was.
-    Memory(Sample),
-    /// The medium failed. The file can't go on.
-    Medium(MediumFault),
-}
-
-/// Why an event was not taken in.
+/// Why a sample or an event was not taken in.
 #[derive(Clone, Copy, Debug, PartialEq, Eq)]
-pub enum EventFault {
+pub enum TakeFault {
     /// There is no memory for it, and the file is as it was.
     Memory,
     /// The medium failed. The file can't go on.

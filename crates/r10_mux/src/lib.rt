@@ -10,5 +10,5 @@ mod own;
 mod put;
 mod tick;
 
-pub use fault::{BeginFault, EventFault, Full, TakeFault};
+pub use fault::{BeginFault, Full, TakeFault};
 pub use mux::Mux;

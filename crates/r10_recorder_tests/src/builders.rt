@@ -33,7 +33,7 @@ fn taken(builders: &mut Builders, channel: u16, sample: Sample) -> Option<usize>
     if !builders.accepts(channel, &sample) {
         return None;
     }
-    match builders.take(channel, sample) {
+    match builders.take(channel, &sample) {
         Ok(Some(_)) => Some(1),
         Ok(None) => Some(0),
         Err(_) => None,

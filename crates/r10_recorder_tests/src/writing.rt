@@ -120,7 +120,7 @@ fn take<M: BlockMedium>(
     let None = mux.fits(channel, &sample, 1000, area) else {
         return Err(Stop::Refused);
     };
-    let Ok(()) = mux.take(medium, channel, sample) else {
+    let Ok(()) = mux.take(medium, channel, &sample) else {
         return Err(Stop::Medium);
     };
     Ok(count)
