@@ -13,6 +13,7 @@ pub const ENTRY_COST: u64 = 104;
 pub const FILE_COST: u64 = 152;
 
 /// What a message adds to the cost of its entry, in bytes: this recorder's own measure of room.
+#[inline(always)]
 pub fn cost(message: &Message) -> u64
     ensures { result ≡ message_cost message.now }
 {

@@ -65,6 +65,7 @@ impl RingLane {
     /// says why not, by the first of these that applies: WrongKind, BadMessage, TooLong, CountBack,
     /// or Overflow where as many wait as the capacity. An overflow counts the message as lost; every
     /// other refusal leaves the lane as it was.
+    #[inline(always)]
     pub fn offer(&mut self, count: Count, message: Message) -> Result<(), Refusal>
         ensures offers { Offers self.old count message result self.new }
         ensures climbs { reached self.old ≤ reached self.new }
