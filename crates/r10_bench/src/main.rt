@@ -42,8 +42,6 @@ fn main(rt: HostRuntime) -> Result<ExitCode, Fault> {
     };
     let figures = bench::run(&rt, rt.alloc(), number)?;
     print!(rt; "{figures}")?;
-    let lanes = lanes::run(&rt, rt.alloc(), number)?;
-    print!(rt; "{lanes}")?;
     let book = book::run(&rt, rt.alloc(), number)?;
     print!(rt; "{book}")?;
     for load in &recording::LOADS {
@@ -64,5 +62,7 @@ fn main(rt: HostRuntime) -> Result<ExitCode, Fault> {
         let figures = check::run(&rt, rt.alloc(), shape, number)?;
         print!(rt; "{figures}")?;
     }
+    let lanes = lanes::run(&rt, rt.alloc(), number)?;
+    print!(rt; "{lanes}")?;
     Ok(ExitCode::SUCCESS)
 }

@@ -10,7 +10,7 @@ use crate::record::{feed_all, finish};
 use crate::start::{AREA, BLOCKS, begin};
 use r10_body::Timed;
 use r10_count::Count;
-use r10_medium::Memory;
+use r10_medium::{BlockMedium, Memory};
 use std::alloc::{AllocError, Global};
 use std::fmt;
 use std::time::{CpuClock, Duration};
@@ -65,11 +65,15 @@ fn make_four(alloc: Global, first: u32, message: usize) -> Result<[Vec<Timed>; 4
     ])
 }
 
-/// A medium in memory of so many blocks.
+/// A medium in memory of so many blocks. Its last block is written, so that all of its memory is in use before anything is timed.
 pub(crate) fn make_medium(alloc: Global, blocks: usize) -> Result<Memory, AllocError>
     ensures { IfOk result (λ m. length (memory_disk m).blocks ≡ blocks) }
 {
-    Memory::new(alloc, blocks)
+    let mut medium = Memory::new(alloc, blocks)?;
+    if blocks > 0 {
+        let _ = medium.write(blocks - 1, &[0; 512]);
+    }
+    Ok(medium)
 }
 
 /// Records so many messages, rounded up to thousands.
