@@ -1,6 +1,5 @@
 -- An entry's header and its fields.
-use Rattle.std.proofs.Common.{◌≡◌, ℕ, zero, suc, ◌+◌, ◌*◌, ◌/◌, ◌%◌, ◌^◌, ◌<◌, List, [], ◌∷◌, ◌++◌, length, take, replicate, nat_eq, refl, sym, ap, ◌∙◌, arith}
-use Rattle.std.proofs.lemmas.List.{append-nil}
+use Rattle.std.proofs.Common.{◌≡◌, ℕ, zero, suc, ◌+◌, ◌*◌, ◌/◌, ◌%◌, ◌^◌, ◌<◌, List, ◌++◌, length, nat_eq, refl, sym, ap, ◌∙◌, arith}
 use Rattle.r10_count.specs.Bytes.{le_bytes, flag_at}
 use Rattle.r10_count.specs.Count.{stamp, IsCount}
 use Rattle.r10_entries.specs.Padding.{padded}
