@@ -3,9 +3,9 @@ use Rattle.std.proofs.Common.{◌≡◌, ℕ, ◌+◌, ◌*◌, ◌%◌, ◌<◌
 use Rattle.std.proofs.lemmas.Bool.{eq-eqb, eqb-true}
 use Rattle.std.specs.List.{AllByRecursion, concat}
 use Rattle.r10_count.specs.Bytes.{le_bytes}
-use Rattle.r10_entries.specs.Form.{IsBody, IsForeign, FitsAll, OpensAll, SuitsAll, spelled_all, body_bytes}
-use Rattle.r10_entries.proofs.Bodies.{one_spelled}
-use Rattle.r10_entries.proofs.Fixed.{fixed_length, fixed_parts}
+use Rattle.r10_count.specs.Form.{IsBody, IsForeign, FitsAll, OpensAll, SuitsAll, spelled_all, body_bytes}
+use Rattle.r10_count.proofs.Bodies.{one_spelled}
+use Rattle.r10_count.proofs.Fixed.{fixed_length, fixed_parts}
 use Rattle.r10_a429.specs.Arinc.{FitsArinc, FitsPacket, HasShortGaps, HasGaps, IsArinc, IsForeignArinc, arinc_body, arinc_entries}
 use Rattle.r10_a429.specs.Entry.{arinc_form}
 use Rattle.r10_a429.specs.declared.entry.ArincEntry.{ArincEntry}

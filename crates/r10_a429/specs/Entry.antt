@@ -4,7 +4,7 @@ use Rattle.std.proofs.Common.{arith, lit<}
 use Rattle.std.proofs.lemmas.Bool.{eq-eqb}
 use Rattle.r10_count.specs.Bytes.{le_bytes, flag_at}
 use Rattle.r10_count.proofs.Fronts.{same_u32}
-use Rattle.r10_entries.specs.Form.{Form}
+use Rattle.r10_count.specs.Form.{Form}
 use Rattle.r10_a429.specs.Arinc.{arinc_entry, arinc_header, FitsArinc, FollowsSoon}
 use Rattle.r10_a429.specs.declared.entry.ArincEntry.{ArincEntry}
 

@@ -1,17 +1,16 @@
 //! The body of an ARINC 429 packet.
 
 ghost use Rattle.std.specs.Prelude.{◌≡◌, ◌↔◌, ◌+◌, ◌*◌, ◌^◌, ◌<◌, ℕ, List, length, IsTrue, IfOk};
-ghost use Rattle.r10_entries.specs.Append.{Appends};
-ghost use Rattle.r10_entries.specs.Form.{FitsAll};
-ghost use Rattle.r10_entries.specs.Reading.{Reads};
-ghost use Rattle.r10_entries.specs.declared.reading.Reading.TheVariants.{Strict};
+ghost use Rattle.r10_count.specs.Append.{Appends};
+ghost use Rattle.r10_count.specs.Form.{FitsAll};
+ghost use Rattle.r10_count.specs.Reading.{Reads};
+ghost use Rattle.r10_count.specs.declared.reading.Reading.TheVariants.{Strict};
 ghost use Rattle.r10_a429.specs.Arinc.{FitsPacket, IsArinc, IsForeignArinc, arinc_body};
 ghost use Rattle.r10_a429.specs.Entry.{arinc_form};
 ghost use Rattle.r10_a429.specs.declared.entry.ArincEntry.{ArincEntry as Spoken};
 
 use crate::entry::ArincEntry;
-use r10_count::{Count, Items};
-use r10_entries::{Reading, read_body, write_body};
+use r10_count::{Count, Items, Reading, read_body, write_body};
 use std::alloc::{AllocError, Global};
 
 /// The body of an ARINC 429 packet: the channel specific data word, and one entry for each word.

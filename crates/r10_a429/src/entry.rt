@@ -4,8 +4,7 @@ ghost use Rattle.std.specs.Prelude.{◌≡◌, ◌≤◌, ◌↔◌, IsTrue};
 ghost use Rattle.r10_a429.specs.Arinc.{arinc_header};
 ghost use Rattle.r10_a429.specs.Entry.{FitsBehind};
 
-use r10_count::{Count, split_u32};
-use r10_entries::{BodyEntry, append_all};
+use r10_count::{BodyEntry, Count, append_all, split_u32};
 use std::alloc::{AllocError, Global};
 
 /// A word of an ARINC 429 bus with its time.

@@ -2,11 +2,11 @@
 use Rattle.std.proofs.Common.{◌≡◌, ℕ, get_or, ◌+◌, ◌*◌, ◌%◌, ◌^◌, ◌<◌, ◌≤◌, List, [], ◌∷◌, ◌++◌, length, drop, refl, sym, ap, ◌∙◌, arith, length-append}
 use Rattle.std.proofs.lemmas.Bool.{eq-eqb, eqb-true}
 use Rattle.std.specs.List.{flat_map, AllByRecursion, sum_by}
-use Rattle.r10_entries.specs.Form.{IsBody, IsForeign, FitsAll, OpensAll, SuitsAll, spelled_all, body_bytes}
-use Rattle.r10_entries.proofs.Bodies.{one_spelled}
-use Rattle.r10_entries.proofs.Parts.{first_is}
-use Rattle.r10_entries.proofs.Lengths.{next_long, sizes_from}
-use Rattle.r10_entries.proofs.Plain.{plain_spelled, plain_fits, plain_all}
+use Rattle.r10_count.specs.Form.{IsBody, IsForeign, FitsAll, OpensAll, SuitsAll, spelled_all, body_bytes}
+use Rattle.r10_count.proofs.Bodies.{one_spelled}
+use Rattle.r10_count.proofs.BodyParts.{first_is}
+use Rattle.r10_count.proofs.Lengths.{next_long, sizes_from}
+use Rattle.r10_count.proofs.Plain.{plain_spelled, plain_fits, plain_all}
 use Rattle.r10_b1553.specs.Bus.{FitsBus, IsBus, IsForeignBus, bus_body, bus_entry, entry_size, told_size}
 use Rattle.r10_b1553.specs.Entry.{bus_form, entry-told, entry-one, entry-size}
 use Rattle.r10_b1553.specs.declared.entry.BusEntry.{BusEntry}

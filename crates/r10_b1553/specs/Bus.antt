@@ -3,7 +3,7 @@ use Rattle.std.specs.Prelude.{◌≡◌, ℕ, ◌+◌, ◌*◌, ◌%◌, ◌^◌
 use Rattle.std.specs.List.{flat_map, AllByRecursion, concat}
 use Rattle.r10_count.specs.Bytes.{le_bytes, u16_at}
 use Rattle.r10_count.specs.Count.{IsCount, stamp}
-use Rattle.r10_entries.specs.Form.{IsEntry}
+use Rattle.r10_count.specs.Form.{IsEntry}
 use Rattle.r10_b1553.specs.declared.entry.BusEntry.{BusEntry}
 
 -- the word has the number of messages

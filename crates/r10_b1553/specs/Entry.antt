@@ -6,7 +6,7 @@ use Rattle.std.proofs.lemmas.Nat.{from_le_bytes-to_le_bytes_2, and_le_r}
 use Rattle.std.specs.List.{AllByRecursion}
 use Rattle.r10_count.specs.Bytes.{le_bytes, u16_at}
 use Rattle.r10_count.proofs.Fronts.{same_stamp, same_u16}
-use Rattle.r10_entries.specs.Form.{Form, IsEntry}
+use Rattle.r10_count.specs.Form.{Form, IsEntry}
 use Rattle.r10_b1553.specs.Bus.{bus_entry, bus_of, entry_size, named_bits, words_bytes, told_size, told_bytes, FitsBus}
 use Rattle.r10_b1553.specs.declared.entry.BusEntry.{BusEntry}
 

@@ -1,15 +1,14 @@
 //! The body of a MIL-STD-1553 packet.
 
 ghost use Rattle.std.specs.Prelude.{◌≡◌, ◌↔◌, ◌^◌, ◌<◌, List, length, IsTrue, IfOk};
-ghost use Rattle.r10_entries.specs.Append.{Appends};
-ghost use Rattle.r10_entries.specs.Reading.{Reads};
-ghost use Rattle.r10_entries.specs.declared.reading.Reading.TheVariants.{Strict};
+ghost use Rattle.r10_count.specs.Append.{Appends};
+ghost use Rattle.r10_count.specs.Reading.{Reads};
+ghost use Rattle.r10_count.specs.declared.reading.Reading.TheVariants.{Strict};
 ghost use Rattle.r10_b1553.specs.Bus.{FitsBusBody, IsBus, IsForeignBus, bus_body};
 ghost use Rattle.r10_b1553.specs.declared.entry.BusEntry.{BusEntry as Spoken};
 
 use crate::entry::BusEntry;
-use r10_count::Items;
-use r10_entries::{BodyEntry, Reading, read_body, write_body};
+use r10_count::{BodyEntry, Items, Reading, read_body, write_body};
 use std::alloc::{AllocError, Global};
 
 /// The body of a MIL-STD-1553 packet: the channel specific data word with the number of messages, and one entry for

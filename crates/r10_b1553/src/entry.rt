@@ -2,12 +2,11 @@
 
 ghost use Rattle.std.specs.Prelude.{◌≡◌, ◌↔◌, ◌*◌, ◌^◌, ◌<◌, ◌≤◌, ◌++◌, IsTrue, IfSome, IfNone, length};
 ghost use Rattle.r10_count.specs.Bytes.{le_bytes};
-ghost use Rattle.r10_entries.specs.Append.{Appends};
+ghost use Rattle.r10_count.specs.Append.{Appends};
 ghost use Rattle.r10_b1553.specs.Bus.{FitsBus, bus_entry, bus_of, bus_word};
 
 use crate::words::{append_words, words_of};
-use r10_count::{Count, Items, split_u16};
-use r10_entries::{BodyEntry, append_all};
+use r10_count::{BodyEntry, Count, Items, append_all, split_u16};
 use std::alloc::{AllocError, Global};
 
 /// The bits of the block status that have a name. Their places are this recorder's own choice.

@@ -2,7 +2,7 @@
 
 ghost use Rattle.std.specs.Prelude.{◌≡◌, ◌%◌, ◌^◌, ◌<◌, length, IfOk};
 ghost use Rattle.std.specs.List.{AllByRecursion};
-ghost use Rattle.r10_entries.specs.Append.{Appends};
+ghost use Rattle.r10_count.specs.Append.{Appends};
 ghost use Rattle.r10_b1553.specs.Bus.{words_bytes};
 
 use r10_count::split_u16;

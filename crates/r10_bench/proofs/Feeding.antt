@@ -16,10 +16,10 @@ use Rattle.r10_builder.specs.Settings.{specs_of}
 use Rattle.r10_builder.specs.Grows.{is_open}
 use Rattle.r10_packetout.specs.Output.{IsReady, Writing}
 use Rattle.r10_packetout.proofs.Having.{ready_fewer}
-use Rattle.r10_carry.specs.Carries.{Carries, Recording, packets_of}
+use Rattle.r10_packetout.specs.Carries.{Carries, Recording, packets_of}
 use Rattle.r10_mux.specs.Writes.{IsSame, IsSameFile, Leads, MayGrow}
 use Rattle.r10_machine.specs.Machine.{Lane}
-use Rattle.r10_machine.specs.Sound.{count_or_0}
+use Rattle.r10_machine.specs.SoundParts.{count_or_0}
 use Rattle.r10_lane.specs.Lanes.{Took, first_count, reached}
 use Rattle.r10_pump.specs.Pumping.{EndsBy, IsOpenTo, TakenIn, entries_on}
 use Rattle.r10_pump.proofs.Coming.{has_builder}

@@ -6,9 +6,9 @@ use Rattle.r10_body.specs.declared.entry.Entry.{Entry}
 use Rattle.r10_body.specs.declared.message.Kind.TheVariants as kinds
 use Rattle.r10_body.specs.declared.spec.ChannelSpec.{ChannelSpec}
 use Rattle.r10_builder.specs.State.{State}
-use Rattle.r10_carry.specs.Carries.{Carries, Recording}
+use Rattle.r10_packetout.specs.Carries.{Carries, Recording}
 use Rattle.r10_machine.specs.Machine.{Lane}
-use Rattle.r10_machine.specs.Sound.{count_or_0}
+use Rattle.r10_machine.specs.SoundParts.{count_or_0}
 use Rattle.r10_pump.specs.Pumping.{EndsBy, HasBuilder}
 
 -- the file goes on with entries from a count on, on any channel, in an area that lies on the medium behind its first block

@@ -5,7 +5,7 @@ use crate::figures::a_second;
 use crate::mounted::{InMemory, begin, channel_of};
 use crate::whole::{make_round, record, rounds};
 use r10_body::Refusal;
-use r10_steps::Found;
+use r10_machine::Found;
 use std::alloc::Global;
 use std::fmt;
 use std::time::{CpuClock, Duration};

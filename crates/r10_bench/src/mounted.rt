@@ -6,12 +6,12 @@ ghost use Rattle.r10_machine.specs.Machine.{fresh_lane};
 use crate::fault::Fault;
 use crate::recording::make_medium;
 use r10_body::{ChannelSpec, Kind};
+use r10_control::Recorder;
 use r10_count::Parts;
-use r10_formatting::format;
 use r10_lane::RingLane;
 use r10_machine::Settings;
 use r10_medium::Memory;
-use r10_recorder::Recorder;
+use r10_volume::format;
 use std::alloc::{AllocError, Global};
 
 /// A recorder over a medium in memory, with lanes of one thread.

@@ -4,7 +4,7 @@ ghost use Rattle.std.specs.Prelude.{◌≡◌, ◌≤◌, IfOk, IsTrue, OnOk};
 ghost use Rattle.r10_builder.specs.Settings.{specs_of};
 ghost use Rattle.r10_lane.specs.Lanes.{reached};
 ghost use Rattle.r10_machine.specs.Machine.{Lane};
-ghost use Rattle.r10_machine.specs.Sound.{count_or_0};
+ghost use Rattle.r10_machine.specs.SoundParts.{count_or_0};
 ghost use Rattle.r10_bench.specs.Recording.{AreLines, IsFed, IsLine};
 
 use crate::fault::Fault;

@@ -8,7 +8,7 @@ use crate::mounted::{InMemory, begin};
 use crate::whole::{NUMBER, make_round, record, rounds};
 use r10_body::Refusal;
 use r10_count::Items;
-use r10_reader::Cursor;
+use r10_cursor::Cursor;
 use std::alloc::Global;
 use std::fmt;
 use std::time::{CpuClock, Duration};

@@ -3,3 +3,4 @@ pub mod Showing
 pub mod Carrying
 pub mod Joining
 pub mod Resuming
+pub mod Runs

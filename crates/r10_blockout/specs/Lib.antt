@@ -1,3 +1,4 @@
 pub mod Blocks
 pub mod Output
 pub mod Vectors
+pub mod Bytes

@@ -6,7 +6,7 @@ use Rattle.r10_count.specs.Count.{stamp}
 use Rattle.r10_count.specs.Civil.{IsCivil}
 use Rattle.r10_count.proofs.Fronts.{same_u16, same_u32, same_stamp}
 use Rattle.r10_count.specs.declared.civil.Parts.{Parts}
-use Rattle.r10_entries.specs.Padding.{padding}
+use Rattle.r10_count.specs.Padding.{padding}
 use Rattle.r10_uart.specs.Uart.{FitsUart, uart_entry, uart_header, uart_body}
 use Rattle.r10_uart.specs.declared.entry.UartEntry.{UartEntry}
 use Rattle.r10_timebody.specs.Time.{two_digits, digits_word, time_body}

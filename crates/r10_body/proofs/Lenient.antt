@@ -1,6 +1,6 @@
 -- A body that the recorder writes is one that another recorder may have written too.
 use Rattle.std.proofs.Common.{◌≡◌, ℕ, List, length, inl, inr, subst, ap, arith}
-use Rattle.r10_entries.proofs.Bodies.{body_is_foreign}
+use Rattle.r10_count.proofs.Bodies.{body_is_foreign}
 use Rattle.r10_event.proofs.Events.{event_is_foreign}
 use Rattle.r10_indexbody.proofs.Nodes as nodes
 use Rattle.r10_indexbody.proofs.Roots as roots

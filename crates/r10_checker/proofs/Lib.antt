@@ -1,2 +1,4 @@
 pub mod Parts
 pub mod One
+pub mod Placing
+pub mod Saying

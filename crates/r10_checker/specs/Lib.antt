@@ -1,2 +1,4 @@
 pub mod Verdict
 pub mod Vectors
+pub mod Place
+pub mod Checked

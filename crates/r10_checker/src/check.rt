@@ -1,14 +1,14 @@
 //! Files on their own, without a directory.
 
 ghost use Rattle.std.specs.Prelude.{◌≡◌, ℕ, List, true, IfOk};
-ghost use Rattle.r10_foreign.specs.Tracks.{Stands as StandsForeign};
+ghost use Rattle.r10_strict.specs.Tracks.{Stands as StandsForeign};
 ghost use Rattle.r10_judge.specs.Judged.{Stands};
 ghost use Rattle.r10_checker.specs.Verdict.{IsVerdict};
 ghost use Rattle.r10_checker.specs.declared.check.Verdict.TheVariants as verdicts;
 
 use r10_body::FileFault;
-use r10_foreign::{Fault, ForeignTrack};
 use r10_judge::Judge;
+use r10_strict::{Fault, ForeignTrack};
 use std::alloc::{AllocError, Global};
 
 /// What is said of a file.

@@ -4,8 +4,8 @@ ghost use Rattle.std.specs.Prelude.{IfOk, MatchOption};
 ghost use Rattle.r10_body.specs.Faults.{IsAtFault};
 ghost use Rattle.r10_judge.specs.Judged.{SaysClosed};
 
-use r10_foreign::{Fault, ForeignTrack};
 use r10_judge::Judge;
+use r10_strict::{Fault, ForeignTrack};
 use std::alloc::{AllocError, Global};
 
 /// Where and how a file is at fault whose directory entry is closed or not: the first packet that is none

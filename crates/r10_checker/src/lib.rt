@@ -1,10 +1,16 @@
-//! The verdict on a recording file: this recorder may have written it, any recorder may have, or a packet at an offset is at fault.
+//! The verdict on a recording file, in memory or on a medium: this recorder may have written it, any recorder may have, or a
+//! packet at an offset is at fault.
 #![tactic(auto)]
 
 mod check;
 mod fault;
 mod laws;
+mod media;
+mod place;
+mod verdict;
 
 pub use check::{Verdict, check_file, end_verdict};
 pub use fault::find_fault;
 pub use laws::one_verdict;
+pub use media::{FileVerdict, check_medium};
+pub use place::{extent_of, is_inside};

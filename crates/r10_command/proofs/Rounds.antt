@@ -4,7 +4,7 @@ use Rattle.std.proofs.lemmas.List.{append-nil, length-take}
 use Rattle.std.proofs.Math.Seq.{take-append-add}
 use Rattle.std.specs.Io.KnownBytes.{Appends}
 use Rattle.r10_lines.specs.Replies.{reply_lines}
-use Rattle.r10_steps.specs.declared.reply.Reply.{Reply}
+use Rattle.r10_machine.specs.declared.reply.Reply.{Reply}
 use Rattle.r10_command.specs.Lines.{WritesLines, all_lines}
 
 lines_join : (done later : ℕ) (rs ss : List Reply) → later ≡ done + length rs → all_lines done (rs ++ ss) ≡ all_lines done rs ++ all_lines later ss

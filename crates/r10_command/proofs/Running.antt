@@ -5,12 +5,12 @@ use Rattle.std.specs.Io.KnownBytes.{Appends}
 use Rattle.r10_machine.specs.Config.{Config}
 use Rattle.r10_machine.specs.Machine.{Machine, fresh}
 use Rattle.r10_medium.specs.Disk.{Disk, Image}
-use Rattle.r10_session.specs.State.{State}
-use Rattle.r10_session.specs.Telling.{Runs, StandsFor}
-use Rattle.r10_steps.specs.Says.{MediumSays}
-use Rattle.r10_steps.specs.Step.{Run}
-use Rattle.r10_steps.specs.declared.event.Event.{Event}
-use Rattle.r10_steps.specs.declared.reply.Reply.{Reply}
+use Rattle.r10_world.specs.State.{State}
+use Rattle.r10_world.specs.Telling.{Runs, StandsFor}
+use Rattle.r10_machine.specs.Says.{MediumSays}
+use Rattle.r10_machine.specs.Step.{Run}
+use Rattle.r10_machine.specs.declared.event.Event.{Event}
+use Rattle.r10_machine.specs.declared.reply.Reply.{Reply}
 use Rattle.r10_command.specs.Lines.{RunsAndWrites, WritesLines}
 use Rattle.r10_command.specs.Sim.{IsScript, Leaves, Plays, WritesLeft}
 use Rattle.r10_command.proofs.Rounds.{rounds_join, take_split}

@@ -10,7 +10,7 @@ use Rattle.r10_images.specs.declared.listing.Outcome.{Outcome}
 use Rattle.r10_images.specs.declared.listing.Outcome.TheVariants.{Done}
 use Rattle.r10_playback.specs.Lines.{Plays}
 use Rattle.r10_playback.specs.declared.selection.Selection.{Selection}
-use Rattle.r10_verdicts.specs.Checked.{Checks}
+use Rattle.r10_playback.specs.Checked.{Checks}
 use Rattle.r10_command.specs.Sim.{Simulates, WritesLeft}
 use Rattle.r10_command.specs.Written.{WritesFormatted}
 

@@ -5,11 +5,11 @@ use Rattle.r10_lines.specs.Replies.{reply_lines}
 use Rattle.r10_machine.specs.Config.{Config}
 use Rattle.r10_machine.specs.Machine.{Machine}
 use Rattle.r10_medium.specs.Disk.{Disk, Image}
-use Rattle.r10_session.specs.State.{State}
-use Rattle.r10_session.specs.Telling.{StandsFor}
-use Rattle.r10_steps.specs.Step.{Run}
-use Rattle.r10_steps.specs.declared.event.Event.{Event}
-use Rattle.r10_steps.specs.declared.reply.Reply.{Reply}
+use Rattle.r10_world.specs.State.{State}
+use Rattle.r10_world.specs.Telling.{StandsFor}
+use Rattle.r10_machine.specs.Step.{Run}
+use Rattle.r10_machine.specs.declared.event.Event.{Event}
+use Rattle.r10_machine.specs.declared.reply.Reply.{Reply}
 
 -- the lines of the replies to the steps behind the first `done` ones, end to end
 abbrev pub all_lines : ℕ → List Reply → List ℕ

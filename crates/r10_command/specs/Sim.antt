@@ -9,10 +9,10 @@ use Rattle.r10_machine.specs.Machine.{Machine, fresh}
 use Rattle.r10_medium.specs.Disk.{Image}
 use Rattle.r10_script.specs.Keys.{HasOnly}
 use Rattle.r10_script.specs.Script.{AreSettings, AreSteps, script_keys}
-use Rattle.r10_steps.specs.Says.{MediumSays}
-use Rattle.r10_steps.specs.Step.{Run}
-use Rattle.r10_steps.specs.declared.event.Event.{Event}
-use Rattle.r10_steps.specs.declared.reply.Reply.{Reply}
+use Rattle.r10_machine.specs.Says.{MediumSays}
+use Rattle.r10_machine.specs.Step.{Run}
+use Rattle.r10_machine.specs.declared.event.Event.{Event}
+use Rattle.r10_machine.specs.declared.reply.Reply.{Reply}
 use Rattle.r10_command.specs.Lines.{WritesLines}
 
 -- a text spells a script: these settings, and the steps of these events

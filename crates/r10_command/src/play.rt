@@ -3,7 +3,7 @@
 ghost use Rattle.std.specs.Prelude.{◌≡◌, ◌<◌, ◌+◌, ◌^◌, ℕ, [], length, IfOk, IfSome, OnOk};
 ghost use Rattle.r10_machine.specs.Machine.{Machine, fresh};
 ghost use Rattle.r10_medium.specs.MemoryDisk.{memory_disk};
-ghost use Rattle.r10_session.specs.Telling.{StandsFor};
+ghost use Rattle.r10_world.specs.Telling.{StandsFor};
 ghost use Rattle.r10_command.specs.Lines.{WritesLines, RunsAndWrites};
 ghost use Rattle.r10_command.specs.Sim.{IsScript, Leaves, Plays, Simulates};
 
@@ -11,11 +11,10 @@ use crate::fault::Fault;
 use r10_body::Refusal;
 use r10_images::read_whole;
 use r10_lines::reply_lines;
-use r10_machine::Settings;
+use r10_machine::{Event, Reply, Settings, runs_join};
 use r10_medium::{BlockMedium, Memory};
 use r10_script::{Script, read_script};
-use r10_session::World;
-use r10_steps::{Event, Reply, runs_join};
+use r10_world::World;
 use std::alloc::{AllocError, Global};
 use std::io::{Read, Write};
 
@@ -79,7 +78,7 @@ fn fresh_world<M: BlockMedium + Drop>(
     ensures config { IfOk result (λ w. w.recorder.kept.config ≡ settings) }
     ensures stands { IfOk result (λ w. (failures : ℕ) × StandsFor M.disk w (fresh settings.channels [] failures)) }
 {
-    match r10_formatting::format(&mut medium, &settings) {
+    match r10_volume::format(&mut medium, &settings) {
         Ok(()) => (),
         Err(Refusal::OutOfMemory) => return Err(Fault::Memory(AllocError)),
         Err(refusal) => return Err(Fault::Format(refusal)),
@@ -106,7 +105,7 @@ fn run_steps<M: BlockMedium, W: Write>(
     let mut done = 0;
     while done < events.len() {
         replies.clear();
-        let count = r10_session::run(world, &events[done..], &mut replies)?;
+        let count = r10_world::run(world, &events[done..], &mut replies)?;
         write_lines(alloc, done, replies.as_slice(), writer)?;
         done += count;
     }

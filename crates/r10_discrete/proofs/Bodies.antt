@@ -9,10 +9,10 @@ use Rattle.std.specs.List.{AllByRecursion, concat, flat_map}
 use Rattle.r10_count.specs.Bytes.{le_bytes}
 use Rattle.r10_count.specs.Count.{IsCount}
 use Rattle.r10_count.proofs.Fronts.{same_u32}
-use Rattle.r10_entries.specs.Form.{IsBody, IsForeign, FitsAll, OpensAll, SuitsAll, spelled_all, body_bytes}
-use Rattle.r10_entries.proofs.Bodies.{one_spelled}
-use Rattle.r10_entries.proofs.Fixed.{fixed_length, fixed_parts}
-use Rattle.r10_entries.proofs.Plain.{plain_spelled}
+use Rattle.r10_count.specs.Form.{IsBody, IsForeign, FitsAll, OpensAll, SuitsAll, spelled_all, body_bytes}
+use Rattle.r10_count.proofs.Bodies.{one_spelled}
+use Rattle.r10_count.proofs.Fixed.{fixed_length, fixed_parts}
+use Rattle.r10_count.proofs.Plain.{plain_spelled}
 use Rattle.r10_discrete.specs.Discrete.{FitsDiscrete, FitsPacket, IsDiscrete, IsForeignDiscrete, discrete_body, discrete_entry}
 use Rattle.r10_discrete.specs.Entry.{discrete_form, has_only}
 use Rattle.r10_discrete.specs.declared.entry.DiscreteEntry.{DiscreteEntry}

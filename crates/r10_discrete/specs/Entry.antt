@@ -4,7 +4,7 @@ use Rattle.std.proofs.Common.{arith, lit<}
 use Rattle.r10_count.specs.Bytes.{le_bytes}
 use Rattle.r10_count.specs.Count.{IsCount}
 use Rattle.r10_count.proofs.Fronts.{same_stamp, same_u32}
-use Rattle.r10_entries.specs.Form.{Form}
+use Rattle.r10_count.specs.Form.{Form}
 use Rattle.r10_discrete.specs.Discrete.{discrete_entry}
 use Rattle.r10_discrete.specs.declared.entry.DiscreteEntry.{DiscreteEntry}
 

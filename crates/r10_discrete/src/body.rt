@@ -2,15 +2,14 @@
 
 ghost use Rattle.std.specs.Prelude.{◌≡◌, ◌↔◌, ◌+◌, ◌*◌, ◌^◌, ◌<◌, ℕ, List, ◌++◌, length, IsTrue, IfOk};
 ghost use Rattle.r10_count.specs.Bytes.{le_bytes};
-ghost use Rattle.r10_entries.specs.Append.{Appends};
-ghost use Rattle.r10_entries.specs.Reading.{Reads};
-ghost use Rattle.r10_entries.specs.declared.reading.Reading.TheVariants.{Strict};
+ghost use Rattle.r10_count.specs.Append.{Appends};
+ghost use Rattle.r10_count.specs.Reading.{Reads};
+ghost use Rattle.r10_count.specs.declared.reading.Reading.TheVariants.{Strict};
 ghost use Rattle.r10_discrete.specs.Discrete.{FitsPacket, IsDiscrete, IsForeignDiscrete, discrete_body};
 ghost use Rattle.r10_discrete.specs.declared.entry.DiscreteEntry.{DiscreteEntry as Spoken};
 
 use crate::entry::DiscreteEntry;
-use r10_count::{Items, split_u32};
-use r10_entries::{Reading, read_body, write_body};
+use r10_count::{Items, Reading, read_body, split_u32, write_body};
 use std::alloc::{AllocError, Global};
 
 /// The body of a discrete packet: the channel specific data word, and one entry for each change of

@@ -4,8 +4,7 @@ ghost use Rattle.std.specs.Prelude.{◌↔◌, IsTrue};
 ghost use Rattle.r10_discrete.specs.Discrete.{FitsDiscrete};
 
 use crate::states::has_only;
-use r10_count::{Count, split_u32};
-use r10_entries::{BodyEntry, append_all};
+use r10_count::{BodyEntry, Count, append_all, split_u32};
 use std::alloc::{AllocError, Global};
 
 /// The states of a channel's discretes with their time.

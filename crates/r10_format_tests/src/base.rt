@@ -1,8 +1,7 @@
 // Printed texts, lists, frames, parts and directory blocks.
 
-use r10_count::{Civil, Count, Items, Parts};
+use r10_count::{Civil, Count, Items, Parts, append_all};
 use r10_dirblock::{DirBlock, Entries, encode, pad};
-use r10_entries::append_all;
 use r10_packet::{Header, Packet};
 use std::test::Fail;
 

@@ -2,9 +2,8 @@
 
 use r10_a429::ArincBody;
 use r10_b1553::BusBody;
-use r10_count::{Civil, Count, Parts};
+use r10_count::{Civil, Count, Parts, Reading};
 use r10_discrete::DiscreteBody;
-use r10_entries::Reading;
 use r10_event::{EventBody, EventEntry};
 use r10_message::MessageBody;
 use r10_setup::SetupBody;

@@ -1,8 +1,7 @@
 // Whole bodies and whole files.
 
 use r10_body::{Entry, FileFault, Glance, Message, Refusal, Sample, Timed, decode, encode};
-use r10_count::{Civil, Count, Items, Parts};
-use r10_entries::Reading;
+use r10_count::{Civil, Count, Items, Parts, Reading};
 use std::alloc::{AllocError, Global};
 use std::test::Fail;
 

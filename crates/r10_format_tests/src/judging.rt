@@ -1,8 +1,8 @@
 // Whole files.
 use r10_body::FileFault;
 use r10_checker::{Verdict, check_file, find_fault};
-use r10_foreign::Fault;
 use r10_judge::Judge;
+use r10_strict::Fault;
 use std::test::Fail;
 
 /// A recording of a setup, a time and two messages of a UART, with its index.

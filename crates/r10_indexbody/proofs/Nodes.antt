@@ -3,10 +3,10 @@ use Rattle.std.proofs.Common.{◌≡◌, ℕ, Bool, true, false, ◌⊎◌, inl,
 use Rattle.std.proofs.lemmas.Bool.{eq-eqb, eqb-true, and_from, and_parts}
 use Rattle.std.specs.List.{AllByRecursion, concat, flat_map}
 use Rattle.r10_count.specs.Bytes.{le_bytes}
-use Rattle.r10_entries.specs.Form.{IsBody, IsForeign, FitsAll, OpensAll, SuitsAll, spelled_all, body_bytes}
-use Rattle.r10_entries.proofs.Bodies.{one_spelled}
-use Rattle.r10_entries.proofs.Fixed.{fixed_length, fixed_parts}
-use Rattle.r10_entries.proofs.Plain.{plain_spelled, plain_fits, plain_all}
+use Rattle.r10_count.specs.Form.{IsBody, IsForeign, FitsAll, OpensAll, SuitsAll, spelled_all, body_bytes}
+use Rattle.r10_count.proofs.Bodies.{one_spelled}
+use Rattle.r10_count.proofs.Fixed.{fixed_length, fixed_parts}
+use Rattle.r10_count.proofs.Plain.{plain_spelled, plain_fits, plain_all}
 use Rattle.r10_indexbody.specs.Index.{FitsNode, FitsNodeBody, IsNode, IsForeignNode, node_body, node_entry}
 use Rattle.r10_indexbody.specs.Entry.{node_form}
 use Rattle.r10_indexbody.specs.declared.entry.NodeEntry.{NodeEntry}

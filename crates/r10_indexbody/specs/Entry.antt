@@ -3,7 +3,7 @@ use Rattle.std.specs.Prelude.{◌≡◌, ℕ, ◌+◌, ◌*◌, ◌/◌, ◌%◌
 use Rattle.std.proofs.Common.{arith, lit<}
 use Rattle.r10_count.specs.Bytes.{le_bytes}
 use Rattle.r10_count.proofs.Fronts.{same_stamp, same_u32, same_u64}
-use Rattle.r10_entries.specs.Form.{Form}
+use Rattle.r10_count.specs.Form.{Form}
 use Rattle.r10_indexbody.specs.Index.{node_entry, root_entry, FitsNode, FitsRoot}
 use Rattle.r10_indexbody.specs.declared.entry.NodeEntry.{NodeEntry}
 use Rattle.r10_indexbody.specs.declared.entry.RootEntry.{RootEntry}

@@ -2,8 +2,7 @@
 
 ghost use Rattle.std.specs.Prelude.{◌≡◌, ◌+◌, ◌*◌, ◌^◌};
 
-use r10_count::{Count, split_u32, split_u64};
-use r10_entries::{BodyEntry, append_all};
+use r10_count::{BodyEntry, Count, append_all, split_u32, split_u64};
 use std::alloc::{AllocError, Global};
 
 /// What a node says of a packet.

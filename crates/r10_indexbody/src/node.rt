@@ -2,15 +2,14 @@
 
 ghost use Rattle.std.specs.Prelude.{◌≡◌, ◌↔◌, ◌^◌, ◌<◌, List, length, IsTrue, IfOk};
 ghost use Rattle.std.specs.List.{AllByRecursion};
-ghost use Rattle.r10_entries.specs.Append.{Appends};
-ghost use Rattle.r10_entries.specs.Reading.{Reads};
-ghost use Rattle.r10_entries.specs.declared.reading.Reading.TheVariants.{Strict};
+ghost use Rattle.r10_count.specs.Append.{Appends};
+ghost use Rattle.r10_count.specs.Reading.{Reads};
+ghost use Rattle.r10_count.specs.declared.reading.Reading.TheVariants.{Strict};
 ghost use Rattle.r10_indexbody.specs.Index.{FitsNode, IsNode, IsForeignNode, node_body};
 ghost use Rattle.r10_indexbody.specs.declared.entry.NodeEntry.{NodeEntry as Spoken};
 
 use crate::entry::NodeEntry;
-use r10_count::Items;
-use r10_entries::{Reading, read_body, write_body};
+use r10_count::{Items, Reading, read_body, write_body};
 use std::alloc::{AllocError, Global};
 
 /// The body of a node packet: the channel specific data word with the number of entries, and the

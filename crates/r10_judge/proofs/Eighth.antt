@@ -17,7 +17,7 @@ use Rattle.r10_body.specs.Rules.{MayFollow, EachFollows, KeepsChecksums, KeepsSt
 use Rattle.r10_body.specs.Vectors.{data_packets, data-len, node_packet}
 use Rattle.r10_body.specs.declared.entry.Entry.{Entry}
 use Rattle.r10_body.specs.declared.fault.FileFault.TheVariants.{Rule}
-use Rattle.r10_foreign.proofs.Written.{packet_foreign}
+use Rattle.r10_strict.proofs.Written.{packet_foreign}
 use Rattle.r10_body.proofs.Indexes.{counted, no_nodes, no_roots}
 use Rattle.r10_body.proofs.Rules.{follows_more, follows_fit, bytes_more, entries_more}
 use Rattle.r10_body.proofs.Sentences.{type_fits, rest_length}

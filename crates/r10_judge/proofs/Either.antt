@@ -12,9 +12,9 @@ use Rattle.r10_body.specs.Faults.{HasFault, Reads, BreaksRule, IsWrongHere, IsAt
 use Rattle.r10_body.specs.Faults as faults
 use Rattle.r10_body.specs.declared.fault.FileFault.{FileFault}
 use Rattle.r10_body.specs.declared.fault.FileFault.TheVariants.{Truncated, DataSum, Body, Rule}
-use Rattle.r10_foreign.specs.Tracks.{named}
-use Rattle.r10_foreign.proofs.Faults.{framing_is}
-use Rattle.r10_foreign.proofs.Fronts.{first_joined, is_foreign}
+use Rattle.r10_strict.specs.Tracks.{named}
+use Rattle.r10_strict.proofs.Faults.{framing_is}
+use Rattle.r10_strict.proofs.Fronts.{first_joined, is_foreign}
 use Rattle.r10_body.proofs.Indexes.{counted, counted_no, not_closed}
 use Rattle.r10_body.proofs.Rules.{follows_more, bytes_more}
 use Rattle.r10_judge.specs.Judged.{KeepRules, SaysClosed}

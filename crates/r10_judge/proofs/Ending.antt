@@ -11,9 +11,9 @@ use Rattle.r10_body.specs.Packets.{Packet, packet_bytes, file_bytes, file_entrie
 use Rattle.r10_body.specs.Faults.{HasFault, KeepsHeader, KeepsFiller, Reads, BreaksRule, IsWrongHere, IsAtFault, first_packet}
 use Rattle.r10_body.specs.Faults as faults
 use Rattle.r10_body.specs.declared.fault.FileFault.{FileFault}
-use Rattle.r10_foreign.proofs.Fronts.{range_front, stays}
-use Rattle.r10_foreign.proofs.Ways.{first_again, packet_long}
-use Rattle.r10_foreign.specs.declared.file.Fault.{Fault}
+use Rattle.r10_strict.proofs.Fronts.{range_front, stays}
+use Rattle.r10_strict.proofs.Ways.{first_again, packet_long}
+use Rattle.r10_strict.specs.declared.file.Fault.{Fault}
 use Rattle.r10_tracks.specs.declared.tracks.Tracks.{Tracks}
 use Rattle.r10_judge.specs.Judged.{GoesOn, BreaksAt, SaysClosed, MayMiss}
 use Rattle.r10_judge.proofs.Judging.{begins, whole_first}

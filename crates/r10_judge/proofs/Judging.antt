@@ -10,9 +10,9 @@ use Rattle.r10_body.specs.Packets.{Packet, FitsPacket, packet_bytes, file_bytes,
 use Rattle.r10_body.specs.Rules.{EachFollows, MayFollow, IsFile, KeepsChecksums, is_index, is_closed}
 use Rattle.r10_body.specs.Faults.{Reads, BreaksRule, first_packet}
 use Rattle.r10_body.specs.Faults as faults
-use Rattle.r10_foreign.specs.declared.file.Fault.{Fault}
-use Rattle.r10_foreign.proofs.Ways.{packet_long, first_again}
-use Rattle.r10_foreign.proofs.Written.{packet_foreign}
+use Rattle.r10_strict.specs.declared.file.Fault.{Fault}
+use Rattle.r10_strict.proofs.Ways.{packet_long, first_again}
+use Rattle.r10_strict.proofs.Written.{packet_foreign}
 use Rattle.r10_body.proofs.Injective.{one_packet}
 use Rattle.r10_body.proofs.OneMeaning.{one_list}
 use Rattle.r10_body.proofs.Rules.{follows_more, bytes_more}

@@ -5,3 +5,4 @@ pub mod Ending
 pub mod Places
 pub mod Either
 pub mod Eighth
+pub mod Parts

@@ -10,10 +10,10 @@ use Rattle.r10_body.specs.Faults.{HasFault, Reads, BreaksRule, IsWrongHere, IsAt
 use Rattle.r10_body.specs.Faults as faults
 use Rattle.r10_body.specs.declared.fault.FileFault.{FileFault}
 use Rattle.r10_body.specs.declared.fault.FileFault.TheVariants.{Rule}
-use Rattle.r10_foreign.proofs.Faults.{one_fault, apart}
-use Rattle.r10_foreign.proofs.Fronts.{first_joined}
-use Rattle.r10_foreign.proofs.Ways.{packet_long, first_again}
-use Rattle.r10_foreign.proofs.Written.{packet_foreign}
+use Rattle.r10_strict.proofs.Faults.{one_fault, apart}
+use Rattle.r10_strict.proofs.Fronts.{first_joined}
+use Rattle.r10_strict.proofs.Ways.{packet_long, first_again}
+use Rattle.r10_strict.proofs.Written.{packet_foreign}
 use Rattle.r10_body.proofs.Indexes.{none_at, part_of}
 use Rattle.r10_body.proofs.Injective.{one_packet}
 use Rattle.r10_body.proofs.Lists.{same_behind}

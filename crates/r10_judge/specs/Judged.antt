@@ -8,7 +8,7 @@ use Rattle.r10_body.specs.Faults.{BreaksRule, IsWrongHere}
 use Rattle.r10_body.specs.declared.entry.Entry.{Entry}
 use Rattle.r10_body.specs.declared.fault.FileFault.{FileFault}
 use Rattle.r10_body.specs.declared.fault.FileFault.TheVariants.{Rule}
-use Rattle.r10_foreign.specs.declared.file.Fault.{Fault}
+use Rattle.r10_strict.specs.declared.file.Fault.{Fault}
 use Rattle.r10_tracks.specs.Broken.{Breaks}
 use Rattle.r10_tracks.specs.Tracks.{IsTracked}
 use Rattle.r10_tracks.specs.declared.tracks.Tracks.{Tracks}

@@ -1,2 +1,5 @@
 pub mod Judged
 pub mod Copies
+pub mod Files
+pub mod Walks
+pub mod Judgements

@@ -13,8 +13,7 @@ ghost use Rattle.r10_strict.specs.Facts.{Tells, kind_of};
 ghost use Rattle.r10_tracks.specs.Tracks.{IsTracked};
 
 use r10_body::FileFault;
-use r10_foreign::Fault;
-use r10_strict::{Facts, PacketKind, StrictReading, read_checked};
+use r10_strict::{Facts, Fault, PacketKind, StrictReading, read_checked};
 use r10_tracks::Tracks;
 use std::alloc::{AllocError, Global};
 

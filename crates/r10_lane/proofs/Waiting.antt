@@ -12,7 +12,7 @@ use Rattle.r10_body.specs.declared.spec.ChannelSpec.{ChannelSpec}
 use Rattle.r10_machine.specs.Machine.{Lane}
 use Rattle.r10_machine.specs.Checks.{offer_checks, room_checks, taking_checks, message_checks, count_checks, in_48_bits, is_not_before}
 use Rattle.r10_machine.specs.Calls.{overflowed}
-use Rattle.r10_machine.specs.Sound.{Climbs, count_or_0}
+use Rattle.r10_machine.specs.SoundParts.{Climbs, count_or_0}
 use Rattle.r10_count.proofs.Rules.{rules_stop}
 use Rattle.r10_machine.proofs.Steady.{parts_pass, checks_pass}
 use Rattle.r10_machine.proofs.Growing.{all_joined}

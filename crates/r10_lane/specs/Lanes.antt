@@ -10,7 +10,7 @@ use Rattle.r10_body.specs.declared.spec.ChannelSpec.{ChannelSpec}
 use Rattle.r10_machine.specs.Machine.{Lane}
 use Rattle.r10_machine.specs.Checks.{offer_checks, offer_refusal}
 use Rattle.r10_machine.specs.Calls.{accepted, overflowed}
-use Rattle.r10_machine.specs.Sound.{Climbs, count_or_0}
+use Rattle.r10_machine.specs.SoundParts.{Climbs, count_or_0}
 
 -- ---- offers
 

@@ -3,7 +3,7 @@
 ghost use Rattle.std.specs.Prelude.{◌≡◌, ◌≤◌, IfOk, length, option_copied, slice_get};
 ghost use Rattle.r10_machine.specs.Calls.{without};
 ghost use Rattle.r10_machine.specs.Machine.{fresh_lane};
-ghost use Rattle.r10_machine.specs.Sound.{count_or_0};
+ghost use Rattle.r10_machine.specs.SoundParts.{count_or_0};
 ghost use Rattle.r10_lane.specs.Lanes.{Offers, reached, Waits};
 
 use crate::lane_out::LaneOut;
@@ -27,7 +27,7 @@ pub struct RingLane {
 impl Model for RingLane {
     ghost use Rattle.std.specs.Prelude.{◌≡◌};
     ghost use Rattle.r10_machine.specs.Machine.{Lane};
-    ghost use Rattle.r10_machine.specs.Sound.{count_or_0};
+    ghost use Rattle.r10_machine.specs.SoundParts.{count_or_0};
     ghost use Rattle.r10_lane.specs.Lanes.{Waits};
 
     ghost Value = { Lane };

@@ -1,7 +1,7 @@
 -- The lines of files, one after the other.
 use Rattle.std.proofs.Common.{◌≡◌, ℕ, ◌+◌, ◌<◌, List, [], ◌∷◌, ◌++◌, length, take, get_or, append_assoc, ap, sym, ◌∙◌, arith}
 use Rattle.std.proofs.lemmas.List.{append-nil, length-take, take_more}
-use Rattle.r10_steps.specs.declared.reply.FileInfo.{FileInfo}
+use Rattle.r10_machine.specs.declared.reply.FileInfo.{FileInfo}
 use Rattle.r10_lines.specs.Replies.{file_line, file_lines}
 
 -- one file more

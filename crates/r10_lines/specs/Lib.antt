@@ -4,3 +4,5 @@ pub mod Refusals
 pub mod Line
 pub mod Replies
 pub mod Vectors
+pub mod CivilParts
+pub mod Fault

@@ -3,14 +3,14 @@ use Rattle.std.specs.Prelude.{ℕ, ◌+◌, List, [], ◌∷◌, ◌++◌, map, 
 use Rattle.std.specs.Fmt.{decimal}
 use Rattle.std.specs.List.{flat_map}
 use Rattle.r10_count.specs.Names.{is_name_byte}
-use Rattle.r10_machine.specs.declared.reply.Mode.{Mode}
-use Rattle.r10_machine.specs.declared.reply.Mode.TheVariants as modes
-use Rattle.r10_steps.specs.declared.reply.ChannelStatus.{ChannelStatus}
-use Rattle.r10_steps.specs.declared.reply.FileInfo.{FileInfo}
-use Rattle.r10_steps.specs.declared.reply.Found.{Found}
-use Rattle.r10_steps.specs.declared.reply.Reply.{Reply}
-use Rattle.r10_steps.specs.declared.reply.Reply.TheVariants as replies
-use Rattle.r10_steps.specs.declared.reply.Status.{Status}
+use Rattle.r10_machine.specs.declared.mode.Mode.{Mode}
+use Rattle.r10_machine.specs.declared.mode.Mode.TheVariants as modes
+use Rattle.r10_machine.specs.declared.reply.ChannelStatus.{ChannelStatus}
+use Rattle.r10_machine.specs.declared.reply.FileInfo.{FileInfo}
+use Rattle.r10_machine.specs.declared.reply.Found.{Found}
+use Rattle.r10_machine.specs.declared.reply.Reply.{Reply}
+use Rattle.r10_machine.specs.declared.reply.Reply.TheVariants as replies
+use Rattle.r10_machine.specs.declared.reply.Status.{Status}
 use Rattle.r10_lines.specs.Line.{entry_text}
 use Rattle.r10_lines.specs.Refusals.{refusal_text}
 use Rattle.r10_lines.specs.Words.{spaced, line_of, flag_text}

@@ -6,8 +6,8 @@ use Rattle.r10_body.specs.declared.entry.Entry.{Entry}
 use Rattle.r10_body.specs.declared.fault.FileFault.TheVariants as faults
 use Rattle.r10_body.specs.declared.message.Message.TheVariants as messages
 use Rattle.r10_body.specs.declared.refusal.Refusal.TheVariants as refusals
-use Rattle.r10_machine.specs.declared.reply.Mode.TheVariants as modes
-use Rattle.r10_steps.specs.declared.reply.Reply.TheVariants as say
+use Rattle.r10_machine.specs.declared.mode.Mode.TheVariants as modes
+use Rattle.r10_machine.specs.declared.reply.Reply.TheVariants as say
 use Rattle.r10_lines.specs.Civil.{civil_text}
 use Rattle.r10_lines.specs.Line.{message_text, words_bytes}
 use Rattle.r10_lines.specs.Refusals.{refusal_text}

@@ -1,9 +1,15 @@
-//! Prints the lines of each step's reply, and of an entry alone.
+//! The text of replies and scripts: the lines of each step's reply, of an entry alone and of a script's fault, and the civil
+//! times in scripts.
 #![tactic(auto)]
 
+mod civil;
+mod fault;
 mod line;
+mod locate;
 mod refusal;
 mod reply;
 
+pub use civil::parts_of;
+pub use fault::{Found, Place, ScriptFault, Spot, Wrong};
 pub use line::entry_line;
 pub use reply::reply_lines;

@@ -7,8 +7,7 @@ ghost use Rattle.r10_lines.specs.Replies.{channel_line, file_line, file_lines, f
 use crate::line::{entry_text, flag_text};
 use crate::refusal::refusal_text;
 use r10_count::Count;
-use r10_machine::Mode;
-use r10_steps::{ChannelStatus, FileInfo, Found, Reply, Status};
+use r10_machine::{ChannelStatus, FileInfo, Found, Mode, Reply, Status};
 use std::alloc::{AllocError, Global};
 
 /// The lines of the reply to the step of this number, each with its line feed. The first one begins with the number; behind it

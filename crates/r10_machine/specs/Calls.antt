@@ -5,8 +5,8 @@ use Rattle.r10_body.specs.Rules.{entry_on}
 use Rattle.r10_body.specs.declared.entry.Entry.{Entry}
 use Rattle.r10_body.specs.declared.message.Message.{Message}
 use Rattle.r10_body.specs.declared.message.Message.TheVariants as messages
-use Rattle.r10_machine.specs.declared.reply.Mode.TheVariants.{Idle, Recording}
-use Rattle.r10_machine.specs.declared.reply.Stopped.{Stopped}
+use Rattle.r10_machine.specs.declared.mode.Mode.TheVariants.{Idle, Recording}
+use Rattle.r10_machine.specs.declared.mode.Stopped.{Stopped}
 use Rattle.r10_machine.specs.Config.{Config}
 use Rattle.r10_machine.specs.Machine.{Machine, Tick, Lane, File, Cursor, saturated, lane_in, lane_of, with_lane, rising, waiting_entries, shown_entries, with_entries, last_file, with_last, change_last, last_size, cursor_of, SetsCursor}
 use Rattle.r10_machine.specs.Room.{next_block, fits, TakesIn}

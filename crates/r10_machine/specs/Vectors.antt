@@ -11,7 +11,7 @@ use Rattle.r10_body.specs.declared.message.Message.{Message}
 use Rattle.r10_body.specs.declared.message.Message.TheVariants.{Uart, Time}
 use Rattle.r10_body.specs.declared.message.Kind.TheVariants as kinds
 use Rattle.r10_body.specs.declared.spec.ChannelSpec.{ChannelSpec}
-use Rattle.r10_machine.specs.declared.reply.Mode.TheVariants.{Idle, Recording}
+use Rattle.r10_machine.specs.declared.mode.Mode.TheVariants.{Idle, Recording}
 use Rattle.r10_machine.specs.Config.{Config}
 use Rattle.r10_machine.specs.Machine.{Machine, File, Cursor, fresh, with_lane}
 use Rattle.r10_machine.specs.Replay.{Ordered, place_of, place_cmp}

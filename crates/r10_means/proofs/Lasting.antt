@@ -8,21 +8,21 @@ use Rattle.r10_body.specs.declared.entry.Entry.{Entry}
 use Rattle.r10_body.specs.declared.spec.ChannelSpec.{ChannelSpec}
 use Rattle.r10_medium.specs.Disk.{Image}
 use Rattle.r10_dirchain.specs.declared.chain.ChainBlock.{ChainBlock}
-use Rattle.r10_holding.specs.Holding.{Holds, Open}
+use Rattle.r10_volume.specs.Holding.{Holds, Open}
 use Rattle.r10_machine.specs.Calls.{shown_whole}
 use Rattle.r10_machine.specs.Checks.{idle_checks, recording_checks}
 use Rattle.r10_machine.specs.Limits.{IsConfig}
 use Rattle.r10_machine.specs.Machine.{File, Lane, Machine, change_last, last_size, saturated, with_last}
 use Rattle.r10_machine.specs.Room.{area, cost_of}
-use Rattle.r10_machine.specs.Sound.{own_files}
-use Rattle.r10_machine.specs.declared.reply.Mode.{Mode}
-use Rattle.r10_machine.specs.declared.reply.Mode.TheVariants as modes
+use Rattle.r10_machine.specs.SoundParts.{own_files}
+use Rattle.r10_machine.specs.declared.mode.Mode.{Mode}
+use Rattle.r10_machine.specs.declared.mode.Mode.TheVariants as modes
 use Rattle.r10_machine.proofs.Growing.{append_last}
-use Rattle.r10_steps.specs.Calls.{closed_in, own_entries}
-use Rattle.r10_steps.specs.Checks.{refusal}
-use Rattle.r10_steps.specs.Step.{Step}
-use Rattle.r10_steps.specs.declared.event.Event.TheVariants.{Commit, Seal}
-use Rattle.r10_steps.specs.declared.reply.Reply.TheVariants as replies
+use Rattle.r10_machine.specs.ControlCalls.{closed_in, own_entries}
+use Rattle.r10_machine.specs.EventChecks.{refusal}
+use Rattle.r10_machine.specs.Step.{Step}
+use Rattle.r10_machine.specs.declared.event.Event.TheVariants.{Commit, Seal}
+use Rattle.r10_machine.specs.declared.reply.Reply.TheVariants as replies
 use Rattle.r10_means.specs.Kept.{Kept, mode_of, idle, recording}
 use Rattle.r10_means.specs.Means.{AreCounted, IsCounted, LeadsTo, Means}
 use Rattle.r10_means.proofs.Leading.{StepsStaySound, failing, no_fewer, numbers_at}

@@ -7,23 +7,23 @@ use Rattle.r10_body.specs.declared.spec.ChannelSpec.{ChannelSpec}
 use Rattle.r10_count.specs.declared.civil.Parts.{Parts}
 use Rattle.r10_medium.specs.Disk.{Image, Rose}
 use Rattle.r10_dirchain.specs.declared.chain.ChainBlock.{ChainBlock}
-use Rattle.r10_holding.specs.Holding.{Holds, OthersAreFound}
-use Rattle.r10_machine.specs.declared.reply.Mode.{Mode}
-use Rattle.r10_machine.specs.declared.reply.Mode.TheVariants as modes
+use Rattle.r10_volume.specs.Holding.{Holds, OthersAreFound}
+use Rattle.r10_machine.specs.declared.mode.Mode.{Mode}
+use Rattle.r10_machine.specs.declared.mode.Mode.TheVariants as modes
 use Rattle.r10_machine.specs.Calls.{TicksIn}
 use Rattle.r10_machine.specs.Checks.{unmounted_checks, idle_checks, is_recording}
 use Rattle.r10_machine.specs.Config.{Config}
 use Rattle.r10_machine.specs.Limits.{IsConfig}
 use Rattle.r10_machine.specs.Machine.{File, Lane, Machine, saturated}
-use Rattle.r10_steps.specs.Checks.{refusal}
-use Rattle.r10_steps.specs.Says.{MediumSays}
-use Rattle.r10_steps.specs.Sound.{IsSound}
-use Rattle.r10_steps.specs.Calls.{erased_with, own_entries}
-use Rattle.r10_steps.specs.Step.{FailsIn, LanesAfter, Step, Refuses, after_refusal, asks_memory, entry_has_room, uses_medium}
-use Rattle.r10_steps.specs.declared.event.Event.{Event as Asked}
-use Rattle.r10_steps.specs.declared.event.Event.TheVariants.{Mount, Dismount, Tick, Start, Offer, Pump, Event, Commit, Stop, Seal, Erase, Files, Status, Cursor, Advance, Next, Close, Find, CountAt}
-use Rattle.r10_steps.specs.declared.reply.Reply.{Reply as Answered}
-use Rattle.r10_steps.specs.declared.reply.Reply.TheVariants as replies
+use Rattle.r10_machine.specs.EventChecks.{refusal}
+use Rattle.r10_machine.specs.Says.{MediumSays}
+use Rattle.r10_machine.specs.Sound.{IsSound}
+use Rattle.r10_machine.specs.ControlCalls.{erased_with, own_entries}
+use Rattle.r10_machine.specs.Step.{FailsIn, LanesAfter, Step, Refuses, after_refusal, asks_memory, entry_has_room, uses_medium}
+use Rattle.r10_machine.specs.declared.event.Event.{Event as Asked}
+use Rattle.r10_machine.specs.declared.event.Event.TheVariants.{Mount, Dismount, Tick, Start, Offer, Pump, Event, Commit, Stop, Seal, Erase, Files, Status, Cursor, Advance, Next, Close, Find, CountAt}
+use Rattle.r10_machine.specs.declared.reply.Reply.{Reply as Answered}
+use Rattle.r10_machine.specs.declared.reply.Reply.TheVariants as replies
 use Rattle.r10_means.specs.Kept.{Kept, Work, mode_of, unmounted, idle, failed}
 use Rattle.r10_means.specs.Means.{AreCounted, HasFiles, IsCounted, LeadsTo, Means, NumbersAre}
 

@@ -5,16 +5,16 @@ use Rattle.r10_body.specs.declared.entry.Entry.{Entry}
 use Rattle.r10_body.specs.declared.spec.ChannelSpec.{ChannelSpec}
 use Rattle.r10_medium.specs.Disk.{Image}
 use Rattle.r10_dirchain.specs.declared.chain.ChainBlock.{ChainBlock}
-use Rattle.r10_holding.specs.Holding.{Holds, Open}
+use Rattle.r10_volume.specs.Holding.{Holds, Open}
 use Rattle.r10_machine.specs.Calls.{Pumps, Stops, lanes_without, without}
 use Rattle.r10_machine.specs.Limits.{IsConfig}
 use Rattle.r10_machine.specs.Machine.{File, Lane, Machine, change_first, is_channel, with_entries}
-use Rattle.r10_machine.specs.declared.reply.Mode.TheVariants as modes
-use Rattle.r10_machine.specs.declared.reply.Stopped.{Stopped}
-use Rattle.r10_steps.specs.Checks.{refusal}
-use Rattle.r10_steps.specs.Step.{Step}
-use Rattle.r10_steps.specs.declared.event.Event.TheVariants.{Pump, Stop}
-use Rattle.r10_steps.specs.declared.reply.Reply.TheVariants as replies
+use Rattle.r10_machine.specs.declared.mode.Mode.TheVariants as modes
+use Rattle.r10_machine.specs.declared.mode.Stopped.{Stopped}
+use Rattle.r10_machine.specs.EventChecks.{refusal}
+use Rattle.r10_machine.specs.Step.{Step}
+use Rattle.r10_machine.specs.declared.event.Event.TheVariants.{Pump, Stop}
+use Rattle.r10_machine.specs.declared.reply.Reply.TheVariants as replies
 use Rattle.r10_means.specs.Grown.{AreGrown}
 use Rattle.r10_means.specs.Kept.{Kept, mode_of, idle, recording}
 use Rattle.r10_means.specs.Means.{AreCounted, IsCounted, LeadsTo, Means}

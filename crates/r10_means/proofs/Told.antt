@@ -11,12 +11,12 @@ use Rattle.r10_machine.specs.Calls.{accepted, overflowed}
 use Rattle.r10_machine.specs.Checks.{offer_checks}
 use Rattle.r10_machine.specs.Limits.{IsConfig}
 use Rattle.r10_machine.specs.Machine.{File, Lane, Machine, change_first, is_channel, lane_of, with_lane}
-use Rattle.r10_steps.specs.Checks.{refusal}
-use Rattle.r10_steps.specs.Sound.{IsSound}
-use Rattle.r10_steps.specs.Finding.{count_at, found, info_of, status_of}
-use Rattle.r10_steps.specs.Step.{Refuses, Step, after_refusal}
-use Rattle.r10_steps.specs.declared.event.Event.TheVariants.{CountAt, Files, Find, Offer, Status}
-use Rattle.r10_steps.specs.declared.reply.Reply.TheVariants as replies
+use Rattle.r10_machine.specs.EventChecks.{refusal}
+use Rattle.r10_machine.specs.Sound.{IsSound}
+use Rattle.r10_machine.specs.Finding.{count_at, found, info_of, status_of}
+use Rattle.r10_machine.specs.Step.{Refuses, Step, after_refusal}
+use Rattle.r10_machine.specs.declared.event.Event.TheVariants.{CountAt, Files, Find, Offer, Status}
+use Rattle.r10_machine.specs.declared.reply.Reply.TheVariants as replies
 use Rattle.r10_means.specs.Kept.{Kept, Work, failed, idle, recording, unmounted}
 use Rattle.r10_means.specs.Means.{AreCounted, HasFiles, IsCounted, LeadsTo, Means, NumbersAre}
 use Rattle.r10_means.proofs.Leading.{StepsStaySound, failing, no_fewer, same_refusal, still_means}

@@ -1,11 +1,11 @@
 -- What a recorder keeps beside its lanes and its medium: its settings, its clock, and what it does.
 use Rattle.std.specs.Prelude.{ℕ, List, Option}
 use Rattle.r10_dirchain.specs.declared.chain.ChainBlock.{ChainBlock}
-use Rattle.r10_holding.specs.Holding.{Open}
+use Rattle.r10_volume.specs.Holding.{Open}
 use Rattle.r10_machine.specs.Config.{Config}
 use Rattle.r10_machine.specs.Machine.{Tick}
-use Rattle.r10_machine.specs.declared.reply.Mode.{Mode}
-use Rattle.r10_machine.specs.declared.reply.Mode.TheVariants as modes
+use Rattle.r10_machine.specs.declared.mode.Mode.{Mode}
+use Rattle.r10_machine.specs.declared.mode.Mode.TheVariants as modes
 
 -- what it does, with the directory that it has in use, and the file that it writes
 pub data Work : Type 0 where

@@ -3,15 +3,15 @@ use Rattle.std.specs.Prelude.{◌≡◌, ℕ, ◌+◌, List, [], ◌∷◌, Opti
 use Rattle.r10_medium.specs.Disk.{Image}
 use Rattle.r10_body.specs.declared.refusal.Refusal.{Refusal}
 use Rattle.r10_body.specs.declared.spec.ChannelSpec.{ChannelSpec}
-use Rattle.r10_holding.specs.Holding.{Holds, OthersAreFound}
+use Rattle.r10_volume.specs.Holding.{Holds, OthersAreFound}
 use Rattle.r10_machine.specs.Config.{Config}
 use Rattle.r10_machine.specs.Machine.{File, Lane, Machine, saturated}
-use Rattle.r10_steps.specs.Calls.{own_entries}
-use Rattle.r10_steps.specs.Says.{MediumSays}
-use Rattle.r10_steps.specs.Sound.{IsSound}
-use Rattle.r10_steps.specs.Step.{Step}
-use Rattle.r10_steps.specs.declared.event.Event.{Event as Asked}
-use Rattle.r10_steps.specs.declared.reply.Reply.{Reply as Answered}
+use Rattle.r10_machine.specs.ControlCalls.{own_entries}
+use Rattle.r10_machine.specs.Says.{MediumSays}
+use Rattle.r10_machine.specs.Sound.{IsSound}
+use Rattle.r10_machine.specs.Step.{Step}
+use Rattle.r10_machine.specs.declared.event.Event.{Event as Asked}
+use Rattle.r10_machine.specs.declared.reply.Reply.{Reply as Answered}
 use Rattle.r10_means.specs.Kept.{Kept, Work, mode_of, unmounted, idle, recording, failed}
 
 -- the files are those that the medium says; of one in use, by its directory, with the file that is written

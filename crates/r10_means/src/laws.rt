@@ -7,26 +7,26 @@ ghost use Rattle.r10_body.specs.declared.refusal.Refusal.{Refusal as Refused};
 ghost use Rattle.r10_body.specs.declared.refusal.Refusal.TheVariants as refusals;
 ghost use Rattle.r10_body.specs.declared.entry.Entry.{Entry};
 ghost use Rattle.r10_dirchain.specs.declared.chain.ChainBlock.{ChainBlock};
-ghost use Rattle.r10_holding.specs.Holding.{Holds, Open, OthersAreFound};
+ghost use Rattle.r10_volume.specs.Holding.{Holds, Open, OthersAreFound};
 ghost use Rattle.r10_machine.specs.Limits.{IsConfig};
 ghost use Rattle.r10_machine.specs.Config.{Config};
 ghost use Rattle.r10_machine.specs.Machine.{File, Lane, Machine, Tick as Clock, change_first, is_channel, with_entries};
 ghost use Rattle.r10_machine.specs.Calls.{Pumps, Stops, empty_file, lanes_without, shown_whole, time_entry, without};
 ghost use Rattle.r10_machine.specs.Room.{area, cost_of, fits};
-ghost use Rattle.r10_machine.specs.declared.reply.Mode.TheVariants as modes;
-ghost use Rattle.r10_machine.specs.declared.reply.Stopped.{Stopped as Said};
-ghost use Rattle.r10_steps.specs.Calls.{closed_in, erased_with, event_entry};
-ghost use Rattle.r10_steps.specs.Checks.{refusal};
-ghost use Rattle.r10_steps.specs.Says.{MediumSays};
-ghost use Rattle.r10_steps.specs.Step.{FailsIn, LanesAfter, after_refusal, asks_memory, entry_has_room, uses_medium};
-ghost use Rattle.r10_steps.specs.declared.event.Event.{Event as Asked};
-ghost use Rattle.r10_steps.specs.declared.event.Event.TheVariants as events;
-ghost use Rattle.r10_steps.specs.declared.reply.Reply.TheVariants as replies;
+ghost use Rattle.r10_machine.specs.declared.mode.Mode.TheVariants as modes;
+ghost use Rattle.r10_machine.specs.declared.mode.Stopped.{Stopped as Said};
+ghost use Rattle.r10_machine.specs.ControlCalls.{closed_in, erased_with, event_entry};
+ghost use Rattle.r10_machine.specs.EventChecks.{refusal};
+ghost use Rattle.r10_machine.specs.Says.{MediumSays};
+ghost use Rattle.r10_machine.specs.Step.{FailsIn, LanesAfter, after_refusal, asks_memory, entry_has_room, uses_medium};
+ghost use Rattle.r10_machine.specs.declared.event.Event.{Event as Asked};
+ghost use Rattle.r10_machine.specs.declared.event.Event.TheVariants as events;
+ghost use Rattle.r10_machine.specs.declared.reply.Reply.TheVariants as replies;
 ghost use Rattle.r10_means.specs.Grown.{AreGrown};
 ghost use Rattle.r10_means.specs.Kept.{Kept, unmounted, idle, recording, failed};
 ghost use Rattle.r10_means.specs.Means.{AreCounted, LeadsTo, Means};
 
-use r10_steps::a_step_stays_sound;
+use r10_machine::a_step_stays_sound;
 
 /// A call that a check refuses leaves what is kept and the medium's files; an offer to a full lane is told
 /// elsewhere.

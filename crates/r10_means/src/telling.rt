@@ -8,15 +8,15 @@ ghost use Rattle.r10_body.specs.declared.refusal.Refusal.{Refusal as Refused};
 ghost use Rattle.r10_machine.specs.Limits.{IsConfig};
 ghost use Rattle.r10_machine.specs.Calls.{accepted};
 ghost use Rattle.r10_machine.specs.Machine.{File, Machine, with_lane};
-ghost use Rattle.r10_steps.specs.Checks.{refusal};
-ghost use Rattle.r10_steps.specs.Finding.{count_at, found, info_of, status_of};
-ghost use Rattle.r10_steps.specs.Step.{after_refusal};
-ghost use Rattle.r10_steps.specs.declared.event.Event.TheVariants as events;
-ghost use Rattle.r10_steps.specs.declared.reply.Reply.TheVariants as replies;
+ghost use Rattle.r10_machine.specs.EventChecks.{refusal};
+ghost use Rattle.r10_machine.specs.Finding.{count_at, found, info_of, status_of};
+ghost use Rattle.r10_machine.specs.Step.{after_refusal};
+ghost use Rattle.r10_machine.specs.declared.event.Event.TheVariants as events;
+ghost use Rattle.r10_machine.specs.declared.reply.Reply.TheVariants as replies;
 ghost use Rattle.r10_means.specs.Kept.{Kept};
 ghost use Rattle.r10_means.specs.Means.{LeadsTo, Means};
 
-use r10_steps::a_step_stays_sound;
+use r10_machine::a_step_stays_sound;
 
 /// An offer is accepted or refused, in whatever mode; what is kept is the same.
 pub fn offers_are_steps()

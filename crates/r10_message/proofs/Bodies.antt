@@ -2,12 +2,12 @@
 use Rattle.std.proofs.Common.{◌≡◌, ℕ, get_or, ◌+◌, ◌*◌, ◌%◌, ◌^◌, ◌<◌, ◌≤◌, List, [], ◌∷◌, ◌++◌, length, drop, refl, sym, ap, ◌∙◌, arith, length-append}
 use Rattle.std.proofs.lemmas.Bool.{eq-eqb, eqb-true}
 use Rattle.std.specs.List.{flat_map, AllByRecursion, sum_by}
-use Rattle.r10_entries.specs.Form.{IsBody, IsForeign, FitsAll, OpensAll, SuitsAll, spelled_all, body_bytes}
-use Rattle.r10_entries.proofs.Bodies.{one_spelled}
-use Rattle.r10_entries.proofs.Parts.{first_is}
-use Rattle.r10_entries.proofs.Lengths.{next_long, sizes_from}
-use Rattle.r10_entries.specs.Texts.{told_size}
-use Rattle.r10_entries.proofs.Plain.{plain_spelled, plain_fits, plain_all}
+use Rattle.r10_count.specs.Form.{IsBody, IsForeign, FitsAll, OpensAll, SuitsAll, spelled_all, body_bytes}
+use Rattle.r10_count.proofs.Bodies.{one_spelled}
+use Rattle.r10_count.proofs.BodyParts.{first_is}
+use Rattle.r10_count.proofs.Lengths.{next_long, sizes_from}
+use Rattle.r10_count.specs.Texts.{told_size}
+use Rattle.r10_count.proofs.Plain.{plain_spelled, plain_fits, plain_all}
 use Rattle.r10_message.specs.Message.{FitsMessage, IsMessage, IsForeignMessage, message_body, message_entry, entry_size}
 use Rattle.r10_message.specs.Entry.{message_form, entry-told, entry-one, entry-size}
 use Rattle.r10_message.specs.declared.entry.MessageEntry.{MessageEntry}

@@ -2,7 +2,7 @@
 use Rattle.std.proofs.Common.{◌≡◌, ℕ, zero, suc, ◌+◌, ◌*◌, ◌/◌, ◌%◌, ◌^◌, ◌<◌, List, ◌++◌, length, nat_eq, refl, sym, ap, ◌∙◌, arith}
 use Rattle.r10_count.specs.Bytes.{le_bytes, flag_at}
 use Rattle.r10_count.specs.Count.{stamp, IsCount}
-use Rattle.r10_entries.specs.Padding.{padded}
+use Rattle.r10_count.specs.Padding.{padded}
 use Rattle.r10_message.specs.Message.{FitsMessage, message_header, message_entry, message_of}
 use Rattle.r10_message.specs.declared.entry.MessageEntry.{MessageEntry}
 

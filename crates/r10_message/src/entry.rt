@@ -2,11 +2,10 @@
 
 ghost use Rattle.std.specs.Prelude.{◌≡◌, ◌↔◌, ◌+◌, ◌*◌, ◌^◌, ◌<◌, IsTrue, length};
 ghost use Rattle.r10_count.specs.Bytes.{flag_at};
-ghost use Rattle.r10_entries.specs.Append.{Appends};
+ghost use Rattle.r10_count.specs.Append.{Appends};
 ghost use Rattle.r10_message.specs.Message.{FitsMessage, message_entry, message_of, message_word};
 
-use r10_count::{Count, Items, split_u32};
-use r10_entries::{BodyEntry, append_text, unpadded};
+use r10_count::{BodyEntry, Count, Items, append_text, split_u32, unpadded};
 use std::alloc::{AllocError, Global};
 
 /// A message with its time.

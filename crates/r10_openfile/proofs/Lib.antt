@@ -19,3 +19,9 @@ mod Rooms
 mod Beginning
 mod Relisted
 mod Sorted
+pub mod Told
+pub mod BehindAll
+pub mod BackToBack
+pub mod Listing
+pub mod ListedTurning
+pub mod Calls

@@ -8,7 +8,7 @@ use Rattle.r10_machine.specs.Machine.{File}
 use Rattle.r10_medium.specs.Disk.{Disk, Image, IsWhole}
 use Rattle.r10_medium.specs.Stop.{ComesBy, Leaves, PutsSome}
 use Rattle.r10_medium.proofs.Stops.{below_puts, reads_now, settled_now, weakened, whole_left}
-use Rattle.r10_steps.proofs.Said.{growing_stands}
+use Rattle.r10_machine.proofs.Said.{growing_stands}
 use Rattle.r10_openfile.specs.Keeping.{IsKept, Keeps, StaysKept}
 
 -- blocks of the file's bytes are put, whatever of them: what was shown is shown, and the medium says what it said

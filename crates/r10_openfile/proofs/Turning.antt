@@ -23,14 +23,14 @@ use Rattle.r10_dirchain.proofs.Turning.{on_ok}
 use Rattle.r10_dirchain.proofs.Unique.{one_directory}
 use Rattle.r10_dirchain.proofs.Usable.{placed}
 use Rattle.r10_blockout.specs.Blocks.{bytes_from}
-use Rattle.r10_holding.specs.Holding.{OthersAreFound}
-use Rattle.r10_holding.proofs.Found.{found_stays}
+use Rattle.r10_volume.specs.Holding.{OthersAreFound}
+use Rattle.r10_volume.proofs.Found.{found_stays}
 use Rattle.r10_machine.specs.Config.{Config}
 use Rattle.r10_machine.specs.Machine.{File}
 use Rattle.r10_machine.specs.Room.{blocks_of}
-use Rattle.r10_steps.specs.Bytes.{KeepBytes}
-use Rattle.r10_steps.proofs.Said.{directory_keeps, directory_turns, last_said}
-use Rattle.r10_steps.specs.Says.{IsFound, Lists, MediumSays, SaysEach, SaysFile}
+use Rattle.r10_machine.specs.Bytes.{KeepBytes}
+use Rattle.r10_machine.proofs.Said.{directory_keeps, directory_turns, last_said}
+use Rattle.r10_machine.specs.Says.{IsFound, Lists, MediumSays, SaysEach, SaysFile}
 use Rattle.r10_openfile.proofs.Ends.{all_front, all_with}
 use Rattle.r10_openfile.specs.Keeping.{Becomes, IsKept, Keeps}
 

@@ -3,3 +3,4 @@ pub mod Intake
 pub mod Keeping
 pub mod Putting
 pub mod Starting
+pub mod Begun

@@ -4,7 +4,7 @@ use Rattle.r10_body.specs.Cost.{entry_cost, file_cost}
 use Rattle.r10_body.specs.Packets.{file_bytes}
 use Rattle.r10_builder.specs.State.{State}
 use Rattle.r10_builder.specs.Settings.{specs_of}
-use Rattle.r10_carry.specs.Carries.{time_entry}
+use Rattle.r10_packetout.specs.Carries.{time_entry}
 use Rattle.r10_count.specs.declared.civil.Parts.{Parts}
 use Rattle.r10_dirblock.specs.declared.entry.Entry.{Entry as Listed}
 use Rattle.r10_builder.specs.Grows.{all_held}

@@ -3,3 +3,4 @@ pub mod Places
 pub mod Ending
 pub mod Packets
 pub mod Output
+pub mod Carries

@@ -9,8 +9,8 @@ use Rattle.r10_dirchain.specs.Chain.{IsDirectory}
 use Rattle.r10_dirchain.specs.Mount.{listed}
 use Rattle.r10_dirchain.specs.declared.chain.ChainBlock.{ChainBlock}
 use Rattle.r10_dirchain.specs.declared.chain.Listed.{Listed}
-use Rattle.r10_mediumcheck.specs.Place.{is_inside, IsPlaced}
-use Rattle.r10_mediumcheck.proofs.Placing.{placed, rooms}
+use Rattle.r10_checker.specs.Place.{is_inside, IsPlaced}
+use Rattle.r10_checker.proofs.Placing.{placed, rooms}
 use Rattle.r10_playback.specs.Played.{IsListed}
 
 pub listed_file : (image : Image) (chain : List ChainBlock) (seen files : List Listed) (number : ℕ) (f : Listed) (got : Option Listed) → IsDirectory image chain → seen ≡ files → files ≡ listed chain

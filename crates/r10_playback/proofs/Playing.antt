@@ -10,9 +10,9 @@ use Rattle.r10_body.specs.Rules.{is_data, node_entries}
 use Rattle.r10_body.specs.declared.entry.Entry.{Entry}
 use Rattle.r10_judge.specs.Judged.{IsKept}
 use Rattle.r10_machine.specs.Replay.{wanted, Ordered}
-use Rattle.r10_mediumcheck.specs.Place.{bytes_on}
-use Rattle.r10_replay.specs.Replays.{Advances, Reading, begun}
-use Rattle.r10_replay.specs.Shown.{IsShown}
+use Rattle.r10_checker.specs.Place.{bytes_on}
+use Rattle.r10_cursor.specs.Replays.{Advances, Reading, begun}
+use Rattle.r10_cursor.specs.Shown.{IsShown}
 use Rattle.r10_tracks.specs.Tracks.{IsTracked}
 use Rattle.r10_tracks.specs.declared.tracks.Tracks.{Tracks}
 use Rattle.r10_playback.specs.Played.{channels_of, HasCounts, IsFound, IsInstalment}

@@ -1,2 +1,4 @@
 pub mod Played
 pub mod Lines
+pub mod Checked
+pub mod Words

@@ -14,7 +14,7 @@ use Rattle.r10_body.specs.Rules.{IsFile, is_closed as is_closed_file}
 use Rattle.r10_body.specs.declared.entry.Entry.{Entry}
 use Rattle.r10_body.specs.declared.fault.FileFault.{FileFault}
 use Rattle.r10_machine.specs.Replay.{wanted, Ordered}
-use Rattle.r10_mediumcheck.specs.Place.{bytes_on, is_inside}
+use Rattle.r10_checker.specs.Place.{bytes_on, is_inside}
 use Rattle.r10_playback.specs.declared.selection.Selection.{Selection}
 use Rattle.r10_playback.specs.declared.selection.PlayFault.{PlayFault}
 use Rattle.r10_playback.specs.declared.selection.PlayFault.TheVariants as faults

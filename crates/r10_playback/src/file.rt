@@ -5,15 +5,15 @@ ghost use Rattle.r10_medium.specs.Disk.{Image, Unchanged};
 ghost use Rattle.r10_dirchain.specs.Bad.{IsChainError};
 ghost use Rattle.r10_judge.specs.Judged.{IsKept};
 ghost use Rattle.r10_dirblock.specs.Block.{is_closed};
-ghost use Rattle.r10_mediumcheck.specs.Place.{bytes_on, IsPlaced};
+ghost use Rattle.r10_checker.specs.Place.{bytes_on, IsPlaced};
 ghost use Rattle.r10_playback.specs.Played.{IsFound, IsFileFault, IsJudgeFault};
 
 use crate::selection::{PlayFault, PlayRefusal};
-use r10_blockin::ReadFault;
+use r10_blockout::ReadFault;
+use r10_checker::{extent_of, is_inside};
 use r10_dirchain::{ChainError, Listed, read_chain};
-use r10_filein::{Judgement, judge_file};
+use r10_judge::{Judgement, judge_file};
 use r10_medium::BlockMedium;
-use r10_mediumcheck::{extent_of, is_inside};
 use r10_tracks::Tracks;
 use std::alloc::Global;
 

@@ -1,11 +1,17 @@
-//! Entries of a file of an image in lines: those of a strict file that are asked for, in the order of a replay, or why there are none.
+//! What is printed of a file: the entries of a strict one that are asked for, in the order of a replay, or why there are none;
+//! and the verdict on a recording, or its first fault under a directory entry.
 #![tactic(auto)]
 
+mod check;
+mod closing;
 mod file;
 mod lines;
 mod play;
 mod replay;
 mod selection;
+mod words;
 
+pub use check::check_input;
+pub use closing::judge_closing;
 pub use play::play_input;
 pub use selection::Selection;

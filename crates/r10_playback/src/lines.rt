@@ -7,16 +7,16 @@ ghost use Rattle.r10_playback.specs.Lines.{entry_lines, refusal_text};
 
 use crate::selection::PlayRefusal;
 use r10_body::Entry;
+use r10_cursor::Reading;
 use r10_images::{StreamFault, write_refusal};
 use r10_lines::entry_line;
-use r10_replay::Cursor;
 use std::alloc::Global;
 use std::io::Write;
 
 /// Writes the line of each entry that a cursor has yet to give, one after the other.
 pub(crate) fn write_entries<W: Write>(
     alloc: Global,
-    cursor: &mut Cursor,
+    cursor: &mut Reading,
     writer: &mut W,
 ) -> Result<(), StreamFault>
     ensures { OnOk result (Appends (W.contents writer.old) (W.contents writer.new) (entry_lines cursor.old.queue)) }

@@ -7,7 +7,7 @@ use Rattle.r10_body.specs.declared.refusal.Refusal.TheVariants.{Overflow}
 use Rattle.r10_body.specs.declared.spec.ChannelSpec.{ChannelSpec}
 use Rattle.r10_machine.specs.Checks.{taking_checks}
 use Rattle.r10_machine.specs.Machine.{saturated}
-use Rattle.r10_machine.specs.Sound.{count_or_0}
+use Rattle.r10_machine.specs.SoundParts.{count_or_0}
 use Rattle.r10_port.specs.declared.item.Item.{Item}
 use Rattle.r10_port.specs.declared.item.Item.TheVariants.{Announce, Entry}
 use Rattle.r10_port.specs.Items.{samples, last_count, MayFollow}

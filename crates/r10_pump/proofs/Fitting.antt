@@ -9,14 +9,14 @@ use Rattle.r10_body.specs.Cost.{entry_cost}
 use Rattle.r10_body.specs.declared.entry.Entry.{Entry}
 use Rattle.r10_body.specs.declared.entry.Sample.{Sample}
 use Rattle.r10_builder.specs.Packing.{entry_on}
-use Rattle.r10_carry.specs.Carries.{Recording, packets_of}
+use Rattle.r10_packetout.specs.Carries.{Recording, packets_of}
 use Rattle.r10_machine.specs.Calls.{Pumps as PumpsIn, without}
 use Rattle.r10_machine.specs.Config.{Config}
 use Rattle.r10_machine.specs.Machine.{File, Lane, Machine, change_first, is_channel, last_file, lane_of, waiting_entries, with_entries, with_lane, with_last}
 use Rattle.r10_machine.specs.Room.{TakesIn, area, cost_of, fitting, may_fill_index, room_for}
-use Rattle.r10_steps.specs.Step.{Lacks as StepLacks, LanesAfter, MayLackIndex, entry_has_room, has_room, needed}
-use Rattle.r10_steps.specs.declared.event.Event.{Event as Asked}
-use Rattle.r10_steps.specs.declared.event.Event.TheVariants as ask
+use Rattle.r10_machine.specs.Step.{Lacks as StepLacks, LanesAfter, MayLackIndex, entry_has_room, has_room, needed}
+use Rattle.r10_machine.specs.declared.event.Event.{Event as Asked}
+use Rattle.r10_machine.specs.declared.event.Event.TheVariants as ask
 use Rattle.r10_mux.specs.declared.fault.Full.{Full}
 use Rattle.r10_mux.specs.declared.fault.Full.TheVariants as full
 use Rattle.r10_pump.specs.Pumping.{Ends, Lacks, entries_on}

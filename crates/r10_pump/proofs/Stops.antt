@@ -11,14 +11,14 @@ use Rattle.r10_body.specs.declared.entry.Entry.{Entry}
 use Rattle.r10_body.specs.declared.entry.Sample.{Sample}
 use Rattle.r10_body.specs.declared.spec.ChannelSpec.{ChannelSpec}
 use Rattle.r10_builder.specs.Packing.{entry_on}
-use Rattle.r10_carry.specs.Carries.{Recording, packets_of}
+use Rattle.r10_packetout.specs.Carries.{Recording, packets_of}
 use Rattle.r10_machine.specs.Calls.{all_waiting, front_of, lanes_without, without}
 use Rattle.r10_machine.specs.Config.{Config}
 use Rattle.r10_machine.specs.Machine.{File, Lane, lane_in}
 use Rattle.r10_machine.specs.Room.{TakesIn, area}
 use Rattle.r10_mux.specs.declared.fault.Full.{Full}
-use Rattle.r10_steps.specs.Step.{LanesAfter}
-use Rattle.r10_steps.specs.declared.event.Event.TheVariants as ask
+use Rattle.r10_machine.specs.Step.{LanesAfter}
+use Rattle.r10_machine.specs.declared.event.Event.TheVariants as ask
 use Rattle.r10_pump.specs.Machines.{AreMoved, HasWaiting}
 use Rattle.r10_pump.specs.Pumping.{Ends, Lacks, entries_on}
 use Rattle.r10_pump.specs.Stopping.{GoesOn, GoesThrough, Part, entries_of, most_of, samples_on}

@@ -5,7 +5,7 @@ use Rattle.r10_body.specs.Cost.{entry_cost}
 use Rattle.r10_body.specs.declared.entry.Sample.{Sample}
 use Rattle.r10_body.specs.declared.refusal.Refusal.{Refusal}
 use Rattle.r10_body.specs.declared.refusal.Refusal.TheVariants.{IndexFull, MediumFull}
-use Rattle.r10_carry.specs.Carries.{Recording, packets_of}
+use Rattle.r10_packetout.specs.Carries.{Recording, packets_of}
 use Rattle.r10_machine.specs.Config.{Config}
 use Rattle.r10_machine.specs.Machine.{File, Lane, rising}
 use Rattle.r10_machine.specs.Room.{area, cost_of}

@@ -7,8 +7,8 @@ use Rattle.r10_body.specs.Packets.{file_bytes}
 use Rattle.r10_body.specs.declared.entry.Entry.{Entry}
 use Rattle.r10_body.specs.declared.entry.Sample.{Sample}
 use Rattle.r10_body.specs.declared.spec.ChannelSpec.{ChannelSpec}
-use Rattle.r10_machine.specs.declared.reply.Stopped.{Stopped}
-use Rattle.r10_carry.specs.Carries.{Carries, Recording}
+use Rattle.r10_machine.specs.declared.mode.Stopped.{Stopped}
+use Rattle.r10_packetout.specs.Carries.{Carries, Recording}
 use Rattle.r10_mux.specs.Writes.{Writes}
 use Rattle.r10_mux.specs.declared.fault.Full.{Full}
 use Rattle.r10_pump.specs.Pumping.{Ends, EndsBy, HasBuilder, KeepsRoom, Moves, TakenIn, entries_on}

@@ -9,7 +9,7 @@ use Rattle.r10_builder.specs.State.{State}
 use Rattle.r10_builder.specs.Grows.{HasNone}
 use Rattle.r10_builder.specs.Settings.{AreSettings, specs_of}
 use Rattle.r10_packetout.specs.Output.{Writing}
-use Rattle.r10_carry.specs.Carries.{Carries, Recording, StandApart, time_entry}
+use Rattle.r10_packetout.specs.Carries.{Carries, Recording, StandApart, time_entry}
 use Rattle.r10_mux.specs.Begun.{begun}
 use Rattle.r10_recorder_tests.specs.Open.{IsOpen, line}
 

@@ -16,7 +16,7 @@ use Rattle.r10_builder.specs.Grows.{is_open}
 use Rattle.r10_builder.proofs.Rising.{rise_join}
 use Rattle.r10_packetout.specs.Output.{IsReady, Writing}
 use Rattle.r10_packetout.proofs.Having.{ready_fewer}
-use Rattle.r10_carry.specs.Carries.{Carries, Recording, packets_of}
+use Rattle.r10_packetout.specs.Carries.{Carries, Recording, packets_of}
 use Rattle.r10_mux.specs.Writes.{IsSame, IsSameFile, Leads, MayCome, MayGrow}
 use Rattle.r10_recorder_tests.specs.Open.{IsOpen}
 

@@ -6,7 +6,7 @@ use Rattle.r10_blockout.specs.Output.{first_of}
 use Rattle.r10_body.specs.declared.entry.Entry.{Entry}
 use Rattle.r10_body.specs.declared.message.Kind.TheVariants as kinds
 use Rattle.r10_body.specs.declared.spec.ChannelSpec.{ChannelSpec}
-use Rattle.r10_carry.specs.Carries.{Carries, Recording}
+use Rattle.r10_packetout.specs.Carries.{Carries, Recording}
 
 -- no entry of the file is later than a count, and so many bytes of it lie on the medium behind its first block
 pub record IsOpen (r : Recording) (image : Image) (last area : ℕ) : Type 0 where

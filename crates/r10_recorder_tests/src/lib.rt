@@ -1,4 +1,5 @@
-//! The parts of a recorder called once each with ample memory, and what their contracts do not say.
+//! The parts of a recorder called once each with ample memory, and a recorder with its readers at concrete media, in tables of
+//! events and replies.
 #![tactic(auto)]
 
 #[cfg(test)]
@@ -6,6 +7,10 @@ mod builder;
 #[cfg(test)]
 mod builders;
 #[cfg(test)]
+mod failures;
+#[cfg(test)]
 mod parts;
+#[cfg(test)]
+mod recording;
 #[cfg(test)]
 mod writing;

@@ -4,7 +4,7 @@ use Rattle.std.specs.Fmt.{decimal}
 use Rattle.std.specs.Io.KnownBytes.{Appends}
 use Rattle.hex.specs.Hex.{encode_lower}
 use Rattle.r10_images.specs.declared.listing.Outcome.{Outcome}
-use Rattle.r10_verdicts.specs.Checked.{Judges}
+use Rattle.r10_playback.specs.Checked.{Judges}
 use Rattle.r10_command.specs.Command.{Does}
 use Rattle.r10_command.specs.Status.{outcome_status, Ends}
 use Rattle.r10_rows.specs.Case.{case_length, head_text, spelled, IsCase, IsInput}

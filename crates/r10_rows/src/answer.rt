@@ -8,7 +8,7 @@ ghost use Rattle.r10_rows.specs.Answer.{Answers, AreBoth, AsksJudge, IsAnswer, I
 use crate::case::{Case, head_line};
 use crate::fault::RowsFault;
 use r10_images::Outcome;
-use r10_verdicts::judge_closing;
+use r10_playback::judge_closing;
 use std::alloc::{AllocError, Global};
 use std::io::Write;
 

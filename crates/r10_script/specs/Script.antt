@@ -5,7 +5,7 @@ use Rattle.r10_body.specs.declared.message.Kind.{Kind}
 use Rattle.r10_body.specs.declared.message.Kind.TheVariants as kinds
 use Rattle.r10_body.specs.declared.spec.ChannelSpec.{ChannelSpec}
 use Rattle.r10_machine.specs.Config.{Config}
-use Rattle.r10_steps.specs.declared.event.Event.{Event}
+use Rattle.r10_machine.specs.declared.event.Event.{Event}
 use Rattle.r10_script.specs.Keys.{integer_at, text_at, items_at, HasOnly}
 use Rattle.r10_script.specs.Kinds.{kind_word, channel_keys}
 use Rattle.r10_script.specs.Steps.{IsStep}

@@ -2,8 +2,8 @@
 use Rattle.std.specs.Prelude.{◌≡◌, ℕ, pos, List, [], ◌∷◌, map, Some, codes}
 use Rattle.toml.specs.Data.{Members}
 use Rattle.r10_body.specs.declared.spec.ChannelSpec.{ChannelSpec}
-use Rattle.r10_steps.specs.declared.event.Event.{Event}
-use Rattle.r10_steps.specs.declared.event.Event.TheVariants as events
+use Rattle.r10_machine.specs.declared.event.Event.{Event}
+use Rattle.r10_machine.specs.declared.event.Event.TheVariants as events
 use Rattle.r10_lines.specs.Civil.{civil_text}
 use Rattle.r10_script.specs.Keys.{integer_at, integers_at, text_at, bytes_at, HasOnly}
 use Rattle.r10_script.specs.Offers.{IsOffered}

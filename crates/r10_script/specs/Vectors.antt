@@ -4,7 +4,7 @@ use Rattle.std.specs.List.{list_any}
 use Rattle.std.specs.Str.{bytes_eq}
 use Rattle.toml.specs.Data.{Members, integer, string, no_members, member}
 use Rattle.r10_body.specs.declared.message.Kind.TheVariants as kinds
-use Rattle.r10_steps.specs.declared.event.Event.TheVariants as events
+use Rattle.r10_machine.specs.declared.event.Event.TheVariants as events
 use Rattle.r10_script.specs.Keys.{bytes_or_none_at, flag_or_false_at, integer_or_zero_at, HasOnly}
 use Rattle.r10_script.specs.Kinds.{channel_keys, offer_keys}
 use Rattle.r10_script.specs.Steps.{IsStep}

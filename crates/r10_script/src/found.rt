@@ -1,6 +1,6 @@
 //! What a script has where something else is wanted, as it is said in a fault.
 
-use r10_scripttext::Found;
+use r10_lines::Found;
 use std::alloc::{AllocError, Global};
 use toml::Value;
 

@@ -11,9 +11,8 @@ use crate::settings::settings_of;
 use crate::step::event_of;
 use crate::table::Fields;
 use r10_body::ChannelSpec;
-use r10_machine::Settings;
-use r10_scripttext::{Place, ScriptFault, Spot, Wrong};
-use r10_steps::Event;
+use r10_lines::{Place, ScriptFault, Spot, Wrong};
+use r10_machine::{Event, Settings};
 use std::alloc::{AllocError, Global};
 
 /// What a script asks for: a recorder of these settings, and these events in turn.

@@ -10,7 +10,7 @@ ghost use Rattle.r10_lines.specs.Line.{words_bytes};
 ghost use Rattle.r10_script.specs.Keys.{integer_at, integer_or_zero_at, integers_at, text_at, bytes_at, bytes_or_none_at, flag_or_false_at, items_at, HasOnly};
 
 use crate::found::{cut, found_of, listed};
-use r10_scripttext::{Place, ScriptFault, Spot, Wrong};
+use r10_lines::{Place, ScriptFault, Spot, Wrong};
 use std::alloc::{AllocError, Global};
 use toml::{Table, Value};
 

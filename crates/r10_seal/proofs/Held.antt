@@ -16,7 +16,7 @@ use Rattle.r10_body.specs.Files.{PacketsSay}
 use Rattle.r10_body.specs.Packets.{Packet, file_bytes, file_entries, packet_bytes, packet_entries}
 use Rattle.r10_body.specs.Rules.{EachFollows}
 use Rattle.r10_body.specs.declared.entry.Entry.{Entry}
-use Rattle.r10_carry.proofs.Closing.{index_says}
+use Rattle.r10_packetout.proofs.Closing.{index_says}
 use Rattle.r10_dirblock.specs.Block.{is_closed}
 use Rattle.r10_dirblock.specs.Texts.{digits, time_text}
 use Rattle.r10_dirblock.specs.declared.entry.Entry.{Entry as Listed}
@@ -25,19 +25,19 @@ use Rattle.r10_dirchain.specs.OnMedium.{Turned}
 use Rattle.r10_dirchain.specs.Steps.{updated}
 use Rattle.r10_dirchain.specs.declared.chain.ChainBlock.{ChainBlock}
 use Rattle.r10_dirchain.proofs.Turning.{on_ok}
-use Rattle.r10_holding.specs.Holding.{Holds, OthersAreFound}
-use Rattle.r10_holding.proofs.Ends.{all_front, all_with}
-use Rattle.r10_holding.proofs.Found.{found_stays}
-use Rattle.r10_holding.proofs.Relisting.{Relists, made_bytes, made_found, made_says, reserved, written_in}
+use Rattle.r10_volume.specs.Holding.{Holds, OthersAreFound}
+use Rattle.r10_volume.proofs.Ends.{all_front, all_with}
+use Rattle.r10_volume.proofs.Found.{found_stays}
+use Rattle.r10_volume.proofs.Relisting.{Relists, made_bytes, made_found, made_says, reserved, written_in}
 use Rattle.r10_index.specs.Written.{index_of}
 use Rattle.r10_body.proofs.OneMeaning.{one_list}
 use Rattle.r10_machine.specs.Config.{Config}
 use Rattle.r10_machine.specs.Machine.{File, shown_entries}
 use Rattle.r10_machine.specs.Room.{area}
-use Rattle.r10_steps.specs.Bytes.{KeepBytes}
-use Rattle.r10_steps.proofs.Said.{directory_keeps, growing_kept}
-use Rattle.r10_steps.specs.Calls.{closed_in}
-use Rattle.r10_steps.specs.Says.{IsFound, Lists, MediumSays, SaysFile}
+use Rattle.r10_machine.specs.Bytes.{KeepBytes}
+use Rattle.r10_machine.proofs.Said.{directory_keeps, growing_kept}
+use Rattle.r10_machine.specs.ControlCalls.{closed_in}
+use Rattle.r10_machine.specs.Says.{IsFound, Lists, MediumSays, SaysFile}
 use Rattle.r10_volume.specs.Settling.{IsSettled, SaysAs}
 use Rattle.r10_volume.proofs.Turning.{keep_both}
 use Rattle.r10_seal.specs.Judging.{IsSealable}

@@ -25,18 +25,18 @@ use Rattle.r10_dirchain.specs.Chain.{files as listed_files}
 use Rattle.r10_dirchain.specs.Mount.{mount_rules}
 use Rattle.r10_dirchain.specs.declared.chain.ChainBlock.{ChainBlock}
 use Rattle.r10_dirchain.proofs.Unique.{one_directory}
-use Rattle.r10_holding.specs.Holding.{Holds, Open}
-use Rattle.r10_holding.proofs.Ends.{all_front}
-use Rattle.r10_holding.proofs.Counting.{packets_some}
-use Rattle.r10_holding.proofs.Relisting.{last_file_listed, last_file_said}
+use Rattle.r10_volume.specs.Holding.{Holds, Open}
+use Rattle.r10_volume.proofs.Ends.{all_front}
+use Rattle.r10_volume.proofs.Counting.{packets_some}
+use Rattle.r10_volume.proofs.Relisting.{last_file_listed, last_file_said}
 use Rattle.r10_index.specs.Written.{index_of}
 use Rattle.r10_judge.proofs.Places.{strict_apart}
 use Rattle.r10_body.proofs.Sums.{same_sum}
 use Rattle.r10_machine.specs.Config.{Config}
 use Rattle.r10_machine.specs.Machine.{File, shown_entries}
 use Rattle.r10_machine.specs.Room.{area, cost_of}
-use Rattle.r10_steps.proofs.Said.{growing_stands}
-use Rattle.r10_steps.specs.Says.{IsFound, Lists, MediumSays, SaysEach, SaysFile}
+use Rattle.r10_machine.proofs.Said.{growing_stands}
+use Rattle.r10_machine.specs.Says.{IsFound, Lists, MediumSays, SaysEach, SaysFile}
 use Rattle.r10_volume.specs.Mounting.{IsUsable}
 use Rattle.r10_seal.specs.Judging.{IsSealFault}
 use Rattle.r10_seal.specs.Leftover.{IsLeftFault, IsLeftOpen, shown_cost}

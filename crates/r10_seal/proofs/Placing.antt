@@ -18,7 +18,7 @@ use Rattle.r10_dirchain.specs.Steps.{last_listing}
 use Rattle.r10_dirchain.proofs.FileLists.{last_listing_is, last_of}
 use Rattle.r10_dirchain.proofs.Standing.{Stand, usable_of}
 use Rattle.r10_dirchain.proofs.Usable.{none_broken, place_rules_hold, placed}
-use Rattle.r10_holding.proofs.Staying.{bytes_behind}
+use Rattle.r10_volume.proofs.Staying.{bytes_behind}
 use Rattle.r10_volume.specs.Mounting.{IsUsable}
 
 -- a file behind the reserved blocks, whose bytes are inside the medium

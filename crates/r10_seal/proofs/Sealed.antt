@@ -6,7 +6,7 @@ use Rattle.r10_indexbody.specs.declared.entry.NodeEntry.{NodeEntry}
 use Rattle.r10_body.specs.Files.{PacketsSay, on_channel}
 use Rattle.r10_body.specs.Packets.{Packet, file_bytes, file_entries, packet_bytes}
 use Rattle.r10_body.specs.Rules.{is_data, last_time, node_entries}
-use Rattle.r10_carry.proofs.Closing.{index_says, named_length}
+use Rattle.r10_packetout.proofs.Closing.{index_says, named_length}
 use Rattle.r10_index.proofs.Behind.{all_data, index_closes}
 use Rattle.r10_index.specs.Written.{FitsIndex, first_nodes, index_of, node_count, root_packet}
 use Rattle.r10_judge.specs.Judged.{IsKept}

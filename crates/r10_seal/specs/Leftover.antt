@@ -4,15 +4,15 @@ use Rattle.r10_blockout.specs.Blocks.{bytes_from}
 use Rattle.r10_body.specs.Cost.{file_cost}
 use Rattle.r10_body.specs.Packets.{Packet}
 use Rattle.r10_dirchain.specs.declared.chain.ChainBlock.{ChainBlock}
-use Rattle.r10_holding.specs.Holding.{Holds}
+use Rattle.r10_volume.specs.Holding.{Holds}
 use Rattle.r10_machine.specs.Config.{Config}
 use Rattle.r10_machine.specs.Machine.{File, shown_entries}
 use Rattle.r10_machine.specs.Room.{area}
 use Rattle.r10_medium.specs.Disk.{Disk, Image}
 use Rattle.r10_medium.specs.Stop.{Leaves}
-use Rattle.r10_steps.specs.Bytes.{KeepBytes}
-use Rattle.r10_steps.specs.Calls.{MayPassIndex}
-use Rattle.r10_steps.specs.Says.{MediumSays}
+use Rattle.r10_machine.specs.Bytes.{KeepBytes}
+use Rattle.r10_machine.specs.ControlCalls.{MayPassIndex}
+use Rattle.r10_machine.specs.Says.{MediumSays}
 use Rattle.r10_volume.specs.Settling.{IsSettled}
 use Rattle.r10_seal.specs.Sealing.{IsUnsealed, sealed}
 use Rattle.r10_seal.specs.declared.fault.SealFault.{SealFault}

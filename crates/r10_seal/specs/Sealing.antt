@@ -16,7 +16,7 @@ use Rattle.r10_dirchain.specs.OnMedium.{Turned}
 use Rattle.r10_dirchain.specs.declared.chain.ChainBlock.{ChainBlock}
 use Rattle.r10_index.specs.Written.{FitsIndex, index_of}
 use Rattle.r10_machine.specs.Machine.{File}
-use Rattle.r10_steps.specs.Calls.{closed_in}
+use Rattle.r10_machine.specs.ControlCalls.{closed_in}
 use Rattle.r10_tracks.specs.Times.{last_mark}
 use Rattle.r10_tracks.specs.declared.times.TimeMark.{TimeMark}
 

@@ -1,6 +1,6 @@
 //! Why a file isn't closed.
 
-use r10_foreign::Fault;
+use r10_strict::Fault;
 
 /// Why a last file that was left open isn't closed.
 #[derive(Clone, Copy, Debug, PartialEq, Eq, Drop)]

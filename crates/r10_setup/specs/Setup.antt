@@ -1,8 +1,8 @@
 -- The body of a setup packet: the channel specific word, and the setup text as it is.
 use Rattle.std.specs.Prelude.{◌≡◌, ℕ, ◌≤◌, Bool, ◌&&◌, List, ◌++◌, length, nat_le}
 use Rattle.r10_count.specs.Bytes.{le_bytes, u32_at, bit_of}
-use Rattle.r10_entries.specs.declared.reading.Reading.{Reading}
-use Rattle.r10_entries.specs.declared.reading.Reading.TheVariants.{Strict, Lenient, Neither}
+use Rattle.r10_count.specs.declared.reading.Reading.{Reading}
+use Rattle.r10_count.specs.declared.reading.Reading.TheVariants.{Strict, Lenient, Neither}
 use Rattle.r10_setup.specs.declared.body.SetupBody.{SetupBody}
 
 -- the word: ASCII text, configuration unchanged, this release

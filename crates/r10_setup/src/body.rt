@@ -1,11 +1,10 @@
 //! The body of a setup packet.
 
 ghost use Rattle.std.specs.Prelude.{◌≡◌, ◌↔◌, ℕ, List, length, IsTrue, IfOk};
-ghost use Rattle.r10_entries.specs.Append.{Appends};
-ghost use Rattle.r10_entries.specs.Reading.{Reads};
+ghost use Rattle.r10_count.specs.Append.{Appends};
+ghost use Rattle.r10_count.specs.Reading.{Reads};
 
-use r10_count::split_u32;
-use r10_entries::{Reading, append_all};
+use r10_count::{Reading, append_all, split_u32};
 use std::alloc::{AllocError, Global};
 
 /// The channel specific data word: ASCII text, configuration unchanged, and release 0x0C, which is

@@ -1,10 +1,10 @@
 // Files judged where they stand on a medium.
 use crate::packets::FIRST;
-use r10_blockin::ReadFault;
+use r10_blockout::ReadFault;
 use r10_body::FileFault;
-use r10_filein::{Extent, Judgement, judge_file, walk_file};
-use r10_foreign::Fault;
+use r10_judge::{Extent, Judgement, judge_file, walk_file};
 use r10_medium::{BlockMedium, Faulty, Memory};
+use r10_strict::Fault;
 use std::alloc::{AllocError, Global};
 use std::process::Abort;
 use std::test::Fail;

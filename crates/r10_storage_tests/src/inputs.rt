@@ -1,5 +1,5 @@
 // Runs of a file's bytes, read from a medium.
-use r10_blockin::{read_bytes, ready};
+use r10_blockout::{read_bytes, ready};
 use r10_medium::{BlockMedium, Memory};
 use std::test::Fail;
 

@@ -2,11 +2,11 @@
 use crate::packets::FIRST;
 use r10_body::FileFault;
 use r10_count::{Civil, Count, Items, Parts};
+use r10_cursor::{Cursor, ReadRefusal, Reader};
 use r10_dirblock::{DirBlock, Entries, Entry, encode, pad};
 use r10_dirchain::{Directory, read_chain};
-use r10_foreign::Fault;
 use r10_medium::{BlockMedium, Memory};
-use r10_reader::{Cursor, ReadRefusal, Reader};
+use r10_strict::Fault;
 use std::alloc::Global;
 use std::process::Abort;
 use std::test::Fail;

@@ -1,10 +1,10 @@
 // The first recording, found again on a medium.
 use crate::packets::FIRST;
 use r10_count::{Civil, Count, Items, Parts};
+use r10_cursor::{Reading, count_at, find, read_packet};
 use r10_index::IndexBook;
 use r10_indexbody::NodeEntry;
 use r10_medium::Memory;
-use r10_replay::{Cursor, count_at, find, read_packet};
 use std::alloc::{AllocError, Global};
 use std::test::Fail;
 
@@ -102,7 +102,7 @@ fn a_cursor_takes_what_it_wants(rt: HostRuntime) -> Result<(), Fail> {
     let to = Count::of(1010).ok_or("no count")?;
     let named = named(Count::of(1000).ok_or("no count")?);
     let channels = Items::of(Vec::from_slice(rt.alloc(), &[5])?);
-    let mut cursor = Cursor::new(rt.alloc(), channels, from, to);
+    let mut cursor = Reading::new(rt.alloc(), channels, from, to);
     let told = match cursor.advance(rt.alloc(), &mut medium, 0, &named, &mut buffer) {
         Ok(taken) => Some((taken, cursor.left())),
         Err(_) => None,

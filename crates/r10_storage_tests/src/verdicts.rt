@@ -1,11 +1,10 @@
 // All files of a medium, each with its verdict.
 use crate::packets::FIRST;
 use r10_body::FileFault;
-use r10_checker::Verdict;
+use r10_checker::{Verdict, check_medium};
 use r10_dirblock::{DirBlock, Entries, Entry, encode, pad};
 use r10_dirchain::ChainError;
 use r10_medium::{BlockMedium, Faulty, Memory};
-use r10_mediumcheck::check_medium;
 use std::alloc::{AllocError, Global};
 use std::process::Abort;
 use std::test::Fail;

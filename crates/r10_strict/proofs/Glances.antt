@@ -2,7 +2,7 @@
 use Rattle.std.proofs.Common.{◌≡◌, ℕ, ◌+◌, ◌/◌, ◌%◌, ◌^◌, ◌<◌, List, ◌++◌, length, refl, sym, ap, arith}
 use Rattle.r10_count.specs.Bytes.{le_bytes}
 use Rattle.r10_count.specs.Count.{IsCount, stamp}
-use Rattle.r10_entries.specs.Padding.{padded}
+use Rattle.r10_count.specs.Padding.{padded}
 use Rattle.r10_uart.specs.Entry.{uart_form, entry-size as uart_size}
 use Rattle.r10_uart.specs.declared.entry.UartEntry.{UartEntry}
 use Rattle.r10_uart.proofs.Bodies.{is_body as is_uart, body_is as uart_is}

@@ -6,3 +6,10 @@ pub mod Tallies
 pub mod Telling
 pub mod Scanned
 pub mod Glances
+pub mod Fronts
+pub mod Faults
+pub mod Words
+pub mod Ways
+pub mod Standing
+pub mod Written
+mod Cases

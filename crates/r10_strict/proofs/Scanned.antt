@@ -5,10 +5,10 @@ use Rattle.std.proofs.lemmas.List.{take-append-le}
 use Rattle.std.proofs.Math.Seq.{take-append_seam}
 use Rattle.r10_count.specs.Bytes.{le_bytes}
 use Rattle.r10_count.proofs.Fronts.{same_u32}
-use Rattle.r10_entries.specs.Form.{Form, IsSpelled, IsBody, OpensAll, SuitsAll, spelled_all}
-use Rattle.r10_entries.proofs.Bodies.{one_spelled}
-use Rattle.r10_entries.proofs.Parts.{entry_some}
-use Rattle.r10_entries.proofs.Spelling.{behind_first}
+use Rattle.r10_count.specs.Form.{Form, IsSpelled, IsBody, OpensAll, SuitsAll, spelled_all}
+use Rattle.r10_count.proofs.Bodies.{one_spelled}
+use Rattle.r10_count.proofs.BodyParts.{entry_some}
+use Rattle.r10_count.proofs.Spelling.{behind_first}
 use Rattle.r10_body.specs.declared.entry.Timed.{Timed}
 use Rattle.r10_strict.specs.Glance.{IsGlimpse, IsPlain}
 use Rattle.r10_strict.specs.Tally.{nothing, tally_behind, tally_of, timed_cost, with_message}

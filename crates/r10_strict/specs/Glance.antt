@@ -1,6 +1,6 @@
 -- Entries that are read where they stand.
 use Rattle.std.specs.Prelude.{◌≡◌, ℕ, ◌*◌, ◌<◌, ◌≤◌, true, List, length}
-use Rattle.r10_entries.specs.Form.{Form, FitsAll, body_bytes}
+use Rattle.r10_count.specs.Form.{Form, FitsAll, body_bytes}
 use Rattle.r10_body.specs.declared.entry.Timed.{Timed}
 use Rattle.r10_strict.specs.Tally.{timed_cost}
 use Rattle.r10_strict.specs.declared.scan.Glimpse.{Glimpse}

@@ -3,3 +3,4 @@ pub mod Header
 pub mod Tally
 pub mod Strict
 pub mod Glance
+pub mod Tracks

@@ -2,8 +2,7 @@
 
 use crate::scan::{Glance, Glimpse};
 use r10_body::ENTRY_COST;
-use r10_count::{Count, split_u32};
-use r10_entries::unpadded;
+use r10_count::{Count, split_u32, unpadded};
 use r10_message::MessageEntry;
 use r10_uart::UartEntry;
 

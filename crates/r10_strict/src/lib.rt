@@ -1,14 +1,25 @@
-//! One packet as this recorder writes it, with all that the rules of a file ask of it, or the least of the first three rules that it
-//! breaks.
+//! One packet, whoever wrote it: as any recorder writes it, opaque or not, or its first fault; and as this recorder writes it,
+//! with all that the rules of a file ask of it, or the least of the first three rules that it breaks.
 #![tactic(auto)]
 
 mod body;
+mod entries;
 mod facts;
+mod file;
 mod filler;
+mod foreign_body;
 mod glance;
+mod laws;
+mod packet;
 mod scan;
 mod strict;
 mod tally;
 
 pub use facts::{Facts, PacketKind, Spread};
+pub use file::{Fault, ForeignTrack, judge_foreign};
+pub use foreign_body::is_foreign_body;
+pub use laws::{
+    fault_stays, one_fault, one_verdict, packet_stays, packet_without_fault, strict_is_foreign,
+};
+pub use packet::{ForeignPacket, read_foreign};
 pub use strict::{StrictReading, read_checked, read_strict};

@@ -1,14 +1,13 @@
 //! Entries read where they stand.
 
 ghost use Rattle.std.specs.Prelude.{◌≡◌, ◌++◌, ◌≤◌, ℕ, List, map, IfSome, IfNone, length};
-ghost use Rattle.r10_entries.specs.Form.{IsSpelled};
+ghost use Rattle.r10_count.specs.Form.{IsSpelled};
 ghost use Rattle.r10_body.specs.declared.entry.Timed.{Timed as Said};
 ghost use Rattle.r10_strict.specs.Glance.{IsGlimpse, IsPlain};
 ghost use Rattle.r10_strict.specs.Tally.{tally_of};
 
 use crate::tally::Tally;
-use r10_count::{Count, split_u32};
-use r10_entries::BodyEntry;
+use r10_count::{BodyEntry, Count, split_u32};
 
 /// What an entry comes to.
 #[derive(Clone, Copy, Debug, PartialEq, Eq)]

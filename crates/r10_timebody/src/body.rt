@@ -3,14 +3,13 @@
 ghost use Rattle.std.specs.Prelude.{◌≡◌, ◌↔◌, length, IsTrue, SomeIff};
 ghost use Rattle.r10_count.specs.Civil.{IsCivil};
 ghost use Rattle.r10_count.specs.declared.civil.Parts.{Parts as Spoken};
-ghost use Rattle.r10_entries.specs.Append.{Appends};
-ghost use Rattle.r10_entries.specs.Reading.{Reads};
-ghost use Rattle.r10_entries.specs.declared.reading.Reading.TheVariants.{Strict};
+ghost use Rattle.r10_count.specs.Append.{Appends};
+ghost use Rattle.r10_count.specs.Reading.{Reads};
+ghost use Rattle.r10_count.specs.declared.reading.Reading.TheVariants.{Strict};
 ghost use Rattle.r10_timebody.specs.Time.{IsTime, IsForeignTime, time_body, time_word as word_of, told_parts, is_opaque};
 
 use crate::digits::{packed, unpacked};
-use r10_count::{Civil, Parts, split_u32};
-use r10_entries::{Reading, append_all};
+use r10_count::{Civil, Parts, Reading, append_all, split_u32};
 use std::alloc::AllocError;
 
 /// The body of a time packet: the channel specific data word, and one civil time as packed decimal

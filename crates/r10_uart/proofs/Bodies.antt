@@ -1,12 +1,12 @@
 -- A UART body is a body of its form.
 use Rattle.std.proofs.Common.{◌≡◌, ℕ, get_or, ◌+◌, ◌<◌, List, [], ◌∷◌, ◌++◌, length, drop, refl, sym, ap, ◌∙◌, arith}
 use Rattle.std.specs.List.{flat_map, AllByRecursion, sum_by}
-use Rattle.r10_entries.specs.Form.{IsBody, IsForeign, FitsAll, OpensAll, SuitsAll, spelled_all, body_bytes}
-use Rattle.r10_entries.proofs.Bodies.{one_spelled}
-use Rattle.r10_entries.proofs.Parts.{first_is}
-use Rattle.r10_entries.proofs.Lengths.{next_long, sizes_from}
-use Rattle.r10_entries.specs.Texts.{told_size}
-use Rattle.r10_entries.proofs.Plain.{plain_spelled, plain_fits, plain_all}
+use Rattle.r10_count.specs.Form.{IsBody, IsForeign, FitsAll, OpensAll, SuitsAll, spelled_all, body_bytes}
+use Rattle.r10_count.proofs.Bodies.{one_spelled}
+use Rattle.r10_count.proofs.BodyParts.{first_is}
+use Rattle.r10_count.proofs.Lengths.{next_long, sizes_from}
+use Rattle.r10_count.specs.Texts.{told_size}
+use Rattle.r10_count.proofs.Plain.{plain_spelled, plain_fits, plain_all}
 use Rattle.r10_uart.specs.Uart.{FitsUart, IsUart, IsForeignUart, uart_body, uart_entry, uart_word, entry_size}
 use Rattle.r10_uart.specs.Entry.{uart_form, entry-told, entry-one, entry-size}
 use Rattle.r10_uart.specs.declared.entry.UartEntry.{UartEntry}

@@ -3,7 +3,7 @@ use Rattle.std.proofs.Common.{◌≡◌, ℕ, zero, suc, ◌+◌, ◌*◌, ◌/�
 use Rattle.r10_count.specs.Bytes.{le_bytes, flag_at}
 use Rattle.r10_count.specs.Count.{stamp, IsCount}
 use Rattle.r10_count.proofs.Fronts.{same_stamp, same_u32}
-use Rattle.r10_entries.specs.Padding.{padded}
+use Rattle.r10_count.specs.Padding.{padded}
 use Rattle.r10_uart.specs.Uart.{FitsUart, uart_header, uart_entry, uart_of}
 use Rattle.r10_uart.specs.Entry.{header-fits}
 use Rattle.r10_uart.specs.declared.entry.UartEntry.{UartEntry}

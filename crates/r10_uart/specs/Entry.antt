@@ -4,9 +4,9 @@ use Rattle.std.proofs.Common.{arith, lit<, ap, sym, ◌∙◌}
 use Rattle.std.proofs.lemmas.Nat.{from_le_bytes-to_le_bytes_4}
 use Rattle.r10_count.specs.Bytes.{le_bytes, u32_at, flag_at}
 use Rattle.r10_count.proofs.Fronts.{same_stamp, same_u32}
-use Rattle.r10_entries.specs.Form.{Form, IsEntry}
-use Rattle.r10_entries.specs.Padding.{padded}
-use Rattle.r10_entries.specs.Texts.{told_size, told-front, padded-size, same_padded}
+use Rattle.r10_count.specs.Form.{Form, IsEntry}
+use Rattle.r10_count.specs.Padding.{padded}
+use Rattle.r10_count.specs.Texts.{told_size, told-front, padded-size, same_padded}
 use Rattle.r10_uart.specs.Uart.{uart_entry, uart_header, uart_of, entry_size, FitsUart}
 use Rattle.r10_uart.specs.declared.entry.UartEntry.{UartEntry}
 

@@ -3,9 +3,9 @@ use Rattle.std.specs.Prelude.{◌≡◌, ℕ, ◌+◌, ◌*◌, ◌%◌, ◌^◌
 use Rattle.std.specs.List.{flat_map, AllByRecursion, concat}
 use Rattle.r10_count.specs.Bytes.{le_bytes, flag_at, u32_at, bit_of}
 use Rattle.r10_count.specs.Count.{IsCount, stamp}
-use Rattle.r10_entries.specs.Form.{IsEntry}
-use Rattle.r10_entries.specs.Padding.{padded}
-use Rattle.r10_entries.specs.Texts.{told_size}
+use Rattle.r10_count.specs.Form.{IsEntry}
+use Rattle.r10_count.specs.Padding.{padded}
+use Rattle.r10_count.specs.Texts.{told_size}
 use Rattle.r10_uart.specs.declared.entry.UartEntry.{UartEntry}
 
 -- the word says that stamps are present

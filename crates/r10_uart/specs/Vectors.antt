@@ -2,7 +2,7 @@
 use Rattle.std.specs.Prelude.{◌≡◌, ℕ, Some, true, false, List, [], ◌∷◌, ◌++◌, refl}
 use Rattle.std.proofs.Common.{arith, lit<, lit≤}
 use Rattle.r10_uart.specs.declared.entry.UartEntry.{UartEntry}
-use Rattle.r10_entries.specs.Texts.{told_size}
+use Rattle.r10_count.specs.Texts.{told_size}
 use Rattle.r10_uart.specs.Uart.{FitsUart, IsForeignUart, uart_body, uart_entry, uart_of, is_opaque}
 
 -- ABC at 1000 and an empty message at 1010

@@ -1,15 +1,14 @@
 //! The body of a UART packet.
 
 ghost use Rattle.std.specs.Prelude.{◌≡◌, ◌↔◌, ◌^◌, ◌<◌, List, length, IsTrue, IfOk};
-ghost use Rattle.r10_entries.specs.Append.{Appends};
-ghost use Rattle.r10_entries.specs.Reading.{Reads};
-ghost use Rattle.r10_entries.specs.declared.reading.Reading.TheVariants.{Strict};
+ghost use Rattle.r10_count.specs.Append.{Appends};
+ghost use Rattle.r10_count.specs.Reading.{Reads};
+ghost use Rattle.r10_count.specs.declared.reading.Reading.TheVariants.{Strict};
 ghost use Rattle.r10_uart.specs.Uart.{FitsUartBody, IsUart, IsForeignUart, uart_body, is_opaque};
 ghost use Rattle.r10_uart.specs.declared.entry.UartEntry.{UartEntry as Spoken};
 
 use crate::entry::UartEntry;
-use r10_count::{Items, split_u32};
-use r10_entries::{BodyEntry, Reading, read_body, write_body};
+use r10_count::{BodyEntry, Items, Reading, read_body, split_u32, write_body};
 use std::alloc::{AllocError, Global};
 
 /// The body of a UART packet: the channel specific data word, and one entry for each message.

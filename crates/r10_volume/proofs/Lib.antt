@@ -2,3 +2,10 @@ pub mod Turning
 pub mod Taken
 pub mod Listed
 pub mod Usable
+pub mod Found
+pub mod Ends
+pub mod Staying
+pub mod Counting
+pub mod Relisting
+pub mod Carried
+mod Made

@@ -14,13 +14,13 @@ use Rattle.r10_dirchain.specs.Chain.{files as listed_files}
 use Rattle.r10_dirchain.specs.Mount.{stands}
 use Rattle.r10_dirchain.proofs.Standing.{Stand, usable_of}
 use Rattle.r10_dirchain.proofs.Unique.{one_directory}
-use Rattle.r10_holding.specs.Holding.{Holds, Open}
+use Rattle.r10_volume.specs.Holding.{Holds, Open}
 use Rattle.r10_machine.specs.Checks.{is_sealed, is_taken}
 use Rattle.r10_machine.specs.Config.{Config}
 use Rattle.r10_machine.specs.Machine.{File}
 use Rattle.r10_machine.specs.Room.{blocks_of, next_block}
-use Rattle.r10_steps.specs.Finding.{info_of}
-use Rattle.r10_steps.specs.Says.{Lists, SaysEach}
+use Rattle.r10_machine.specs.Finding.{info_of}
+use Rattle.r10_machine.specs.Says.{Lists, SaysEach}
 use Rattle.r10_volume.specs.Listing.{block_behind, has_name, info_in, is_last_closed}
 
 -- ---- what a directory lists that holds files

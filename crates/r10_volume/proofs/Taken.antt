@@ -12,7 +12,7 @@ use Rattle.r10_dirchain.specs.Mount.{mount_rules}
 use Rattle.r10_dirchain.proofs.Unique.{not_both, one_directory, one_fault}
 use Rattle.r10_machine.specs.Config.{Config}
 use Rattle.r10_machine.specs.Machine.{File}
-use Rattle.r10_steps.specs.Says.{MediumSays}
+use Rattle.r10_machine.specs.Says.{MediumSays}
 use Rattle.r10_volume.specs.Mounting.{IsMountError, IsNamed, IsUnusable, IsUsable, not_taken, not_used}
 
 abbrev broken_in : ℕ → Image → List ChainBlock → Option ℕ

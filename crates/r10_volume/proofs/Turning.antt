@@ -17,13 +17,13 @@ use Rattle.r10_dirchain.proofs.Staying.{usable-emptied, usable-with_shutdown}
 use Rattle.r10_dirchain.proofs.Turning.{on_ok, same_in, turns_of}
 use Rattle.r10_dirchain.proofs.Unique.{one_directory}
 use Rattle.r10_dirchain.proofs.Usable.{place_rules_hold, placed}
-use Rattle.r10_holding.specs.Holding.{Holds, OthersAreFound}
-use Rattle.r10_holding.proofs.Found.{found_stays}
+use Rattle.r10_volume.specs.Holding.{Holds, OthersAreFound}
+use Rattle.r10_volume.proofs.Found.{found_stays}
 use Rattle.r10_machine.specs.Config.{Config}
 use Rattle.r10_machine.specs.Machine.{File}
-use Rattle.r10_steps.specs.Bytes.{KeepBytes}
-use Rattle.r10_steps.proofs.Said.{directory_keeps, directory_turns}
-use Rattle.r10_steps.specs.Says.{MediumSays, SaysEach}
+use Rattle.r10_machine.specs.Bytes.{KeepBytes}
+use Rattle.r10_machine.proofs.Said.{directory_keeps, directory_turns}
+use Rattle.r10_machine.specs.Says.{MediumSays, SaysEach}
 use Rattle.r10_volume.specs.Mounting.{IsUsable}
 use Rattle.r10_volume.specs.Settling.{IsSettled}
 

@@ -5,7 +5,7 @@ use Rattle.std.specs.Str.{bytes_eq}
 use Rattle.r10_dirblock.specs.Block.{is_closed}
 use Rattle.r10_dirblock.specs.Texts.{stripped}
 use Rattle.r10_dirblock.specs.declared.entry.Entry.{Entry}
-use Rattle.r10_steps.specs.declared.reply.FileInfo.{FileInfo}
+use Rattle.r10_machine.specs.declared.reply.FileInfo.{FileInfo}
 
 abbrev pub info_in : Entry → FileInfo
 info_in e = record { name = stripped e.name; size = e.size; blocks = e.block_count; closed = is_closed e }

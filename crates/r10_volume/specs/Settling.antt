@@ -4,8 +4,8 @@ use Rattle.r10_machine.specs.Config.{Config}
 use Rattle.r10_machine.specs.Machine.{File}
 use Rattle.r10_medium.specs.Disk.{Disk, Image}
 use Rattle.r10_medium.specs.Stop.{Settled}
-use Rattle.r10_steps.specs.Bytes.{KeepBytes}
-use Rattle.r10_steps.specs.Says.{MediumSays}
+use Rattle.r10_machine.specs.Bytes.{KeepBytes}
+use Rattle.r10_machine.specs.Says.{MediumSays}
 
 -- an image says these files, and has the bytes of them that are read
 pub record SaysAs (s : Config) (files : List File) (read image : Image) : Type 0 where

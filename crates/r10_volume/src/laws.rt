@@ -11,9 +11,9 @@ ghost use Rattle.r10_machine.specs.Checks.{is_sealed, is_taken};
 ghost use Rattle.r10_machine.specs.Config.{Config};
 ghost use Rattle.r10_machine.specs.Machine.{File};
 ghost use Rattle.r10_machine.specs.Room.{next_block};
-ghost use Rattle.r10_steps.specs.Bytes.{KeepBytes};
-ghost use Rattle.r10_steps.specs.Finding.{info_of};
-ghost use Rattle.r10_holding.specs.Holding.{Holds, Open};
+ghost use Rattle.r10_machine.specs.Bytes.{KeepBytes};
+ghost use Rattle.r10_machine.specs.Finding.{info_of};
+ghost use Rattle.r10_volume.specs.Holding.{Holds, Open};
 ghost use Rattle.r10_volume.specs.Listing.{block_behind, has_name, info_in, is_last_closed};
 ghost use Rattle.r10_volume.specs.Mounting.{IsUsable};
 

@@ -8,7 +8,7 @@ ghost use Rattle.r10_volume.specs.Listing.{block_behind, has_name, info_in, is_l
 use r10_count::Items;
 use r10_dirblock::Entry;
 use r10_dirchain::Directory;
-use r10_steps::FileInfo;
+use r10_machine::FileInfo;
 use std::alloc::{AllocError, Global};
 
 /// The files in order, each with its name, size, blocks and whether it is closed.

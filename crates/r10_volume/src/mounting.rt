@@ -10,9 +10,9 @@ ghost use Rattle.r10_dirchain.specs.Steps.{with_shutdown};
 ghost use Rattle.r10_dirchain.specs.declared.chain.ChainBlock.{ChainBlock};
 ghost use Rattle.r10_machine.specs.Config.{Config};
 ghost use Rattle.r10_machine.specs.Machine.{File};
-ghost use Rattle.r10_steps.specs.Bytes.{KeepBytes};
-ghost use Rattle.r10_steps.specs.Says.{MediumSays};
-ghost use Rattle.r10_holding.specs.Holding.{Holds, OthersAreFound};
+ghost use Rattle.r10_machine.specs.Bytes.{KeepBytes};
+ghost use Rattle.r10_machine.specs.Says.{MediumSays};
+ghost use Rattle.r10_volume.specs.Holding.{Holds, OthersAreFound};
 ghost use Rattle.r10_volume.specs.Mounting.{IsLeft, IsMountError, IsMounted, IsNamed, IsUnusable, IsUsable};
 ghost use Rattle.r10_volume.specs.Settling.{IsSettled};
 

@@ -8,9 +8,9 @@ ghost use Rattle.r10_dirchain.specs.OnMedium.{Turns};
 ghost use Rattle.r10_dirchain.specs.Steps.{emptied, with_shutdown};
 ghost use Rattle.r10_machine.specs.Config.{Config};
 ghost use Rattle.r10_machine.specs.Machine.{File};
-ghost use Rattle.r10_steps.specs.Bytes.{KeepBytes};
-ghost use Rattle.r10_steps.specs.Says.{MediumSays};
-ghost use Rattle.r10_holding.specs.Holding.{Holds};
+ghost use Rattle.r10_machine.specs.Bytes.{KeepBytes};
+ghost use Rattle.r10_machine.specs.Says.{MediumSays};
+ghost use Rattle.r10_volume.specs.Holding.{Holds};
 ghost use Rattle.r10_volume.specs.Mounting.{IsUsable};
 ghost use Rattle.r10_volume.specs.Settling.{IsSettled};
 

@@ -1,5 +1,5 @@
 use Rattle.std.proofs.Common.{◌↔◌, drop}
-use Rattle.r10_entries.specs.Form.{FitsAll}
+use Rattle.r10_count.specs.Form.{FitsAll}
 use Rattle.r10_a429.specs.Entry.{arinc_form}
 use Rattle.r10_a429.proofs.body.has_short_gaps.Given as goal
 

@@ -1,5 +1,5 @@
 use Rattle.std.proofs.Common.{ap, arith}
-use Rattle.r10_carry.specs.Carries.{Recording}
+use Rattle.r10_packetout.specs.Carries.{Recording}
 use Rattle.r10_bench.proofs.Feeding.{flushed, kept, may_end}
 use Rattle.r10_bench.proofs.record.finish.Goals as goal
 

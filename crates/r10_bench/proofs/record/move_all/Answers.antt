@@ -1,6 +1,6 @@
 use Rattle.std.proofs.Common.{[], ◌∙◌, ap, arith, refl}
 use Rattle.r10_machine.specs.Machine.{Lane}
-use Rattle.r10_machine.specs.Sound.{count_or_0}
+use Rattle.r10_machine.specs.SoundParts.{count_or_0}
 use Rattle.r10_lane.specs.Lanes.{reached}
 use Rattle.r10_bench.proofs.Feeding.{emptied, fed_on, kept, line_took, opens, stays}
 use Rattle.r10_bench.proofs.record.move_all.Goals as goal

@@ -1,5 +1,5 @@
 use Rattle.std.proofs.Common.{◌≡◌, ◌≤◌}
-use Rattle.r10_machine.specs.Sound.{count_or_0}
+use Rattle.r10_machine.specs.SoundParts.{count_or_0}
 use Rattle.r10_bench.proofs.record.offer_all.Given as goal
 
 abbrev pub invariant-loop-count : goal.invariant-loop-count

@@ -1,6 +1,6 @@
 use Rattle.std.proofs.Common.{◌∙◌, ap, arith}
 use Rattle.r10_builder.specs.Settings.{specs_of}
-use Rattle.r10_carry.specs.Carries.{Recording}
+use Rattle.r10_packetout.specs.Carries.{Recording}
 use Rattle.r10_bench.proofs.Beginning.{fed, lines, settings, stands, width}
 use Rattle.r10_bench.proofs.start.begin.Goals as goal
 

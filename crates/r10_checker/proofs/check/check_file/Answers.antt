@@ -1,5 +1,5 @@
 use Rattle.std.proofs.Common.{◌^◌, ◌++◌, take, ◌∙◌, arith}
-use Rattle.r10_foreign.proofs.Standing.{walked}
+use Rattle.r10_strict.proofs.Standing.{walked}
 use Rattle.r10_checker.proofs.Parts.{shorter}
 use Rattle.r10_checker.proofs.check.check_file.Goals as goal
 

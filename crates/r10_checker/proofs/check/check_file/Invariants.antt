@@ -1,5 +1,5 @@
 use Rattle.std.proofs.Common.{◌≡◌, ℕ, ◌++◌, List, length, true}
-use Rattle.r10_foreign.specs.Tracks.{Stands as StandsForeign}
+use Rattle.r10_strict.specs.Tracks.{Stands as StandsForeign}
 use Rattle.r10_judge.specs.Judged.{Stands}
 use Rattle.r10_checker.proofs.check.check_file.Given as goal
 

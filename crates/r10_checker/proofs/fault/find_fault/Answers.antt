@@ -1,5 +1,5 @@
 use Rattle.std.proofs.Common.{◌≡◌, ℕ, ◌^◌, ◌++◌, List, take, inl, MatchOption, sym, subst, ◌∙◌, arith}
-use Rattle.r10_foreign.proofs.Standing.{walked}
+use Rattle.r10_strict.proofs.Standing.{walked}
 use Rattle.r10_body.specs.Faults.{IsAtFault}
 use Rattle.r10_judge.specs.Judged.{SaysClosed}
 use Rattle.r10_checker.proofs.Parts.{shorter, some_left, none_left}

@@ -1,6 +1,6 @@
 use Rattle.std.proofs.Common.{rules, arith, ◌≡◌, ◌+◌, ◌≤◌, ◌-◌, [], length, length-drop, take, drop, vec_len, refl}
 use Rattle.std.proofs.lemmas.List.{take_all}
-use Rattle.r10_session.specs.Telling.{Runs}
+use Rattle.r10_world.specs.Telling.{Runs}
 use Rattle.r10_command.specs.Lines.{RunsAndWrites, WritesLines}
 use Rattle.r10_command.proofs.Rounds.{no_lines}
 use Rattle.r10_command.proofs.Running.{Done, round_more}

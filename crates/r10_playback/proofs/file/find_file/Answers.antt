@@ -1,5 +1,5 @@
 use Rattle.std.proofs.Common.{◌≡◌, true, false, rules, refl, inr, length}
-use Rattle.r10_mediumcheck.specs.Place.{is_inside}
+use Rattle.r10_checker.specs.Place.{is_inside}
 use Rattle.r10_playback.specs.Played.{IsListed}
 use Rattle.r10_playback.proofs.Finding.{inside_is, listed_file, placed_file}
 use Rattle.r10_playback.proofs.file.find_file.Goals as goal

@@ -2,7 +2,7 @@ use Rattle.std.proofs.Common.{◌≡◌, ◌++◌, drop, ap}
 use Rattle.std.proofs.KnownBytes.{Appends-trans}
 use Rattle.r10_lines.specs.Line.{entry_line}
 use Rattle.r10_playback.specs.Lines.{entry_lines}
-use Rattle.r10_replay.specs.Replays.{Reading}
+use Rattle.r10_cursor.specs.Replays.{Reading}
 use Rattle.r10_playback.proofs.Queue.{one_given}
 use Rattle.r10_playback.proofs.lines.write_entries.Goals as goal
 

@@ -4,9 +4,9 @@ use Rattle.r10_medium.specs.Disk.{Image}
 use Rattle.r10_dirblock.specs.Block.{is_closed}
 use Rattle.r10_body.specs.Rules.{is_data}
 use Rattle.r10_judge.specs.Judged.{IsKept}
-use Rattle.r10_mediumcheck.specs.Place.{bytes_on}
-use Rattle.r10_replay.specs.Replays.{begun}
-use Rattle.r10_replay.specs.Shown.{IsShown}
+use Rattle.r10_checker.specs.Place.{bytes_on}
+use Rattle.r10_cursor.specs.Replays.{begun}
+use Rattle.r10_cursor.specs.Shown.{IsShown}
 use Rattle.r10_playback.specs.Played.{HasCounts}
 use Rattle.r10_playback.proofs.Playing.{instalment, kept_shown}
 use Rattle.r10_playback.proofs.replay.replay.Goals as goal

@@ -1,6 +1,6 @@
 use Rattle.std.proofs.Common.{◌≡◌, ◌++◌, ℕ, List, refl, subst}
-use Rattle.r10_entries.specs.Append.{Appends}
-use Rattle.r10_entries.specs.Padding.{padded}
+use Rattle.r10_count.specs.Append.{Appends}
+use Rattle.r10_count.specs.Padding.{padded}
 use Rattle.r10_uart.specs.Uart.{uart_entry, uart_of}
 use Rattle.r10_uart.proofs.entry.push_entry.Goals as goal
 

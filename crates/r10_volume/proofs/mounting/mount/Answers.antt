@@ -7,7 +7,7 @@ use Rattle.r10_dirchain.specs.declared.read.ChainError.{ChainError}
 use Rattle.r10_dirchain.specs.declared.read.ChainError.TheVariants.{Medium}
 use Rattle.r10_dirchain.specs.OnMedium.{Turns}
 use Rattle.r10_dirchain.proofs.Unique.{one_directory}
-use Rattle.r10_steps.specs.Says.{MediumSays}
+use Rattle.r10_machine.specs.Says.{MediumSays}
 use Rattle.r10_volume.proofs.Taken.{named_error, no_error, none_unusable, says_usable}
 use Rattle.r10_volume.proofs.Turning.{directory_on, marked_rules, usable_on, held_on, kept_then, kept_unchanged, leaves_still, marked_later, marking, says_still, settled_still}
 use Rattle.r10_volume.proofs.mounting.mount.Goals as goal

@@ -1,5 +1,5 @@
 use Rattle.std.proofs.Common.{List, ℕ, subst}
-use Rattle.r10_entries.specs.Append.{Appends}
+use Rattle.r10_count.specs.Append.{Appends}
 use Rattle.r10_a429.proofs.Bodies.{fits_are, bytes_are}
 use Rattle.r10_a429.proofs.body.ArincBody.encode_into.Goals as goal
 

@@ -1,5 +1,5 @@
 use Rattle.std.proofs.Common.{List, ℕ, subst}
-use Rattle.r10_entries.specs.Append.{Appends}
+use Rattle.r10_count.specs.Append.{Appends}
 use Rattle.r10_discrete.proofs.Bodies.{fits_are, bytes_are}
 use Rattle.r10_discrete.proofs.body.DiscreteBody.encode_into.Goals as goal
 

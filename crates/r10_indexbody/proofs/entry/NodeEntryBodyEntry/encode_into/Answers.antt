@@ -1,5 +1,5 @@
 use Rattle.std.proofs.Common.{◌≡◌, ◌++◌, [], ℕ, List, refl, subst}
-use Rattle.r10_entries.specs.Append.{Appends}
+use Rattle.r10_count.specs.Append.{Appends}
 use Rattle.r10_indexbody.specs.Index.{node_entry}
 use Rattle.r10_indexbody.proofs.entry.NodeEntryBodyEntry.encode_into.Goals as goal
 

@@ -1,7 +1,7 @@
 use Rattle.std.proofs.Common.{◌≡◌, ◌-◌, ◌∙◌, length, drop, ap, sym, subst}
 use Rattle.circular_buffer.specs.Buffer.{keep_last}
 use Rattle.r10_body.specs.declared.entry.Sample.{Sample}
-use Rattle.r10_machine.specs.Sound.{count_or_0}
+use Rattle.r10_machine.specs.SoundParts.{count_or_0}
 use Rattle.r10_lane.specs.Lanes.{Waits}
 use Rattle.r10_lane.proofs.Waiting.{kept_last, waits_fewer}
 use Rattle.r10_lane.proofs.ring_lane.RingLane.drop_front.Goals as goal

@@ -1,4 +1,4 @@
-use Rattle.r10_machine.specs.Sound.{count_or_0}
+use Rattle.r10_machine.specs.SoundParts.{count_or_0}
 use Rattle.r10_lane.proofs.Waiting.{waits_less}
 use Rattle.r10_lane.proofs.ring_lane.RingLaneLaneOut.take.Goals as goal
 

@@ -2,7 +2,7 @@ use Rattle.std.proofs.Common.{◌≡◌, ◌∙◌, List, [], ◌∷◌, ℕ, tr
 use Rattle.std.specs.Cmp.Lexicographic.{pointwise}
 use Rattle.r10_count.specs.Civil.{IsCivil}
 use Rattle.r10_count.specs.declared.civil.Parts.{Parts as Spoken}
-use Rattle.r10_entries.specs.declared.reading.Reading.TheVariants.{Strict}
+use Rattle.r10_count.specs.declared.reading.Reading.TheVariants.{Strict}
 use Rattle.r10_timebody.specs.Time.{IsTime, time_body, told_parts}
 use Rattle.r10_timebody.proofs.Times.{told_parts-IsTime}
 use Rattle.r10_timebody.proofs.body.TimeBody.decode.Goals as goal

@@ -1,5 +1,0 @@
-use Rattle.r10_carry.proofs.Closing.{closed_says}
-use Rattle.r10_carry.proofs.laws.closed_files_say.Goals as goal
-
-pub returns : goal.returns
-returns c = closed_says

@@ -1,5 +1,0 @@
-use Rattle.r10_carry.proofs.Carrying.{flushed_says}
-use Rattle.r10_carry.proofs.laws.flushed_files_say.Goals as goal
-
-pub returns : goal.returns
-returns c = flushed_says

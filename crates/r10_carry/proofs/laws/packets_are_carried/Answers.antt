@@ -1,5 +1,0 @@
-use Rattle.r10_carry.proofs.Carrying.{packets_carried}
-use Rattle.r10_carry.proofs.laws.packets_are_carried.Goals as goal
-
-pub returns : goal.returns
-returns c = packets_carried

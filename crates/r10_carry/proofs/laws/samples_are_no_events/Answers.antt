@@ -1,5 +1,0 @@
-use Rattle.r10_carry.proofs.Events.{sample_plain}
-use Rattle.r10_carry.proofs.laws.samples_are_no_events.Goals as goal
-
-pub returns : goal.returns
-returns c = sample_plain

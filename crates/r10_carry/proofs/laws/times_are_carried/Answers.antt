@@ -1,5 +1,0 @@
-use Rattle.r10_carry.proofs.Own.{times_carried}
-use Rattle.r10_carry.proofs.laws.times_are_carried.Goals as goal
-
-pub returns : goal.returns
-returns c = times_carried

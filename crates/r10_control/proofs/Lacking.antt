@@ -1,0 +1,92 @@
+-- Steps that are refused because room is lacking.
+use Rattle.std.proofs.Common.{◌≡◌, ◌≤◌, ℕ, false, Option, None, refl, sym, ◌∙◌, subst, Some}
+use Rattle.r10_body.specs.declared.refusal.Refusal.{Refusal}
+use Rattle.r10_body.specs.declared.refusal.Refusal.TheVariants.{IndexFull, MediumFull}
+use Rattle.r10_machine.specs.Config.{Config}
+use Rattle.r10_machine.specs.Limits.{IsConfig}
+use Rattle.r10_machine.specs.Machine.{Machine}
+use Rattle.r10_means.specs.Kept.{Kept}
+use Rattle.r10_means.specs.Means.{Means}
+use Rattle.r10_means.proofs.Leading.{StepsStaySound, failing, no_fewer, same_refusal, still_means}
+use Rattle.r10_medium.specs.Disk.{Image}
+use Rattle.r10_cursor.proofs.Sizes.{none_shrinks}
+use Rattle.r10_control.specs.Leading.{Leads, none_taken}
+use Rattle.r10_control.proofs.Leading.{none_left}
+use Rattle.r10_machine.specs.EventChecks.{refusal}
+use Rattle.r10_machine.specs.Step.{GivesUp, MayLackIndex, Refuses, Step, has_room}
+use Rattle.r10_machine.specs.declared.event.Event.{Event as Asked}
+use Rattle.r10_machine.specs.declared.event.Event.TheVariants.{Mount, Dismount, Tick, Start, Offer, Pump, Event, Commit, Stop, Seal, Erase, Files, Status, Cursor, Advance, Next, Close, Find, CountAt}
+use Rattle.r10_machine.specs.declared.reply.Reply.TheVariants as replies
+
+-- ---- failures that are counted change no room
+
+same_room : (s : Config) (m : Machine) (n : ℕ) (event : Asked) → has_room s (failing n m) event ≡ has_room s m event
+same_room s m n Mount = refl
+same_room s m n Dismount = refl
+same_room s m n (Tick count parts) = refl
+same_room s m n (Start name setup) = refl
+same_room s m n (Offer channel count message) = refl
+same_room s m n (Pump channel most) = refl
+same_room s m n (Event number count) = refl
+same_room s m n Commit = refl
+same_room s m n Stop = refl
+same_room s m n Seal = refl
+same_room s m n Erase = refl
+same_room s m n Files = refl
+same_room s m n Status = refl
+same_room s m n (Cursor file channels from to) = refl
+same_room s m n (Advance id) = refl
+same_room s m n (Next id) = refl
+same_room s m n (Close id) = refl
+same_room s m n (Find file channel count) = refl
+same_room s m n (CountAt file parts) = refl
+
+same_index : (s : Config) (m : Machine) (n : ℕ) (event : Asked) → MayLackIndex s m event → MayLackIndex s (failing n m) event
+same_index s m n Mount lacks = lacks
+same_index s m n Dismount lacks = lacks
+same_index s m n (Tick count parts) lacks = lacks
+same_index s m n (Start name setup) lacks = lacks
+same_index s m n (Offer channel count message) lacks = lacks
+same_index s m n (Pump channel most) lacks = lacks
+same_index s m n (Event number count) lacks = lacks
+same_index s m n Commit lacks = lacks
+same_index s m n Stop lacks = lacks
+same_index s m n Seal lacks = lacks
+same_index s m n Erase lacks = lacks
+same_index s m n Files lacks = lacks
+same_index s m n Status lacks = lacks
+same_index s m n (Cursor file channels from to) lacks = lacks
+same_index s m n (Advance id) lacks = lacks
+same_index s m n (Next id) lacks = lacks
+same_index s m n (Close id) lacks = lacks
+same_index s m n (Find file channel count) lacks = lacks
+same_index s m n (CountAt file parts) lacks = lacks
+
+-- ---- the steps
+
+gives_up : StepsStaySound → (k : Kept) (old new : Image) (before now : ℕ) (m : Machine) (event : Asked) (r : Refusal) → IsConfig k.config → Means k old before m → new ≡ old → before ≤ now
+    → refusal k.config m event ≡ None → GivesUp k.config m.failures (failing now m) event r (failing now m) → Leads none_taken k m event (replies.Refused r) k new now
+gives_up law k old new before now m event r limits means same more fine gives =
+    let step : Step k.config m event (replies.Refused r) (failing now m) = (
+      no_fewer k old before now m means more,
+      subst (λ (o : Option Refusal). Refuses o k.config m.failures (failing now m) event r (failing now m)) (sym (same_refusal k.config m now event ∙ fine)) gives,
+    ) in
+    record {
+      machine = failing now m;
+      led = record { step = step; means = still_means k old new before now m means same (law k.config m event (replies.Refused r) (failing now m) limits means.sound step) };
+      lanes = none_left m.lanes;
+      cursors = refl;
+      sizes = λ again. none_shrinks m.files;
+    }
+
+-- the medium has no room for what the call puts there
+pub medium_full_leads : StepsStaySound → (k : Kept) (old new : Image) (before now : ℕ) (m : Machine) (event : Asked) → IsConfig k.config → Means k old before m → new ≡ old → before ≤ now
+    → refusal k.config m event ≡ None → has_room k.config m event ≡ false → Leads none_taken k m event (replies.Refused MediumFull) k new now
+medium_full_leads law k old new before now m event limits means same more fine lacks =
+    gives_up law k old new before now m event MediumFull limits means same more fine (same_room k.config m now event ∙ lacks, refl)
+
+-- the index may be full
+pub index_full_leads : StepsStaySound → (k : Kept) (old new : Image) (before now : ℕ) (m : Machine) (event : Asked) → IsConfig k.config → Means k old before m → new ≡ old → before ≤ now
+    → refusal k.config m event ≡ None → MayLackIndex k.config m event → Leads none_taken k m event (replies.Refused IndexFull) k new now
+index_full_leads law k old new before now m event limits means same more fine lacks =
+    gives_up law k old new before now m event IndexFull limits means same more fine (same_index k.config m now event lacks, refl)

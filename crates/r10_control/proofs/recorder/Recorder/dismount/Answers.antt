@@ -1,0 +1,95 @@
+use Rattle.std.proofs.Common.{◌≡◌, None, refl, sym, ap, ◌∙◌, subst}
+use Rattle.r10_body.specs.declared.refusal.Refusal.TheVariants as refusals
+use Rattle.r10_count.specs.Checks.{first_broken}
+use Rattle.r10_machine.specs.Checks.{idle_checks}
+use Rattle.r10_machine.specs.Machine.{Machine}
+use Rattle.r10_means.specs.Kept.{Kept, mode_of, idle}
+use Rattle.r10_means.specs.Means.{Means}
+use Rattle.r10_control.specs.Leading.{KeepsShown, Leads, none_taken}
+use Rattle.r10_control.specs.State.{State}
+use Rattle.r10_control.specs.Stopped.{LeavesShown, none_made}
+use Rattle.r10_control.specs.Work.{work_of}
+use Rattle.r10_control.specs.declared.work.Doing.{Doing}
+use Rattle.r10_control.proofs.Bytes.{holds_of}
+use Rattle.r10_control.proofs.Dismounts.{dismount_done, dismount_fails, dismount_refused, held}
+use Rattle.r10_control.proofs.Stopped.{idle_leaves, left_alone}
+use Rattle.r10_machine.specs.declared.event.Event.TheVariants as events
+use Rattle.r10_machine.specs.declared.reply.Reply.TheVariants as replies
+use Rattle.r10_control.proofs.recorder.Recorder.dismount.Goals as goal
+
+pub returns-in-Err-clause-steps : goal.returns-in-Err-clause-steps
+returns-in-Err-clause-steps g c =
+    let disk = g.M.BlockMedium.disk in
+    subst (λ (v : State _ _). (m : Machine) → Means v.kept (disk v.medium).blocks (disk v.medium).failures m
+    → Leads none_taken v.kept m events.Dismount (replies.Refused c.in-Err.refusal) v.kept (disk v.medium).blocks (disk v.medium).failures) c.self.view_is
+    (λ m means. dismount_refused c.a_step_stays_sound.ensures _ _ _ m c.in-Err.refusal c.self.invariant.limits means
+    (ap (λ mode. first_broken (idle_checks mode)) (sym c.mode_in.ensures) ∙ c.in-Err.ensures))
+
+pub returns-in-Ok-clause-steps : goal.returns-in-Ok-clause-steps
+returns-in-Ok-clause-steps g c =
+    let w = c.self.inside in
+    let disk = g.M.BlockMedium.disk in
+    let later = disk c.dismount.new.medium in
+    let k : Kept = record { config = w.settings; work = work_of w.work; tick = w.tick; last_event = w.last_event; generation = w.generation; taken = w.taken.items; erased = w.erased.items } in
+    let at : k.work ≡ idle c.in-Idle.directory = ap work_of c.in-Idle.is in
+    subst (λ (v : State _ _). (m : Machine) → Means v.kept (disk v.medium).blocks (disk v.medium).failures m
+    → Leads none_taken v.kept m events.Dismount replies.Done (record k { work = work_of c.turn.new.work }) later.blocks later.failures) c.self.view_is
+    (subst (λ (x : Doing). (m : Machine) → Means k (disk w.medium).blocks (disk w.medium).failures m → Leads none_taken k m events.Dismount replies.Done (record k { work = work_of x }) later.blocks later.failures) (sym c.turn.ensures)
+    (λ m means.
+    let holds = c.in-Ok.ensures.holds k.config m.files (held k c.in-Idle.directory (disk w.medium).blocks m at means.files) in
+    dismount_done c.a_step_stays_sound.ensures k (disk w.medium).blocks later.blocks (disk w.medium).failures later.failures m c.in-Idle.directory c.self.invariant.limits means at
+    holds.says holds.found c.dismount.ensures.counts.no_fewer))
+
+pub returns-in-Err-dismount-clause-steps : goal.returns-in-Err-dismount-clause-steps
+returns-in-Err-dismount-clause-steps g c =
+    let w = c.self.inside in
+    let disk = g.M.BlockMedium.disk in
+    let later = disk c.dismount.new.medium in
+    let k : Kept = record { config = w.settings; work = work_of w.work; tick = w.tick; last_event = w.last_event; generation = w.generation; taken = w.taken.items; erased = w.erased.items } in
+    let at : k.work ≡ idle c.in-Idle.directory = ap work_of c.in-Idle.is in
+    let fine : first_broken (idle_checks (mode_of k.work)) ≡ None = ap (λ mode. first_broken (idle_checks mode)) (sym c.mode_in.ensures) ∙ c.in_default.ensures in
+    subst (λ (v : State _ _). (m : Machine) → Means v.kept (disk v.medium).blocks (disk v.medium).failures m
+    → Leads none_taken v.kept m events.Dismount (replies.Refused refusals.Medium) (record k { work = work_of c.turn-in-Err-dismount.new.work }) later.blocks later.failures) c.self.view_is
+    (subst (λ (x : Doing). (m : Machine) → Means k (disk w.medium).blocks (disk w.medium).failures m → Leads none_taken k m events.Dismount (replies.Refused refusals.Medium) (record k { work = work_of x }) later.blocks later.failures) (sym c.turn-in-Err-dismount.ensures)
+    (λ m means.
+    dismount_fails c.a_step_stays_sound.ensures k (disk w.medium).blocks later.blocks (disk w.medium).failures later.failures m c.self.invariant.limits means fine c.dismount.ensures.counts.no_fewer
+    (c.in-Err-dismount.ensures.counts.cause refl) (c.dismount.ensures.says k.config m.files (held k c.in-Idle.directory (disk w.medium).blocks m at means.files))))
+
+pub returns-in-Ok-clause-bytes : goal.returns-in-Ok-clause-bytes
+returns-in-Ok-clause-bytes g c =
+    let w = c.self.inside in
+    let disk = g.M.BlockMedium.disk in
+    subst (λ (v : State _ _). KeepsShown v.kept (disk v.medium).blocks (disk v.medium).failures (disk c.dismount.new.medium).blocks) c.self.view_is
+    (λ m means. c.dismount.ensures.bytes w.settings m.files (holds_of w.settings (work_of w.work) c.in-Idle.directory (disk w.medium).blocks m.files (ap work_of c.in-Idle.is) means.files))
+
+pub returns-in-Err-dismount-clause-bytes : goal.returns-in-Err-dismount-clause-bytes
+returns-in-Err-dismount-clause-bytes g c =
+    let w = c.self.inside in
+    let disk = g.M.BlockMedium.disk in
+    subst (λ (v : State _ _). KeepsShown v.kept (disk v.medium).blocks (disk v.medium).failures (disk c.dismount.new.medium).blocks) c.self.view_is
+    (λ m means. c.dismount.ensures.bytes w.settings m.files (holds_of w.settings (work_of w.work) c.in-Idle.directory (disk w.medium).blocks m.files (ap work_of c.in-Idle.is) means.files))
+
+pub returns-in-Err-clause-moments : goal.returns-in-Err-clause-moments
+returns-in-Err-clause-moments g c =
+    let w = c.self.inside in
+    let disk = g.M.BlockMedium.disk in
+    let k : Kept = record { config = w.settings; work = work_of w.work; tick = w.tick; last_event = w.last_event; generation = w.generation; taken = w.taken.items; erased = w.erased.items } in
+    subst (λ (v : State _ _). LeavesShown none_made v.kept (disk v.medium) (disk v.medium)) c.self.view_is (left_alone none_made k (disk w.medium))
+
+pub returns-in-Ok-clause-moments : goal.returns-in-Ok-clause-moments
+returns-in-Ok-clause-moments g c =
+    let w = c.self.inside in
+    let disk = g.M.BlockMedium.disk in
+    let later = disk c.dismount.new.medium in
+    let k : Kept = record { config = w.settings; work = work_of w.work; tick = w.tick; last_event = w.last_event; generation = w.generation; taken = w.taken.items; erased = w.erased.items } in
+    subst (λ (v : State _ _). LeavesShown none_made v.kept (disk v.medium) later) c.self.view_is
+    (idle_leaves none_made k (disk w.medium) later c.in-Idle.directory (ap work_of c.in-Idle.is) (λ files held settled. c.dismount.ensures.moments k.config files held settled))
+
+pub returns-in-Err-dismount-clause-moments : goal.returns-in-Err-dismount-clause-moments
+returns-in-Err-dismount-clause-moments g c =
+    let w = c.self.inside in
+    let disk = g.M.BlockMedium.disk in
+    let later = disk c.dismount.new.medium in
+    let k : Kept = record { config = w.settings; work = work_of w.work; tick = w.tick; last_event = w.last_event; generation = w.generation; taken = w.taken.items; erased = w.erased.items } in
+    subst (λ (v : State _ _). LeavesShown none_made v.kept (disk v.medium) later) c.self.view_is
+    (idle_leaves none_made k (disk w.medium) later c.in-Idle.directory (ap work_of c.in-Idle.is) (λ files held settled. c.dismount.ensures.moments k.config files held settled))

@@ -1,0 +1,136 @@
+use Rattle.std.proofs.Common.{◌≡◌, ◌+◌, ℕ, List, None, refl, sym, ap, ◌∙◌, subst}
+use Rattle.r10_body.specs.declared.refusal.Refusal.TheVariants as refusals
+use Rattle.r10_count.specs.Checks.{first_broken}
+use Rattle.r10_count.proofs.Rules.{rules_pass, rules_stop}
+use Rattle.r10_machine.specs.Checks.{idle_checks}
+use Rattle.r10_machine.specs.Machine.{Machine}
+use Rattle.r10_means.specs.Kept.{Kept, mode_of, idle}
+use Rattle.r10_means.specs.Means.{Means}
+use Rattle.r10_control.specs.Leading.{KeepsShown, Leads, none_taken}
+use Rattle.r10_control.specs.State.{State}
+use Rattle.r10_control.specs.Stopped.{LeavesShown, erase_made}
+use Rattle.r10_control.specs.Work.{work_of}
+use Rattle.r10_control.specs.declared.work.Doing.{Doing}
+use Rattle.r10_control.proofs.Bytes.{holds_of}
+use Rattle.r10_control.proofs.Dismounts.{held}
+use Rattle.r10_control.proofs.Erases.{checked, erase_done, erase_fails, erase_lacks, erase_refused}
+use Rattle.r10_control.proofs.Stopped.{idle_becomes, left_alone}
+use Rattle.r10_machine.specs.EventChecks.{erase_checks}
+use Rattle.r10_machine.specs.declared.event.Event.TheVariants as events
+use Rattle.r10_machine.specs.declared.reply.Reply.TheVariants as replies
+use Rattle.r10_control.proofs.recorder.Recorder.erase.Goals as goal
+
+pub returns-in-Err-clause-steps : goal.returns-in-Err-clause-steps
+returns-in-Err-clause-steps g c =
+    let w = c.self.inside in
+    let disk = g.M.BlockMedium.disk in
+    subst (λ (v : State _ _). (m : Machine) → Means v.kept (disk v.medium).blocks (disk v.medium).failures m
+    → Leads none_taken v.kept m events.Erase (replies.Refused c.in-Err.refusal) v.kept (disk v.medium).blocks (disk v.medium).failures) c.self.view_is
+    (λ m means. erase_refused c.a_step_stays_sound.ensures _ _ _ m c.in-Err.refusal c.self.invariant.limits means
+    (rules_stop (idle_checks (mode_of (work_of w.work))) (erase_checks w.generation) c.in-Err.refusal (ap (λ mode. first_broken (idle_checks mode)) (sym c.mode_in.ensures) ∙ c.in-Err.ensures)))
+
+pub returns-in-Err-check_erase-clause-steps : goal.returns-in-Err-check_erase-clause-steps
+returns-in-Err-check_erase-clause-steps g c =
+    let w = c.self.inside in
+    let disk = g.M.BlockMedium.disk in
+    subst (λ (v : State _ _). (m : Machine) → Means v.kept (disk v.medium).blocks (disk v.medium).failures m
+    → Leads none_taken v.kept m events.Erase (replies.Refused c.in-Err-check_erase.refusal) v.kept (disk v.medium).blocks (disk v.medium).failures) c.self.view_is
+    (λ m means. erase_refused c.a_step_stays_sound.ensures _ _ _ m c.in-Err-check_erase.refusal c.self.invariant.limits means
+    (rules_pass (idle_checks (mode_of (work_of w.work))) (erase_checks w.generation) (ap (λ mode. first_broken (idle_checks mode)) (sym c.mode_in.ensures) ∙ c.in_default.ensures) ∙ c.in-Err-check_erase.ensures))
+
+pub returns-in_default-from_slice-clause-steps : goal.returns-in_default-from_slice-clause-steps
+returns-in_default-from_slice-clause-steps g c =
+    let w = c.self.inside in
+    let disk = g.M.BlockMedium.disk in
+    subst (λ (v : State _ _). (m : Machine) → Means v.kept (disk v.medium).blocks (disk v.medium).failures m
+    → Leads none_taken v.kept m events.Erase (replies.Refused refusals.OutOfMemory) v.kept (disk v.medium).blocks (disk v.medium).failures) c.self.view_is
+    (λ m means. erase_lacks c.a_step_stays_sound.ensures _ _ _ m c.self.invariant.limits means
+    (rules_pass (idle_checks (mode_of (work_of w.work))) (erase_checks w.generation) (ap (λ mode. first_broken (idle_checks mode)) (sym c.mode_in.ensures) ∙ c.in_default.ensures) ∙ c.in_default-check_erase.ensures))
+
+pub returns-in-Ok-erase-clause-steps : goal.returns-in-Ok-erase-clause-steps
+returns-in-Ok-erase-clause-steps g c =
+    let w = c.self.inside in
+    let disk = g.M.BlockMedium.disk in
+    let later = disk c.erase.new.medium in
+    let k : Kept = record { config = w.settings; work = work_of w.work; tick = w.tick; last_event = w.last_event; generation = w.generation; taken = w.taken.items; erased = w.erased.items } in
+    let at : k.work ≡ idle c.in-Idle.directory = ap work_of c.in-Idle.is in
+    let fine : checked k ≡ None =
+    rules_pass (idle_checks (mode_of k.work)) (erase_checks k.generation) (ap (λ mode. first_broken (idle_checks mode)) (sym c.mode_in.ensures) ∙ c.in_default.ensures) ∙ c.in_default-check_erase.ensures in
+    let copied : k.taken ≡ c.in-Ok.erased.items = sym (c.in-Ok.ensures.items ∙ c.as_slice.ensures.value) in
+    subst (λ (v : State _ _). (m : Machine) → Means v.kept (disk v.medium).blocks (disk v.medium).failures m
+    → Leads none_taken v.kept m events.Erase replies.Done (record k { work = idle c.erase.new.directory; generation = w.generation + 1; erased = c.in-Ok.erased.items }) later.blocks later.failures) c.self.view_is
+    (subst (λ (x : List ℕ). (m : Machine) → Means k (disk w.medium).blocks (disk w.medium).failures m
+    → Leads none_taken k m events.Erase replies.Done (record k { work = idle c.erase.new.directory; generation = w.generation + 1; erased = x }) later.blocks later.failures) copied
+    (λ m means.
+    let holds = c.in-Ok-erase.ensures.holds k.config m.files (held k c.in-Idle.directory (disk w.medium).blocks m at means.files) in
+    erase_done c.a_step_stays_sound.ensures k (disk w.medium).blocks later.blocks (disk w.medium).failures later.failures m c.in-Idle.directory c.erase.new.directory c.self.invariant.limits means at fine
+    holds c.erase.ensures.counts.no_fewer))
+
+pub returns-in-Err-erase-clause-steps : goal.returns-in-Err-erase-clause-steps
+returns-in-Err-erase-clause-steps g c =
+    let w = c.self.inside in
+    let disk = g.M.BlockMedium.disk in
+    let later = disk c.erase.new.medium in
+    let k : Kept = record { config = w.settings; work = work_of w.work; tick = w.tick; last_event = w.last_event; generation = w.generation; taken = w.taken.items; erased = w.erased.items } in
+    let at : k.work ≡ idle c.in-Idle.directory = ap work_of c.in-Idle.is in
+    let fine : checked k ≡ None =
+    rules_pass (idle_checks (mode_of k.work)) (erase_checks k.generation) (ap (λ mode. first_broken (idle_checks mode)) (sym c.mode_in.ensures) ∙ c.in_default.ensures) ∙ c.in_default-check_erase.ensures in
+    subst (λ (v : State _ _). (m : Machine) → Means v.kept (disk v.medium).blocks (disk v.medium).failures m
+    → Leads none_taken v.kept m events.Erase (replies.Refused refusals.Medium) (record k { work = work_of c.turn.new.work }) later.blocks later.failures) c.self.view_is
+    (subst (λ (x : Doing). (m : Machine) → Means k (disk w.medium).blocks (disk w.medium).failures m → Leads none_taken k m events.Erase (replies.Refused refusals.Medium) (record k { work = work_of x }) later.blocks later.failures) (sym c.turn.ensures)
+    (λ m means.
+    erase_fails c.a_step_stays_sound.ensures k (disk w.medium).blocks later.blocks (disk w.medium).failures later.failures m c.self.invariant.limits means fine c.erase.ensures.counts.no_fewer
+    (c.in-Err-erase.ensures.counts.cause refl) (c.in-Err-erase.ensures.failed k.config m.files (held k c.in-Idle.directory (disk w.medium).blocks m at means.files))))
+
+pub returns-in-Ok-erase-clause-bytes : goal.returns-in-Ok-erase-clause-bytes
+returns-in-Ok-erase-clause-bytes g c =
+    let w = c.self.inside in
+    let disk = g.M.BlockMedium.disk in
+    subst (λ (v : State _ _). KeepsShown v.kept (disk v.medium).blocks (disk v.medium).failures (disk c.erase.new.medium).blocks) c.self.view_is
+    (λ m means. c.erase.ensures.bytes w.settings m.files (holds_of w.settings (work_of w.work) c.in-Idle.directory (disk w.medium).blocks m.files (ap work_of c.in-Idle.is) means.files))
+
+pub returns-in-Err-erase-clause-bytes : goal.returns-in-Err-erase-clause-bytes
+returns-in-Err-erase-clause-bytes g c =
+    let w = c.self.inside in
+    let disk = g.M.BlockMedium.disk in
+    subst (λ (v : State _ _). KeepsShown v.kept (disk v.medium).blocks (disk v.medium).failures (disk c.erase.new.medium).blocks) c.self.view_is
+    (λ m means. c.erase.ensures.bytes w.settings m.files (holds_of w.settings (work_of w.work) c.in-Idle.directory (disk w.medium).blocks m.files (ap work_of c.in-Idle.is) means.files))
+
+pub returns-in-Err-clause-moments : goal.returns-in-Err-clause-moments
+returns-in-Err-clause-moments g c =
+    let w = c.self.inside in
+    let disk = g.M.BlockMedium.disk in
+    let k : Kept = record { config = w.settings; work = work_of w.work; tick = w.tick; last_event = w.last_event; generation = w.generation; taken = w.taken.items; erased = w.erased.items } in
+    subst (λ (v : State _ _). LeavesShown (erase_made v.kept.config) v.kept (disk v.medium) (disk v.medium)) c.self.view_is (left_alone (erase_made k.config) k (disk w.medium))
+
+pub returns-in-Err-check_erase-clause-moments : goal.returns-in-Err-check_erase-clause-moments
+returns-in-Err-check_erase-clause-moments g c =
+    let w = c.self.inside in
+    let disk = g.M.BlockMedium.disk in
+    let k : Kept = record { config = w.settings; work = work_of w.work; tick = w.tick; last_event = w.last_event; generation = w.generation; taken = w.taken.items; erased = w.erased.items } in
+    subst (λ (v : State _ _). LeavesShown (erase_made v.kept.config) v.kept (disk v.medium) (disk v.medium)) c.self.view_is (left_alone (erase_made k.config) k (disk w.medium))
+
+pub returns-in_default-from_slice-clause-moments : goal.returns-in_default-from_slice-clause-moments
+returns-in_default-from_slice-clause-moments g c =
+    let w = c.self.inside in
+    let disk = g.M.BlockMedium.disk in
+    let k : Kept = record { config = w.settings; work = work_of w.work; tick = w.tick; last_event = w.last_event; generation = w.generation; taken = w.taken.items; erased = w.erased.items } in
+    subst (λ (v : State _ _). LeavesShown (erase_made v.kept.config) v.kept (disk v.medium) (disk v.medium)) c.self.view_is (left_alone (erase_made k.config) k (disk w.medium))
+
+pub returns-in-Ok-erase-clause-moments : goal.returns-in-Ok-erase-clause-moments
+returns-in-Ok-erase-clause-moments g c =
+    let w = c.self.inside in
+    let disk = g.M.BlockMedium.disk in
+    let later = disk c.erase.new.medium in
+    let k : Kept = record { config = w.settings; work = work_of w.work; tick = w.tick; last_event = w.last_event; generation = w.generation; taken = w.taken.items; erased = w.erased.items } in
+    subst (λ (v : State _ _). LeavesShown (erase_made v.kept.config) v.kept (disk v.medium) later) c.self.view_is
+    (idle_becomes (erase_made k.config) k (disk w.medium) later c.in-Idle.directory (ap work_of c.in-Idle.is) (λ files held settled. c.erase.ensures.moments k.config files held settled))
+
+pub returns-in-Err-erase-clause-moments : goal.returns-in-Err-erase-clause-moments
+returns-in-Err-erase-clause-moments g c =
+    let w = c.self.inside in
+    let disk = g.M.BlockMedium.disk in
+    let later = disk c.erase.new.medium in
+    let k : Kept = record { config = w.settings; work = work_of w.work; tick = w.tick; last_event = w.last_event; generation = w.generation; taken = w.taken.items; erased = w.erased.items } in
+    subst (λ (v : State _ _). LeavesShown (erase_made v.kept.config) v.kept (disk v.medium) later) c.self.view_is
+    (idle_becomes (erase_made k.config) k (disk w.medium) later c.in-Idle.directory (ap work_of c.in-Idle.is) (λ files held settled. c.erase.ensures.moments k.config files held settled))

@@ -1,0 +1,157 @@
+use Rattle.std.proofs.Common.{◌≡◌, None, Option, Err, refl, sym, ap, ◌∙◌, subst}
+use Rattle.r10_body.specs.declared.refusal.Refusal.TheVariants as refusals
+use Rattle.r10_count.specs.Checks.{first_broken}
+use Rattle.r10_machine.specs.Checks.{unmounted_checks}
+use Rattle.r10_machine.specs.Machine.{Machine}
+use Rattle.r10_means.specs.Kept.{Kept, Work, mode_of, idle, failed}
+use Rattle.r10_means.specs.Means.{Means}
+use Rattle.r10_control.specs.Leading.{KeepsShown, Leads, none_taken}
+use Rattle.r10_control.specs.Refused.{Refuses, IsMountRefusal}
+use Rattle.r10_control.specs.State.{State}
+use Rattle.r10_control.specs.Stopped.{LeavesShown, none_made}
+use Rattle.r10_control.specs.Work.{work_of}
+use Rattle.r10_control.specs.declared.work.Doing.{Doing}
+use Rattle.r10_control.proofs.Bytes.{says_of}
+use Rattle.r10_control.proofs.Leading.{lacking}
+use Rattle.r10_control.proofs.Mounts.{mount_done, mount_fails, mount_lacks, mount_refused, said, unmounted_work}
+use Rattle.r10_control.proofs.Stopped.{left_alone, unmounted_leaves}
+use Rattle.r10_machine.specs.declared.event.Event.TheVariants as events
+use Rattle.r10_machine.specs.declared.reply.Reply.TheVariants as replies
+use Rattle.r10_control.proofs.recorder.Recorder.mount.Goals as goal
+
+pub returns-in-Err-clause-steps : goal.returns-in-Err-clause-steps
+returns-in-Err-clause-steps g c =
+    let disk = g.M.BlockMedium.disk in
+    subst (λ (v : State _ _). (m : Machine) → Means v.kept (disk v.medium).blocks (disk v.medium).failures m
+    → Leads none_taken v.kept m events.Mount (replies.Refused c.in-Err.refusal) v.kept (disk v.medium).blocks (disk v.medium).failures) c.self.view_is
+    (λ m means. mount_refused c.a_step_stays_sound.ensures _ _ _ m c.in-Err.refusal c.self.invariant.limits means
+    (ap (λ mode. first_broken (unmounted_checks mode)) (sym c.mode_in.ensures) ∙ c.in-Err.ensures))
+
+pub invariant_of-self-in-Err-Medium : goal.invariant_of-self-in-Err-Medium
+invariant_of-self-in-Err-Medium g c =
+    let i = c.self.invariant in
+    rw c.turn-in-Err-Medium.ensures (record {
+      limits = i.limits;
+      blocks = c.mount.ensures.blocks ∙ i.blocks;
+      specs = i.specs;
+      generation = i.generation;
+      taken = i.taken;
+      erased = i.erased;
+      work = tt;
+      judged = tt;
+    })
+
+pub returns-in-Ok-clause-steps : goal.returns-in-Ok-clause-steps
+returns-in-Ok-clause-steps g c =
+    let w = c.self.inside in
+    let disk = g.M.BlockMedium.disk in
+    let later = disk c.mount.new.medium in
+    let k : Kept = record { config = w.settings; work = work_of w.work; tick = w.tick; last_event = w.last_event; generation = w.generation; taken = w.taken.items; erased = w.erased.items } in
+    let fine : first_broken (unmounted_checks (mode_of k.work)) ≡ None = ap (λ mode. first_broken (unmounted_checks mode)) (sym c.mode_in.ensures) ∙ c.in_default.ensures in
+    subst (λ (v : State _ _). (m : Machine) → Means v.kept (disk v.medium).blocks (disk v.medium).failures m
+    → Leads none_taken v.kept m events.Mount replies.Done (record k { work = work_of c.turn.new.work }) later.blocks later.failures) c.self.view_is
+    (subst (λ (x : Doing). (m : Machine) → Means k (disk w.medium).blocks (disk w.medium).failures m → Leads none_taken k m events.Mount replies.Done (record k { work = work_of x }) later.blocks later.failures) (sym c.turn.ensures)
+    (λ m means.
+    let says = said k k.work (disk w.medium).blocks m refl (unmounted_work k.work fine) means.files in
+    mount_done c.a_step_stays_sound.ensures k (disk w.medium).blocks later.blocks (disk w.medium).failures later.failures m c.in-Ok.directory c.self.invariant.limits means fine
+    (c.in-Ok.ensures.holds k.config m.files says.0 says.1 c.directory.ensures.value) c.mount.ensures.no_fewer))
+
+pub returns-in-Err-BadDirectory-clause-refused : goal.returns-in-Err-BadDirectory-clause-refused
+returns-in-Err-BadDirectory-clause-refused g c =
+    let w = c.self.inside in
+    let disk = g.M.BlockMedium.disk in
+    let k : Kept = record { config = w.settings; work = work_of w.work; tick = w.tick; last_event = w.last_event; generation = w.generation; taken = w.taken.items; erased = w.erased.items } in
+    let fine : first_broken (unmounted_checks (mode_of k.work)) ≡ None = ap (λ mode. first_broken (unmounted_checks mode)) (sym c.mode_in.ensures) ∙ c.in_default.ensures in
+    subst (λ (v : State _ _). Refuses disk (first_broken (unmounted_checks (mode_of v.kept.work))) (IsMountRefusal v.kept.config.directory (disk v.medium)) v.kept k v.medium c.mount.new.medium (refusals.BadDirectory c.in-Err-BadDirectory.block)) c.self.view_is
+    (lacking disk (first_broken (unmounted_checks (mode_of k.work))) (IsMountRefusal k.config.directory (disk w.medium)) k k w.medium c.mount.new.medium c.in-Err-BadDirectory.block fine
+    (rw (sym c.directory.ensures.value) (rw c.in-Err-BadDirectory.field-0-is at c.in-Err-BadDirectory.ensures.fault)) (rw c.in-Err-BadDirectory.field-0-is at c.in-Err-BadDirectory.ensures.left) refl)
+
+pub returns-in-Err-OutOfMemory-clause-steps : goal.returns-in-Err-OutOfMemory-clause-steps
+returns-in-Err-OutOfMemory-clause-steps g c =
+    let w = c.self.inside in
+    let disk = g.M.BlockMedium.disk in
+    let later = disk c.mount.new.medium in
+    let k : Kept = record { config = w.settings; work = work_of w.work; tick = w.tick; last_event = w.last_event; generation = w.generation; taken = w.taken.items; erased = w.erased.items } in
+    let fine : first_broken (unmounted_checks (mode_of k.work)) ≡ None = ap (λ mode. first_broken (unmounted_checks mode)) (sym c.mode_in.ensures) ∙ c.in_default.ensures in
+    subst (λ (v : State _ _). (m : Machine) → Means v.kept (disk v.medium).blocks (disk v.medium).failures m
+    → Leads none_taken v.kept m events.Mount (replies.Refused refusals.OutOfMemory) k later.blocks later.failures) c.self.view_is
+    (λ m means. mount_lacks c.a_step_stays_sound.ensures k (disk w.medium).blocks later.blocks (disk w.medium).failures later.failures m c.self.invariant.limits means fine
+    (rw c.in-Err-OutOfMemory.field-0-is at c.in-Err-OutOfMemory.ensures.left).reads c.mount.ensures.no_fewer)
+
+pub returns-in-Err-Medium-clause-steps : goal.returns-in-Err-Medium-clause-steps
+returns-in-Err-Medium-clause-steps g c =
+    let w = c.self.inside in
+    let disk = g.M.BlockMedium.disk in
+    let later = disk c.mount.new.medium in
+    let k : Kept = record { config = w.settings; work = work_of w.work; tick = w.tick; last_event = w.last_event; generation = w.generation; taken = w.taken.items; erased = w.erased.items } in
+    let fine : first_broken (unmounted_checks (mode_of k.work)) ≡ None = ap (λ mode. first_broken (unmounted_checks mode)) (sym c.mode_in.ensures) ∙ c.in_default.ensures in
+    subst (λ (v : State _ _). (m : Machine) → Means v.kept (disk v.medium).blocks (disk v.medium).failures m
+    → Leads none_taken v.kept m events.Mount (replies.Refused refusals.Medium) (record k { work = work_of c.turn-in-Err-Medium.new.work }) later.blocks later.failures) c.self.view_is
+    (subst (λ (x : Doing). (m : Machine) → Means k (disk w.medium).blocks (disk w.medium).failures m → Leads none_taken k m events.Mount (replies.Refused refusals.Medium) (record k { work = work_of x }) later.blocks later.failures) (sym c.turn-in-Err-Medium.ensures)
+    (λ m means.
+    let says = said k k.work (disk w.medium).blocks m refl (unmounted_work k.work fine) means.files in
+    mount_fails c.a_step_stays_sound.ensures k (disk w.medium).blocks later.blocks (disk w.medium).failures later.failures m c.self.invariant.limits means fine c.mount.ensures.no_fewer
+    (c.in-Err-Medium.ensures.cause (ap Err c.in-Err-Medium.field-0-is)) (c.mount.ensures.says k.config m.files says.0)))
+
+pub returns-in-Ok-clause-bytes : goal.returns-in-Ok-clause-bytes
+returns-in-Ok-clause-bytes g c =
+    let w = c.self.inside in
+    let disk = g.M.BlockMedium.disk in
+    let fine : first_broken (unmounted_checks (mode_of (work_of w.work))) ≡ None = ap (λ mode. first_broken (unmounted_checks mode)) (sym c.mode_in.ensures) ∙ c.in_default.ensures in
+    subst (λ (v : State _ _). KeepsShown v.kept (disk v.medium).blocks (disk v.medium).failures (disk c.mount.new.medium).blocks) c.self.view_is
+    (λ m means. c.mount.ensures.bytes w.settings m.files (says_of w.settings (work_of w.work) (disk w.medium).blocks m.files (unmounted_work (work_of w.work) fine) means.files))
+
+pub returns-in-Err-Medium-clause-bytes : goal.returns-in-Err-Medium-clause-bytes
+returns-in-Err-Medium-clause-bytes g c =
+    let w = c.self.inside in
+    let disk = g.M.BlockMedium.disk in
+    let fine : first_broken (unmounted_checks (mode_of (work_of w.work))) ≡ None = ap (λ mode. first_broken (unmounted_checks mode)) (sym c.mode_in.ensures) ∙ c.in_default.ensures in
+    subst (λ (v : State _ _). KeepsShown v.kept (disk v.medium).blocks (disk v.medium).failures (disk c.mount.new.medium).blocks) c.self.view_is
+    (λ m means. c.mount.ensures.bytes w.settings m.files (says_of w.settings (work_of w.work) (disk w.medium).blocks m.files (unmounted_work (work_of w.work) fine) means.files))
+
+pub returns-in-Err-clause-moments : goal.returns-in-Err-clause-moments
+returns-in-Err-clause-moments g c =
+    let w = c.self.inside in
+    let disk = g.M.BlockMedium.disk in
+    let k : Kept = record { config = w.settings; work = work_of w.work; tick = w.tick; last_event = w.last_event; generation = w.generation; taken = w.taken.items; erased = w.erased.items } in
+    subst (λ (v : State _ _). LeavesShown none_made v.kept (disk v.medium) (disk v.medium)) c.self.view_is (left_alone none_made k (disk w.medium))
+
+pub returns-in-Ok-clause-moments : goal.returns-in-Ok-clause-moments
+returns-in-Ok-clause-moments g c =
+    let w = c.self.inside in
+    let disk = g.M.BlockMedium.disk in
+    let later = disk c.mount.new.medium in
+    let k : Kept = record { config = w.settings; work = work_of w.work; tick = w.tick; last_event = w.last_event; generation = w.generation; taken = w.taken.items; erased = w.erased.items } in
+    let fine : first_broken (unmounted_checks (mode_of k.work)) ≡ None = ap (λ mode. first_broken (unmounted_checks mode)) (sym c.mode_in.ensures) ∙ c.in_default.ensures in
+    subst (λ (v : State _ _). LeavesShown none_made v.kept (disk v.medium) later) c.self.view_is
+    (unmounted_leaves none_made k (disk w.medium) later (unmounted_work k.work fine) (λ files settled. c.mount.ensures.moments k.config files settled))
+
+pub returns-in-Err-BadDirectory-clause-moments : goal.returns-in-Err-BadDirectory-clause-moments
+returns-in-Err-BadDirectory-clause-moments g c =
+    let w = c.self.inside in
+    let disk = g.M.BlockMedium.disk in
+    let later = disk c.mount.new.medium in
+    let k : Kept = record { config = w.settings; work = work_of w.work; tick = w.tick; last_event = w.last_event; generation = w.generation; taken = w.taken.items; erased = w.erased.items } in
+    let fine : first_broken (unmounted_checks (mode_of k.work)) ≡ None = ap (λ mode. first_broken (unmounted_checks mode)) (sym c.mode_in.ensures) ∙ c.in_default.ensures in
+    subst (λ (v : State _ _). LeavesShown none_made v.kept (disk v.medium) later) c.self.view_is
+    (unmounted_leaves none_made k (disk w.medium) later (unmounted_work k.work fine) (λ files settled. c.mount.ensures.moments k.config files settled))
+
+pub returns-in-Err-OutOfMemory-clause-moments : goal.returns-in-Err-OutOfMemory-clause-moments
+returns-in-Err-OutOfMemory-clause-moments g c =
+    let w = c.self.inside in
+    let disk = g.M.BlockMedium.disk in
+    let later = disk c.mount.new.medium in
+    let k : Kept = record { config = w.settings; work = work_of w.work; tick = w.tick; last_event = w.last_event; generation = w.generation; taken = w.taken.items; erased = w.erased.items } in
+    let fine : first_broken (unmounted_checks (mode_of k.work)) ≡ None = ap (λ mode. first_broken (unmounted_checks mode)) (sym c.mode_in.ensures) ∙ c.in_default.ensures in
+    subst (λ (v : State _ _). LeavesShown none_made v.kept (disk v.medium) later) c.self.view_is
+    (unmounted_leaves none_made k (disk w.medium) later (unmounted_work k.work fine) (λ files settled. c.mount.ensures.moments k.config files settled))
+
+pub returns-in-Err-Medium-clause-moments : goal.returns-in-Err-Medium-clause-moments
+returns-in-Err-Medium-clause-moments g c =
+    let w = c.self.inside in
+    let disk = g.M.BlockMedium.disk in
+    let later = disk c.mount.new.medium in
+    let k : Kept = record { config = w.settings; work = work_of w.work; tick = w.tick; last_event = w.last_event; generation = w.generation; taken = w.taken.items; erased = w.erased.items } in
+    let fine : first_broken (unmounted_checks (mode_of k.work)) ≡ None = ap (λ mode. first_broken (unmounted_checks mode)) (sym c.mode_in.ensures) ∙ c.in_default.ensures in
+    subst (λ (v : State _ _). LeavesShown none_made v.kept (disk v.medium) later) c.self.view_is
+    (unmounted_leaves none_made k (disk w.medium) later (unmounted_work k.work fine) (λ files settled. c.mount.ensures.moments k.config files settled))

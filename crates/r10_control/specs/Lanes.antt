@@ -1,0 +1,58 @@
+-- The lanes of one thread, and the machine's.
+use Rattle.std.specs.Prelude.{◌≡◌, ℕ, ◌≤◌, List, [], ◌∷◌, map, find, None, Some, Result, MatchResult, is_none, if◌then◌else◌}
+use Rattle.r10_count.specs.Checks.{first_broken}
+use Rattle.r10_body.specs.declared.message.Message.{Message}
+use Rattle.r10_body.specs.declared.refusal.Refusal.{Refusal}
+use Rattle.r10_lane.specs.Lanes.{reached}
+use Rattle.r10_machine.specs.Calls.{accepted, overflowed, without}
+use Rattle.r10_machine.specs.Checks.{offer_checks, offer_refusal}
+use Rattle.r10_machine.specs.Machine.{Lane, Machine, change_first, is_channel}
+use Rattle.r10_means.specs.Kept.{Kept}
+use Rattle.r10_means.specs.Means.{LeadsTo, Means}
+use Rattle.r10_medium.specs.Disk.{Image}
+use Rattle.r10_machine.specs.declared.event.Event.{Event as Asked}
+use Rattle.r10_machine.specs.declared.reply.Reply.{Reply as Answered}
+use Rattle.r10_machine.specs.declared.reply.Reply.TheVariants.{Refused}
+
+-- ---- the machine's lanes
+
+abbrev pub unerased : Lane → Lane
+unerased lane = record lane { erased = 0 }
+
+-- these are the machine's lanes, but for what erases took
+abbrev pub AreLanes : List Lane → Machine → Type 0
+AreLanes lanes m = lanes ≡ map unerased m.lanes
+
+-- of each lane the first samples were taken, so many of its channel
+abbrev pub AreTaken : (ℕ → ℕ) → List Lane → List Lane → Type 0
+AreTaken taken old new = new ≡ map (λ (lane : Lane). without (taken lane.spec.id) lane) old
+
+-- a step leads to a machine that is meant then and has these lanes, and the same files and cursors
+pub record LeadsWith (k : Kept) (m : Machine) (event : Asked) (reply : Answered) (image : Image) (failures : ℕ) (lanes : List Lane) : Type 0 where
+  pub machine : Machine
+  pub led : LeadsTo k m event reply k image failures machine
+  pub lanes_are : AreLanes lanes machine
+  pub files : machine.files ≡ m.files
+  pub cursors : machine.cursors ≡ m.cursors
+
+-- from each machine that is meant and has these lanes, what a call answers leads to one that has those
+abbrev pub AnswersWith : {T : Type 0} → List Lane → Kept → Image → ℕ → Asked → (T → Answered) → Result T Refusal → List Lane → Type 0
+AnswersWith old k image failures event reply result new =
+    (m : Machine) → Means k image failures m → AreLanes old m → MatchResult result (λ v. LeadsWith k m event (reply v) image failures new) (λ r. LeadsWith k m event (Refused r) image failures new)
+
+-- ---- offers
+
+-- what an offer to a channel answers, and the lanes that it leaves: counted as lost where nothing but the room was lacking
+abbrev pub OffersTo : ℕ → List Lane → ℕ → Message → Result (Unit {0}) Refusal → List Lane → Type 0
+OffersTo channel old count message result new =
+    let lane = find (is_channel channel) old in
+    let fine = is_none (first_broken (offer_checks lane count message)) in
+    MatchResult result
+    (λ _. (offer_refusal lane count message ≡ None) × (new ≡ change_first (is_channel channel) (accepted count message) old))
+    (λ r. (offer_refusal lane count message ≡ Some r) × (new ≡ (if fine then change_first (is_channel channel) overflowed old else old)))
+
+-- lanes with the same settings, which have reached as much or more
+abbrev pub HaveRisen : List Lane → List Lane → Type 0
+HaveRisen [] [] = Unit {0}
+HaveRisen (a ∷ old) (b ∷ new) = ((b.spec ≡ a.spec) × (reached a ≤ reached b)) × HaveRisen old new
+HaveRisen old new = ⊥

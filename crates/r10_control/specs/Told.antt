@@ -1,0 +1,43 @@
+-- What a recorder tells of itself.
+use Rattle.std.specs.Prelude.{ℕ, ◌-◌, List, [], ◌∷◌, length, None, Some}
+use Rattle.std.specs.List.{last_or}
+use Rattle.r10_dirchain.specs.Chain.{files as listed_files}
+use Rattle.r10_dirchain.specs.declared.chain.ChainBlock.{ChainBlock}
+use Rattle.r10_volume.specs.Holding.{Open}
+use Rattle.r10_machine.specs.Config.{Config}
+use Rattle.r10_machine.specs.Machine.{Lane}
+use Rattle.r10_machine.specs.Room.{area_from}
+use Rattle.r10_machine.specs.declared.mode.Mode.{Mode}
+use Rattle.r10_means.specs.Kept.{Kept, Work, mode_of, unmounted, idle, recording, failed}
+use Rattle.r10_control.specs.Checks.{files_of}
+use Rattle.r10_control.specs.Owns.{tick_count}
+use Rattle.r10_machine.specs.Finding.{channel_status}
+use Rattle.r10_machine.specs.declared.reply.ChannelStatus.{ChannelStatus}
+use Rattle.r10_machine.specs.declared.reply.Status.{Status}
+use Rattle.r10_volume.specs.Listing.{block_behind}
+
+-- the bytes that the file that is recorded has left: from its first block on, without what it costs
+abbrev pub left_in : Config → List ChainBlock → Open → ℕ
+left_in s chain o = elim (last_or None (listed_files chain)) [ None ↦ 0 | Some e ↦ area_from s e.first_block - o.recording.cost ]
+
+-- and those that the next file may have, where none is recorded
+abbrev pub free_in : Config → Work → ℕ
+free_in s unmounted = 0
+free_in s (idle chain) = area_from s (block_behind s.directory (listed_files chain))
+free_in s (recording chain o) = left_in s chain o
+free_in s failed = 0
+
+-- how the channels are, where erases took so many of their entries
+abbrev pub channels_in : Mode → List Lane → List ℕ → List ChannelStatus
+channels_in mode [] erased = []
+channels_in mode (l ∷ lanes) [] = []
+channels_in mode (l ∷ lanes) (e ∷ erased) = channel_status mode (record l { erased = e }) ∷ channels_in mode lanes erased
+
+abbrev pub status_in : Kept → List Lane → Status
+status_in k lanes = record {
+  mode = mode_of k.work;
+  tick = tick_count k.tick;
+  files = length (files_of k.work);
+  free = free_in k.config k.work;
+  channels = channels_in (mode_of k.work) lanes k.erased;
+}

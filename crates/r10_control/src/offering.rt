@@ -1,0 +1,91 @@
+//! Offers to the lanes of one thread.
+
+ghost use Rattle.std.specs.Prelude.{◌≡◌, ◌≤◌, ◌^◌, None, Some, option_map};
+ghost use Rattle.std.specs.List.{position};
+ghost use Rattle.r10_count.specs.Checks.{first_broken};
+ghost use Rattle.r10_machine.specs.Checks.{taking_checks};
+ghost use Rattle.r10_machine.specs.Machine.{is_channel, lane_in};
+ghost use Rattle.r10_control.specs.Lanes.{AnswersWith, HaveRisen, OffersTo};
+ghost use Rattle.r10_machine.specs.declared.event.Event.TheVariants as events;
+ghost use Rattle.r10_machine.specs.declared.reply.Reply.TheVariants as replies;
+
+use crate::recorder::Recorder;
+use r10_body::{ChannelSpec, Message, Refusal};
+use r10_count::Count;
+use r10_lane::{LaneOut, RingLane};
+use r10_machine::check_offer;
+use r10_means::offers_are_steps;
+use r10_medium::BlockMedium;
+
+impl<M: BlockMedium> Recorder<M, RingLane> {
+    /// Offers a message to a channel, in any mode. Refused: NoSuchChannel, WrongKind, BadMessage, TooLong, CountRange, CountBack,
+    /// Overflow. An overflow counts the message as lost, and the next one that is accepted has a gap.
+    pub fn offer(&mut self, channel: u16, count: u64, message: Message) -> Result<(), Refusal>
+        ensures offers { OffersTo channel self.old.lanes count message result self.new.lanes }
+        ensures steps { AnswersWith self.old.lanes self.old.kept (M.disk self.old.medium).blocks (M.disk self.old.medium).failures (events.Offer channel count message) (λ _. replies.Done) result self.new.lanes }
+        ensures kept { self.new.kept ≡ self.old.kept }
+        ensures medium { self.new.medium ≡ self.old.medium }
+    {
+        offers_are_steps();
+        let _channels = self.settings.channels();
+        offer_to(&mut self.lanes, channel, count, message)
+    }
+
+    /// How many messages of a channel were refused because its lane was full, up to `u64::MAX`; `None` where there is no such channel.
+    pub fn lost(&self, channel: u16) -> Option<u64>
+        ensures { result ≡ option_map (λ lane. lane.lost) (lane_in channel self.now.lanes) }
+    {
+        lost_in(self.lanes.as_slice(), channel)
+    }
+}
+
+/// The place of a channel's lane.
+fn place_of(lanes: &[RingLane], channel: u16) -> Option<usize>
+    ensures { result ≡ position (is_channel channel) lanes.now }
+{
+    lanes.iter().position(|lane| lane.spec().id == channel)
+}
+
+/// Offers a message to a channel's lane.
+fn offer_to(
+    lanes: &mut Vec<RingLane>,
+    channel: u16,
+    count: u64,
+    message: Message,
+) -> Result<(), Refusal>
+    ensures offers { OffersTo channel lanes.old.items count message result lanes.new.items }
+    ensures risen { HaveRisen lanes.old.items lanes.new.items }
+{
+    let Some(at) = place_of(lanes.as_slice(), channel) else {
+        return Err(Refusal::NoSuchChannel);
+    };
+    let lane = &mut lanes[at];
+    let Some(now) = Count::of(count) else {
+        return Err(refuse_late(&lane.spec(), count, &message));
+    };
+    lane.offer(now, message)
+}
+
+/// Why a message is refused whose count has more than 48 bits: what its channel refuses of it, or else its count.
+fn refuse_late(spec: &ChannelSpec, count: u64, message: &Message) -> Refusal
+    requires { 2 ^ 48 ≤ count }
+    ensures { first_broken (taking_checks spec.now None count message.now) ≡ Some result }
+{
+    match check_offer(spec, None, count, message) {
+        Ok(now) => {
+            let _ = now.get();
+            Refusal::CountRange
+        }
+        Err(refusal) => refusal,
+    }
+}
+
+/// What a channel's lane has lost.
+fn lost_in(lanes: &[RingLane], channel: u16) -> Option<u64>
+    ensures { result ≡ option_map (λ lane. lane.lost) (lane_in channel lanes.now) }
+{
+    match place_of(lanes, channel) {
+        Some(at) => Some(lanes[at].lost()),
+        None => None,
+    }
+}

@@ -1,0 +1,107 @@
+//! What a recorder is made of.
+
+ghost use Rattle.std.specs.Prelude.{◌≡◌, ◌≤◌, [], length, map, replicate, None, IfOk, IfErr};
+ghost use Rattle.std.specs.List.{AllByRecursion};
+ghost use Rattle.r10_means.specs.Kept.{unmounted};
+ghost use Rattle.r10_control.specs.Work.{work_of};
+
+use crate::clock::ClockTick;
+use crate::work::Doing;
+use r10_count::Count;
+use r10_cursor::Reader;
+use r10_lane::LaneOut;
+use r10_machine::Settings;
+use r10_medium::BlockMedium;
+use std::alloc::{AllocError, Global};
+use std::marker::Model;
+
+/// A recorder. Contracts see what it keeps, its lanes, and its medium.
+///
+/// Of what each call refuses, the first that applies is answered, in the order in which the call's text names them; Medium is
+/// answered as soon as the medium fails, and the recorder is Failed from then on. Any other refused call leaves what
+/// is kept, and the medium's blocks, as they were.
+#[derive(Drop)]
+pub struct Recorder<M: BlockMedium, L: LaneOut> {
+    pub(crate) alloc: Global,
+    pub(crate) settings: Settings,
+    pub(crate) work: Doing,
+    pub(crate) tick: Option<ClockTick>,
+    pub(crate) last_event: Option<Count>,
+    pub(crate) generation: u64,
+    pub(crate) taken: Vec<u64>,
+    pub(crate) erased: Vec<u64>,
+    pub(crate) lanes: Vec<L>,
+    pub(crate) reader: Reader,
+    pub(crate) medium: M,
+}
+
+impl<M: BlockMedium, L: LaneOut> Model for Recorder<M, L> {
+    ghost use Rattle.r10_control.specs.Owns.{Owns};
+    ghost use Rattle.r10_control.specs.State.{State};
+    ghost use Rattle.r10_control.specs.Work.{work_of};
+
+    ghost Value = { State M L };
+
+    ghost view = { λ r. record {
+      kept = record { config = r.settings; work = work_of r.work; tick = r.tick; last_event = r.last_event; generation = r.generation; taken = r.taken.items; erased = r.erased.items };
+      lanes = r.lanes.items;
+      medium = r.medium;
+    } };
+
+    ghost invariant = { λ r. Owns L.spec_of L.reached
+        (record { config = r.settings; work = work_of r.work; tick = r.tick; last_event = r.last_event; generation = r.generation; taken = r.taken.items; erased = r.erased.items })
+        (M.disk r.medium).blocks r.lanes.items r.reader.books };
+}
+
+/// So many zeros.
+fn zeros(alloc: Global, count: usize) -> Result<Vec<u64>, AllocError>
+    ensures { IfOk result (λ v. v.items ≡ replicate count 0) }
+{
+    vec![in alloc; 0; count]
+}
+
+impl<M: BlockMedium, L: LaneOut> Recorder<M, L> {
+    /// A recorder over a medium of these settings, and a lane for each of their channels, in their order. Where memory is refused, all come back.
+    pub fn new(
+        alloc: Global,
+        settings: Settings,
+        medium: M,
+        lanes: Vec<L>,
+    ) -> Result<Recorder<M, L>, (Settings, M, Vec<L>)>
+        requires blocks { length (M.disk medium).blocks ≡ settings.blocks }
+        requires lanes { map L.spec_of lanes.items ≡ settings.channels }
+        ensures kept { IfOk result (λ r. r.kept ≡ record { config = settings; work = unmounted; tick = None; last_event = None; generation = 0; taken = replicate (length settings.channels) 0; erased = replicate (length settings.channels) 0 }) }
+        ensures lanes { IfOk result (λ r. r.lanes ≡ lanes.items) }
+        ensures medium { IfOk result (λ r. r.medium ≡ medium) }
+        ensures refused { IfErr result (λ back. (back.0 ≡ settings) × (back.1 ≡ medium) × (back.2.items ≡ lanes.items)) }
+    {
+        let channels = settings.channels().len();
+        let Ok(taken) = zeros(alloc, channels) else {
+            return Err((settings, medium, lanes));
+        };
+        let Ok(erased) = zeros(alloc, channels) else {
+            return Err((settings, medium, lanes));
+        };
+        Ok(Recorder {
+            alloc,
+            settings,
+            work: Doing::Unmounted,
+            tick: None,
+            last_event: None,
+            generation: 0,
+            taken,
+            erased,
+            lanes,
+            reader: Reader::new(alloc),
+            medium,
+        })
+    }
+
+    /// The medium as it stands, and the lanes.
+    pub fn into_parts(self) -> (M, Vec<L>)
+        ensures { (result.0 ≡ self.medium) × (result.1.items ≡ self.lanes) }
+    {
+        let Recorder { medium, lanes, .. } = self;
+        (medium, lanes)
+    }
+}

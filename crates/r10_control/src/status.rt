@@ -1,0 +1,146 @@
+//! How a recorder is, with the lanes of one thread.
+
+ghost use Rattle.std.specs.Prelude.{◌≡◌, ◌-◌, ◌^◌, ◌++◌, ◌∷◌, [], List, Some, length, min, IfErr, IfOk};
+ghost use Rattle.r10_body.specs.declared.refusal.Refusal.TheVariants as refusals;
+ghost use Rattle.r10_volume.specs.Holding.{Holds};
+ghost use Rattle.r10_machine.specs.Machine.{File, Machine};
+ghost use Rattle.r10_machine.specs.Room.{area, area_from, cost_of};
+ghost use Rattle.r10_means.specs.Kept.{mode_of};
+ghost use Rattle.r10_means.specs.Means.{HasFiles};
+ghost use Rattle.r10_medium.specs.Disk.{Image};
+ghost use Rattle.r10_control.specs.Checks.{files_of};
+ghost use Rattle.r10_control.specs.Lanes.{AnswersWith};
+ghost use Rattle.r10_control.specs.Owns.{tick_count};
+ghost use Rattle.r10_control.specs.Told.{channels_in, free_in, left_in, status_in};
+ghost use Rattle.r10_control.specs.Work.{work_of};
+ghost use Rattle.r10_machine.specs.Finding.{channel_status, free_bytes};
+ghost use Rattle.r10_machine.specs.declared.event.Event.TheVariants as events;
+ghost use Rattle.r10_machine.specs.declared.reply.Reply.TheVariants as replies;
+
+use crate::clock::ClockTick;
+use crate::recorder::Recorder;
+use crate::work::{Doing, mode_in};
+use r10_body::Refusal;
+use r10_count::{Count, Items};
+use r10_dirchain::Directory;
+use r10_lane::{LaneOut, RingLane};
+use r10_machine::{ChannelStatus, Mode, Settings, Status, a_step_stays_sound};
+use r10_means::tellings_are_steps;
+use r10_medium::BlockMedium;
+use r10_openfile::OpenFile;
+use r10_volume::{count, last_file, next_block};
+use std::alloc::{AllocError, Global};
+
+impl<M: BlockMedium> Recorder<M, RingLane> {
+    /// How the recorder is, in any mode: the last tick, how many files there are, the bytes that the file that is recorded has left, or that
+    /// the next one may have, and of each channel how many messages wait, were lost, and were erased. Refused: OutOfMemory.
+    pub fn status(&self) -> Result<Status, Refusal>
+        ensures told { IfOk result (λ status. status ≡ status_in self.now.kept self.now.lanes) }
+        ensures refused { IfErr result (λ r. r ≡ refusals.OutOfMemory) }
+        ensures steps { AnswersWith self.now.lanes self.now.kept (M.disk self.now.medium).blocks (M.disk self.now.medium).failures events.Status (λ status. replies.Status status) result self.now.lanes }
+    {
+        a_step_stays_sound();
+        tellings_are_steps();
+        let _channels = self.settings.channels();
+        let _blocks = self.settings.blocks();
+        let mode = mode_in(&self.work);
+        let Ok(channels) = channels_in(
+            self.alloc,
+            mode,
+            self.lanes.as_slice(),
+            self.erased.as_slice(),
+        ) else {
+            return Err(Refusal::OutOfMemory);
+        };
+        Ok(Status {
+            mode,
+            tick: tick_in(self.tick),
+            files: count_in(&self.work),
+            free: free_in(&self.settings, &self.work),
+            channels: Items::of(channels),
+        })
+    }
+}
+
+/// The count of the last tick.
+fn tick_in(tick: Option<ClockTick>) -> Option<Count>
+    ensures { result ≡ tick_count tick }
+{
+    match tick {
+        Some(tick) => Some(tick.count),
+        None => None,
+    }
+}
+
+/// How many files the directory in use has.
+fn count_in(work: &Doing) -> usize
+    ensures { result ≡ min (length (files_of (work_of work.now))) (2 ^ 64 - 1) }
+{
+    match work {
+        Doing::Unmounted => 0,
+        Doing::Idle(directory) => count(directory),
+        Doing::Recording(directory, _) => count(directory),
+        Doing::Failed => 0,
+    }
+}
+
+/// The bytes that the next file may have, or that the one that is recorded has left.
+fn free_in(settings: &Settings, work: &Doing) -> u64
+    ensures value { result ≡ free_in settings.now (work_of work.now) }
+    ensures held { (image : Image) (m : Machine) → m.mode ≡ mode_of (work_of work.now) → HasFiles settings.now (work_of work.now) image m.files → result ≡ free_bytes settings.now m }
+{
+    let _blocks = settings.blocks();
+    match work {
+        Doing::Unmounted => 0,
+        Doing::Idle(directory) => area_from(settings, next_block(directory, settings.directory())),
+        Doing::Recording(directory, file) => left_in(settings, directory, file),
+        Doing::Failed => 0,
+    }
+}
+
+/// The bytes that the file that is recorded has left: from its first block on, without what it costs.
+fn left_in(settings: &Settings, directory: &Directory, file: &OpenFile) -> u64
+    ensures value { result ≡ left_in settings.now directory.now file.now }
+    ensures held { (image : Image) (files : List File) (f : File) → Holds settings.now image directory.now (Some file.now) (files ++ f ∷ []) → result ≡ area settings.now f - cost_of f }
+{
+    match last_file(directory) {
+        Some(entry) => area_from(settings, entry.first_block as usize).saturating_sub(file.cost()),
+        None => 0,
+    }
+}
+
+/// The bytes from a block to the medium's end.
+fn area_from(settings: &Settings, block: usize) -> u64
+    ensures { result ≡ area_from settings.now block }
+{
+    512 * settings.blocks().saturating_sub(block) as u64
+}
+
+/// How the channels are, where erases took so many of their entries.
+fn channels_in(
+    alloc: Global,
+    mode: Mode,
+    lanes: &[RingLane],
+    erased: &[u64],
+) -> Result<Vec<ChannelStatus>, AllocError>
+    requires { length erased.now ≡ length lanes.now }
+    ensures { IfOk result (λ channels. channels.items ≡ channels_in mode lanes.now erased.now) }
+{
+    let mut channels = Vec::new(alloc);
+    for (place, lane) in lanes.iter().enumerate() {
+        channels.push(channel_in(mode, lane, erased[place]))?;
+    }
+    Ok(channels)
+}
+
+/// How a channel is, where erases took so many of its entries.
+fn channel_in(mode: Mode, lane: &RingLane, erased: u64) -> ChannelStatus
+    ensures { result ≡ channel_status mode (record lane.now { erased = erased }) }
+{
+    ChannelStatus {
+        channel: lane.spec().id,
+        waiting: lane.len(),
+        lost: lane.lost(),
+        erased: if mode == Mode::Failed { 0 } else { erased },
+    }
+}

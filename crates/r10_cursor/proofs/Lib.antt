@@ -1,0 +1,21 @@
+mod Clipping
+pub mod Covering
+mod Few
+mod Keeping
+mod Learned
+pub mod Said
+mod Staying
+mod Times
+pub mod Writing
+pub mod Sizes
+pub mod Places
+pub mod Searching
+pub mod OnMedium
+pub mod Ticks
+pub mod Wanting
+pub mod Starting
+pub mod BeforeIndex
+mod AlikeFronts
+pub mod HowFar
+mod Slots
+mod Stepping

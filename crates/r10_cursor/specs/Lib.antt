@@ -1,0 +1,11 @@
+pub mod Files
+pub mod Knowing
+pub mod Refusals
+pub mod Staying
+pub mod Held
+pub mod Replays
+pub mod Shown
+pub mod Searches
+pub mod Standing
+pub mod Read
+pub mod Steps

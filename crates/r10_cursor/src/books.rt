@@ -1,0 +1,233 @@
+//! The files that were judged.
+
+ghost use Rattle.std.specs.Prelude.{◌≡◌, ◌≢◌, ◌+◌, ◌*◌, ◌^◌, ◌≤◌, ◌<◌, [], List, Option, None, Some, length, slice_get, IfOk, IfErr, IfSome, IfNone, IsSomeAnd, OnOk, OnErr};
+ghost use Rattle.std.specs.Bool.{OnTrue, OnFalse};
+ghost use Rattle.std.specs.List.{AllByRecursion};
+ghost use Rattle.r10_medium.specs.Disk.{Image, IsWhole, Unchanged};
+ghost use Rattle.r10_dirblock.specs.Block.{is_closed as closing};
+ghost use Rattle.r10_dirchain.specs.declared.chain.ChainBlock.{ChainBlock};
+ghost use Rattle.r10_body.specs.Packets.{Packet as StrictPacket};
+ghost use Rattle.r10_judge.specs.Files.{file_at};
+ghost use Rattle.r10_judge.specs.Judged.{IsKept};
+ghost use Rattle.r10_cursor.specs.Files.{IsShownWith, ShowsFile, bytes_in, finished_file};
+ghost use Rattle.r10_cursor.specs.Knowing.{HasJudged, IsAdded, IsBook, IsLearned, IsOf, IsTold, IsToldRight, IsUnder};
+ghost use Rattle.r10_cursor.specs.Refusals.{IsUnread, Refuses, RefusesToRead};
+
+use crate::kept::Kept;
+use crate::listing::finished_entry;
+use crate::refusal::{ReadRefusal, of_judging};
+use crate::written::{Shown, Written};
+use r10_dirblock::Entry;
+use r10_dirchain::Directory;
+use r10_judge::{Extent, Judgement, judge_file};
+use r10_medium::BlockMedium;
+use r10_tracks::Tracks;
+use std::alloc::Global;
+
+/// What is kept of the files that were judged.
+#[derive(Drop)]
+pub(crate) struct Books {
+    kept: Vec<Kept>,
+}
+
+impl Books {
+    /// Of no files.
+    pub fn new(alloc: Global) -> Books
+        ensures { result.kept.items ≡ [] }
+    {
+        Books {
+            kept: Vec::new(alloc),
+        }
+    }
+
+    /// Forgets all files.
+    pub fn clear(&mut self)
+        ensures { self.new.kept.items ≡ [] }
+    {
+        self.kept.clear();
+    }
+
+    /// Learns of a file, so that it can be read: the one that is written is told of, and any other is judged whole where it wasn't
+    /// before. Answers the place of what is kept of the latter.
+    pub(crate) fn learn<M: BlockMedium>(
+        &mut self,
+        alloc: Global,
+        medium: &mut M,
+        directory: &Directory,
+        written: Option<Written<'_>>,
+        file: usize,
+        buffer: &mut Vec<u8>,
+    ) -> Result<usize, ReadRefusal>
+        requires { length (M.disk medium.old).blocks ≤ 2 ^ 53 }
+        ensures learned { HasJudged (M.disk medium.old).blocks directory.now written.entry self.old
+            → IfOk result (λ place. IsLearned (M.disk medium.old).blocks directory.now written.entry file self.new.kept.items place) }
+        ensures judged { HasJudged (M.disk medium.old).blocks directory.now written.entry self.old → HasJudged (M.disk medium.old).blocks directory.now written.entry self.new }
+        ensures refused { IfErr result (Refuses (M.disk medium.old) (M.disk medium.new) directory.now written.entry file) }
+        ensures unread { IfErr result (RefusesToRead (M.disk medium.old) (M.disk medium.new) directory.now written.entry file) }
+        ensures same { Unchanged (M.disk medium.old) (M.disk medium.new) }
+        ensures no_fewer { (M.disk medium.old).failures ≤ (M.disk medium.new).failures }
+    {
+        if is_written(written, file) {
+            return Ok(0);
+        }
+        match finished_entry(directory, written, file) {
+            Some(entry) => self.keep(alloc, medium, file, &entry, buffer),
+            None => Err(ReadRefusal::NoSuchFile),
+        }
+    }
+
+    /// Where the packets stand that the medium shows of a file that was learned of, and what nodes say of them: what is told of the
+    /// file that is written, or else what is kept at a place.
+    pub(crate) fn shown<'a>(
+        &'a self,
+        written: Option<Written<'a>>,
+        file: usize,
+        place: usize,
+    ) -> Option<Shown<'a>>
+        ensures told { (image : Image) (chain : List ChainBlock) → IsToldRight image written.entry file → IsLearned image chain written.entry file self.now.kept.items place
+            → IsSomeAnd result (IsTold image chain written.entry file) }
+        ensures there { (image : Image) (chain : List ChainBlock) → IsLearned image chain written.entry file self.now.kept.items place → result ≢ None }
+        ensures shown { (image : Image) (chain : List ChainBlock) (packets : List StrictPacket) → IsLearned image chain written.entry file self.now.kept.items place → ShowsFile image chain written.entry file packets
+            → IfSome result (λ shown. IsShownWith image shown.first shown.named.now shown.book.now packets) }
+    {
+        match told(written, file) {
+            Some(told) => Some(told),
+            None => self.book(place),
+        }
+    }
+
+    /// What is kept at a place.
+    fn book(&self, place: usize) -> Option<Shown<'_>>
+        ensures some { (k : Kept) → slice_get self.now.kept.items place ≡ Some k → IsSomeAnd result (IsBook k) }
+        ensures none { slice_get self.now.kept.items place ≡ None → result ≡ None }
+    {
+        match self.kept.get(place) {
+            Some(kept) => {
+                let book = kept.tracks.book();
+                Some(Shown {
+                    first: kept.first,
+                    named: book.entries(),
+                    book,
+                })
+            }
+            None => None,
+        }
+    }
+
+    /// The place of what is kept of a file.
+    fn place(&self, file: usize) -> Option<usize>
+        ensures { IfSome result (λ n. IsSomeAnd (slice_get self.now.kept.items n) (λ k. k.file ≡ file)) }
+    {
+        self.kept.iter().position(|kept| kept.file == file)
+    }
+
+    /// Judges a file where it wasn't judged before, and answers the place of what is kept of it.
+    fn keep<M: BlockMedium>(
+        &mut self,
+        alloc: Global,
+        medium: &mut M,
+        file: usize,
+        entry: &Entry,
+        buffer: &mut Vec<u8>,
+    ) -> Result<usize, ReadRefusal>
+        requires { length (M.disk medium.old).blocks ≤ 2 ^ 53 }
+        ensures kept { (chain : List ChainBlock) (written : Option Written) → finished_file written chain file ≡ Some entry.now → AllByRecursion (IsOf (M.disk medium.old).blocks chain written) self.old.kept.items
+            → IfOk result (λ n. IsSomeAnd (slice_get self.new.kept.items n) (IsUnder (M.disk medium.old).blocks entry.now)) }
+        ensures judged { (chain : List ChainBlock) (written : Option Written) → finished_file written chain file ≡ Some entry.now → AllByRecursion (IsOf (M.disk medium.old).blocks chain written) self.old.kept.items
+            → AllByRecursion (IsOf (M.disk medium.old).blocks chain written) self.new.kept.items }
+        ensures refused { IfErr result (IsUnread (M.disk medium.old) (M.disk medium.new) entry.now) }
+        ensures same { Unchanged (M.disk medium.old) (M.disk medium.new) }
+        ensures no_fewer { (M.disk medium.old).failures ≤ (M.disk medium.new).failures }
+    {
+        match self.place(file) {
+            Some(place) => Ok(place),
+            None => self.judge(alloc, medium, file, entry, buffer),
+        }
+    }
+
+    /// Judges a file and keeps what is known of it, behind the others; answers its place among them.
+    fn judge<M: BlockMedium>(
+        &mut self,
+        alloc: Global,
+        medium: &mut M,
+        file: usize,
+        entry: &Entry,
+        buffer: &mut Vec<u8>,
+    ) -> Result<usize, ReadRefusal>
+        requires { length (M.disk medium.old).blocks ≤ 2 ^ 53 }
+        ensures place { IfOk result (λ n. n ≡ length self.old.kept.items) }
+        ensures kept { OnOk result (IsAdded (M.disk medium.old).blocks file entry.now self.old.kept.items self.new.kept.items) }
+        ensures refused { IfErr result (IsUnread (M.disk medium.old) (M.disk medium.new) entry.now) }
+        ensures rest { OnErr result (self.new.kept.items ≡ self.old.kept.items) }
+        ensures same { Unchanged (M.disk medium.old) (M.disk medium.new) }
+        ensures no_fewer { (M.disk medium.old).failures ≤ (M.disk medium.new).failures }
+    {
+        let place = self.kept.len();
+        let tracks = tracks_of(alloc, medium, entry, buffer)?;
+        let first = entry.first_block as usize;
+        match self.kept.push(Kept {
+            file,
+            first,
+            tracks,
+        }) {
+            Ok(()) => Ok(place),
+            Err(_) => Err(ReadRefusal::OutOfMemory),
+        }
+    }
+}
+
+/// Whether a file is the one that is written.
+fn is_written(written: Option<Written<'_>>, file: usize) -> bool
+    ensures yes { OnTrue result (IsSomeAnd written.entry (λ w. w.file ≡ file)) }
+    ensures no { OnFalse result (IfSome written.entry (λ w. w.file ≢ file)) }
+{
+    told(written, file).is_some()
+}
+
+/// What is told of a file, where it is the one that is written.
+fn told<'a>(written: Option<Written<'a>>, file: usize) -> Option<Shown<'a>>
+    ensures some { IfSome result (λ shown. IsSomeAnd written.entry (λ w. (w.file ≡ file) × (shown.first ≡ w.first) × (shown.named.now ≡ w.named.now) × (shown.book.now ≡ w.book.now))) }
+    ensures none { IfNone result (IfSome written.entry (λ w. w.file ≢ file)) }
+{
+    let told = written?;
+    if told.file != file {
+        return None;
+    }
+    Some(Shown {
+        first: told.first,
+        named: told.named,
+        book: told.book,
+    })
+}
+
+/// Judges a file under its directory entry, and answers what is kept of its packets.
+fn tracks_of<M: BlockMedium>(
+    alloc: Global,
+    medium: &mut M,
+    entry: &Entry,
+    buffer: &mut Vec<u8>,
+) -> Result<Tracks, ReadRefusal>
+    requires { length (M.disk medium.old).blocks ≤ 2 ^ 53 }
+    ensures kept { IfOk result (λ tracks. IsKept (closing entry.now) tracks (bytes_in (M.disk medium.old).blocks entry.now)) }
+    ensures refused { IfErr result (IsUnread (M.disk medium.old) (M.disk medium.new) entry.now) }
+    ensures same { Unchanged (M.disk medium.old) (M.disk medium.new) }
+    ensures no_fewer { (M.disk medium.old).failures ≤ (M.disk medium.new).failures }
+{
+    let extent = extent_of(entry, medium.blocks());
+    match judge_file(alloc, medium, extent, entry.is_closed(), buffer) {
+        Ok(Judgement::Strict(tracks)) => Ok(tracks),
+        Ok(Judgement::Faulty(at)) => Err(ReadRefusal::BadFile(at)),
+        Err(fault) => Err(of_judging(fault)),
+    }
+}
+
+/// Where a file stands by its directory entry, as far as the medium goes, which has so many blocks.
+fn extent_of(entry: &Entry, blocks: usize) -> Extent
+    requires { blocks ≤ 2 ^ 53 }
+    ensures within { 512 * result.first + result.size ≤ 512 * blocks }
+    ensures bytes { (image : Image) → IsWhole image → length image ≡ blocks → file_at image result ≡ bytes_in image entry.now }
+{
+    let first = (entry.first_block as usize).min(blocks);
+    let size = (entry.size as usize).min(512 * (blocks - first));
+    Extent { first, size }
+}

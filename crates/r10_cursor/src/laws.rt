@@ -1,0 +1,75 @@
+//! What is known of files, as calls that do nothing.
+
+ghost use Rattle.std.specs.Prelude.{◌≡◌, ◌+◌, ◌^◌, ◌≤◌, ◌<◌, ℕ, Option, None, Some, List, [], ◌++◌, length, slice_get, IfSome, All};
+ghost use Rattle.std.specs.List.{AllByRecursion};
+ghost use Rattle.r10_count.specs.Checks.{first_broken};
+ghost use Rattle.r10_medium.specs.Disk.{Image, IsWhole};
+ghost use Rattle.r10_medium.specs.Stop.{SameBelow};
+ghost use Rattle.r10_dirblock.specs.Block.{is_closed};
+ghost use Rattle.r10_dirblock.specs.declared.entry.Entry.{Entry as Listed};
+ghost use Rattle.r10_dirchain.specs.Chain.{IsDirectory, files};
+ghost use Rattle.r10_dirchain.specs.Mount.{blocks_in, mount_rules};
+ghost use Rattle.r10_dirchain.specs.OnMedium.{SameButIn};
+ghost use Rattle.r10_dirchain.specs.declared.chain.ChainBlock.{ChainBlock};
+ghost use Rattle.r10_body.specs.Faults.{IsAtFault};
+ghost use Rattle.r10_body.specs.Packets.{Packet, file_entries};
+ghost use Rattle.r10_body.specs.declared.entry.Entry.{Entry};
+ghost use Rattle.r10_body.specs.declared.fault.FileFault.{FileFault};
+ghost use Rattle.r10_machine.specs.Cuts.{Agree};
+ghost use Rattle.r10_volume.specs.Holding.{IsCarried, IsWritten, Open};
+ghost use Rattle.r10_machine.specs.Config.{Config};
+ghost use Rattle.r10_machine.specs.Machine.{File, shown_entries};
+ghost use Rattle.r10_machine.specs.Says.{IsFound, MediumSays};
+ghost use Rattle.r10_machine.specs.Sound.{IsEntry};
+ghost use Rattle.r10_cursor.specs.Files.{IsShownWith, bytes_in, finished};
+ghost use Rattle.r10_cursor.specs.Held.{IsCovered, IsHeld, IsToldOf};
+ghost use Rattle.r10_cursor.specs.Knowing.{IsWriting, Knows};
+ghost use Rattle.r10_cursor.specs.Staying.{KeepListed, Stay};
+ghost use Rattle.r10_cursor.specs.declared.books.Books.{Books};
+ghost use Rattle.r10_cursor.specs.declared.written.Written.{Written};
+
+/// A reader that has judged no file knows nothing wrong. What it knows stays, where the files that are not being written keep
+/// their bytes and directory entries, and others come behind them.
+pub fn what_is_known_stays()
+    ensures none { (image : Image) (chain : List ChainBlock) (written : Option Written) (books : Books) → books.kept.items ≡ [] → IsWriting image written → Knows image chain written books }
+    ensures stays { (old : Image) (new : Image) (chain : List ChainBlock) (made : List ChainBlock) (written : Option Written) (now : Option Written) (books : Books)
+        → Knows old chain written books → Stay old new (finished written (files chain)) (finished now (files made)) → IsWriting new now → Knows new made now books }
+{}
+
+/// The files of a directory that a recorder takes into use keep their bytes, where no block below the one behind them changes, or none
+/// but the reserved ones.
+pub fn listed_files_keep_their_bytes()
+    ensures below { (reserved : ℕ) (old : Image) (new : Image) (chain : List ChainBlock) (written : Option Written) (n : ℕ) (kept : ℕ) → IsWhole old → first_broken (mount_rules reserved (length old) chain) ≡ None
+        → SameBelow n kept old new → reserved + 1 + blocks_in (finished written (files chain)) ≤ n → KeepListed old new (finished written (files chain)) }
+    ensures directory { (reserved : ℕ) (old : Image) (new : Image) (chain : List ChainBlock) (written : Option Written) (numbers : List ℕ) → IsWhole old → first_broken (mount_rules reserved (length old) chain) ≡ None
+        → SameButIn numbers old new → All (λ k. k ≤ reserved) numbers → KeepListed old new (finished written (files chain)) }
+{}
+
+/// Of the file that a recorder holds as the one that is written, the packets are shown of which it tells, whatever files the medium has; and
+/// where they are a machine's, they are its.
+pub fn what_is_written_is_shown()
+    ensures writing { (image : Image) (o : Open) (text : List ℕ) (entries : List Entry) (w : Written) → IsCarried image o text entries → IsToldOf o w → IsWhole image → length image ≤ 2 ^ 53 → IsWriting image (Some w) }
+    ensures held { (s : Config) (image : Image) (chain : List ChainBlock) (o : Open) (f : File) (w : Written) → IsWritten s image o f → IsToldOf o w → AllByRecursion (IsEntry s) f.entries → IsHeld image chain (Some w) w.file f }
+{}
+
+/// A cursor that has covered nothing has covered no packet and no entry; and what it has covered, it still has where packets and entries
+/// come behind.
+pub fn what_is_covered_stays()
+    ensures none { (packets : List Packet) (f : File) → IsCovered packets f 0 0 }
+    ensures stays { (packets : List Packet) (more : List Packet) (f : File) (later : File) (entries : List Entry) (count : ℕ) (n : ℕ) → IsCovered packets f count n → f.shown ≤ length f.entries
+        → later.entries ≡ f.entries ++ entries → f.shown ≤ later.shown → IsCovered (packets ++ more) later count n }
+{}
+
+/// What a medium says of a file that isn't being written is read: the file isn't at fault, and its packets say on each channel what the file
+/// shows, and the times in their order, where another recorder began it as where this one did. So do packets that are shown of the
+/// file that is written.
+pub fn files_that_are_said()
+    ensures sound { (s : Config) (image : Image) (machine : List File) (chain : List ChainBlock) (file : ℕ) (e : Listed) (offset : ℕ) (fault : FileFault) → MediumSays s image machine → IsDirectory image chain
+        → slice_get (files chain) file ≡ Some e → IsAtFault (bytes_in image e) (is_closed e) offset fault → ⊥ }
+    ensures found { (s : Config) (image : Image) (machine : List File) (chain : List ChainBlock) (written : Option Written) (file : ℕ) (f : File) → MediumSays s image machine → IsDirectory image chain
+        → IfSome written (λ w. file < w.file) → slice_get machine file ≡ Some f → IsFound image f → IsHeld image chain written file f }
+    ensures own { (s : Config) (image : Image) (machine : List File) (chain : List ChainBlock) (written : Option Written) (file : ℕ) (f : File) → MediumSays s image machine → IsDirectory image chain
+        → IfSome written (λ w. file < w.file) → slice_get machine file ≡ Some f → f.shown ≤ length f.entries → AllByRecursion (IsEntry s) f.entries → IsHeld image chain written file f }
+    ensures written { (s : Config) (image : Image) (chain : List ChainBlock) (w : Written) (packets : List Packet) (f : File) → IsShownWith image w.first w.named.now w.book.now packets → Agree (file_entries packets) (shown_entries f)
+        → f.shown ≤ length f.entries → AllByRecursion (IsEntry s) f.entries → IsHeld image chain (Some w) w.file f }
+{}

@@ -1,0 +1,40 @@
+//! Find and replay: of a mounted directory's files, by number, each judged once, entries are found, timed and replayed from the
+//! packets that may have them, and the cursors of all readers stand for those of the small machine.
+#![tactic(auto)]
+
+mod books;
+mod count;
+mod cursor;
+mod fault;
+mod kept;
+mod laws;
+mod listing;
+mod looked;
+mod packet;
+mod reader;
+mod refusal;
+mod replay;
+mod search;
+mod table;
+mod table_laws;
+mod written;
+
+pub use count::count_at;
+pub use cursor::Cursor;
+pub use fault::ReplayFault;
+pub use laws::{
+    files_that_are_said, listed_files_keep_their_bytes, what_is_covered_stays, what_is_known_stays,
+    what_is_written_is_shown,
+};
+pub use listing::entry_at;
+pub use packet::read_packet;
+pub use reader::Reader;
+pub use refusal::ReadRefusal;
+pub use replay::Reading;
+pub use search::find;
+pub use table::{check_read, close_cursor, next_entry, open_cursor};
+pub use table_laws::{
+    advances_are_the_machines, cursors_stay_over_steps, what_is_held_was_read, what_is_read_stays,
+    what_is_shown_stays,
+};
+pub use written::Written;

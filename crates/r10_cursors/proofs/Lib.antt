@@ -1,4 +1,0 @@
-mod Fronts
-pub mod Reading
-mod Standing
-mod Stepping

@@ -1,0 +1,37 @@
+use Rattle.std.proofs.Common.{◌≡◌, ◌+◌, ◌-◌, ◌<◌, ◌≤◌, ◌^◌, ◌++◌, ◌∙◌, ℕ, List, length, take, drop, sym, ap, subst, arith}
+use Rattle.std.proofs.lemmas.List.{length-drop}
+use Rattle.r10_body.specs.Faults.{HasFault}
+use Rattle.r10_strict.specs.Tracks.{Stands as StandsForeign}
+use Rattle.r10_judge.specs.Judged.{Stands as StandsJudged}
+use Rattle.r10_judge.proofs.Parts.{rest_is, short_on, taken_on}
+use Rattle.r10_judge.proofs.walk.Walk.take.Goals as goal
+
+pub returns-in-Err-clause-ends : goal.returns-in-Err-clause-ends
+returns-in-Err-clause-ends c =
+    let bytes = c.args.bytes.now in
+    let done = c.loop-done.done in (
+      omega (arith, c.loop-done-test.true, length-drop done bytes),
+      subst (λ (l : List ℕ). HasFault l c.in-Err.at.fault) (rest_is bytes done) c.in-Err.ensures.fault.1,
+    )
+
+pub loop-done-preserved : goal.loop-done-preserved
+loop-done-preserved c =
+    let now = c.loop-done.invariant in
+    let bytes = c.args.bytes.now in
+    let done = c.loop-done.done in
+    let n = c.in-Ok.packet.length in
+    let found = c.in-Ok.ensures.found in
+    let inside : done + n ≤ length bytes = omega (arith, found.inside, c.loop-done-test.true, ap length (rest_is bytes done), length-drop done bytes) in
+    record {
+      inside = inside;
+      stands = λ before start.
+          let so_far = now.stands before start in
+          let further : (before ++ take done bytes) ++ take n (take (length bytes - done) (drop done bytes)) ≡ before ++ take (done + n) bytes = taken_on before bytes _ done n (rest_is bytes done) in
+          let size : length before ≡ length c.requires.0 = sym start.foreign.offset ∙ c.requires.1.foreign.offset in
+          let short : length ((before ++ take done bytes) ++ take n (take (length bytes - done) (drop done bytes))) < 2 ^ 63 = short_on before bytes (done + n) _ c.requires.0 further inside size c.requires.2 in
+          record {
+            foreign = subst (λ (l : List ℕ). StandsForeign c.take.new.self l) further (c.in-Ok.ensures.taken (before ++ take done bytes) so_far.foreign);
+            judged = subst (λ (l : List ℕ). StandsJudged c.take-in-loop-done.new.self l) further (c.in_ok-take.ensures.taken (before ++ take done bytes) so_far.judged found.foreign short);
+          };
+      closed = c.take-in-loop-done.ensures.closed ∙ now.closed;
+    }

@@ -1,0 +1,70 @@
+//! A file's packets, taken one after the other.
+
+ghost use Rattle.std.specs.Prelude.{◌≡◌, ◌+◌, ◌<◌, ◌≤◌, ◌^◌, ◌++◌, ℕ, List, [], length, take, drop, IfOk};
+ghost use Rattle.r10_judge.specs.Walks.{Stands, Ends};
+
+use crate::Judge;
+use r10_body::FileFault;
+use r10_strict::ForeignTrack;
+use std::alloc::{AllocError, Global};
+
+/// How far a file is walked.
+#[derive(Drop)]
+pub struct Walk {
+    /// Its packets so far, whoever wrote them.
+    pub track: ForeignTrack,
+    /// Whether they keep the rules of this recorder's files.
+    pub judge: Judge,
+}
+
+/// What is taken of some bytes.
+#[derive(Clone, Copy, Debug, PartialEq, Eq)]
+pub(crate) struct Taken {
+    /// How many bytes the packets have.
+    pub length: usize,
+    /// The fault of what stands behind them, where something does.
+    pub fault: Option<FileFault>,
+}
+
+impl Walk {
+    /// The start of a file whose directory entry is closed or not.
+    pub(crate) fn new(alloc: Global, closed: bool) -> Walk
+        ensures stands { Stands result [] }
+        ensures closed { result.judge.closed ≡ closed }
+    {
+        Walk {
+            track: ForeignTrack::new(),
+            judge: Judge::new(alloc, closed),
+        }
+    }
+
+    /// Takes the packets that stand in bytes, up to the first that is at fault.
+    pub(crate) fn take(&mut self, alloc: Global, bytes: &[u8]) -> Result<Taken, AllocError>
+        requires { (before : List ℕ) × Stands self.old before × (length before + length bytes.now < 2 ^ 63) }
+        ensures stands { IfOk result (λ taken. (before : List ℕ) → Stands self.old before → Stands self.new (before ++ take taken.length bytes.now)) }
+        ensures inside { IfOk result (λ taken. taken.length ≤ length bytes.now) }
+        ensures ends { IfOk result (λ taken. Ends taken.fault (drop taken.length bytes.now)) }
+        ensures closed { self.new.judge.closed ≡ self.old.judge.closed }
+    {
+        let mut done = 0;
+        while done < bytes.len() {
+            let rest = &bytes[done..];
+            let packet = match self.track.take(rest) {
+                Ok(packet) => packet,
+                Err(at) => {
+                    let fault = Some(at.fault);
+                    return Ok(Taken {
+                        length: done,
+                        fault,
+                    });
+                }
+            };
+            self.judge.take(alloc, &rest[..packet.length])?;
+            done += packet.length;
+        }
+        Ok(Taken {
+            length: done,
+            fault: None,
+        })
+    }
+}

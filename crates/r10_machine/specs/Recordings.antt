@@ -1,0 +1,180 @@
+-- Whole recordings: each reply is one that the recorder may give, over the states of r10_machine's vectors.
+use Rattle.std.specs.Prelude.{◌≡◌, ◌≢◌, ℕ, true, false, List, [], ◌∷◌, drop, refl, Option, Some, None, slice_index_or}
+use Rattle.std.proofs.Common.{lit<, lit≤, arith, zero, suc, ◌≤◌}
+use Rattle.r10_body.specs.declared.entry.Entry.{Entry}
+use Rattle.r10_body.specs.declared.refusal.Refusal.TheVariants as refusals
+use Rattle.r10_machine.specs.declared.mode.Mode.TheVariants.{Idle}
+use Rattle.r10_machine.specs.Config.{Config}
+use Rattle.r10_machine.specs.Machine.{Machine, File, Cursor, Sets, fresh, with_lane}
+use Rattle.r10_machine.specs.Room.{TakesIn, room_for}
+use Rattle.r10_machine.specs.Calls.{accepted}
+use Rattle.r10_machine.specs.Vectors.{settings, new, mounted, ticked, started, name, setup, leap_day, text, entry, read, small, small_started, two, two-in-order, abc_offered, both_offered, both_pumped, small_stopped, filled, lost, pumped, resumed, stopped, replayed, replayed-in-order}
+use Rattle.r10_machine.specs.declared.event.Event.{Event}
+use Rattle.r10_machine.specs.declared.event.Event.TheVariants as ask
+use Rattle.r10_machine.specs.declared.reply.Reply.{Reply}
+use Rattle.r10_machine.specs.declared.reply.Reply.TheVariants as say
+use Rattle.r10_machine.specs.Step.{Step}
+
+-- the steps of a run, whatever the media between them say
+abbrev pub Goes : Config → Machine → List Event → List Reply → Machine → Type 0
+Goes s old [] [] end = end ≡ old
+Goes s old (event ∷ events) (reply ∷ replies) end = (mid : Machine) × Step s old event reply mid × Goes s mid events replies end
+Goes s old events replies end = ⊥
+
+-- ---- words for the proofs
+
+-- all that fit go in
+all-of : {s : Config} {f : File} {entries : List Entry} {n : ℕ} → n ≤ room_for s f entries → room_for s f entries ≤ n → TakesIn s f entries n
+all-of low high = record { within = low; stops = λ less. absurd (omega (arith, less, high)) }
+
+-- the first cursor
+first-set : (cursors : List (Option Cursor)) (old new : Option Cursor) → Sets (old ∷ cursors) (new ∷ cursors) 0 new
+first-set cursors old new = record { changed = refl; others = other-is }
+  where
+    other-is : (other : ℕ) → other ≢ 0 → slice_index_or (new ∷ cursors) other None ≡ slice_index_or (old ∷ cursors) other None
+    other-is zero differs = absurd (differs refl)
+    other-is (suc other) differs = refl
+
+first-new : (new : Option Cursor) → Sets [] (new ∷ []) 0 new
+first-new new = record { changed = refl; others = other-is }
+  where
+    other-is : (other : ℕ) → other ≢ 0 → slice_index_or (new ∷ []) other None ≡ slice_index_or [] other None
+    other-is zero differs = absurd (differs refl)
+    other-is (suc other) differs = refl
+
+-- ---- the first recording
+
+pub first-recording : Goes small (fresh small.channels [] 0)
+    (ask.Mount ∷ ask.Tick 1000 leap_day ∷ ask.Start name setup
+    ∷ ask.Offer 5 1000 (text (0x41 ∷ 0x42 ∷ 0x43 ∷ [])) ∷ ask.Offer 5 1010 (text []) ∷ ask.Pump 5 2 ∷ ask.Stop
+    ∷ ask.Cursor 0 (5 ∷ []) 0 281474976710655 ∷ ask.Advance 0 ∷ ask.Next 0 ∷ ask.Next 0 ∷ ask.Next 0 ∷ [])
+    (say.Done ∷ say.Done ∷ say.Done
+    ∷ say.Done ∷ say.Done ∷ say.Moved 2 ∷ say.Stopped (record { taken = 0; left = 0 })
+    ∷ say.Cursor 0 ∷ say.Advanced 2
+    ∷ say.Next (Some (entry 5 1000 (text (0x41 ∷ 0x42 ∷ 0x43 ∷ [])) false)) ∷ say.Next (Some (entry 5 1010 (text []) false)) ∷ say.Next None ∷ [])
+    (read 3 [] small_stopped)
+first-recording = (
+  record (fresh small.channels [] 0) { mode = Idle },
+  (lit≤ tt, (refl, refl)),
+  (
+    record small_started { mode = Idle; files = [] },
+    (lit≤ tt, (refl, refl)),
+    (
+      small_started,
+      (lit≤ tt, (refl, (refl, refl))),
+      (
+        abc_offered,
+        (lit≤ tt, (refl, refl)),
+        (
+          both_offered,
+          (lit≤ tt, (refl, refl)),
+          (
+            both_pumped,
+            (lit≤ tt, (refl, (all-of (lit≤ tt) (lit≤ tt), λ some. lit< tt, refl))),
+            (
+              small_stopped,
+              (lit≤ tt, (refl, (all-of (lit≤ tt) (lit≤ tt), refl, refl))),
+              (
+                read 0 [] small_stopped,
+                (lit≤ tt, (refl, (refl, (first-new _, refl)))),
+                (
+                  read 3 two small_stopped,
+                  (lit≤ tt, (refl, (two, two-in-order, refl, (first-set _ _ _, refl)))),
+                  (
+                    read 3 (drop 1 two) small_stopped,
+                    (lit≤ tt, (refl, (refl, (first-set _ _ _, refl)))),
+                    (
+                      read 3 [] small_stopped,
+                      (lit≤ tt, (refl, (refl, (first-set _ _ _, refl)))),
+                      (
+                        read 3 [] small_stopped,
+                        (lit≤ tt, (refl, (refl, (first-set _ _ _, refl)))),
+                        refl,
+                      ),
+                    ),
+                  ),
+                ),
+              ),
+            ),
+          ),
+        ),
+      ),
+    ),
+  ),
+)
+
+-- ---- a recording with a lost message
+
+pub a-lost-message : Goes settings new
+    (ask.Mount ∷ ask.Tick 1000 leap_day ∷ ask.Start name setup
+    ∷ ask.Offer 5 1001 (text (0x41 ∷ [])) ∷ ask.Offer 5 1002 (text (0x42 ∷ [])) ∷ ask.Offer 5 1003 (text (0x43 ∷ []))
+    ∷ ask.Pump 5 2 ∷ ask.Offer 5 1004 (text (0x44 ∷ [])) ∷ ask.Stop
+    ∷ ask.Cursor 0 (5 ∷ []) 0 281474976710655 ∷ ask.Advance 0 ∷ ask.Next 0 ∷ ask.Next 0 ∷ ask.Next 0 ∷ ask.Next 0 ∷ [])
+    (say.Done ∷ say.Done ∷ say.Done
+    ∷ say.Done ∷ say.Done ∷ say.Refused refusals.Overflow
+    ∷ say.Moved 2 ∷ say.Done ∷ say.Stopped (record { taken = 1; left = 0 })
+    ∷ say.Cursor 0 ∷ say.Advanced 3
+    ∷ say.Next (Some (entry 5 1001 (text (0x41 ∷ [])) false)) ∷ say.Next (Some (entry 5 1002 (text (0x42 ∷ [])) false))
+    ∷ say.Next (Some (entry 5 1004 (text (0x44 ∷ [])) true)) ∷ say.Next None ∷ [])
+    (read 4 [] stopped)
+a-lost-message = (
+  mounted,
+  (lit≤ tt, (refl, refl)),
+  (
+    ticked,
+    (lit≤ tt, (refl, refl)),
+    (
+      started,
+      (lit≤ tt, (refl, (refl, refl))),
+      (
+        with_lane 5 (accepted 1001 (text (0x41 ∷ []))) started,
+        (lit≤ tt, (refl, refl)),
+        (
+          filled,
+          (lit≤ tt, (refl, refl)),
+          (
+            lost,
+            (lit≤ tt, (refl, refl)),
+            (
+              pumped,
+              (lit≤ tt, (refl, (all-of (lit≤ tt) (lit≤ tt), λ some. lit< tt, refl))),
+              (
+                resumed,
+                (lit≤ tt, (refl, refl)),
+                (
+                  stopped,
+                  (lit≤ tt, (refl, (all-of (lit≤ tt) (lit≤ tt), refl, refl))),
+                  (
+                    read 0 [] stopped,
+                    (lit≤ tt, (refl, (refl, (first-new _, refl)))),
+                    (
+                      read 4 replayed stopped,
+                      (lit≤ tt, (refl, (replayed, replayed-in-order, refl, (first-set _ _ _, refl)))),
+                      (
+                        read 4 (drop 1 replayed) stopped,
+                        (lit≤ tt, (refl, (refl, (first-set _ _ _, refl)))),
+                        (
+                          read 4 (drop 2 replayed) stopped,
+                          (lit≤ tt, (refl, (refl, (first-set _ _ _, refl)))),
+                          (
+                            read 4 [] stopped,
+                            (lit≤ tt, (refl, (refl, (first-set _ _ _, refl)))),
+                            (
+                              read 4 [] stopped,
+                              (lit≤ tt, (refl, (refl, (first-set _ _ _, refl)))),
+                              refl,
+                            ),
+                          ),
+                        ),
+                      ),
+                    ),
+                  ),
+                ),
+              ),
+            ),
+          ),
+        ),
+      ),
+    ),
+  ),
+)

@@ -1,0 +1,112 @@
+-- What a file carries, with entries more.
+use Rattle.std.proofs.Common.{◌≡◌, ℕ, ◌+◌, ◌≤◌, Bool, true, false, ◌==◌, List, [], ◌∷◌, ◌++◌, length, map, None, refl, sym, ap, subst, ◌∙◌, arith}
+use Rattle.std.specs.Prelude.{cond}
+use Rattle.std.specs.List.{sum_by}
+use Rattle.std.proofs.lemmas.Bool.{eqb-true}
+use Rattle.std.proofs.lemmas.List.{append-nil, take-append-le}
+use Rattle.std.proofs.lemmas.List.Elements.{filter-append}
+use Rattle.std.proofs.lemmas.List.Sums.{sum_by-append}
+use Rattle.r10_medium.specs.Disk.{Image}
+use Rattle.r10_body.specs.Content.{type_of}
+use Rattle.r10_body.specs.Cost.{entry_cost, file_cost}
+use Rattle.r10_body.specs.Files.{PacketsSay, on_channel}
+use Rattle.r10_body.specs.Packets.{Packet, file_bytes, file_entries}
+use Rattle.r10_body.specs.Rules.{entry_on as is_on, is_time, last_time}
+use Rattle.r10_body.specs.declared.entry.Entry.{Entry}
+use Rattle.r10_body.proofs.Lengths.{packets_covered}
+use Rattle.r10_builder.specs.State.{State}
+use Rattle.r10_builder.specs.declared.closed.Closed.{Closed}
+use Rattle.r10_builder.specs.Grows.{Grows, HasNone, all_held, taken_in}
+use Rattle.r10_builder.specs.Next.{HasType}
+use Rattle.r10_body.specs.Sequence.{numbered}
+use Rattle.r10_builder.proofs.Following.{says_so}
+use Rattle.r10_builder.proofs.Growing.{cost_more}
+use Rattle.r10_builder.specs.Packed.{HandsOn, TakesIn}
+use Rattle.r10_builder.proofs.Places.{all_more}
+use Rattle.r10_packetout.specs.Output.{Has, Writing}
+use Rattle.r10_packetout.specs.Carries.{Carries, HasNoEvents, Recording, Says, StandApart}
+use Rattle.r10_packetout.proofs.Events.{counted_on, held_closed, held_joined, no_events}
+
+-- ---- entries and cost
+
+pub entries_more : (packets packets' : List Packet) (builders builders' : List State) (entries more : List Entry) → ((channel : ℕ) → on_channel channel (taken_in packets builders) ≡ on_channel channel entries)
+    → Grows packets builders more packets' builders' → (channel : ℕ) → on_channel channel (taken_in packets' builders') ≡ on_channel channel (entries ++ more)
+entries_more packets packets' builders builders' entries more are grows channel =
+    grows channel ∙ ap (λ (es : List Entry). es ++ on_channel channel more) (are channel) ∙ sym (filter-append (is_on channel) entries more)
+
+pub costs_more : (text : List ℕ) (packets packets' : List Packet) (builders builders' : List State) (more : List Entry) (cost : ℕ) → cost ≡ file_cost text (taken_in packets builders)
+    → Grows packets builders more packets' builders' → cost + sum_by entry_cost more ≡ file_cost text (taken_in packets' builders')
+costs_more text packets packets' builders builders' more cost is grows =
+    ap (λ n. n + sum_by entry_cost more) is ∙ sym (cost_more text packets builders more packets' builders' grows)
+
+-- ---- one packet more
+
+pub last_same : (counter : ℕ) (packets : List Packet) (p : Packet) → is_time p ≡ false → last_time counter (packets ++ p ∷ []) ≡ last_time counter packets
+last_same counter [] p off = rw off refl
+last_same counter (q ∷ packets) p off = last_same (cond (is_time q) q.counter counter) packets p off
+
+not_at : (type n : ℕ) (b : Bool) → type == n ≡ b → n + 1 ≤ type → type == n ≡ false
+not_at type n true e lt = absurd (omega (arith, lt, eqb-true type n e))
+not_at type n false e lt = e
+
+type_more : (channel type : ℕ) (packets : List Packet) (p : Packet) (builders : List State) → HasType channel type packets → HasNone channel builders → (HasNone p.channel builders → ⊥) → HasType channel type (packets ++ p ∷ [])
+type_more channel type packets p builders has none on =
+    all_more (λ (q : Packet). q.channel ≡ channel → type_of q.content ≡ type) packets p has (λ is. absurd (on (subst (λ (n : ℕ). HasNone n builders) (sym is) none)))
+
+-- ---- the laws
+
+pub samples_carried : (r : Recording) (image : Image) (text : List ℕ) (entries more : List Entry) (builders : List State) (carried : Carries r image text entries)
+    → HasNoEvents more → TakesIn carried.packets r.builders more None builders → Carries (record r { builders = builders; cost = r.cost + sum_by entry_cost more }) image text (entries ++ more)
+samples_carried r image text entries more builders carried plain takes =
+    let says = carried.says in
+    record {
+      packets = carried.packets;
+      has = carried.has;
+      says = record {
+        packed = takes.0;
+        times = says.times;
+        events = says.events;
+        setup_is = says.setup_is;
+        entries_are = entries_more carried.packets carried.packets r.builders builders entries more says.entries_are takes.1;
+        clock_is = says.clock_is;
+        messages = held_joined carried.packets r.builders builders more says.messages plain takes.1;
+        counts_are = counted_on r.counts entries more says.counts_are plain;
+        cost_is = costs_more text carried.packets carried.packets r.builders builders more r.cost says.cost_is takes.1;
+      };
+    }
+
+pub packet_said : (r : Recording) (packets : List Packet) (text : List ℕ) (entries more : List Entry) (builders : List State) → Says r packets text entries → StandApart r → HasNoEvents more
+    → (closed : Closed) (hands : HandsOn closed packets r.builders more builders) (out : Writing)
+    → Says (record r { builders = builders; out = out; cost = r.cost + sum_by entry_cost more }) (packets ++ numbered packets hands.packet ∷ []) text (entries ++ more)
+packet_said r packets text entries more builders says apart plain closed hands out =
+    let p : Packet = numbered packets hands.packet in
+    let two : 2 ≤ length packets = says.packed.growing.start in
+    record {
+      packed = hands.packed;
+      times = type_more r.time 0x11 packets p r.builders says.times apart.time hands.on;
+      events = type_more r.event 0x02 packets p r.builders says.events apart.event hands.on;
+      setup_is = ap (λ (ps : List Packet). map (λ (q : Packet). q.content) ps) (take-append-le 1 packets (p ∷ []) (omega (arith, two))) ∙ says.setup_is;
+      entries_are = entries_more packets (packets ++ p ∷ []) r.builders builders entries more says.entries_are hands.grows;
+      clock_is = last_same 0 packets p (not_at (type_of hands.packet.content) 0x11 (type_of hands.packet.content == 0x11) refl (omega (arith, hands.data_type))) ∙ says.clock_is;
+      messages = held_closed packets r.builders builders more p says.messages plain (no_events p (not_at (type_of hands.packet.content) 2 (type_of hands.packet.content == 2) refl (omega (arith, hands.data_type)))) hands.grows;
+      counts_are = counted_on r.counts entries more says.counts_are plain;
+      cost_is = costs_more text packets (packets ++ p ∷ []) r.builders builders more r.cost says.cost_is hands.grows;
+    }
+
+pub packets_carried : (r : Recording) (image : Image) (text : List ℕ) (entries more : List Entry) (builders : List State) (carried : Carries r image text entries) → StandApart r
+    → HasNoEvents more → (closed : Closed) (hands : HandsOn closed carried.packets r.builders more builders) (out : Writing) (later : Image) → Has out later (carried.packets ++ numbered carried.packets hands.packet ∷ [])
+    → Carries (record r { builders = builders; out = out; cost = r.cost + sum_by entry_cost more }) later text (entries ++ more)
+packets_carried r image text entries more builders carried apart plain closed hands out later has = record {
+  packets = carried.packets ++ numbered carried.packets hands.packet ∷ [];
+  has = has;
+  says = packet_said r carried.packets text entries more builders carried.says apart plain closed hands out;
+}
+
+pub flushed_says : (r : Recording) (packets : List Packet) (text : List ℕ) (entries : List Entry) → Says r packets text entries → all_held r.builders ≡ [] → PacketsSay packets text entries false
+flushed_says r packets text entries says none =
+    let all : taken_in packets r.builders ≡ file_entries packets = ap (λ (es : List Entry). file_entries packets ++ es) none ∙ append-nil (file_entries packets) in
+    says_so packets text entries says.packed.growing says.setup_is (λ channel. ap (on_channel channel) (sym all) ∙ says.entries_are channel)
+
+pub covered : (r : Recording) (packets : List Packet) (text : List ℕ) (entries : List Entry) → Says r packets text entries → length (file_bytes packets) ≤ r.cost
+covered r packets text entries says =
+    omega (arith, says.cost_is, packets_covered packets text says.packed.growing.each says.setup_is, sum_by-append entry_cost (file_entries packets) (all_held r.builders))

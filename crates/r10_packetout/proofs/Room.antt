@@ -1,0 +1,115 @@
+-- That what is put ends within what the file costs, with its index behind it.
+use Rattle.std.proofs.Common.{◌≡◌, ℕ, ◌+◌, ◌^◌, ◌<◌, ◌≤◌, List, [], ◌∷◌, ◌++◌, length, refl, sym, ap, subst, ◌∙◌, arith, length-append}
+use Rattle.std.specs.List.{sum_by}
+use Rattle.std.proofs.lemmas.Bool.{eq-eqb}
+use Rattle.r10_count.specs.Civil.{IsCivil}
+use Rattle.r10_count.specs.Count.{IsCount}
+use Rattle.r10_count.specs.declared.civil.Parts.{Parts}
+use Rattle.r10_medium.specs.Disk.{Image}
+use Rattle.r10_packet.specs.declared.header.Header.{Header}
+use Rattle.r10_packet.proofs.Lengths.{framed_length}
+use Rattle.r10_body.specs.Cost.{entry_cost, file_cost}
+use Rattle.r10_body.specs.Files.{on_channel}
+use Rattle.r10_body.specs.Packets.{Packet, file_bytes, packet_bytes}
+use Rattle.r10_body.specs.Rules.{Rise}
+use Rattle.r10_body.specs.declared.entry.Entry.{Entry}
+use Rattle.r10_body.specs.Sequence.{last_count, next_sequence, numbered}
+use Rattle.r10_body.proofs.Rules.{bytes_more}
+use Rattle.r10_builder.specs.State.{State}
+use Rattle.r10_builder.specs.declared.closed.Closed.{Closed}
+use Rattle.r10_builder.specs.Grows.{all_held, packet_count}
+use Rattle.r10_builder.specs.Next.{event_packet, setup_packet, time_packet}
+use Rattle.r10_builder.proofs.Rising.{rise_behind}
+use Rattle.r10_builder.specs.Packed.{HandsOn}
+use Rattle.r10_builder.specs.Settings.{AreSettings, specs_of}
+use Rattle.r10_packetout.specs.Packets.{Describes, bare, index_size, packet_size}
+use Rattle.r10_packetout.proofs.Framing.{described}
+use Rattle.r10_packetout.specs.Carries.{AreCounted, Carries, HasNoEvents, Recording, Says, StandApart, event_entry, packets_of, time_entry}
+use Rattle.r10_packetout.proofs.Begin.{begun_says}
+use Rattle.r10_packetout.proofs.Carrying.{packet_said}
+use Rattle.r10_packetout.proofs.Closing.{has_length, index_covered}
+use Rattle.r10_packetout.proofs.Own.{event_said, time_said}
+
+-- ---- how long a packet is
+
+size_is : (header : Header) (body : List ℕ) (p : Packet) (s : ℕ) → Describes header body p → length (packet_bytes (record p { sequence = s })) ≡ packet_size header body
+size_is header body p s is = ap (λ (b : List ℕ). length b) (sym (described header body p s is)) ∙ framed_length (record header { sequence = s }) body
+
+-- behind others, with the index of all
+ends_at : (header : Header) (body : List ℕ) (packets : List Packet) (p : Packet) (cost : ℕ) → Describes header body p
+    → length (file_bytes (packets ++ numbered packets p ∷ [])) + index_size (length (packets ++ numbered packets p ∷ [])) ≤ cost → length (file_bytes packets) + packet_size header body + index_size (length packets + 1) ≤ cost
+ends_at header body packets p cost is le =
+    let q : Packet = numbered packets p in
+    let bytes : length (file_bytes (packets ++ q ∷ [])) ≡ length (file_bytes packets) + packet_size header body =
+    ap (λ (b : List ℕ). length b) (bytes_more packets q) ∙ length-append (file_bytes packets) (packet_bytes q) ∙ ap (λ n. length (file_bytes packets) + n) (size_is header body p (next_sequence p.channel packets) is) in
+    let index : index_size (length (packets ++ q ∷ [])) ≡ index_size (length packets + 1) = ap index_size (length-append packets (q ∷ [])) in
+    at_most (length (file_bytes (packets ++ q ∷ []))) (length (file_bytes packets) + packet_size header body) (index_size (length (packets ++ q ∷ []))) (index_size (length packets + 1)) cost bytes index le
+  where
+    at_most : (a b i j cost : ℕ) → a ≡ b → i ≡ j → a + i ≤ cost → b + j ≤ cost
+    at_most a b i j cost e g le = omega (arith, e, g, le)
+
+few_more : (packets : List Packet) (p : Packet) → length packets < 3276500 → length (packets ++ p ∷ []) ≤ 3276500
+few_more packets p few = omega (arith, few, length-append packets (p ∷ []))
+
+-- ---- each packet that is put
+
+pub handed_fits : (r : Recording) (packets : List Packet) (text : List ℕ) (entries more : List Entry) (builders : List State) → Says r packets text entries → StandApart r → HasNoEvents more
+    → (closed : Closed) → HandsOn closed packets r.builders more builders → length packets < 3276500 → r.cost + sum_by entry_cost more < 2 ^ 63
+    → length (file_bytes packets) + packet_size closed.header closed.body.items + index_size (length packets + 1) ≤ r.cost + sum_by entry_cost more
+handed_fits r packets text entries more builders says apart plain closed hands few small =
+    let is : Describes closed.header closed.body.items hands.packet = record { fits = hands.fits; header_is = ap bare hands.header; body_is = hands.body } in
+    ends_at closed.header closed.body.items packets hands.packet (r.cost + sum_by entry_cost more) is
+    (index_covered (record r { builders = builders; cost = r.cost + sum_by entry_cost more }) (packets ++ numbered packets hands.packet ∷ []) text (entries ++ more)
+    (packet_said r packets text entries more builders says apart plain closed hands r.out) (few_more packets (numbered packets hands.packet) few) small)
+
+pub time_fits : (r : Recording) (packets : List Packet) (text : List ℕ) (entries : List Entry) → Says r packets text entries → StandApart r → (count : ℕ) (civil : Parts)
+    → last_count 0 (on_channel r.time entries) ≤ count → IsCount count → IsCivil civil → (header : Header) (body : List ℕ) → Describes header body (time_packet r.time count civil)
+    → length packets < 3276500 → r.cost + entry_cost (time_entry r.time count civil) < 2 ^ 63
+    → length (file_bytes packets) + packet_size header body + index_size (length packets + 1) ≤ r.cost + entry_cost (time_entry r.time count civil)
+time_fits r packets text entries says apart count civil later counts are header body is few small =
+    let p : Packet = time_packet r.time count civil in
+    let e : Entry = time_entry r.time count civil in
+    ends_at header body packets p (r.cost + entry_cost e) is
+    (index_covered (record r { clock = count; cost = r.cost + entry_cost e }) (packets ++ numbered packets p ∷ []) text (entries ++ e ∷ [])
+    (time_said r packets text entries count civil r.out says apart later counts are) (few_more packets (numbered packets p) few) small)
+
+pub event_fits : (r : Recording) (packets : List Packet) (text : List ℕ) (entries : List Entry) → Says r packets text entries → StandApart r → (count number : ℕ)
+    → last_count 0 (on_channel r.event entries) ≤ count → IsCount count → number < 2 ^ 12 → number < length r.counts → (header : Header) (body : List ℕ) → Describes header body (event_packet r.event count number packets)
+    → length packets < 3276500 → r.cost + entry_cost (event_entry r.event count number entries) < 2 ^ 63
+    → length (file_bytes packets) + packet_size header body + index_size (length packets + 1) ≤ r.cost + entry_cost (event_entry r.event count number entries)
+event_fits r packets text entries says apart count number later counts small_number lt header body is few small =
+    let p : Packet = event_packet r.event count number packets in
+    let e : Entry = event_entry r.event count number entries in
+    ends_at header body packets p (r.cost + entry_cost e) is
+    (index_covered _ (packets ++ numbered packets p ∷ []) text (entries ++ e ∷ [])
+    (event_said r packets text entries count number r.out says apart later counts small_number lt) (few_more packets (numbered packets p) few) small)
+
+-- ---- the first two packets
+
+pub begun_fits : (r : Recording) (text : List ℕ) (count : ℕ) (civil : Parts) → StandApart r → AreSettings 0 (specs_of r.builders) → all_held r.builders ≡ [] → AreCounted r.counts []
+    → length text ≤ 524260 → IsCount count → IsCivil civil → (header second : Header) (body other : List ℕ) → Describes header body (setup_packet count text) → Describes second other (time_packet r.time count civil)
+    → packet_size header body + packet_size second other + index_size 2 ≤ file_cost text (time_entry r.time count civil ∷ [])
+begun_fits r text count civil apart are none counted short counts civil_is header second body other is also =
+    let s : Packet = setup_packet count text in
+    let t : Packet = time_packet r.time count civil in
+    let e : Entry = time_entry r.time count civil in
+    let covered = index_covered (record r { clock = count; cost = file_cost text (e ∷ []) }) (s ∷ t ∷ []) text (e ∷ []) (begun_says r text count civil r.out apart are none counted short counts civil_is) (omega arith) (omega (arith, short)) in
+    let rest : length (packet_bytes t ++ []) ≡ length (packet_bytes t) + 0 = length-append (packet_bytes t) [] in
+    let bytes : length (packet_bytes s ++ (packet_bytes t ++ [])) ≡ length (packet_bytes s) + length (packet_bytes t ++ []) = length-append (packet_bytes s) (packet_bytes t ++ []) in
+    within (length (packet_bytes s)) (length (packet_bytes t)) (packet_size header body) (packet_size second other) (length (packet_bytes t ++ [])) (length (packet_bytes s ++ (packet_bytes t ++ []))) (file_cost text (e ∷ []))
+    (size_is header body s 0 is) (size_is second other t 0 also) rest bytes covered
+  where
+    within : (a b m n c d cost : ℕ) → a ≡ m → b ≡ n → c ≡ b + 0 → d ≡ a + c → d + index_size 2 ≤ cost → m + n + index_size 2 ≤ cost
+    within a b m n c d cost e g h i le = omega (arith, e, g, h, i, le)
+
+-- ---- how many packets
+
+pub counted_packets : (r : Recording) (image : Image) (text : List ℕ) (entries : List Entry) (carried : Carries r image text entries) → packet_count carried.packets r.builders ≡ packets_of r
+counted_packets r image text entries carried = omega (arith, has_length r.out image carried.packets carried.has)
+
+-- ---- counts that don't fall
+
+pub not_later : (entries : List Entry) (e : Entry) → ((channel : ℕ) → Rise 0 (on_channel channel entries ++ on_channel channel (e ∷ []))) → last_count 0 (on_channel e.channel entries) ≤ e.count
+not_later entries e may =
+    let own : on_channel e.channel (e ∷ []) ≡ e ∷ [] = rw (eq-eqb e.channel e.channel refl) refl in
+    rise_behind 0 (on_channel e.channel entries) e [] (subst (λ (es : List Entry). Rise 0 (on_channel e.channel entries ++ es)) own (may e.channel))

@@ -1,0 +1,49 @@
+//! The verdict on an input.
+
+ghost use Rattle.std.specs.Prelude.{◌≡◌, IfOk, IfSome};
+ghost use Rattle.r10_playback.specs.Checked.{verdict_outcome, Checks};
+
+use crate::words::verdict_line;
+use r10_checker::{Verdict, check_file};
+use r10_images::{Outcome, StreamFault, read_whole};
+use std::alloc::Global;
+use std::io::{Read, Write};
+
+/// Reads a recording, and writes the line of its verdict: `strict`, `lenient OPAQUE` or `faulty OFFSET FAULT`. A faulty one is
+/// refused. The recording is held once.
+pub fn check_input<R: Read, W: Write>(
+    alloc: Global,
+    reader: &mut R,
+    writer: &mut W,
+) -> Result<Outcome, StreamFault>
+    ensures { IfOk result (λ outcome. IfSome (R.remaining reader.old) (λ bytes. Checks bytes outcome (W.contents writer.old) (W.contents writer.new))) }
+{
+    let bytes = read_whole(alloc, reader)?;
+    let outcome = check_bytes(alloc, bytes.as_slice(), writer)?;
+    writer.flush().map_err(StreamFault::Write)?;
+    Ok(outcome)
+}
+
+fn check_bytes<W: Write>(
+    alloc: Global,
+    bytes: &[u8],
+    writer: &mut W,
+) -> Result<Outcome, StreamFault>
+    ensures { IfOk result (λ outcome. Checks bytes.now outcome (W.contents writer.old) (W.contents writer.new)) }
+{
+    let verdict = check_file(alloc, bytes)?;
+    let line = verdict_line(alloc, verdict)?;
+    writer
+        .write_all(line.as_bytes())
+        .map_err(StreamFault::Write)?;
+    Ok(outcome_of(verdict))
+}
+
+fn outcome_of(verdict: Verdict) -> Outcome
+    ensures { result ≡ verdict_outcome verdict }
+{
+    match verdict {
+        Verdict::Strict | Verdict::Lenient { .. } => Outcome::Done,
+        Verdict::Faulty { .. } => Outcome::Refused,
+    }
+}

@@ -1,0 +1,52 @@
+//! The words of verdicts and faults.
+
+ghost use Rattle.std.specs.Prelude.{◌≡◌, IfOk, string_bytes};
+ghost use Rattle.r10_playback.specs.Words.{fault_text, found_line, verdict_line};
+
+use r10_body::FileFault;
+use r10_checker::Verdict;
+use r10_strict::Fault;
+use std::alloc::{AllocError, Global};
+
+/// The line of a verdict, with its line feed.
+pub(crate) fn verdict_line(alloc: Global, verdict: Verdict) -> Result<String, AllocError>
+    ensures { IfOk result (λ line. string_bytes line ≡ verdict_line verdict) }
+{
+    match verdict {
+        Verdict::Strict => String::from_str(alloc, "strict\n"),
+        Verdict::Lenient { opaque } => format!(in alloc; "lenient {opaque}\n"),
+        Verdict::Faulty { offset, fault } => {
+            let word = fault_text(alloc, fault)?;
+            format!(in alloc; "faulty {offset} {word}\n")
+        }
+    }
+}
+
+/// The line of a file's first fault, with its line feed, or of none.
+pub(crate) fn found_line(alloc: Global, found: Option<Fault>) -> Result<String, AllocError>
+    ensures { IfOk result (λ line. string_bytes line ≡ found_line found) }
+{
+    match found {
+        None => String::from_str(alloc, "none\n"),
+        Some(at) => {
+            let offset = at.offset;
+            let word = fault_text(alloc, at.fault)?;
+            format!(in alloc; "{offset} {word}\n")
+        }
+    }
+}
+
+/// The word of a fault, and behind it the number of a rule.
+fn fault_text(alloc: Global, fault: FileFault) -> Result<String, AllocError>
+    ensures { IfOk result (λ text. string_bytes text ≡ fault_text fault) }
+{
+    match fault {
+        FileFault::Truncated => String::from_str(alloc, "Truncated"),
+        FileFault::Sync => String::from_str(alloc, "Sync"),
+        FileFault::HeaderSum => String::from_str(alloc, "HeaderSum"),
+        FileFault::Length => String::from_str(alloc, "Length"),
+        FileFault::DataSum => String::from_str(alloc, "DataSum"),
+        FileFault::Body => String::from_str(alloc, "Body"),
+        FileFault::Rule(number) => format!(in alloc; "Rule {number}"),
+    }
+}

@@ -1,6 +1,0 @@
-use Rattle.std.proofs.Common.{◌≡◌, take}
-use Rattle.r10_recorder.specs.Told.{channels_in}
-use Rattle.r10_recorder.proofs.status.channels_in.Given as goal
-
-abbrev pub invariant-loop-place : goal.invariant-loop-place
-invariant-loop-place l = l.channels.items ≡ channels_in l.mode (take l.place l.lanes) (take l.place l.erased)

@@ -1,0 +1,241 @@
+// Events that are told to a world, and its replies.
+
+use r10_body::{ChannelSpec, Entry, Kind, Message, Refusal};
+use r10_count::{Count, Items, Parts};
+use r10_machine::{Event, Found, Reply, Settings, Stopped};
+use r10_medium::{BlockMedium, Memory};
+use r10_volume::format;
+use r10_world::{World, run};
+use std::alloc::{AllocError, Global};
+use std::process::Abort;
+use std::test::Fail;
+
+const LEAP_DAY: Parts = Parts {
+    year: 2024,
+    month: 2,
+    day: 29,
+    hour: 12,
+    minute: 34,
+    second: 56,
+    centi: 78,
+};
+
+/// The first recording: setup, time, two UART messages, node and root, a header a line and then its body
+const FIRST: [u8; 272] = [
+    0x25, 0xEB, 0, 0, 0x20, 0, 0, 0, 8, 0, 0, 0, 8, 0, 0, 1, 0xE8, 3, 0, 0, 0, 0, 0x3D, 0xF0, //
+    0x0C, 0, 0, 0, 0x41, 0x42, 0x43, 0x44, //
+    0x25, 0xEB, 1, 0, 0x24, 0, 0, 0, 12, 0, 0, 0, 8, 0, 0, 0x11, 0xE8, 3, 0, 0, 0, 0, 0x46, 0, //
+    0x01, 0x03, 0, 0, 0x78, 0x56, 0x34, 0x12, 0x29, 0x02, 0x24, 0x20, //
+    0x25, 0xEB, 5, 0, 0x38, 0, 0, 0, 32, 0, 0, 0, 8, 0, 0, 0x50, 0xE8, 3, 0, 0, 0, 0, 0x72, 0x3F, //
+    0, 0, 0, 0x80, 0xE8, 3, 0, 0, 0, 0, 0, 0, 3, 0, 0, 0, 0x41, 0x42, 0x43, 0, //
+    0xF2, 3, 0, 0, 0, 0, 0, 0, 0, 0, 0, 0, //
+    0x25, 0xEB, 0, 0, 0x58, 0, 0, 0, 64, 0, 0, 0, 8, 1, 0, 3, 0xE8, 3, 0, 0, 0, 0, 0xAD, 0xF3, //
+    3, 0, 0, 0x80, //
+    0xE8, 3, 0, 0, 0, 0, 0, 0, 0, 0, 0x01, 0, 0, 0, 0, 0, 0, 0, 0, 0, //
+    0xE8, 3, 0, 0, 0, 0, 0, 0, 1, 0, 0x11, 0, 32, 0, 0, 0, 0, 0, 0, 0, //
+    0xE8, 3, 0, 0, 0, 0, 0, 0, 5, 0, 0x50, 0, 68, 0, 0, 0, 0, 0, 0, 0, //
+    0x25, 0xEB, 0, 0, 0x3C, 0, 0, 0, 36, 0, 0, 0, 8, 2, 0, 3, 0xE8, 3, 0, 0, 0, 0, 0x75, 0xF4, //
+    2, 0, 0, 0, //
+    0xE8, 3, 0, 0, 0, 0, 0, 0, 124, 0, 0, 0, 0, 0, 0, 0, //
+    0xE8, 3, 0, 0, 0, 0, 0, 0, 212, 0, 0, 0, 0, 0, 0, 0,
+];
+
+/// 16 blocks, 2 of them for the directory, and a UART channel 5 that keeps two messages.
+pub(crate) fn settings(rt: &impl Abort, alloc: Global) -> Result<Settings, AllocError> {
+    let channel = ChannelSpec {
+        id: 5,
+        kind: Kind::Uart,
+        capacity: 2,
+        check: 0,
+        bytes: 524_288,
+        number: 65_535,
+        bits: 0,
+    };
+    let channels = Vec::from_slice(alloc, &[channel])?;
+    let volume = Vec::from_slice(alloc, b"VOL")?;
+    let Ok(settings) = Settings::of(16, 2, volume, 100, 1, 2, channels) else {
+        rt.panic("the settings are good");
+    };
+    Ok(settings)
+}
+
+fn text(alloc: Global, bytes: &[u8]) -> Result<Items<u8>, AllocError> {
+    Ok(Items::of(Vec::from_slice(alloc, bytes)?))
+}
+
+fn uart(alloc: Global, bytes: &[u8]) -> Result<Message, AllocError> {
+    Ok(Message::Uart {
+        parity: false,
+        sub: 0,
+        bytes: text(alloc, bytes)?,
+    })
+}
+
+/// An event of a step. The channel is 5 and the cursor 0.
+#[derive(Clone, Copy)]
+pub(crate) enum Ask {
+    Mount,
+    Tick,
+    Start,
+    Offer(u64, &'static [u8]),
+    Pump(usize),
+    Commit,
+    Find(u64),
+    Stop,
+    Cursor,
+    Advance,
+    Next,
+    Dismount,
+}
+
+/// The reply that it is to have.
+#[derive(Clone, Copy)]
+pub(crate) enum Want {
+    Done,
+    Moved(usize),
+    Found(usize, u64, &'static [u8]),
+    Stopped(usize, usize),
+    Cursor,
+    Advanced(usize),
+    Given(u64, &'static [u8]),
+    Nothing,
+    Refused(Refusal),
+}
+
+/// The first recording, found in while it is written, and its replay.
+pub(crate) const RECORDED: &[(Ask, Want)] = &[
+    (Ask::Mount, Want::Done),
+    (Ask::Tick, Want::Done),
+    (Ask::Start, Want::Done),
+    (Ask::Offer(1000, b"ABC"), Want::Done),
+    (Ask::Offer(1010, b""), Want::Done),
+    (Ask::Pump(2), Want::Moved(2)),
+    (Ask::Commit, Want::Done),
+    (Ask::Find(1001), Want::Found(1, 1010, b"")),
+    (Ask::Stop, Want::Stopped(0, 0)),
+    (Ask::Cursor, Want::Cursor),
+    (Ask::Advance, Want::Advanced(2)),
+    (Ask::Next, Want::Given(1000, b"ABC")),
+    (Ask::Next, Want::Given(1010, b"")),
+    (Ask::Next, Want::Nothing),
+    (Ask::Dismount, Want::Done),
+];
+
+pub(crate) fn event_of(alloc: Global, ask: Ask) -> Result<Event, AllocError> {
+    Ok(match ask {
+        Ask::Mount => Event::Mount,
+        Ask::Tick => Event::Tick {
+            count: 1000,
+            parts: LEAP_DAY,
+        },
+        Ask::Start => Event::Start {
+            name: text(alloc, b"FLT1")?,
+            setup: text(alloc, b"ABCD")?,
+        },
+        Ask::Offer(count, bytes) => Event::Offer {
+            channel: 5,
+            count,
+            message: uart(alloc, bytes)?,
+        },
+        Ask::Pump(most) => Event::Pump { channel: 5, most },
+        Ask::Commit => Event::Commit,
+        Ask::Find(count) => Event::Find {
+            file: 0,
+            channel: 5,
+            count,
+        },
+        Ask::Stop => Event::Stop,
+        Ask::Cursor => Event::Cursor {
+            file: 0,
+            channels: Items::of(Vec::from_slice(alloc, &[5])?),
+            from: 0,
+            to: 281_474_976_710_655,
+        },
+        Ask::Advance => Event::Advance { id: 0 },
+        Ask::Next => Event::Next { id: 0 },
+        Ask::Dismount => Event::Dismount,
+    })
+}
+
+/// A message of channel 5 as an entry without a gap.
+fn entry(alloc: Global, count: u64, bytes: &[u8]) -> Result<Entry, Fail> {
+    Ok(Entry {
+        channel: 5,
+        count: Count::of(count).ok_or("not a count")?,
+        message: uart(alloc, bytes)?,
+        gap: false,
+    })
+}
+
+pub(crate) fn reply_of(alloc: Global, want: Want) -> Result<Reply, Fail> {
+    Ok(match want {
+        Want::Done => Reply::Done,
+        Want::Moved(moved) => Reply::Moved(moved),
+        Want::Found(number, count, bytes) => {
+            let entry = entry(alloc, count, bytes)?;
+            Reply::Found(Some(Found { number, entry }))
+        }
+        Want::Stopped(taken, left) => Reply::Stopped(Stopped { taken, left }),
+        Want::Cursor => Reply::Cursor(0),
+        Want::Advanced(queued) => Reply::Advanced(queued),
+        Want::Given(count, bytes) => Reply::Next(Some(entry(alloc, count, bytes)?)),
+        Want::Nothing => Reply::Next(None),
+        Want::Refused(refusal) => Reply::Refused(refusal),
+    })
+}
+
+/// Whether a world gives these replies to these events.
+fn replies<M: BlockMedium>(
+    alloc: Global,
+    world: &mut World<M>,
+    table: &[(Ask, Want)],
+) -> Result<bool, Fail> {
+    let mut events = Vec::new(alloc);
+    let mut wanted = Vec::new(alloc);
+    for (ask, want) in table {
+        events.push(event_of(alloc, *ask)?)?;
+        wanted.push(reply_of(alloc, *want)?)?;
+    }
+    let mut given = Vec::new(alloc);
+    let done = run(world, &events, &mut given)?;
+    Ok(done == events.len() && given == wanted)
+}
+
+/// The first recording has its replies, and stands behind the directory's blocks.
+#[test]
+fn two_messages_are_recorded_and_replayed(rt: HostRuntime) -> Result<(), Fail> {
+    let alloc = rt.alloc();
+    let settings = settings(&rt, alloc)?;
+    let mut medium = Memory::new(alloc, settings.blocks())?;
+    assert_eq!(rt; format(&mut medium, &settings), Ok(()));
+    let Ok(mut world) = World::new(alloc, settings, medium) else {
+        panic!(rt; "no memory for a world");
+    };
+    assert!(rt; replies(alloc, &mut world, RECORDED)?);
+    let image = world.into_medium().image(alloc)?;
+    assert_eq!(rt; image.get(1536..1808), Some(FIRST.as_slice()));
+    Ok(())
+}
+
+/// A medium without a directory can't be mounted, stays as it is, and nothing fails.
+#[test]
+fn a_medium_without_a_directory_is_not_mounted(rt: HostRuntime) -> Result<(), Fail> {
+    let alloc = rt.alloc();
+    let settings = settings(&rt, alloc)?;
+    let medium = Memory::new(alloc, settings.blocks())?;
+    let Ok(mut world) = World::new(alloc, settings, medium) else {
+        panic!(rt; "no memory for a world");
+    };
+    let none = Want::Refused(Refusal::BadDirectory(1));
+    let unmounted = Want::Refused(Refusal::NotMounted);
+    let table = [
+        (Ask::Mount, none),
+        (Ask::Tick, unmounted),
+        (Ask::Start, unmounted),
+        (Ask::Stop, unmounted),
+        (Ask::Mount, none),
+    ];
+    assert!(rt; replies(alloc, &mut world, &table)?);
+    assert_eq!(rt; world.into_medium().failures(), 0);
+    Ok(())
+}

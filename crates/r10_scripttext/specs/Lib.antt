@@ -1,2 +1,0 @@
-pub mod Civil
-pub mod Fault

@@ -1,5 +1,0 @@
-mod Telling
-mod Going
-mod Tables
-mod Taking
-mod Beginning

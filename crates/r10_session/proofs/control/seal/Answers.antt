@@ -1,9 +1,0 @@
-use Rattle.r10_session.proofs.Telling.{telling}
-use Rattle.r10_session.proofs.control.seal.Goals as goal
-use Rattle.r10_steps.specs.declared.event.Event.TheVariants as events
-use Rattle.r10_steps.specs.declared.reply.Reply.TheVariants as replies
-
-pub returns-clause-tells : goal.returns-clause-tells
-returns-clause-tells g c =
-    let call = c.seal in
-    telling g.M.BlockMedium.disk c.args.recorder.now call.new.self c.recorders_calls_are_steps.ensures.moves events.Seal (λ _. replies.Done) call.result c.done.result call.ensures.steps call.ensures.bytes call.ensures.lanes call.ensures.config c.done.ensures

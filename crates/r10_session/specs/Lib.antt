@@ -1,4 +1,0 @@
-pub mod Standing
-pub mod State
-pub mod Telling
-pub mod Copies

@@ -1,9 +1,0 @@
--- What a contract sees of a world: its recorder, and the slots of its readers' cursors.
-use Rattle.std.specs.Prelude.{List, Option}
-use Rattle.r10_machine.specs.Machine.{Lane}
-use Rattle.r10_reader.specs.declared.cursor.Cursor.{Cursor}
-use Rattle.r10_recorder.specs.State.{State as Recorded}
-
-pub record State (M : Type 0) : Type 0 where
-  pub recorder : Recorded M Lane
-  pub slots : List (Option Cursor)

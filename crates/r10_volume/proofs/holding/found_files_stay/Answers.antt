@@ -1,0 +1,5 @@
+use Rattle.r10_volume.proofs.Found.{found_stays}
+use Rattle.r10_volume.proofs.holding.found_files_stay.Goals as goal
+
+pub returns : goal.returns
+returns c = found_stays

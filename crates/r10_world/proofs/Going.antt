@@ -1,0 +1,78 @@
+-- Runs, one event after another.
+use Rattle.std.proofs.Common.{◌≡◌, ◌≤◌, ◌<◌, ◌+◌, ℕ, arith, List, [], ◌∷◌, ◌++◌, length, take, drop, get_or, Option, refl, sym, ap, ◌∙◌, subst}
+use Rattle.std.proofs.lemmas.Grind.{common_steps}
+use Rattle.std.proofs.lemmas.List.{take_more, take-append-le}
+use Rattle.r10_machine.specs.Config.{Config}
+use Rattle.r10_machine.specs.Limits.{IsConfig}
+use Rattle.r10_machine.specs.Machine.{Lane, Machine}
+use Rattle.r10_means.specs.Kept.{Kept}
+use Rattle.r10_medium.specs.Disk.{Disk, Image}
+use Rattle.r10_cursor.specs.declared.cursor.Cursor.{Cursor}
+use Rattle.r10_world.specs.Standing.{Goes, Ran, Stands}
+use Rattle.r10_world.specs.State.{State}
+use Rattle.r10_world.specs.Telling.{Runs, Tells}
+use Rattle.r10_machine.specs.Says.{MediumSays}
+use Rattle.r10_machine.specs.Step.{Run, Step}
+use Rattle.r10_machine.specs.declared.event.Event.{Event as Asked}
+use Rattle.r10_machine.specs.declared.reply.Reply.{Reply as Answered}
+
+abbrev pub RunsJoin : Type 0
+RunsJoin = (s : Config) (old mid new : Machine) (es fs : List Asked) (rs qs : List Answered) (is ks : List Image) → Run s old es rs is mid → Run s mid fs qs ks new → Run s old (es ++ fs) (rs ++ qs) (is ++ ks) new
+
+-- no events are a run
+begins : {M : Type 0} (disk : M → Disk) (w : State M) → Runs disk w [] [] w
+begins disk w = λ m stands. record { images = []; machine = m; run = refl; stands = stands; config = refl }
+
+none_behind : {A : Type 0} (xs : List A) → drop (length xs) xs ≡ []
+none_behind [] = refl
+none_behind (x ∷ xs) = none_behind xs
+
+pub begun : {M : Type 0} (disk : M → Disk) (w : State M) (n : ℕ) (xs : List Answered) → n ≡ length xs → Runs disk w [] (drop n xs) w
+begun disk w n xs is = rw (is, none_behind xs) (begins disk w)
+
+whole : {A : Type 0} (xs : List A) → take (length xs) xs ≡ xs
+whole [] = refl
+whole {A} (x ∷ xs) = ap (λ (l : List A). x ∷ l) (whole xs)
+
+pub all_of : {A : Type 0} (n : ℕ) (xs : List A) → n ≡ length xs → take n xs ≡ xs
+all_of n xs is = rw is (whole xs)
+
+-- and a run goes on with a step
+goes_on : RunsJoin → (k mid later : Kept) (m : Machine) (es : List Asked) (rs : List Answered) (event : Asked) (reply : Answered) (image new : Image) (failures now : ℕ) (lanes lanes' : List Lane) (slots after : List (Option Cursor))
+    → Ran k m es rs mid image failures lanes slots → ((machine : Machine) → Stands mid image failures lanes slots machine → Goes mid machine event reply later new now lanes' after)
+    → Ran k m (es ++ event ∷ []) (rs ++ reply ∷ []) later new now lanes' after
+goes_on law k mid later m es rs event reply image new failures now lanes lanes' slots after ran go =
+    let next = go ran.machine ran.stands in
+    let step : Step k.config ran.machine event reply next.machine = subst (λ (s : Config). Step s ran.machine event reply next.machine) ran.config next.on.step in
+    let says : MediumSays k.config new next.machine.files = subst (λ (s : Config). MediumSays s new next.machine.files) ran.config next.on.says in
+    record {
+      images = ran.images ++ new ∷ [];
+      machine = next.machine;
+      run = law k.config m ran.machine next.machine es (event ∷ []) rs (reply ∷ []) ran.images (new ∷ []) ran.run (next.machine, step, says, refl);
+      stands = record {
+        limits = subst IsConfig (sym next.on.config) ran.stands.limits;
+        joined = next.on.joined;
+        lanes_are = next.lanes_are;
+        says = subst (λ (s : Config). MediumSays s new next.machine.files) (sym next.on.config) next.on.says;
+      };
+      config = next.on.config ∙ ran.config;
+    }
+
+-- a list behind its first ones, with one element more
+drop_one_more : {A : Type 0} (n : ℕ) (xs ys : List A) (x : A) → n ≤ length xs → ys ≡ xs ++ x ∷ [] → drop n ys ≡ drop n xs ++ x ∷ []
+drop_one_more n xs ys x within longer = grind (arith, common_steps)
+
+pub take_one_more : {A : Type 0} (n : ℕ) (xs ys : List A) (x : A) → n ≤ length xs → ys ≡ xs ++ x ∷ [] → take n ys ≡ take n xs
+take_one_more n xs ys x within longer = rw longer (take-append-le n xs (x ∷ []) within)
+
+-- one event more, and its reply behind those before
+pub run_more : {M : Type 0} (disk : M → Disk) (start mid new : State M) (events : List Asked) (i n : ℕ) (event : Asked) (reply : Answered) (xs ys : List Answered) → RunsJoin
+    → i < length events → event ≡ get_or events i event → n ≤ length xs → ys ≡ xs ++ reply ∷ []
+    → Runs disk start (take i events) (drop n xs) mid → Tells disk mid.recorder mid.slots event reply new.recorder new.slots → Runs disk start (take (i + 1) events) (drop n ys) new
+run_more disk start mid new events i n event reply xs ys law here is within longer runs tells = λ m stands.
+    let more : take (i + 1) events ≡ take i events ++ event ∷ [] = take_more events i event here ∙ ap (λ (e : Asked). take i events ++ e ∷ []) (sym is) in
+    let before = disk mid.recorder.medium in
+    let after = disk new.recorder.medium in
+    rw (more, drop_one_more n xs ys reply within longer)
+    (goes_on law start.recorder.kept mid.recorder.kept new.recorder.kept m (take i events) (drop n xs) event reply before.blocks after.blocks before.failures after.failures
+    mid.recorder.lanes new.recorder.lanes mid.slots new.slots (runs m stands) tells)

@@ -1,0 +1,44 @@
+use Rattle.std.proofs.Common.{◌≡◌, ◌≤◌, ◌<◌, ◌++◌, ◌∷◌, [], ◌∙◌, length, arith, ap, drop, refl, subst, take, vec_len, ℕ, List}
+use Rattle.r10_world.proofs.Going.{all_of, begun, run_more, take_one_more}
+use Rattle.r10_world.proofs.running.run.Goals as goal
+use Rattle.r10_world.specs.Telling.{Runs}
+use Rattle.r10_machine.specs.declared.reply.Reply.{Reply}
+
+pub loop-i-init : goal.loop-i-init
+loop-i-init g c =
+    let replies = c.args.replies.now in
+    let number : vec_len replies ≡ length replies.items = omega (arith, replies.ok.0) in
+    record {
+      run = begun g.M.BlockMedium.disk c.args.world.now (vec_len replies) replies.items number;
+      config = refl;
+      earlier = all_of (vec_len replies) replies.items number;
+      count = omega arith;
+      world_first = λ h. refl;
+      replies_first = λ h. refl;
+    }
+
+pub returns-clause-run : goal.returns-clause-run
+returns-clause-run g c =
+    let ended : c.loop-i.i ≡ length c.args.events.now = omega arith in
+    subst (λ (n : ℕ). Runs g.M.BlockMedium.disk c.args.world.now (take n c.args.events.now) (drop (vec_len c.args.replies.now) c.loop-i.replies.items) c.loop-i.world) ended c.loop-i.invariant.run
+
+pub loop-i-preserved : goal.loop-i-preserved
+loop-i-preserved g c =
+    let n = vec_len c.args.replies.now in
+    let xs = c.loop-i.replies.items in
+    let ys = c.push_reserved.new.self.items in
+    let event = c.index-events-i.result in
+    let reply = c.step-reply.result in
+    let so_far = c.loop-i.invariant in
+    let here : c.loop-i.i < length c.args.events.now = omega arith in
+    let longer : ys ≡ xs ++ reply ∷ [] = ◌∙◌ {A = List Reply} c.push_reserved.ensures.items (ap (λ (l : List Reply). l ++ reply ∷ []) c.reserve-place.ensures.items) in
+    let within : n ≤ length xs = omega (arith, so_far.count, c.loop-i.replies.ok.0) in
+    record {
+      run = run_more g.M.BlockMedium.disk c.args.world.now c.loop-i.world c.step-reply.new.self c.args.events.now c.loop-i.i n event reply xs ys c.runs_join.ensures
+          here c.index-events-i.is within longer so_far.run c.step-reply.ensures.tells;
+      config = c.step-reply.ensures.config ∙ so_far.config;
+      earlier = take_one_more n xs ys reply within longer ∙ so_far.earlier;
+      count = omega (arith, so_far.count, c.push_reserved.ensures.len, c.reserve-place.ensures.len);
+      world_first = λ h. absurd (omega arith);
+      replies_first = λ h. absurd (omega arith);
+    }

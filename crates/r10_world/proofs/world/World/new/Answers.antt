@@ -1,0 +1,13 @@
+use Rattle.std.proofs.Common.{List, ap, map, ◌∙◌}
+use Rattle.r10_body.specs.declared.spec.ChannelSpec.{ChannelSpec}
+use Rattle.r10_machine.specs.Machine.{Lane, fresh_lane}
+use Rattle.r10_world.proofs.Beginning.{new_world, specs_of_fresh}
+use Rattle.r10_world.proofs.world.World.new.Goals as goal
+
+pub new-requires-clause-lanes : goal.new-requires-clause-lanes
+new-requires-clause-lanes g c = ap (λ (ls : List Lane). map (λ (lane : Lane). lane.spec) ls) c.in-Ok.ensures ∙ specs_of_fresh c.channels.result.now ∙ c.channels.ensures.value
+
+pub returns-in-Ok-new-clause-stands : goal.returns-in-Ok-new-clause-stands
+returns-in-Ok-new-clause-stands g c = λ files has.
+    new_world g.M.BlockMedium.disk c.a_new_recorder_stands.ensures c.args.settings c.in-Ok-new.recorder c.new-cursors.result.slots c.args.medium files c.channels.ensures.limits c.in-Ok-new.ensures.kept
+    (c.in-Ok-new.ensures.lanes ∙ c.in-Ok.ensures ∙ ap (λ (xs : List ChannelSpec). map fresh_lane xs) c.channels.ensures.value) c.in-Ok-new.ensures.medium c.new-cursors.ensures.empty has

@@ -1,0 +1,5 @@
+pub mod Standing
+pub mod State
+pub mod Telling
+pub mod Copies
+pub mod Joined

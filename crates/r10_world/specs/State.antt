@@ -1,0 +1,9 @@
+-- What a contract sees of a world: its recorder, and the slots of its readers' cursors.
+use Rattle.std.specs.Prelude.{List, Option}
+use Rattle.r10_machine.specs.Machine.{Lane}
+use Rattle.r10_cursor.specs.declared.cursor.Cursor.{Cursor}
+use Rattle.r10_control.specs.State.{State as Recorded}
+
+pub record State (M : Type 0) : Type 0 where
+  pub recorder : Recorded M Lane
+  pub slots : List (Option Cursor)

@@ -1,0 +1,16 @@
+//! The run theorem: a recorder over a medium and the cursors of its readers, in one thread, to which events are told; each event
+//! is a step of the small machine, and what is done to a list of events is a run of it.
+#![tactic(auto)]
+
+mod control;
+mod laws;
+mod readers;
+mod running;
+mod world;
+
+pub use laws::{
+    a_new_recorder_stands, a_recorder_without_readers, recorders_calls_are_steps,
+    tables_calls_are_steps,
+};
+pub use running::run;
+pub use world::World;

@@ -1,0 +1,154 @@
+//! A world: a recorder, and the cursors of its readers.
+
+ghost use Rattle.std.specs.Prelude.{◌≡◌, List, length, map, IfErr, IfOk};
+ghost use Rattle.r10_machine.specs.Machine.{File, fresh, fresh_lane};
+ghost use Rattle.r10_world.specs.Copies.{IsCopy};
+ghost use Rattle.r10_world.specs.Telling.{StandsFor, Tells};
+ghost use Rattle.r10_machine.specs.Says.{MediumHas};
+
+use crate::a_new_recorder_stands;
+use crate::control::{
+    commit, count_at, dismount, erase, files, find, mark, mount, offer, pump, seal, start, status,
+    stop, tick,
+};
+use crate::readers::{advance, close, next, open};
+use r10_body::{ChannelSpec, Message, Refusal};
+use r10_control::Recorder;
+use r10_cursor::Cursor;
+use r10_lane::RingLane;
+use r10_machine::{Event, Reply, Settings};
+use r10_medium::BlockMedium;
+use slab::Slab;
+use std::alloc::{AllocError, Global};
+use std::marker::Model;
+
+/// A recorder with lanes of one thread, the cursors of its readers, and where their memory comes from.
+#[derive(Drop)]
+pub struct World<M: BlockMedium> {
+    alloc: Global,
+    recorder: Recorder<M, RingLane>,
+    cursors: Slab<Cursor>,
+}
+
+impl<M: BlockMedium> Model for World<M> {
+    ghost use Rattle.r10_world.specs.State.{State};
+
+    ghost Value = { State M };
+
+    ghost view = { λ w. record { recorder = w.recorder; slots = w.cursors.slots } };
+}
+
+/// A lane for each channel, of which nothing has come yet.
+fn lanes_of(alloc: Global, channels: &[ChannelSpec]) -> Result<Vec<RingLane>, AllocError>
+    ensures { IfOk result (λ lanes. lanes.items ≡ map fresh_lane channels.now) }
+{
+    let mut lanes = Vec::new(alloc);
+    for spec in channels {
+        lanes.push(RingLane::new(alloc, *spec)?)?;
+    }
+    Ok(lanes)
+}
+
+impl<M: BlockMedium> World<M> {
+    /// A world over a medium of these settings, which is not mounted yet. Where the medium has files, the world stands for a machine that
+    /// has them. Where memory is refused, settings and medium come back.
+    pub fn new(alloc: Global, settings: Settings, medium: M) -> Result<World<M>, (Settings, M)>
+        requires { length (M.disk medium).blocks ≡ settings.blocks }
+        ensures stands { (files : List File) → MediumHas settings (M.disk medium).blocks files → IfOk result (λ w. StandsFor M.disk w (fresh settings.channels files (M.disk medium).failures)) }
+        ensures config { IfOk result (λ w. w.recorder.kept.config ≡ settings) }
+        ensures medium { IfOk result (λ w. w.recorder.medium ≡ medium) }
+        ensures refused { IfErr result (λ back. (back.0 ≡ settings) × (back.1 ≡ medium)) }
+    {
+        a_new_recorder_stands();
+        let Ok(lanes) = lanes_of(alloc, settings.channels()) else {
+            return Err((settings, medium));
+        };
+        match Recorder::new(alloc, settings, medium, lanes) {
+            Ok(recorder) => {
+                let cursors = Slab::new(alloc);
+                Ok(World {
+                    alloc,
+                    recorder,
+                    cursors,
+                })
+            }
+            Err((settings, medium, _)) => Err((settings, medium)),
+        }
+    }
+
+    /// The medium as it stands.
+    pub fn into_medium(self) -> M
+        ensures { result ≡ self.recorder.medium }
+    {
+        let World { recorder, .. } = self;
+        let (medium, _) = recorder.into_parts();
+        medium
+    }
+
+    /// Where memory comes from.
+    pub(crate) fn alloc(&self) -> Global {
+        self.alloc
+    }
+
+    /// One event. An offer takes the copy of its message.
+    pub(crate) fn step(&mut self, event: &Event, copy: &mut Option<Message>) -> Reply
+        requires { IsCopy event.now copy.old }
+        ensures tells { Tells M.disk self.old.recorder self.old.slots event.now result self.new.recorder self.new.slots }
+        ensures config { self.new.recorder.kept.config ≡ self.old.recorder.kept.config }
+    {
+        answer(
+            self.alloc,
+            &mut self.recorder,
+            &mut self.cursors,
+            event,
+            copy,
+        )
+    }
+}
+
+/// One event that is told to a recorder and its readers' cursors. An offer takes the copy of its message.
+fn answer<M: BlockMedium>(
+    alloc: Global,
+    recorder: &mut Recorder<M, RingLane>,
+    cursors: &mut Slab<Cursor>,
+    event: &Event,
+    copy: &mut Option<Message>,
+) -> Reply
+    requires { IsCopy event.now copy.old }
+    ensures tells { Tells M.disk recorder.old cursors.old.slots event.now result recorder.new cursors.new.slots }
+    ensures config { recorder.new.kept.config ≡ recorder.old.kept.config }
+{
+    match event {
+        Event::Mount => mount(recorder),
+        Event::Dismount => dismount(recorder),
+        Event::Tick { count, parts } => tick(recorder, *count, *parts),
+        Event::Start { name, setup } => start(recorder, name.as_slice(), setup.as_slice()),
+        Event::Offer { channel, count, .. } => match copy.take() {
+            Some(message) => offer(recorder, *channel, *count, message),
+            None => Reply::Refused(Refusal::OutOfMemory),
+        },
+        Event::Pump { channel, most } => pump(recorder, *channel, *most),
+        Event::Event { number, count } => mark(recorder, *number, *count),
+        Event::Commit => commit(recorder),
+        Event::Stop => stop(recorder),
+        Event::Seal => seal(recorder),
+        Event::Erase => erase(recorder),
+        Event::Files => files(recorder),
+        Event::Status => status(recorder),
+        Event::Cursor {
+            file,
+            channels,
+            from,
+            to,
+        } => open(alloc, recorder, cursors, *file, channels, *from, *to),
+        Event::Advance { id } => advance(recorder, cursors, *id),
+        Event::Next { id } => next(cursors, *id),
+        Event::Close { id } => close(cursors, *id),
+        Event::Find {
+            file,
+            channel,
+            count,
+        } => find(recorder, *file, *channel, *count),
+        Event::CountAt { file, parts } => count_at(recorder, *file, *parts),
+    }
+}
