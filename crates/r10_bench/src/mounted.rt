@@ -112,6 +112,6 @@ pub(crate) fn begin(alloc: Global, messages: u32, number: usize) -> Result<InMem
     let mut recorder = make_recorder(alloc, settings)?;
     recorder.mount()?;
     recorder.tick(0, START)?;
-    recorder.start(b"BENCH", b"ABCD")?;
+    recorder.start_file(b"BENCH", b"ABCD")?;
     Ok(recorder)
 }

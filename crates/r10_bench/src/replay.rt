@@ -46,10 +46,7 @@ impl ReplayFigures {
 
 /// A cursor on the first file, for all channels and all counts.
 fn open(alloc: Global, recorder: &mut InMemory) -> Result<Cursor, Refusal> {
-    let (from, to) = recorder.check_file(0, 0, LAST)?;
-    let generation = recorder.generation()?;
-    let channels = Items::of(Vec::new(alloc));
-    Ok(Cursor::new(alloc, 0, generation, channels, from, to))
+    recorder.cursor(0, Items::of(Vec::new(alloc)), 0, LAST)
 }
 
 /// Takes what a cursor has yet to give, and answers how many entries that was.

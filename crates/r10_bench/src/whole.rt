@@ -109,7 +109,7 @@ pub(crate) fn run<R: CpuClock>(
         figures.recording = figures.recording.saturating_add(time);
     }
     let start = rt.thread_cpu_time()?;
-    let stopped = recorder.stop()?;
+    let stopped = recorder.stop_file()?;
     let time = rt.thread_cpu_time()?.saturating_sub(start);
     if stopped.left > 0 {
         return Err(Fault::Lost);

@@ -9,6 +9,9 @@ use Rattle.r10_dirchain.specs.Chain.{files as listed_files}
 use Rattle.r10_machine.specs.Checks.{Check, begin_checks, cursor_checks, idle_checks, mounted_checks, recording_checks, tick_checks, unmounted_checks}
 use Rattle.r10_means.specs.Kept.{Kept, Work, mode_of, unmounted, idle, recording, failed}
 use Rattle.r10_control.specs.Owns.{tick_count}
+use Rattle.r10_cursor.specs.Standing.{read_checks}
+use Rattle.r10_cursor.specs.declared.cursor.Cursor.{Cursor as Reader}
+use Rattle.r10_machine.specs.declared.mode.Mode.{Mode}
 use Rattle.r10_machine.specs.EventChecks.{count_at_checks, erase_checks, event_checks, find_checks, most_files}
 use Rattle.r10_machine.specs.declared.event.Event.{Event as Asked}
 use Rattle.r10_machine.specs.declared.event.Event.TheVariants.{Mount, Dismount, Tick, Start, Offer, Pump, Event, Commit, Stop, Seal, Erase, Files, Status, Cursor, Advance, Next, Close, Find, CountAt}
@@ -46,3 +49,7 @@ checks k (CountAt file parts) = mounted_checks (mode_of k.work) ++ count_at_chec
 -- the first refusal that applies, without those of files, room, medium and memory
 abbrev pub refusal : Kept → Asked → Option Refusal
 refusal k event = first_broken (checks k event)
+
+-- before a cursor goes on: the recorder is mounted, and the cursor is of its generation and read to the end
+abbrev pub advancing_checks : Mode → ℕ → Reader → List Check
+advancing_checks mode generation c = mounted_checks mode ++ read_checks generation (Some c)

@@ -1,7 +1,8 @@
 //! Offers to the lanes of one thread.
 
-ghost use Rattle.std.specs.Prelude.{◌≡◌, ◌≤◌, ◌^◌, None, Some, option_map};
+ghost use Rattle.std.specs.Prelude.{◌≡◌, ◌≤◌, ◌^◌, None, Some, IfErr, IfOk, option_map};
 ghost use Rattle.std.specs.List.{position};
+ghost use Rattle.r10_body.specs.declared.refusal.Refusal.TheVariants as refusals;
 ghost use Rattle.r10_count.specs.Checks.{first_broken};
 ghost use Rattle.r10_machine.specs.Checks.{taking_checks};
 ghost use Rattle.r10_machine.specs.Machine.{is_channel, lane_in};
@@ -31,11 +32,15 @@ impl<M: BlockMedium> Recorder<M, RingLane> {
         offer_to(&mut self.lanes, channel, count, message)
     }
 
-    /// How many messages of a channel were refused because its lane was full, up to `u64::MAX`; `None` where there is no such channel.
-    pub fn lost(&self, channel: u16) -> Option<u64>
-        ensures { result ≡ option_map (λ lane. lane.lost) (lane_in channel self.now.lanes) }
+    /// How many messages of a channel were refused because its lane was full, up to `u64::MAX`. Refused: NoSuchChannel.
+    pub fn lost(&self, channel: u16) -> Result<u64, Refusal>
+        ensures lost { IfOk result (λ n. option_map (λ lane. lane.lost) (lane_in channel self.now.lanes) ≡ Some n) }
+        ensures refused { IfErr result (λ r. (r ≡ refusals.NoSuchChannel) × (option_map (λ lane. lane.lost) (lane_in channel self.now.lanes) ≡ None)) }
     {
-        lost_in(self.lanes.as_slice(), channel)
+        match lost_in(self.lanes.as_slice(), channel) {
+            Some(lost) => Ok(lost),
+            None => Err(Refusal::NoSuchChannel),
+        }
     }
 }
 

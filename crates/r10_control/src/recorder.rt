@@ -105,3 +105,13 @@ impl<M: BlockMedium, L: LaneOut> Recorder<M, L> {
         (medium, lanes)
     }
 }
+
+impl<M: BlockMedium, L: LaneOut + Drop> Recorder<M, L> {
+    /// The medium as it stands. What waits in the lanes is let go; `into_parts` hands the lanes back.
+    pub fn into_medium(self) -> M
+        ensures { result ≡ self.medium }
+    {
+        let (medium, _) = self.into_parts();
+        medium
+    }
+}

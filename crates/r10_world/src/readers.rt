@@ -77,7 +77,7 @@ pub(crate) fn advance<M: BlockMedium>(
     let Some(cursor) = cursors.get_mut(id) else {
         return Reply::Refused(Refusal::NoCursor);
     };
-    match recorder.advance(cursor) {
+    match recorder.take_instalment(cursor) {
         Ok(queued) => Reply::Advanced(queued),
         Err(refusal) => Reply::Refused(refusal),
     }

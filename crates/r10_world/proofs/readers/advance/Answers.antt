@@ -25,14 +25,14 @@ returns-in-Err-check_read-clause-tells g c = λ m stands.
     advance_refused c.recorders_calls_are_steps.ensures.stays c.refusals_are_steps.ensures old.kept medium.blocks medium.failures m a.id r old.lanes a.cursors.now.slots stands c.in-Ok.ensures.tested.1
     (subst (λ (n : ℕ). first_broken (advance_checks n (cursor_of a.id m)) ≡ Some r) (sym (c.in-Ok.ensures.steps a.id m stands.joined.means)) (c.in-Err-check_read.ensures.passed m stands.joined.stand))
 
-pub returns-in-Ok-advance-clause-tells : goal.returns-in-Ok-advance-clause-tells
-returns-in-Ok-advance-clause-tells g c = λ m stands.
+pub returns-in-Ok-take_instalment-clause-tells : goal.returns-in-Ok-take_instalment-clause-tells
+returns-in-Ok-take_instalment-clause-tells g c = λ m stands.
     let a = c.args in
     let old = a.recorder.now in
-    let new = c.advance.new.self in
+    let new = c.take_instalment.new.self in
     let slots = a.cursors.now.slots in
     let cursor = c.in-Some.cursor.now in
-    let next = c.advance.new.cursor in
+    let next = c.take_instalment.new.cursor in
     let means = stands.joined.means in
     let stand = stands.joined.stand in
     let is : slot_at slots a.id ≡ Some cursor = sym c.in-Some.ensures.value in
@@ -40,18 +40,18 @@ returns-in-Ok-advance-clause-tells g c = λ m stands.
     let same : cursor.generation ≡ m.generation = slot_tells (slot_at slots a.id) cursor c.in-Ok-check_read.file c.in-Ok.generation m.generation is c.in-Ok-check_read.ensures.file generation in
     let one = reads (g.M.BlockMedium.disk old.medium).blocks m slots a.id cursor stand stands.joined.read.each is same in
     let passes = passes_too m a.id c.in-Ok.generation generation (c.in-Ok-check_read.ensures.passed m stand) in
-    advances_on g.M.BlockMedium.disk old new c.tables_calls_are_steps.ensures.advances c.advances_are_the_machines.ensures a.id c.in-Ok-advance.queued cursor next slots c.in-Ok-advance.ensures.kept c.advance.ensures.same.reads
-    c.advance.ensures.lanes c.advance.ensures.no_fewer is c.in-Ok-advance.ensures.queued m stands one (c.in-Ok-advance.ensures.steps a.id m means one.there passes)
-    (c.in-Ok-advance.ensures.takes m one.file one.reader.covered means one.file_is one.read)
+    advances_on g.M.BlockMedium.disk old new c.tables_calls_are_steps.ensures.advances c.advances_are_the_machines.ensures a.id c.in-Ok-take_instalment.queued cursor next slots c.in-Ok-take_instalment.ensures.kept c.take_instalment.ensures.same.reads
+    c.take_instalment.ensures.lanes c.take_instalment.ensures.no_fewer is c.in-Ok-take_instalment.ensures.queued m stands one (c.in-Ok-take_instalment.ensures.steps a.id m means one.there passes)
+    (c.in-Ok-take_instalment.ensures.takes m one.file one.reader.covered means one.file_is one.read)
 
-pub returns-in-Err-advance-clause-tells : goal.returns-in-Err-advance-clause-tells
-returns-in-Err-advance-clause-tells g c = λ m stands.
+pub returns-in-Err-take_instalment-clause-tells : goal.returns-in-Err-take_instalment-clause-tells
+returns-in-Err-take_instalment-clause-tells g c = λ m stands.
     let a = c.args in
     let old = a.recorder.now in
-    let new = c.advance.new.self in
+    let new = c.take_instalment.new.self in
     let slots = a.cursors.now.slots in
     let cursor = c.in-Some.cursor.now in
-    let next = c.advance.new.cursor in
+    let next = c.take_instalment.new.cursor in
     let means = stands.joined.means in
     let stand = stands.joined.stand in
     let is : slot_at slots a.id ≡ Some cursor = sym c.in-Some.ensures.value in
@@ -59,10 +59,10 @@ returns-in-Err-advance-clause-tells g c = λ m stands.
     let same : cursor.generation ≡ m.generation = slot_tells (slot_at slots a.id) cursor c.in-Ok-check_read.file c.in-Ok.generation m.generation is c.in-Ok-check_read.ensures.file generation in
     let one = reads (g.M.BlockMedium.disk old.medium).blocks m slots a.id cursor stand stands.joined.read.each is same in
     let passes = passes_too m a.id c.in-Ok.generation generation (c.in-Ok-check_read.ensures.passed m stand) in
-    let r = c.in-Err-advance.refusal in
+    let r = c.in-Err-take_instalment.refusal in
     let after = g.M.BlockMedium.disk new.medium in
     let later = slice_set slots a.id (Some next) in
-    let kept : later ≡ slots = subst (λ (x : Cursor). slice_set slots a.id (Some x) ≡ slots) (sym c.in-Err-advance.ensures.cursor) (set_same slots a.id cursor is) in
+    let kept : later ≡ slots = subst (λ (x : Cursor). slice_set slots a.id (Some x) ≡ slots) (sym c.in-Err-take_instalment.ensures.cursor) (set_same slots a.id cursor is) in
     same_slots old.kept m (events.Advance a.id) (replies.Refused r) new.kept after.blocks after.failures new.lanes slots later kept
-    (refused_on g.M.BlockMedium.disk old new c.recorders_calls_are_steps.ensures.moves (events.Advance a.id) r c.advance.ensures.same.reads c.advance.ensures.lanes c.advance.ensures.config slots m stands
-    (c.in-Err-advance.ensures.steps a.id m means one.there passes))
+    (refused_on g.M.BlockMedium.disk old new c.recorders_calls_are_steps.ensures.moves (events.Advance a.id) r c.take_instalment.ensures.same.reads c.take_instalment.ensures.lanes c.take_instalment.ensures.config slots m stands
+    (c.in-Err-take_instalment.ensures.steps a.id m means one.there passes))
