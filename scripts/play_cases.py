@@ -135,10 +135,10 @@ def rows():
     yield 'play-from-49-bits', 'play --from 281474976710656', first, 1, ['refused 10 CountRange']
     yield 'play-to-49-bits-before-directory', 'play --to 281474976710656', b'', 1, ['refused 10 CountRange']
     yield 'files-first-block-outside', 'files', OUTSIDE, 0, ['file 0 FLT1 272 1 1']
-    yield 'play-channel-too-large', 'play --channel 65536', b'', 2, ["r10: invalid value '65536' for '--channel <N>': 65536 is not in 0..=65535"]
-    yield 'play-number-with-zeros', 'play --from 01', b'', 2, ['r10: a number has neither a sign nor zeros before it']
-    yield 'play-without-a-value', 'play --file', b'', 2, ["r10: a value is required for '--file <N>' but none was supplied"]
-    yield 'play-with-a-name', 'play medium.img', b'', 2, ["r10: unexpected argument 'medium.img' found; a script comes from standard input: r10 < SCRIPT"]
+    yield 'play-channel-too-large', 'play --channel 65536', b'', 2, ["r10: invalid value '65536' for '--channel <N>': 65536 is not in 0..=65535; see r10 play --help"]
+    yield 'play-number-with-zeros', 'play --from 01', b'', 2, ['r10: a number has neither a sign nor zeros before it; see r10 play --help']
+    yield 'play-without-a-value', 'play --file', b'', 2, ["r10: a value is required for '--file <N>' but none was supplied; see r10 play --help"]
+    yield 'play-with-a-name', 'play medium.img', b'', 2, ["r10: unexpected argument 'medium.img' found; an image comes from standard input: r10 play < IMAGE; see r10 play --help"]
 
 
 def hex_lines(data):

@@ -5,7 +5,7 @@ ghost use Rattle.std.specs.Fmt.{decimal};
 ghost use Rattle.r10_words.specs.Words.{AsksSim, AsksImage, AsksFiles, AsksCheck, AsksOnly, AsksOther, GivesOption, GivesAll, GivesOr, GivesSelection, IsLeftOut, begins};
 ghost use Rattle.r10_words.specs.declared.asked.Asked.TheVariants.{Sim, Image, Files, Check};
 
-use crate::usage::{command_line, usage_line};
+use crate::usage::{ASK_NOTHING, Called, command_line, help_hint, usage_line};
 use clap::ArgMatches;
 use clap::error::ErrorKind;
 use std::alloc::{AllocError, Global};
@@ -143,7 +143,7 @@ fn read_other(alloc: Global, words: &[String]) -> Result<Asked, WordsFault>
             ErrorKind::DisplayHelp | ErrorKind::DisplayVersion => {
                 Ok(Asked::Text(error.to_string(alloc)?))
             }
-            _ => Err(WordsFault::Wrong(usage_line(alloc, &error)?)),
+            _ => Err(WordsFault::Wrong(usage_line(alloc, words)?)),
         },
     }
 }
@@ -160,7 +160,7 @@ fn read_matches(
     }
     match matches.subcommand_matches("play") {
         Some(found) => read_play(alloc, words, found),
-        None => Err(wrong(alloc, "these words ask for nothing")?),
+        None => Err(wrong(alloc, ASK_NOTHING, Called::Program)?),
     }
 }
 
@@ -173,7 +173,7 @@ fn read_format(alloc: Global, words: &[String], found: &ArgMatches<'_>) -> Resul
         found.get_one::<usize>("directory"),
         found.get_str("volume"),
     ) else {
-        return Err(wrong(alloc, "these words ask for nothing")?);
+        return Err(wrong(alloc, ASK_NOTHING, Called::Format)?);
     };
     let volume = String::from_str(alloc, volume)?;
     let format = FormatWords {
@@ -184,7 +184,7 @@ fn read_format(alloc: Global, words: &[String], found: &ArgMatches<'_>) -> Resul
     if gives_all(alloc, words, &format)? {
         Ok(Asked::Format(format))
     } else {
-        Err(wrong(alloc, NUMBERS)?)
+        Err(wrong(alloc, NUMBERS, Called::Format)?)
     }
 }
 
@@ -202,15 +202,18 @@ fn read_play(alloc: Global, words: &[String], found: &ArgMatches<'_>) -> Result<
     if gives_selection(alloc, words, &play)? {
         Ok(Asked::Play(play))
     } else {
-        Err(wrong(alloc, NUMBERS)?)
+        Err(wrong(alloc, NUMBERS, Called::Play)?)
     }
 }
 
 /// What is said of numbers that are spelled otherwise.
 const NUMBERS: &str = "a number has neither a sign nor zeros before it";
 
-fn wrong(alloc: Global, line: &str) -> Result<WordsFault, AllocError> {
-    Ok(WordsFault::Wrong(String::from_str(alloc, line)?))
+/// A fault with this line, and behind it which help to see.
+fn wrong(alloc: Global, line: &str, called: Called) -> Result<WordsFault, AllocError> {
+    let mut line = String::from_str(alloc, line)?;
+    line.push_str(help_hint(called))?;
+    Ok(WordsFault::Wrong(line))
 }
 
 /// Whether the words give these values.

@@ -105,8 +105,11 @@ files and the refusals by number; examples/ has a script for each kind of channe
 Exit status: 0; 1 where an image is refused, a file of it is not strict or a recording is
 faulty; 2 for a wrong command line or script; 3 where memory, reading or writing fails.";
 
-/// Behind a word that is no option.
-const HINT: &str = "; a script comes from standard input: r10 < SCRIPT";
+/// What is said of words that are not refused and ask for nothing.
+pub(crate) const ASK_NOTHING: &str = "these words ask for nothing";
+
+/// How many characters of a word are printed.
+const MOST: usize = 60;
 
 pub(crate) fn command_line<'a>(alloc: Global) -> Result<Command<'a>, AllocError> {
     let sim = Command::new(alloc, "sim")
@@ -186,18 +189,131 @@ fn number<'a>(alloc: Global, name: &'a str, help: &'a str) -> Arg<'a> {
         .help(help)
 }
 
-/// The option with the volume's name, which must be given.
+/// The option with the volume's name, which must be given, and may begin with a dash.
 fn volume<'a>(alloc: Global) -> Arg<'a> {
     Arg::new(alloc, "volume")
         .long("volume")
         .value_name("NAME")
         .required(true)
+        .allow_hyphen_values(true)
         .help("The volume's name")
 }
 
+/// Which command the first word behind the program's own name calls.
+#[derive(Clone, Copy, PartialEq, Eq)]
+pub(crate) enum Called {
+    /// None: that word is missing, or no command's name.
+    Program,
+    Sim,
+    Format,
+    Files,
+    Play,
+    Check,
+}
+
+fn called_by(words: &[String]) -> Called {
+    match words {
+        [_, word, ..] => command_of(word),
+        _ => Called::Program,
+    }
+}
+
+fn command_of(word: &String) -> Called {
+    let word = word.as_str();
+    if word == "sim" {
+        Called::Sim
+    } else if word == "format" {
+        Called::Format
+    } else if word == "files" {
+        Called::Files
+    } else if word == "play" {
+        Called::Play
+    } else if word == "check" {
+        Called::Check
+    } else {
+        Called::Program
+    }
+}
+
+/// Where the command that was called reads what a file would have, or writes it.
+fn stream_hint(called: Called) -> &'static str {
+    match called {
+        Called::Program | Called::Sim => "; a script comes from standard input: r10 < SCRIPT",
+        Called::Format => "; the image goes to standard output: r10 format .. > IMAGE",
+        Called::Files => "; an image comes from standard input: r10 files < IMAGE",
+        Called::Play => "; an image comes from standard input: r10 play < IMAGE",
+        Called::Check => "; a recording comes from standard input: r10 check < RECORDING",
+    }
+}
+
+/// Where the command that was called is explained.
+pub(crate) fn help_hint(called: Called) -> &'static str {
+    match called {
+        Called::Program => "; see r10 --help",
+        Called::Sim => "; see r10 sim --help",
+        Called::Format => "; see r10 format --help",
+        Called::Files => "; see r10 files --help",
+        Called::Play => "; see r10 play --help",
+        Called::Check => "; see r10 check --help",
+    }
+}
+
+/// What is said of words that `clap` refuses: what it says of these words as they are printed, for a word that looks like a file
+/// where such a file goes, and which help to see.
+pub(crate) fn usage_line(alloc: Global, words: &[String]) -> Result<String, AllocError> {
+    let printed = printed_words(alloc, words)?;
+    let command = command_line(alloc)?;
+    let called = called_by(words);
+    let mut line = match command.try_get_matches_from(printed.as_slice()) {
+        Ok(_) => String::from_str(alloc, ASK_NOTHING)?,
+        Err(error) => fault_line(alloc, &error, called)?,
+    };
+    line.push_str(help_hint(called))?;
+    Ok(line)
+}
+
+/// The words as they are printed.
+fn printed_words(alloc: Global, words: &[String]) -> Result<Vec<String>, AllocError> {
+    let mut printed = Vec::new(alloc);
+    for word in words {
+        printed.push(printed_word(alloc, word.as_str())?)?;
+    }
+    Ok(printed)
+}
+
+/// The first characters of a word, with those escaped that are not printed as they are.
+fn printed_word(alloc: Global, word: &str) -> Result<String, AllocError> {
+    let front = front_of(alloc, word)?;
+    let quoted = format!(in alloc; "{front:?}")?;
+    String::from_str(alloc, without_quotes(quoted.as_str()))
+}
+
+fn front_of(alloc: Global, word: &str) -> Result<String, AllocError> {
+    let mut front = String::new(alloc);
+    for character in word.chars().take(MOST) {
+        front.push(character)?;
+    }
+    Ok(front)
+}
+
+/// A text without the quotes around it.
+fn without_quotes(text: &str) -> &str {
+    let rest = match text.strip_prefix("\"") {
+        Some(rest) => rest,
+        None => text,
+    };
+    match rest.strip_suffix("\"") {
+        Some(inner) => inner,
+        None => rest,
+    }
+}
+
 /// The first line of what `clap` says, without its first word; behind it the options that are missing, and for a word that looks
-/// like a file where a script comes from.
-pub(crate) fn usage_line(alloc: Global, error: &clap::Error) -> Result<String, AllocError> {
+/// like a file where such a file goes.
+fn fault_line(alloc: Global, error: &clap::Error, called: Called) -> Result<String, AllocError> {
+    if is_memory(error.kind()) {
+        return Err(AllocError);
+    }
     let text = error.to_string(alloc)?;
     let line = match text.lines().next() {
         Some(line) => line,
@@ -209,12 +325,16 @@ pub(crate) fn usage_line(alloc: Global, error: &clap::Error) -> Result<String, A
     };
     let mut line = String::from_str(alloc, said)?;
     if is_file_like(error.kind(), said) {
-        line.push_str(HINT)?;
+        line.push_str(stream_hint(called))?;
     }
     if is_missing(error.kind()) {
         push_options(&mut line, text.as_str())?;
     }
     Ok(line)
+}
+
+fn is_memory(kind: ErrorKind) -> bool {
+    matches!(kind, ErrorKind::OutOfMemory)
 }
 
 fn is_missing(kind: ErrorKind) -> bool {
