@@ -31,3 +31,4 @@ mod Leaves
 mod Moments
 mod Stopped
 mod Works
+mod Effecting

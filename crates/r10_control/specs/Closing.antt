@@ -5,6 +5,8 @@ use Rattle.r10_body.specs.declared.entry.Entry.{Entry}
 use Rattle.r10_body.specs.declared.entry.Sample.{Sample}
 use Rattle.r10_body.specs.declared.spec.ChannelSpec.{ChannelSpec}
 use Rattle.r10_packetout.specs.Carries.{Recording}
+use Rattle.r10_count.specs.declared.civil.Parts.{Parts}
+use Rattle.r10_dirchain.specs.OnMedium.{IsPublished}
 use Rattle.r10_dirchain.specs.declared.chain.ChainBlock.{ChainBlock}
 use Rattle.r10_volume.specs.Holding.{Holds, Open}
 use Rattle.r10_machine.specs.Calls.{closed_whole}
@@ -13,6 +15,8 @@ use Rattle.r10_machine.specs.Machine.{File, with_entries}
 use Rattle.r10_machine.specs.Room.{area as area_of}
 use Rattle.r10_machine.specs.declared.mode.Stopped.{Stopped}
 use Rattle.r10_medium.specs.Disk.{Disk, Image, Rose}
+use Rattle.r10_control.specs.Effects.{closed_listing}
+use Rattle.r10_openfile.specs.Keeping.{ended_in}
 use Rattle.r10_openfile.specs.Intake.{AreMovedIn}
 use Rattle.r10_pump.specs.Stopping.{AllEnd, FailsAll, Part, Tells, TookAll, entries_of, most_of}
 use Rattle.r10_machine.specs.Says.{MediumSays}
@@ -68,3 +72,10 @@ pub record StopCloses {L : Type 0} (took : L → List Sample → L → Type 0) (
   pub taken : TakenAll took quiet reached spec_of order shares nodes area lanes lanes' old before chain said
   pub size : ℕ
   pub closes : ClosesSo reached spec_of lanes old before chain made after size taken.parts
+
+-- of a directory the last file alone is listed anew, closed at this time in so many bytes; it is the medium's directory, which is synced
+pub record IsListedClosed (civil : Parts) (chain made : List ChainBlock) (disk : Disk) : Type 0 where
+  pub size : ℕ
+  pub made_is : made ≡ closed_listing civil size chain
+  pub published : IsPublished made disk
+  pub ended : ended_in made ≡ ended_in chain

@@ -14,3 +14,4 @@ pub mod Raising
 pub mod Recording
 pub mod Closing
 pub mod Stopped
+pub mod Effects

@@ -1,6 +1,6 @@
 -- What a call takes from lanes.
 use Rattle.r10_blockout.specs.Output.{first_of}
-use Rattle.std.specs.Prelude.{◌≡◌, ◌⊎◌, ℕ, ◌-◌, ◌^◌, ◌≤◌, List, [], ◌∷◌, ◌++◌, length, map, min, Option, None, Some, IfOk, IsSomeAnd, OnOk, Result, Ok, Err, MatchResult, slice_get}
+use Rattle.std.specs.Prelude.{◌≡◌, ◌⊎◌, ℕ, ◌-◌, ◌^◌, ◌≤◌, List, [], ◌∷◌, ◌++◌, length, map, min, Option, None, Some, IfErr, IfOk, IsSomeAnd, OnOk, Result, Ok, Err, MatchResult, slice_get}
 use Rattle.std.specs.List.{AllByRecursion, sum_by}
 use Rattle.r10_control.specs.Refused.{IsSameKept}
 use Rattle.r10_control.specs.Recording.{IsAskedFor}
@@ -61,6 +61,8 @@ pub record Takes {L T : Type 0} (took : L → List Sample → L → Type 0) (qui
   pub waits : AllByRecursion (Tells quiet spec_of lanes) known
   pub tells : IfOk result (λ v. says v parts)
   pub counts : OnOk result (AreGrown (entries_of parts) k.config.channels k.taken later.taken)
+  pub none : IfErr result (λ r. (r ≡ Medium) ⊎ AllByRecursion (λ (p : Part). p.samples ≡ []) parts)
+  pub numbers : OnOk result (later ≡ record k { work = later.work; taken = later.taken })
   pub steps : (m : Machine) → Means k old before m → AllByRecursion (HasWaiting m.lanes) known
       → MatchResult result (λ v. Leads (taken_of parts) k m event (reply v) later new now) (λ r. Leads (taken_of parts) k m event (Refused r) later new now)
 

@@ -2,12 +2,12 @@
 use Rattle.std.proofs.Common.{Bool, false, if◌then◌else◌, ◌≡◌, ◌≢◌, ◌⊎◌, ℕ, ◌<◌, List, [], ◌∷◌, length, set, Result, Ok, Err, OnOk, inl, inr, ⊎_elim, refl, sym, ap, ◌∙◌, subst, arith}
 use Rattle.std.specs.List.{All}
 use Rattle.std.proofs.lemmas.List.Elements.{All-cons, All-nil, All-head, All-from_get_or}
-use Rattle.r10_medium.specs.Disk.{Disk, Image, MayLeave, block_at}
+use Rattle.r10_medium.specs.Disk.{Disk, Image, IsSynced, MayLeave, block_at}
 use Rattle.r10_medium.specs.Stop.{Settled, Leaves, ComesBy, SameBut}
-use Rattle.r10_medium.proofs.Stops.{weakened, reads_now}
+use Rattle.r10_medium.proofs.Stops.{weakened, reads_now, settled_reads}
 use Rattle.r10_dirchain.specs.declared.chain.ChainBlock.{ChainBlock}
 use Rattle.r10_dirchain.specs.Chain.{IsDirectory, at, blank_block}
-use Rattle.r10_dirchain.specs.OnMedium.{SameButIn, Put, PutTwo, IsWritten, Turned, Turns, HasNext}
+use Rattle.r10_dirchain.specs.OnMedium.{SameButIn, Put, PutTwo, IsPublished, IsWritten, Turned, Turns, HasNext}
 use Rattle.r10_dirblock.specs.Block.{block_bytes}
 use Rattle.r10_dirblock.specs.declared.entry.Entry.{Entry}
 use Rattle.r10_dirblock.specs.declared.block.DirBlock.{DirBlock}
@@ -42,6 +42,15 @@ turns_of chain made unlinked changed old new result is none moments reads settle
   })) (λ turned. inr turned) reads;
   settled = settled;
 }
+
+-- what a step made is the medium's directory, which is synced
+pub published : {T E : Type 0} (chain made now : List ChainBlock) (unlinked changed : List ℕ) (old new : Disk) (result : Result T E) → Turns chain made unlinked changed old new result → OnOk result (now ≡ made) → OnOk result (IsSynced new)
+    → OnOk result (IsPublished now new)
+published chain made now unlinked changed old new (Ok x) turns is synced = record {
+  directory = subst (λ (l : List ChainBlock). IsDirectory new.blocks l) (sym is) (settled_reads (Turned made changed old.blocks) new turns.settled).directory;
+  synced = synced;
+}
+published chain made now unlinked changed old new (Err e) turns is synced = tt
 
 -- a step that puts one block
 pub turns_once : {T E : Type 0} (chain made : List ChainBlock) (changed : List ℕ) (b : ChainBlock) (old new : Disk) (result : Result T E) → IsDirectory old.blocks chain

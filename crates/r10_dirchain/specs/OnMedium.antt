@@ -1,7 +1,7 @@
 -- What a step of the directory does to the medium, and what a stop leaves of it.
 use Rattle.std.specs.Prelude.{◌≡◌, ◌≢◌, ◌⊎◌, ℕ, ◌+◌, ◌<◌, List, [], ◌∷◌, length, Result, OnOk}
 use Rattle.std.specs.List.{All}
-use Rattle.r10_medium.specs.Disk.{Disk, Image, block_at}
+use Rattle.r10_medium.specs.Disk.{Disk, Image, IsSynced, block_at}
 use Rattle.r10_medium.specs.Stop.{Settled, Leaves, ComesBy, SameBut}
 use Rattle.r10_dirblock.specs.Block.{block_bytes}
 use Rattle.r10_dirchain.specs.declared.chain.ChainBlock.{ChainBlock}
@@ -51,3 +51,8 @@ pub record Turns {T E : Type 0} (chain made : List ChainBlock) (unlinked changed
 pub record HasNext (image : Image) (chain : List ChainBlock) : Type 0 where
   pub in_order : (i : ℕ) → i < length chain → (at chain i).number ≡ i + 1
   pub within : length chain + 1 < length image
+
+-- the medium's directory is this one, and the medium is synced: a stop leaves what is read
+pub record IsPublished (chain : List ChainBlock) (disk : Disk) : Type 0 where
+  pub directory : IsDirectory disk.blocks chain
+  pub synced : IsSynced disk

@@ -1,11 +1,12 @@
 -- The steps of a directory.
-use Rattle.std.specs.Prelude.{ℕ, ◌+◌, ◌-◌, Bool, List, [], ◌∷◌, ◌++◌, length, take, slice_set, nat_le, ◌==◌, if◌then◌else◌}
-use Rattle.std.specs.List.{suffix_len}
+use Rattle.std.specs.Prelude.{ℕ, ◌+◌, ◌-◌, Bool, List, [], ◌∷◌, ◌++◌, length, take, slice_set, Option, None, Some, nat_le, ◌==◌, if◌then◌else◌}
+use Rattle.std.specs.List.{last_or, suffix_len}
+use Rattle.r10_dirblock.specs.Block.{blank}
 use Rattle.r10_dirblock.specs.Texts.{padded}
 use Rattle.r10_dirblock.specs.declared.entry.Entry.{Entry}
 use Rattle.r10_dirblock.specs.declared.block.DirBlock.{DirBlock}
 use Rattle.r10_dirchain.specs.declared.chain.ChainBlock.{ChainBlock}
-use Rattle.r10_dirchain.specs.Chain.{at}
+use Rattle.r10_dirchain.specs.Chain.{at, files}
 
 -- the directory of a medium that is formatted: block 1 alone, properly dismounted and without files
 abbrev pub formatted : List ℕ → List ChainBlock
@@ -23,6 +24,14 @@ with_shutdown shutdown chain = replaced chain 0 (record (at chain 0).block { shu
 -- block 1 alone, without entries
 abbrev pub emptied : List ChainBlock → List ChainBlock
 emptied chain = record { number = 1; block = record (at chain 0).block { forward = 1; reverse = 1; entries = [] } } ∷ []
+
+-- the last file's entry; one of zero bytes where there is no file
+abbrev pub entry_or_blank : Option Entry → Entry
+entry_or_blank None = blank
+entry_or_blank (Some e) = e
+
+abbrev pub last_file : List ChainBlock → Entry
+last_file chain = entry_or_blank (last_or None (files chain))
 
 -- another last entry
 abbrev pub with_last : Entry → List Entry → List Entry
@@ -86,3 +95,7 @@ added entry chain = if last_is_full chain then extended entry chain else filled 
 -- the numbers of the blocks that the step writes before anything links to them
 abbrev pub spare : List ChainBlock → List ℕ
 spare chain = if last_is_full chain then next_number chain ∷ [] else []
+
+-- how many blocks the directory has when it lists one file more
+abbrev pub blocks_with_one_more : List ChainBlock → ℕ
+blocks_with_one_more chain = length chain + length (spare chain)

@@ -2,7 +2,7 @@
 ghost use Rattle.std.specs.Prelude.{◌≡◌, ◌⊎◌, ◌≤◌, ◌+◌, ◌↔◌, [], ◌∷◌, None, false, length, OnOk, IsErrOf};
 ghost use Rattle.r10_count.specs.Checks.{first_broken};
 ghost use Rattle.r10_count.specs.Names.{is_volume};
-ghost use Rattle.r10_medium.specs.Disk.{block_at, MayLeave, Rose};
+ghost use Rattle.r10_medium.specs.Disk.{IsSynced, MayLeave, Rose, block_at};
 ghost use Rattle.r10_medium.specs.Stop.{Settled, Leaves};
 ghost use Rattle.r10_dirblock.specs.Block.{block_bytes};
 ghost use Rattle.r10_dirchain.specs.Chain.{at};
@@ -37,6 +37,7 @@ pub fn format<M: BlockMedium>(
     requires room { directory + 2 ≤ length (M.disk medium.old).blocks }
     requires blocks { length (M.disk medium.old).blocks ≤ 16_777_216 }
 
+    ensures sure { OnOk result (IsSynced (M.disk medium.new)) }
     ensures settled { OnOk result (Settled (Turned (formatted volume.now) (1 ∷ []) (M.disk medium.old).blocks) (M.disk medium.new)) }
     // Block 1 is byte for byte the one that this recorder writes.
     ensures bytes { OnOk result (block_at (M.disk medium.new).blocks 1 ≡ block_bytes (at (formatted volume.now) 0).block) }

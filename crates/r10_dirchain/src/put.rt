@@ -1,6 +1,6 @@
 // One directory block, written so that a stop leaves the medium before it or after it.
 ghost use Rattle.std.specs.Prelude.{◌≡◌, ◌≢◌, ◌⊎◌, ◌<◌, length, OnOk};
-ghost use Rattle.r10_medium.specs.Disk.{MayLeave, Counts};
+ghost use Rattle.r10_medium.specs.Disk.{Counts, IsSynced, MayLeave};
 ghost use Rattle.r10_medium.specs.Stop.{Settled, Leaves, ComesBy, Moves, SameBut};
 ghost use Rattle.r10_dirblock.specs.Block.{HasRooms};
 ghost use Rattle.r10_dirchain.specs.OnMedium.{Put, PutTwo};
@@ -20,6 +20,7 @@ pub(crate) fn put_block<M: BlockMedium>(
         (M.disk medium.old) (M.disk medium.new) }
     ensures reads { ((M.disk medium.new).blocks ≡ (M.disk medium.old).blocks) ⊎ Put (M.disk medium.old).blocks link.now (M.disk medium.new).blocks }
     ensures settled { OnOk result (Settled (Put (M.disk medium.old).blocks link.now) (M.disk medium.new)) }
+    ensures sure { OnOk result (IsSynced (M.disk medium.new)) }
     ensures counts { Counts (M.disk medium.old) (M.disk medium.new) result }
 {
     publish(medium, link.number as usize, &encode(&link.block))
@@ -56,6 +57,7 @@ pub(crate) fn put_linked<M: BlockMedium>(
         (M.disk medium.old) (M.disk medium.new) }
     ensures reads { SameBut next.now.number (M.disk medium.old).blocks (M.disk medium.new).blocks ⊎ PutTwo (M.disk medium.old).blocks next.now linking.now (M.disk medium.new).blocks }
     ensures settled { OnOk result (Settled (PutTwo (M.disk medium.old).blocks next.now linking.now) (M.disk medium.new)) }
+    ensures sure { OnOk result (IsSynced (M.disk medium.new)) }
     ensures counts { Counts (M.disk medium.old) (M.disk medium.new) result }
 {
     if let Err(fault) = put_unlinked(medium, next) {

@@ -1,13 +1,14 @@
 // The steps of the directory. Each changes one block that the chain has.
-ghost use Rattle.std.specs.Prelude.{◌≡◌, ◌⊎◌, ◌≤◌, ◌<◌, ◌+◌, ◌-◌, [], ◌∷◌, List, length, true, false, OnOk, OnErr, IfOk};
-ghost use Rattle.r10_medium.specs.Disk.{Counts};
+ghost use Rattle.std.specs.Prelude.{◌≡◌, ◌⊎◌, ◌≤◌, ◌<◌, ◌+◌, ◌-◌, [], ◌∷◌, List, length, nat_le, true, false, OnOk, OnErr, IfOk};
+ghost use Rattle.std.specs.List.{All};
+ghost use Rattle.r10_medium.specs.Disk.{Counts, IsSynced};
 ghost use Rattle.r10_medium.specs.Stop.{Settled, Leaves};
 ghost use Rattle.r10_dirblock.specs.Block.{HasRooms, has_room};
 ghost use Rattle.r10_dirchain.specs.declared.chain.ChainBlock.{ChainBlock};
 ghost use Rattle.r10_dirchain.specs.Chain.{IsDirectory, files, at};
 ghost use Rattle.r10_dirchain.specs.OnMedium.{HasNext, Turns};
 ghost use Rattle.r10_dirchain.specs.Rooms.{room_for};
-ghost use Rattle.r10_dirchain.specs.Steps.{added, emptied, extended, filled, last_block, last_is_full, last_listing, last_place, lists_none, next_block, next_number, replaced, spare, updated, with_shutdown};
+ghost use Rattle.r10_dirchain.specs.Steps.{added, blocks_with_one_more, emptied, extended, filled, last_block, last_is_full, last_listing, last_place, lists_none, next_block, next_number, replaced, spare, updated, with_shutdown};
 
 use crate::put::{put_block, put_linked};
 use crate::{ChainBlock, Directory, Room};
@@ -30,6 +31,7 @@ impl Directory {
         // After a failed call a stop may leave either of two directories: it leaves one of them, or the new one.
         ensures either { (one other : List ChainBlock) → Settled (λ image. IsDirectory image one ⊎ IsDirectory image other) (M.disk medium.old)
             → Leaves (λ image. (IsDirectory image one ⊎ IsDirectory image other) ⊎ IsDirectory image (with_shutdown shutdown self.old)) (M.disk medium.old) (M.disk medium.new) }
+        ensures sure { OnOk result (IsSynced (M.disk medium.new)) }
         ensures counts { Counts (M.disk medium.old) (M.disk medium.new) result }
     {
         let mut block = self.block(0);
@@ -43,6 +45,7 @@ impl Directory {
         ensures done { OnOk result (self.new ≡ emptied self.old) }
         ensures kept { OnErr result (self.new ≡ self.old) }
         ensures turns { Turns self.old (emptied self.old) [] (1 ∷ []) (M.disk medium.old) (M.disk medium.new) result }
+        ensures sure { OnOk result (IsSynced (M.disk medium.new)) }
         ensures counts { Counts (M.disk medium.old) (M.disk medium.new) result }
     {
         let mut block = self.block(0);
@@ -70,6 +73,7 @@ impl Directory {
         ensures done { OnOk result (self.new ≡ updated entry self.old) }
         ensures kept { OnErr result (self.new ≡ self.old) }
         ensures turns { Turns self.old (updated entry self.old) [] ((at self.old (last_listing self.old)).number ∷ []) (M.disk medium.old) (M.disk medium.new) result }
+        ensures sure { OnOk result (IsSynced (M.disk medium.new)) }
         ensures counts { Counts (M.disk medium.old) (M.disk medium.new) result }
     {
         let i = self.last_listing();
@@ -86,23 +90,39 @@ impl Directory {
         Room::of(alloc, self.chain.len() + 1)
     }
 
+    /// Whether one file more has a place in so many reserved blocks.
+    pub fn has_place(&self, reserved: usize) -> bool
+        ensures { result ≡ nat_le (blocks_with_one_more self.now) reserved }
+    {
+        match self.chain.last() {
+            Some(last) if last.block.entries.is_full() => self.chain.len() < reserved,
+            _ => self.chain.len() <= reserved,
+        }
+    }
+
     /// Lists one file more: in the last block, or in a new block where that is full. A new block is
     /// written and made sure before the block that links to it.
     ///
-    /// The memory was asked for by `ready`: nothing but the medium can fail.
+    /// `has_place` tells whether there is a place for it in the reserved blocks: no block behind
+    /// them is written. The memory was asked for by `ready`: nothing but the medium can fail.
     pub fn add<M: BlockMedium>(
         &mut self,
         medium: &mut M,
         entry: Entry,
         ready: Room,
+        reserved: usize,
     ) -> Result<(), MediumFault>
         requires stands { IsDirectory (M.disk medium.old).blocks self.old }
         requires next { HasNext (M.disk medium.old).blocks self.old }
+        requires place { blocks_with_one_more self.old ≤ reserved }
         requires room { has_room entry ≡ true }
         requires ready { length self.old < room_for ready }
         ensures done { OnOk result (self.new ≡ added entry self.old) }
         ensures kept { OnErr result (self.new ≡ self.old) }
         ensures turns { Turns self.old (added entry self.old) (spare self.old) ((last_block self.old).number ∷ spare self.old) (M.disk medium.old) (M.disk medium.new) result }
+        // The blocks that it writes are reserved ones.
+        ensures within { All (λ n. n ≤ reserved) ((last_block self.old).number ∷ spare self.old) }
+        ensures sure { OnOk result (IsSynced (M.disk medium.new)) }
         ensures counts { Counts (M.disk medium.old) (M.disk medium.new) result }
     {
         if self.last_is_full() {
@@ -119,6 +139,7 @@ impl Directory {
         ensures done { OnOk result (self.new ≡ filled entry self.old) }
         ensures kept { OnErr result (self.new ≡ self.old) }
         ensures turns { Turns self.old (filled entry self.old) [] ((last_block self.old).number ∷ []) (M.disk medium.old) (M.disk medium.new) result }
+        ensures sure { OnOk result (IsSynced (M.disk medium.new)) }
         ensures counts { Counts (M.disk medium.old) (M.disk medium.new) result }
     {
         let last = self.last();
@@ -141,6 +162,7 @@ impl Directory {
         ensures done { OnOk result (self.new ≡ extended entry self.old) }
         ensures kept { OnErr result (self.new ≡ self.old) }
         ensures turns { Turns self.old (extended entry self.old) (next_number self.old ∷ []) ((last_block self.old).number ∷ next_number self.old ∷ []) (M.disk medium.old) (M.disk medium.new) result }
+        ensures sure { OnOk result (IsSynced (M.disk medium.new)) }
         ensures counts { Counts (M.disk medium.old) (M.disk medium.new) result }
     {
         let next = self.next_block(entry);
@@ -236,6 +258,7 @@ impl Directory {
         ensures done { OnOk result (self.new ≡ replaced self.old i block) }
         ensures kept { OnErr result (self.new ≡ self.old) }
         ensures turns { Turns self.old (replaced self.old i block) [] ((at self.old i).number ∷ []) (M.disk medium.old) (M.disk medium.new) result }
+        ensures sure { OnOk result (IsSynced (M.disk medium.new)) }
         ensures counts { Counts (M.disk medium.old) (M.disk medium.new) result }
     {
         let link = ChainBlock {

@@ -117,15 +117,9 @@ front_listed chain made first k n unlinked blocks old mid sure new result put sa
     ⊎_elim (λ was. was.others.others k (All-tail (λ (i : ℕ). k ≢ i) n unlinked apart)) (λ is. is.others.others k apart) turns.reads
     ∙ ap (λ (l : Image). block_at l k) same.reads ∙ front_put first k blocks old mid put less
 
--- a step of the directory, behind which it is sure
+-- a step of the directory
 pub turned_size : {T E : Type 0} (chain made : List ChainBlock) (unlinked changed : List ℕ) (old new : Disk) (result : Result T E) → Turns chain made unlinked changed old new result → length new.blocks ≡ length old.blocks
 turned_size chain made unlinked changed old new result turns = ⊎_elim (λ was. was.others.size) (λ is. is.others.size) turns.reads
-
-pub sure_of : {T E : Type 0} (chain made now : List ChainBlock) (unlinked changed : List ℕ) (old new : Disk) (result : Result T E) → Turns chain made unlinked changed old new result → OnOk result (now ≡ made)
-    → OnOk result (Settled (λ image. IsDirectory image now) new)
-sure_of chain made now unlinked changed old new result turns done =
-    on_both result (Settled (Turned made changed old.blocks) new) (now ≡ made) (Settled (λ image. IsDirectory image now) new)
-    (λ settled is image left. subst (IsDirectory image) (sym is) (settled image left).directory) turns.settled done
 
 -- ---- the last block
 

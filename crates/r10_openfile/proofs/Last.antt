@@ -1,9 +1,11 @@
 -- The last of a list, as a search comes to it.
-use Rattle.std.proofs.Common.{◌≡◌, ℕ, suc, ◌+◌, ◌-◌, ◌<◌, List, [], ◌∷◌, ◌++◌, length, drop, get_or, Option, Some, refl, sym, ap, ◌∙◌, arith}
+use Rattle.std.proofs.Common.{◌≡◌, ℕ, suc, ◌+◌, ◌-◌, ◌<◌, List, [], ◌∷◌, ◌++◌, length, drop, get_or, Option, None, Some, refl, sym, ap, ◌∙◌, arith}
 use Rattle.std.specs.List.{last_or, slice_get}
 use Rattle.std.proofs.lemmas.List.{drop_more}
 use Rattle.r10_dirblock.specs.declared.entry.Entry.{Entry}
+use Rattle.r10_dirblock.specs.Block.{blank}
 use Rattle.r10_dirchain.specs.Chain.{files}
+use Rattle.r10_dirchain.specs.Steps.{entry_or_blank, last_file}
 use Rattle.r10_dirchain.specs.declared.chain.ChainBlock.{ChainBlock}
 
 pub last_some : (o : Option Entry) (ys : List Entry) (e : Entry) → Some e ≡ slice_get ys (length ys - 1) → Some e ≡ last_or o ys
@@ -23,3 +25,11 @@ last_left o chain i b lt is =
     ap (λ (c : ChainBlock). last_or (last_or o c.block.entries) (files (drop (i + 1) chain))) is
     ∙ sym (last_append o (get_or chain i b).block.entries (files (drop (i + 1) chain)))
     ∙ sym (ap (λ (l : List ChainBlock). last_or o (files l)) (drop_more chain i b lt))
+
+-- the last file's entry, as a search comes to it
+pub last_is : (chain : List ChainBlock) (e : Entry) → Some e ≡ last_or (Some blank) (files chain) → e ≡ last_file chain
+last_is chain e is = picked (files chain) e is
+  where
+    picked : (l : List Entry) (e : Entry) → Some e ≡ last_or (Some blank) l → e ≡ entry_or_blank (last_or None l)
+    picked [] e is = ap entry_or_blank is
+    picked (x ∷ l) e is = ap entry_or_blank is

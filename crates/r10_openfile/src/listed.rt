@@ -1,6 +1,6 @@
 //! Listing a file that has begun.
 
-ghost use Rattle.std.specs.Prelude.{◌≡◌, ◌≢◌, ◌<◌, ◌⊎◌, List, [], ◌∷◌, ◌++◌, ℕ, None, Some, true, length, OnOk, OnErr};
+ghost use Rattle.std.specs.Prelude.{◌≡◌, ◌≢◌, ◌<◌, ◌≤◌, ◌⊎◌, List, [], ◌∷◌, ◌++◌, ℕ, None, Some, true, length, OnOk, OnErr};
 ghost use Rattle.std.specs.List.{All};
 ghost use Rattle.r10_medium.specs.Disk.{Counts, block_at};
 ghost use Rattle.r10_medium.specs.Stop.{Leaves, Settled};
@@ -10,9 +10,9 @@ ghost use Rattle.r10_body.specs.declared.entry.Entry.{Entry as Said};
 ghost use Rattle.r10_packetout.specs.Carries.{Carries};
 ghost use Rattle.r10_dirblock.specs.Block.{has_room};
 ghost use Rattle.r10_dirchain.specs.Chain.{IsDirectory};
-ghost use Rattle.r10_dirchain.specs.OnMedium.{HasNext};
+ghost use Rattle.r10_dirchain.specs.OnMedium.{HasNext, IsPublished};
 ghost use Rattle.r10_dirchain.specs.Rooms.{room_for};
-ghost use Rattle.r10_dirchain.specs.Steps.{added, last_block, spare};
+ghost use Rattle.r10_dirchain.specs.Steps.{added, blocks_with_one_more, last_block, spare};
 ghost use Rattle.r10_dirchain.specs.declared.chain.ChainBlock.{ChainBlock};
 ghost use Rattle.r10_volume.specs.Holding.{Holds, IsCarried};
 ghost use Rattle.r10_machine.specs.Config.{Config};
@@ -36,12 +36,13 @@ pub fn list_file<M: BlockMedium>(
     directory: &mut Directory,
     entry: Entry,
     room: Room,
+    reserved: usize,
 ) -> Result<(), MediumFault>
     requires inside { HasRoom mux.now.out.blocks 0 (length (M.disk medium.old).blocks) }
     requires carries { (text : List ℕ) × (entries : List Said) × Carries mux.now (M.disk medium.old).blocks text entries }
     requires stands { IsDirectory (M.disk medium.old).blocks directory.old }
     requires below { All (λ (b : ChainBlock). b.number < first_of mux.now.out.blocks) directory.old }
-    requires next { HasNext (M.disk medium.old).blocks directory.old }
+    requires next { HasNext (M.disk medium.old).blocks directory.old × (blocks_with_one_more directory.old ≤ reserved) }
     requires entry { has_room entry ≡ true }
     requires ready { length directory.old < room_for room }
     ensures holds { (s : Config) (files : List File) (f : File) → MayList s (M.disk medium.old).blocks directory.old files mux.now f entry
@@ -52,8 +53,8 @@ pub fn list_file<M: BlockMedium>(
         → Leaves (λ image. MediumSays s image files ⊎ MediumSays s image (files ++ f ∷ [])) (M.disk medium.old) (M.disk medium.new) }
     ensures settled { (s : Config) (files : List File) (f : File) → MayList s (M.disk medium.old).blocks directory.old files mux.now f entry
         → OnOk result (Settled (λ image. MediumSays s image (files ++ f ∷ []) × (bytes_from image f.first_block f.size ≡ bytes_from (M.disk medium.new).blocks f.first_block f.size) × IsDirectory image (added entry directory.old)) (M.disk medium.new)) }
-    // Whatever files there are: the directory is sure, and behind its blocks the file carries what it carried, and shows all its packets.
-    ensures sure { OnOk result (Settled (λ image. IsDirectory image directory.new) (M.disk medium.new)) }
+    // Whatever files there are: the directory is the medium's, which is synced, and behind its blocks the file carries what it carried, and shows all its packets.
+    ensures sure { OnOk result (IsPublished directory.new (M.disk medium.new)) }
     ensures carries { (text : List ℕ) (entries : List Said) → Carries mux.now (M.disk medium.old).blocks text entries → All (λ (n : ℕ). n < first_of mux.now.out.blocks) (spare directory.old)
         → OnOk result (IsCarried (M.disk medium.new).blocks (record { recording = mux.now; shown = length mux.now.out.entries }) text entries) }
     // The blocks in front of the file stay, but for the directory's that are written.
@@ -69,5 +70,5 @@ pub fn list_file<M: BlockMedium>(
     if let Err(fault) = medium.sync() {
         return Err(fault);
     }
-    directory.add(medium, entry, room)
+    directory.add(medium, entry, room, reserved)
 }

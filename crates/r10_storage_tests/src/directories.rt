@@ -96,7 +96,7 @@ fn add(alloc: Global, medium: &mut Memory, entry: Entry) -> bool {
     let Ok(room) = directory.ready(alloc) else {
         return false;
     };
-    directory.add(medium, entry, room).is_ok()
+    directory.has_place(RESERVED) && directory.add(medium, entry, room, RESERVED).is_ok()
 }
 
 #[test]

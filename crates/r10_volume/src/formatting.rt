@@ -6,7 +6,7 @@ ghost use Rattle.r10_dirblock.specs.Block.{block_bytes};
 ghost use Rattle.r10_dirchain.specs.Chain.{at};
 ghost use Rattle.r10_dirchain.specs.Steps.{formatted};
 ghost use Rattle.r10_volume.specs.Formatted.{IsFormatted};
-ghost use Rattle.r10_medium.specs.Disk.{block_at, Counts, MayLeave};
+ghost use Rattle.r10_medium.specs.Disk.{block_at, Counts, IsSynced, MayLeave};
 ghost use Rattle.r10_medium.specs.Stop.{Leaves, Settled};
 ghost use Rattle.r10_machine.specs.Says.{MediumHas};
 
@@ -26,6 +26,7 @@ pub fn format<M: BlockMedium>(medium: &mut M, settings: &Settings) -> Result<(),
     requires { length (M.disk medium.old).blocks ≡ settings.now.blocks }
     // A new recorder of these settings finds no files.
     ensures has { OnOk result (MediumHas settings.now (M.disk medium.new).blocks []) }
+    ensures sure { OnOk result (IsSynced (M.disk medium.new)) }
     ensures settled { OnOk result (Settled (IsFormatted settings.now (M.disk medium.old).blocks) (M.disk medium.new)) }
     // Block 1 is byte for byte the one that this recorder writes.
     ensures bytes { OnOk result (block_at (M.disk medium.new).blocks 1 ≡ block_bytes (at (formatted settings.now.volume) 0).block) }

@@ -4,8 +4,7 @@ ghost use Rattle.std.specs.Prelude.{◌≡◌, ◌≤◌, ℕ, List, [], ◌∷�
 ghost use Rattle.r10_medium.specs.Disk.{Rose, Unchanged};
 ghost use Rattle.r10_medium.specs.Stop.{Leaves, Settled};
 ghost use Rattle.r10_dirchain.specs.Bad.{IsNoFault};
-ghost use Rattle.r10_dirchain.specs.Chain.{IsDirectory};
-ghost use Rattle.r10_dirchain.specs.OnMedium.{Turns};
+ghost use Rattle.r10_dirchain.specs.OnMedium.{IsPublished, Turns};
 ghost use Rattle.r10_dirchain.specs.Steps.{with_shutdown};
 ghost use Rattle.r10_dirchain.specs.declared.chain.ChainBlock.{ChainBlock};
 ghost use Rattle.r10_machine.specs.Config.{Config};
@@ -34,7 +33,8 @@ pub fn mount<M: BlockMedium>(
     ensures fault { IfErr result (IsMountError reserved (M.disk medium.old).blocks) }
     ensures usable { (chain : List ChainBlock) → IsUsable reserved (M.disk medium.old).blocks chain → MatchResult result (λ directory. directory ≡ with_shutdown 0x00 chain) IsNoFault }
     ensures unusable { (n : ℕ) → IsUnusable reserved (M.disk medium.old).blocks n → MatchResult result (λ _. ⊥) (IsNamed n) }
-    ensures directory { IfOk result (IsDirectory (M.disk medium.new).blocks) }
+    // What is kept is the medium's directory, and a stop then leaves what is read.
+    ensures directory { IfOk result (λ directory. IsPublished directory (M.disk medium.new)) }
     ensures ready { IfOk result (IsUsable reserved (M.disk medium.new).blocks) }
     ensures left { IfErr result (IsLeft (M.disk medium.old) (M.disk medium.new)) }
     ensures turns { (chain : List ChainBlock) → IsUsable reserved (M.disk medium.old).blocks chain

@@ -4,7 +4,7 @@ ghost use Rattle.std.specs.Prelude.{◌≡◌, ◌⊎◌, ℕ, List, [], ◌∷�
 ghost use Rattle.r10_medium.specs.Disk.{Counts};
 ghost use Rattle.r10_medium.specs.Stop.{Leaves, Settled};
 ghost use Rattle.r10_dirchain.specs.Chain.{IsDirectory, at};
-ghost use Rattle.r10_dirchain.specs.OnMedium.{Turns};
+ghost use Rattle.r10_dirchain.specs.OnMedium.{IsPublished, Turns};
 ghost use Rattle.r10_dirchain.specs.Steps.{emptied, with_shutdown};
 ghost use Rattle.r10_machine.specs.Config.{Config};
 ghost use Rattle.r10_machine.specs.Machine.{File};
@@ -25,7 +25,7 @@ pub fn dismount<M: BlockMedium>(
     requires { IsDirectory (M.disk medium.old).blocks directory.old }
     ensures done { OnOk result (directory.new ≡ with_shutdown 0xFF directory.old) }
     ensures kept { OnErr result (directory.new ≡ directory.old) }
-    ensures directory { OnOk result (IsDirectory (M.disk medium.new).blocks directory.new) }
+    ensures directory { OnOk result (IsPublished directory.new (M.disk medium.new)) }
     ensures usable { (reserved : ℕ) → IsUsable reserved (M.disk medium.old).blocks directory.old → OnOk result (IsUsable reserved (M.disk medium.new).blocks directory.new) }
     ensures turns { Turns directory.old (with_shutdown 0xFF directory.old) [] (1 ∷ []) (M.disk medium.old) (M.disk medium.new) result }
     ensures holds { (s : Config) (files : List File) → Holds s (M.disk medium.old).blocks directory.old None files → OnOk result (Holds s (M.disk medium.new).blocks directory.new None files) }
@@ -45,7 +45,7 @@ pub fn erase<M: BlockMedium>(medium: &mut M, directory: &mut Directory) -> Resul
     requires { IsDirectory (M.disk medium.old).blocks directory.old }
     ensures done { OnOk result (directory.new ≡ emptied directory.old) }
     ensures kept { OnErr result (directory.new ≡ directory.old) }
-    ensures directory { OnOk result (IsDirectory (M.disk medium.new).blocks directory.new) }
+    ensures directory { OnOk result (IsPublished directory.new (M.disk medium.new)) }
     ensures usable { (reserved : ℕ) → IsUsable reserved (M.disk medium.old).blocks directory.old → OnOk result (IsUsable reserved (M.disk medium.new).blocks directory.new) }
     ensures turns { Turns directory.old (emptied directory.old) [] (1 ∷ []) (M.disk medium.old) (M.disk medium.new) result }
     ensures holds { (s : Config) (files : List File) → Holds s (M.disk medium.old).blocks directory.old None files → OnOk result (Holds s (M.disk medium.new).blocks directory.new None []) }

@@ -5,10 +5,11 @@ use Rattle.r10_blockout.specs.Blocks.{file_blocks}
 use Rattle.r10_blockout.specs.Output.{first_of}
 use Rattle.r10_body.specs.Packets.{file_bytes}
 use Rattle.r10_dirchain.specs.Steps.{added, last_block, spare}
+use Rattle.r10_dirchain.proofs.Turning.{published}
 use Rattle.r10_dirchain.specs.declared.chain.ChainBlock.{ChainBlock}
 use Rattle.r10_volume.specs.Holding.{Holds}
 use Rattle.r10_machine.specs.Says.{MediumSays}
-use Rattle.r10_openfile.proofs.Calls.{directory_stays, front_listed, front_put, last_holds, last_moments, listed_carried, listed_holds, listed_moments, listed_reads, listed_settled, on_both, sure_of, turned_size}
+use Rattle.r10_openfile.proofs.Calls.{directory_stays, front_listed, front_put, last_holds, last_moments, listed_carried, listed_holds, listed_moments, listed_reads, listed_settled, on_both, turned_size}
 use Rattle.r10_openfile.proofs.listed.list_file.Goals as goal
 
 pub returns-in-Err-clause-either : goal.returns-in-Err-clause-either
@@ -119,7 +120,7 @@ pub returns-clause-sure : goal.returns-clause-sure
 returns-clause-sure g c =
     let disk = g.M.BlockMedium.disk in
     let chain = c.args.directory.now in
-    sure_of chain (added c.args.entry chain) c.add.new.self (spare chain) ((last_block chain).number ∷ spare chain) (disk c.sync.new.self) (disk c.add.new.medium) c.add.result c.add.ensures.turns c.add.ensures.done
+    published chain (added c.args.entry chain) c.add.new.self (spare chain) ((last_block chain).number ∷ spare chain) (disk c.sync.new.self) (disk c.add.new.medium) c.add.result c.add.ensures.turns c.add.ensures.done c.add.ensures.sure
 
 pub returns-clause-carries : goal.returns-clause-carries
 returns-clause-carries g c =

@@ -43,7 +43,7 @@ returns-in-Ok-set_shutdown-clause-directory g c =
     let is = c.in-Ok.ensures.usable.directory in
     let turns : Turns {T = Directory} {E = ChainError} chain made [] (1 ∷ []) old new (Ok c.set_shutdown.new.self) =
     marked_later chain 0 old (g.M.BlockMedium.disk c.usable_directory.new.medium) new (Ok c.in-Ok-set_shutdown.field-0) (Ok c.set_shutdown.new.self) c.in-Ok.ensures.same is c.in-Ok-set_shutdown.ensures.turns (λ P p. p) in
-    directory_on chain made c.set_shutdown.new.self old new (Ok c.set_shutdown.new.self) turns c.in-Ok-set_shutdown.ensures.done
+    record { directory = directory_on chain made c.set_shutdown.new.self old new (Ok c.set_shutdown.new.self) turns c.in-Ok-set_shutdown.ensures.done; synced = c.in-Ok-set_shutdown.ensures.sure }
 
 pub returns-in-Ok-set_shutdown-clause-ready : goal.returns-in-Ok-set_shutdown-clause-ready
 returns-in-Ok-set_shutdown-clause-ready g c =

@@ -1,7 +1,8 @@
 use Rattle.std.proofs.Common.{[], ◌∷◌}
 use Rattle.r10_dirchain.specs.Chain.{at}
 use Rattle.r10_dirchain.specs.Steps.{with_shutdown}
-use Rattle.r10_volume.proofs.Turning.{directory_on, marked_rules, usable_on, held_on, kept_then, leaves_still, marking, of_first, says_still, settled_still}
+use Rattle.r10_dirchain.proofs.Turning.{published}
+use Rattle.r10_volume.proofs.Turning.{marked_rules, usable_on, held_on, kept_then, leaves_still, marking, of_first, says_still, settled_still}
 use Rattle.r10_volume.proofs.steps.dismount.Goals as goal
 
 pub returns-clause-turns : goal.returns-clause-turns
@@ -9,10 +10,10 @@ returns-clause-turns g c = of_first c.args.directory.now (with_shutdown 0xFF c.a
 
 pub returns-clause-directory : goal.returns-clause-directory
 returns-clause-directory g c =
-    let old = g.M.BlockMedium.disk c.args.medium.now in
-    let new = g.M.BlockMedium.disk c.set_shutdown.new.medium in
-    directory_on c.args.directory.now (with_shutdown 0xFF c.args.directory.now) c.set_shutdown.new.self old new c.set_shutdown.result
-    (of_first c.args.directory.now (with_shutdown 0xFF c.args.directory.now) old new c.set_shutdown.result c.requires c.set_shutdown.ensures.turns) c.set_shutdown.ensures.done
+    let disk = g.M.BlockMedium.disk in
+    let chain = c.args.directory.now in
+    published chain (with_shutdown 0xFF chain) c.set_shutdown.new.self [] ((at chain 0).number ∷ []) (disk c.args.medium.now) (disk c.set_shutdown.new.medium) c.set_shutdown.result
+    c.set_shutdown.ensures.turns c.set_shutdown.ensures.done c.set_shutdown.ensures.sure
 
 pub returns-clause-usable : goal.returns-clause-usable
 returns-clause-usable g c = λ reserved usable.

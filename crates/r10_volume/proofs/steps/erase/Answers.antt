@@ -1,11 +1,14 @@
 use Rattle.std.proofs.Common.{[], ◌∷◌}
 use Rattle.r10_dirchain.specs.Steps.{emptied}
-use Rattle.r10_volume.proofs.Turning.{directory_on, emptied_rules, usable_on, emptied_on, emptying, kept_then, leaves_then, on_err, says_then, settled_empty}
+use Rattle.r10_dirchain.proofs.Turning.{published}
+use Rattle.r10_volume.proofs.Turning.{emptied_rules, usable_on, emptied_on, emptying, kept_then, leaves_then, on_err, says_then, settled_empty}
 use Rattle.r10_volume.proofs.steps.erase.Goals as goal
 
 pub returns-clause-directory : goal.returns-clause-directory
 returns-clause-directory g c =
-    directory_on c.args.directory.now (emptied c.args.directory.now) c.erase.new.self _ (g.M.BlockMedium.disk c.erase.new.medium) c.erase.result c.erase.ensures.turns c.erase.ensures.done
+    let disk = g.M.BlockMedium.disk in
+    let chain = c.args.directory.now in
+    published chain (emptied chain) c.erase.new.self [] (1 ∷ []) (disk c.args.medium.now) (disk c.erase.new.medium) c.erase.result c.erase.ensures.turns c.erase.ensures.done c.erase.ensures.sure
 
 pub returns-clause-usable : goal.returns-clause-usable
 returns-clause-usable g c = λ reserved usable.

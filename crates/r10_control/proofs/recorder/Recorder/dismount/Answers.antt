@@ -15,6 +15,8 @@ use Rattle.r10_control.proofs.Dismounts.{dismount_done, dismount_fails, dismount
 use Rattle.r10_control.proofs.Stopped.{idle_leaves, left_alone}
 use Rattle.r10_machine.specs.declared.event.Event.TheVariants as events
 use Rattle.r10_machine.specs.declared.reply.Reply.TheVariants as replies
+use Rattle.r10_control.proofs.Effecting.{dismount_effect, idle_usable}
+use Rattle.r10_control.specs.Effects.{DismountEffect}
 use Rattle.r10_control.proofs.recorder.Recorder.dismount.Goals as goal
 
 pub returns-in-Err-clause-steps : goal.returns-in-Err-clause-steps
@@ -93,3 +95,15 @@ returns-in-Err-dismount-clause-moments g c =
     let k : Kept = record { config = w.settings; work = work_of w.work; tick = w.tick; last_event = w.last_event; generation = w.generation; taken = w.taken.items; erased = w.erased.items } in
     subst (λ (v : State _ _). LeavesShown none_made v.kept (disk v.medium) later) c.self.view_is
     (idle_leaves none_made k (disk w.medium) later c.in-Idle.directory (ap work_of c.in-Idle.is) (λ files held settled. c.dismount.ensures.moments k.config files held settled))
+
+pub returns-in-Ok-clause-effect : goal.returns-in-Ok-clause-effect
+returns-in-Ok-clause-effect g c =
+    let w = c.self.inside in
+    let disk = g.M.BlockMedium.disk in
+    let later = disk c.dismount.new.medium in
+    let k : Kept = record { config = w.settings; work = work_of w.work; tick = w.tick; last_event = w.last_event; generation = w.generation; taken = w.taken.items; erased = w.erased.items } in
+    let at : k.work ≡ idle c.in-Idle.directory = ap work_of c.in-Idle.is in
+    subst (λ (v : State _ _). DismountEffect v.kept (disk v.medium) (record k { work = work_of c.turn.new.work }) later) c.self.view_is
+    (subst (λ (x : Doing). DismountEffect k (disk w.medium) (record k { work = work_of x }) later) (sym c.turn.ensures)
+    (dismount_effect k (disk w.medium) later c.in-Idle.directory c.dismount.new.directory c.dismount.result at
+    (idle_usable g.L.LaneOut.spec_of g.L.LaneOut.reached k (disk w.medium).blocks w.lanes.items c.in-Idle.directory at c.self.invariant.work) c.dismount.ensures.turns c.in-Ok.ensures.done c.in-Ok.ensures.directory))

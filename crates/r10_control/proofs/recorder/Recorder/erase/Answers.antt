@@ -18,6 +18,8 @@ use Rattle.r10_control.proofs.Stopped.{idle_becomes, left_alone}
 use Rattle.r10_machine.specs.EventChecks.{erase_checks}
 use Rattle.r10_machine.specs.declared.event.Event.TheVariants as events
 use Rattle.r10_machine.specs.declared.reply.Reply.TheVariants as replies
+use Rattle.r10_control.proofs.Effecting.{erase_effect, idle_usable}
+use Rattle.r10_control.specs.Effects.{EraseEffect}
 use Rattle.r10_control.proofs.recorder.Recorder.erase.Goals as goal
 
 pub returns-in-Err-clause-steps : goal.returns-in-Err-clause-steps
@@ -134,3 +136,16 @@ returns-in-Err-erase-clause-moments g c =
     let k : Kept = record { config = w.settings; work = work_of w.work; tick = w.tick; last_event = w.last_event; generation = w.generation; taken = w.taken.items; erased = w.erased.items } in
     subst (λ (v : State _ _). LeavesShown (erase_made v.kept.config) v.kept (disk v.medium) later) c.self.view_is
     (idle_becomes (erase_made k.config) k (disk w.medium) later c.in-Idle.directory (ap work_of c.in-Idle.is) (λ files held settled. c.erase.ensures.moments k.config files held settled))
+
+pub returns-in-Ok-erase-clause-effect : goal.returns-in-Ok-erase-clause-effect
+returns-in-Ok-erase-clause-effect g c =
+    let w = c.self.inside in
+    let disk = g.M.BlockMedium.disk in
+    let later = disk c.erase.new.medium in
+    let k : Kept = record { config = w.settings; work = work_of w.work; tick = w.tick; last_event = w.last_event; generation = w.generation; taken = w.taken.items; erased = w.erased.items } in
+    let at : k.work ≡ idle c.in-Idle.directory = ap work_of c.in-Idle.is in
+    let copied : k.taken ≡ c.in-Ok.erased.items = sym (c.in-Ok.ensures.items ∙ c.as_slice.ensures.value) in
+    subst (λ (v : State _ _). EraseEffect v.kept (disk v.medium) (record k { work = idle c.erase.new.directory; generation = w.generation + 1; erased = c.in-Ok.erased.items }) later) c.self.view_is
+    (erase_effect k (disk w.medium) later c.in-Idle.directory c.erase.new.directory c.erase.result at
+    (idle_usable g.L.LaneOut.spec_of g.L.LaneOut.reached k (disk w.medium).blocks w.lanes.items c.in-Idle.directory at c.self.invariant.work) c.erase.ensures.turns c.in-Ok-erase.ensures.done c.in-Ok-erase.ensures.directory
+    c.in-Ok.erased.items copied)

@@ -1,4 +1,4 @@
-use Rattle.std.proofs.Common.{◌≡◌, None, Option, Err, refl, sym, ap, ◌∙◌, subst}
+use Rattle.std.proofs.Common.{◌≡◌, ℕ, None, Option, Err, refl, sym, ap, ◌∙◌, subst}
 use Rattle.r10_body.specs.declared.refusal.Refusal.TheVariants as refusals
 use Rattle.r10_count.specs.Checks.{first_broken}
 use Rattle.r10_machine.specs.Checks.{unmounted_checks}
@@ -17,6 +17,9 @@ use Rattle.r10_control.proofs.Mounts.{mount_done, mount_fails, mount_lacks, moun
 use Rattle.r10_control.proofs.Stopped.{left_alone, unmounted_leaves}
 use Rattle.r10_machine.specs.declared.event.Event.TheVariants as events
 use Rattle.r10_machine.specs.declared.reply.Reply.TheVariants as replies
+use Rattle.r10_volume.specs.Mounting.{IsMounted, IsUsable}
+use Rattle.r10_control.proofs.Effecting.{mount_effect}
+use Rattle.r10_control.specs.Effects.{MountEffect}
 use Rattle.r10_control.proofs.recorder.Recorder.mount.Goals as goal
 
 pub returns-in-Err-clause-steps : goal.returns-in-Err-clause-steps
@@ -155,3 +158,15 @@ returns-in-Err-Medium-clause-moments g c =
     let fine : first_broken (unmounted_checks (mode_of k.work)) ≡ None = ap (λ mode. first_broken (unmounted_checks mode)) (sym c.mode_in.ensures) ∙ c.in_default.ensures in
     subst (λ (v : State _ _). LeavesShown none_made v.kept (disk v.medium) later) c.self.view_is
     (unmounted_leaves none_made k (disk w.medium) later (unmounted_work k.work fine) (λ files settled. c.mount.ensures.moments k.config files settled))
+
+pub returns-in-Ok-clause-effect : goal.returns-in-Ok-clause-effect
+returns-in-Ok-clause-effect g c =
+    let w = c.self.inside in
+    let disk = g.M.BlockMedium.disk in
+    let later = disk c.mount.new.medium in
+    let k : Kept = record { config = w.settings; work = work_of w.work; tick = w.tick; last_event = w.last_event; generation = w.generation; taken = w.taken.items; erased = w.erased.items } in
+    let reserved : c.directory.result ≡ k.config.directory = c.directory.ensures.value in
+    subst (λ (v : State _ _). MountEffect v.kept (disk v.medium) (record k { work = work_of c.turn.new.work }) later) c.self.view_is
+    (subst (λ (x : Doing). MountEffect k (disk w.medium) (record k { work = work_of x }) later) (sym c.turn.ensures)
+    (mount_effect k (disk w.medium) later c.in-Ok.directory c.mount.result (subst (λ (n : ℕ). IsMounted n (disk w.medium).blocks c.in-Ok.directory) reserved c.in-Ok.ensures.mounted)
+    (λ chain usable. c.mount.ensures.turns chain (subst (λ (n : ℕ). IsUsable n (disk w.medium).blocks chain) (sym reserved) usable)) c.in-Ok.ensures.directory))

@@ -1,0 +1,135 @@
+-- What a call that answers Ok has done.
+use Rattle.std.proofs.Common.{◌≡◌, ℕ, ◌+◌, ◌<◌, ◌≤◌, List, [], ◌∷◌, length, Option, Some, Result, refl, sym, ap, ◌∙◌, subst, ⊎_elim, arith}
+use Rattle.std.specs.Prelude.{◌≢◌, IsSomeAnd}
+use Rattle.std.proofs.lemmas.List.Elements.{All-cons, All-nil}
+use Rattle.r10_blockout.specs.Output.{first_of, size_of}
+use Rattle.r10_body.specs.declared.spec.ChannelSpec.{ChannelSpec}
+use Rattle.r10_dirblock.specs.Block.{begun as listing, sized}
+use Rattle.r10_dirchain.specs.Chain.{IsDirectory, files as listed_files}
+use Rattle.r10_dirchain.specs.OnMedium.{IsPublished, Turns}
+use Rattle.r10_dirchain.specs.Steps.{added, emptied, last_file, updated, with_shutdown}
+use Rattle.r10_dirchain.specs.declared.chain.ChainBlock.{ChainBlock}
+use Rattle.r10_dirchain.proofs.Directories.{some_block}
+use Rattle.r10_dirchain.proofs.Usable.{place_rules_hold, placed}
+use Rattle.r10_volume.specs.Holding.{Open}
+use Rattle.r10_machine.specs.Machine.{Tick}
+use Rattle.r10_means.specs.Kept.{Kept, Work, unmounted, idle, recording, failed}
+use Rattle.r10_medium.specs.Disk.{Disk, Image, block_at}
+use Rattle.r10_control.specs.Closing.{IsListedClosed}
+use Rattle.r10_control.specs.Effects.{CommitEffect, DismountEffect, Effect, EraseEffect, EventEffect, HasDirectory, MountEffect, PumpEffect, StartEffect, StopEffect, StopEffectAt, TickEffect, WhereRecording}
+use Rattle.r10_control.specs.Owns.{OwnsWork}
+use Rattle.r10_volume.specs.Front.{KeepsFront}
+use Rattle.r10_volume.specs.Listing.{block_behind}
+use Rattle.r10_volume.specs.Mounting.{IsMounted, IsUsable}
+
+-- of a directory that is used some block is reserved
+some_reserved : (reserved : ℕ) (image : Image) (chain : List ChainBlock) → IsUsable reserved image chain → 1 ≤ reserved
+some_reserved reserved image chain usable =
+    omega (arith, (placed reserved 1 chain (place_rules_hold reserved (length image) chain usable.rules) 0 (some_block image chain usable.directory)).1)
+
+-- a step that writes block 1 alone
+one_block : {T E : Type 0} (reserved first : ℕ) (chain made : List ChainBlock) (old new : Disk) (result : Result T E) → 1 ≤ reserved → Turns chain made [] (1 ∷ []) old new result → KeepsFront reserved first old.blocks new.blocks
+one_block reserved first chain made old new result some turns = record {
+  size = ⊎_elim (λ was. was.others.size) (λ is. is.others.size) turns.reads;
+  blocks = λ k behind less. ⊎_elim (λ was. was.others.others k (All-nil (λ (n : ℕ). k ≢ n)))
+      (λ is. is.others.others k (All-cons (λ (n : ℕ). k ≢ n) 1 [] (λ e. absurd (omega (arith, e, behind, some))) (All-nil (λ (n : ℕ). k ≢ n)))) turns.reads;
+}
+
+-- ---- the calls on the directory
+
+pub mount_effect : {T E : Type 0} (k : Kept) (old new : Disk) (made : List ChainBlock) (result : Result T E) → IsMounted k.config.directory old.blocks made
+    → ((chain : List ChainBlock) → IsUsable k.config.directory old.blocks chain → Turns chain (with_shutdown 0x00 chain) [] (1 ∷ []) old new result) → IsPublished made new
+    → MountEffect k old (record k { work = idle made }) new
+mount_effect k old new made result is turns published = record {
+  chain = is.chain;
+  usable = is.usable;
+  effect = record {
+    kept = ap (λ (l : List ChainBlock). record k { work = idle l }) is.made_is;
+    front = one_block k.config.directory (length old.blocks) is.chain (with_shutdown 0x00 is.chain) old new result (some_reserved k.config.directory old.blocks is.chain is.usable) (turns is.chain is.usable);
+    directory = subst (λ (l : List ChainBlock). IsPublished l new) is.made_is published;
+  };
+}
+
+-- the directory in use
+pub idle_usable : {L : Type 0} (spec_of : L → ChannelSpec) (reached : L → ℕ) (k : Kept) (image : Image) (lanes : List L) (chain : List ChainBlock) → k.work ≡ idle chain → OwnsWork spec_of reached k k.work image lanes
+    → IsUsable k.config.directory image chain
+idle_usable spec_of reached k image lanes chain at owns = subst (λ (w : Work). OwnsWork spec_of reached k w image lanes) at owns
+
+pub dismount_effect : {T E : Type 0} (k : Kept) (old new : Disk) (chain made : List ChainBlock) (result : Result T E) → k.work ≡ idle chain → IsUsable k.config.directory old.blocks chain
+    → Turns chain (with_shutdown 0xFF chain) [] (1 ∷ []) old new result → made ≡ with_shutdown 0xFF chain → IsPublished made new → DismountEffect k old (record k { work = unmounted }) new
+dismount_effect k old new chain made result at usable turns is published = rw at (record {
+  kept = refl;
+  front = one_block k.config.directory (length old.blocks) chain (with_shutdown 0xFF chain) old new result (some_reserved k.config.directory old.blocks chain usable) turns;
+  directory = subst (λ (l : List ChainBlock). IsPublished l new) is published;
+})
+
+pub erase_effect : {T E : Type 0} (k : Kept) (old new : Disk) (chain made : List ChainBlock) (result : Result T E) → k.work ≡ idle chain → IsUsable k.config.directory old.blocks chain
+    → Turns chain (emptied chain) [] (1 ∷ []) old new result → made ≡ emptied chain → IsPublished made new → (erased : List ℕ) → k.taken ≡ erased
+    → EraseEffect k old (record k { work = idle made; generation = k.generation + 1; erased = erased }) new
+erase_effect k old new chain made result at usable turns is published erased copied = rw at (record {
+  kept = rw (is, sym copied) refl;
+  front = one_block k.config.directory (length old.blocks) chain (emptied chain) old new result (some_reserved k.config.directory old.blocks chain usable) turns;
+  directory = subst (λ (l : List ChainBlock). IsPublished l new) is published;
+})
+
+-- ---- the calls on the file that is recorded
+
+pub start_effect : (k : Kept) (old new : Disk) (chain made : List ChainBlock) (o : Open) (tick : Tick) (name : List ℕ) → k.work ≡ idle chain → k.tick ≡ Some tick
+    → first_of o.recording.out.blocks ≡ block_behind k.config.directory (listed_files chain)
+    → made ≡ added (sized (size_of o.recording.out.blocks) (listing name (first_of o.recording.out.blocks) tick.civil)) chain
+    → KeepsFront k.config.directory (block_behind k.config.directory (listed_files chain)) old.blocks new.blocks → IsPublished made new
+    → StartEffect name k old (record k { work = recording made o }) new
+start_effect k old new chain made o tick name at ticked first is front published =
+    let listed : made ≡ added (sized (size_of o.recording.out.blocks) (listing name (block_behind k.config.directory (listed_files chain)) tick.civil)) chain =
+    is ∙ ap (λ (n : ℕ). added (sized (size_of o.recording.out.blocks) (listing name n tick.civil)) chain) first in
+    let lists : Tick → List ChainBlock = λ t. added (sized (size_of o.recording.out.blocks) (listing name (block_behind k.config.directory (listed_files chain)) t.civil)) chain in
+    let does : Tick → Type 0 = λ t.
+    Effect (block_behind k.config.directory (listed_files chain)) (record k { work = recording (lists t) o }) (IsPublished (lists t)) old.blocks (record k { work = recording made o }) new in
+    let done : does tick = record {
+      kept = ap (λ (l : List ChainBlock). record k { work = recording l o }) listed;
+      front = front;
+      directory = subst (λ (l : List ChainBlock). IsPublished l new) listed published;
+    } in
+    rw at (subst (λ (t : Option Tick). IsSomeAnd t does) (sym ticked) done)
+
+pub commit_effect : (k : Kept) (old new : Disk) (chain made : List ChainBlock) (o p : Open) → k.work ≡ recording chain o
+    → made ≡ updated (sized (size_of p.recording.out.blocks) (last_file chain)) chain → KeepsFront k.config.directory (first_of o.recording.out.blocks) old.blocks new.blocks → IsPublished made new
+    → CommitEffect k old (record k { work = recording made p }) new
+commit_effect k old new chain made o p at is front published = rw at (record {
+  kept = ap (λ (l : List ChainBlock). record k { work = recording l p }) is;
+  front = front;
+  directory = subst (λ (l : List ChainBlock). IsPublished l new) is published;
+})
+
+pub stop_effect : (k : Kept) (old new : Disk) (chain made : List ChainBlock) (o : Open) (tick : Tick) (taken : List ℕ) → k.work ≡ recording chain o → k.tick ≡ Some tick → IsListedClosed tick.civil chain made new
+    → KeepsFront k.config.directory (first_of o.recording.out.blocks) old.blocks new.blocks → StopEffect k old (record k { work = idle made; taken = taken }) new
+stop_effect k old new chain made o tick taken at ticked is front =
+    let does : Tick → Type 0 = λ t. StopEffectAt t.civil chain o k old (record k { work = idle made; taken = taken }) new in
+    let done : does tick = record {
+      size = is.size;
+      effect = record {
+        kept = ap (λ (l : List ChainBlock). record k { work = idle l; taken = taken }) is.made_is;
+        front = front;
+        directory = subst (λ (l : List ChainBlock). IsPublished l new) is.made_is is.published;
+      };
+    } in
+    let later : Kept = record k { work = idle made; taken = taken } in
+    subst (λ (w : Work). WhereRecording w (λ c p. IsSomeAnd k.tick (λ (t : Tick). StopEffectAt t.civil c p k old later new))) (sym at)
+    (subst (λ (t : Option Tick). IsSomeAnd t does) (sym ticked) done)
+
+-- ---- what is put into the file that is recorded, and not shown yet
+
+pub idle_tick_effect : (k : Kept) (disk : Disk) (chain : List ChainBlock) (tick : Tick) → k.work ≡ idle chain → IsDirectory disk.blocks chain → TickEffect tick k disk (record k { tick = Some tick }) disk
+idle_tick_effect k disk chain tick at is = rw at (record { kept = refl; front = record { size = refl; blocks = λ n behind less. refl }; directory = is })
+
+pub tick_effect : (k : Kept) (old new : Disk) (chain : List ChainBlock) (o p : Open) (tick : Tick) → k.work ≡ recording chain o → KeepsFront k.config.directory (first_of o.recording.out.blocks) old.blocks new.blocks → IsDirectory new.blocks chain
+    → TickEffect tick k old (record k { work = recording chain p; tick = Some tick }) new
+tick_effect k old new chain o p tick at front is = rw at (record { kept = refl; front = front; directory = is })
+
+pub event_effect : (k : Kept) (old new : Disk) (chain : List ChainBlock) (o p : Open) (count : ℕ) → k.work ≡ recording chain o → KeepsFront k.config.directory (first_of o.recording.out.blocks) old.blocks new.blocks → IsDirectory new.blocks chain
+    → EventEffect count k old (record k { work = recording chain p; last_event = Some count }) new
+event_effect k old new chain o p count at front is = rw at (record { kept = refl; front = front; directory = is })
+
+pub pump_effect : (k : Kept) (old new : Disk) (chain : List ChainBlock) (o p : Open) (taken : List ℕ) → k.work ≡ recording chain o → KeepsFront k.config.directory (first_of o.recording.out.blocks) old.blocks new.blocks → IsDirectory new.blocks chain
+    → PumpEffect k old (record k { work = recording chain p; taken = taken }) new
+pump_effect k old new chain o p taken at front is = rw at (record { kept = refl; front = front; directory = is })

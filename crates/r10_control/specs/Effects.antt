@@ -1,0 +1,106 @@
+-- What a call that answers Ok has done, whatever files the medium has: what is kept then, the medium's directory, and which blocks stay.
+use Rattle.std.specs.Prelude.{◌≡◌, ℕ, ◌+◌, List, length, Option, Some, IsSomeAnd}
+use Rattle.r10_blockout.specs.Output.{first_of, size_of}
+use Rattle.r10_count.specs.declared.civil.Parts.{Parts}
+use Rattle.r10_dirblock.specs.Block.{begun as listing, sized}
+use Rattle.r10_dirblock.specs.Texts.{time_text}
+use Rattle.r10_dirchain.specs.Chain.{IsDirectory, files as listed_files}
+use Rattle.r10_dirchain.specs.OnMedium.{IsPublished}
+use Rattle.r10_dirchain.specs.Steps.{added, emptied, last_file, updated, with_shutdown}
+use Rattle.r10_dirchain.specs.declared.chain.ChainBlock.{ChainBlock}
+use Rattle.r10_volume.specs.Holding.{Open}
+use Rattle.r10_machine.specs.Machine.{Tick}
+use Rattle.r10_means.specs.Kept.{Kept, Work, unmounted, idle, recording, failed}
+use Rattle.r10_medium.specs.Disk.{Disk, Image}
+use Rattle.r10_volume.specs.Front.{KeepsFront}
+use Rattle.r10_volume.specs.Listing.{block_behind}
+use Rattle.r10_volume.specs.Mounting.{IsUsable}
+
+-- where a directory is in use and no file is recorded; and where one is
+abbrev pub WhereIdle : Work → (List ChainBlock → Type 0) → Type 0
+WhereIdle (idle chain) holds = holds chain
+WhereIdle work holds = ⊥
+
+abbrev pub WhereRecording : Work → (List ChainBlock → Open → Type 0) → Type 0
+WhereRecording (recording chain o) holds = holds chain o
+WhereRecording work holds = ⊥
+
+-- This is kept then, and nothing else was changed; the blocks behind the reserved ones and in front of this one stay, so that all files in front of it keep their bytes; and this is said of the medium's directory.
+pub record Effect (first : ℕ) (made : Kept) (directory_is : Disk → Type 0) (old : Image) (later : Kept) (new : Disk) : Type 0 where
+  pub kept : later ≡ made
+  pub front : KeepsFront made.config.directory first old new.blocks
+  pub directory : directory_is new
+
+-- the directory stays, and may not be sure
+abbrev pub HasDirectory : List ChainBlock → Disk → Type 0
+HasDirectory chain disk = IsDirectory disk.blocks chain
+
+-- ---- the calls on the directory
+
+-- a mount: the directory was one that a mount takes, and block 1 notes that the medium is in use
+pub record MountEffect (k : Kept) (old : Disk) (later : Kept) (new : Disk) : Type 0 where
+  pub chain : List ChainBlock
+  pub usable : IsUsable k.config.directory old.blocks chain
+  pub effect : Effect (length old.blocks) (record k { work = idle (with_shutdown 0x00 chain) }) (IsPublished (with_shutdown 0x00 chain)) old.blocks later new
+
+-- a dismount: block 1 notes that the medium is properly dismounted
+abbrev pub DismountEffect : Kept → Disk → Kept → Disk → Type 0
+DismountEffect k old later new = WhereIdle k.work (λ chain. Effect (length old.blocks) (record k { work = unmounted }) (IsPublished (with_shutdown 0xFF chain)) old.blocks later new)
+
+-- an erase: no file is listed, and all that was taken in is erased
+abbrev pub EraseEffect : Kept → Disk → Kept → Disk → Type 0
+EraseEffect k old later new =
+    WhereIdle k.work (λ chain. Effect (length old.blocks) (record k { work = idle (emptied chain); generation = k.generation + 1; erased = k.taken }) (IsPublished (emptied chain)) old.blocks later new)
+
+-- ---- the calls on the file that is recorded
+
+-- a start: one file more is listed, of this name, from the block behind the others on, begun at the last tick's civil time, with as many blocks as its bytes need
+abbrev pub StartEffect : List ℕ → Kept → Disk → Kept → Disk → Type 0
+StartEffect name k old later new =
+    WhereIdle k.work (λ chain. WhereRecording later.work (λ made o. IsSomeAnd k.tick (λ (tick : Tick).
+    let first = block_behind k.config.directory (listed_files chain) in
+    let lists = added (sized (size_of o.recording.out.blocks) (listing name first tick.civil)) chain in
+    Effect first (record k { work = recording lists o }) (IsPublished lists) old.blocks later new)))
+
+-- a commit: the last file is listed with its bytes, and as many blocks as they need
+abbrev pub CommitEffect : Kept → Disk → Kept → Disk → Type 0
+CommitEffect k old later new =
+    WhereRecording k.work (λ chain o. WhereRecording later.work (λ made p.
+    let lists = updated (sized (size_of p.recording.out.blocks) (last_file chain)) chain in
+    Effect (first_of o.recording.out.blocks) (record k { work = recording lists p }) (IsPublished lists) old.blocks later new))
+
+-- the directory with the last file closed at this time, in so many bytes
+abbrev pub closed_listing : Parts → ℕ → List ChainBlock → List ChainBlock
+closed_listing civil size chain = updated (record (sized size (last_file chain)) { close_time = time_text civil }) chain
+
+-- a stop: the last file is listed with its bytes, closed at the last tick's civil time; of the channels' numbers those of what was taken in rise
+pub record StopEffectAt (civil : Parts) (chain : List ChainBlock) (o : Open) (k : Kept) (old : Disk) (later : Kept) (new : Disk) : Type 0 where
+  pub size : ℕ
+  pub effect : Effect (first_of o.recording.out.blocks) (record k { work = idle (closed_listing civil size chain); taken = later.taken }) (IsPublished (closed_listing civil size chain)) old.blocks later new
+
+abbrev pub StopEffect : Kept → Disk → Kept → Disk → Type 0
+StopEffect k old later new = WhereRecording k.work (λ chain o. IsSomeAnd k.tick (λ (tick : Tick). StopEffectAt tick.civil chain o k old later new))
+
+-- ---- what is put into the file that is recorded, and not shown yet
+
+-- a tick: the clock is set; while a file is recorded, that goes on
+abbrev pub TickEffectIn : Work → Work → Tick → Kept → Disk → Kept → Disk → Type 0
+TickEffectIn (idle chain) now tick k old later new = Effect (length old.blocks) (record k { tick = Some tick }) (HasDirectory chain) old.blocks later new
+TickEffectIn (recording chain o) (recording made p) tick k old later new =
+    Effect (first_of o.recording.out.blocks) (record k { work = recording chain p; tick = Some tick }) (HasDirectory chain) old.blocks later new
+TickEffectIn was now tick k old later new = ⊥
+
+abbrev pub TickEffect : Tick → Kept → Disk → Kept → Disk → Type 0
+TickEffect tick k old later new = TickEffectIn k.work later.work tick k old later new
+
+-- an event: the last event's count is set
+abbrev pub EventEffect : ℕ → Kept → Disk → Kept → Disk → Type 0
+EventEffect count k old later new =
+    WhereRecording k.work (λ chain o. WhereRecording later.work (λ made p.
+    Effect (first_of o.recording.out.blocks) (record k { work = recording chain p; last_event = Some count }) (HasDirectory chain) old.blocks later new))
+
+-- a pump: the channel's number of what was taken in rises
+abbrev pub PumpEffect : Kept → Disk → Kept → Disk → Type 0
+PumpEffect k old later new =
+    WhereRecording k.work (λ chain o. WhereRecording later.work (λ made p.
+    Effect (first_of o.recording.out.blocks) (record k { work = recording chain p; taken = later.taken }) (HasDirectory chain) old.blocks later new))
