@@ -34,7 +34,7 @@ same_by (idle chain) k m at numbers =
     ap (λ n. first_broken (idle_checks modes.Idle ++ erase_checks n)) all.1
 same_by (recording chain o) k m at numbers = refl
 
-same_check : (k : Kept) (image : Image) (n : ℕ) (m : Machine) → Means k image n m → refusal k.config m Erase ≡ checked k
+pub same_check : (k : Kept) (image : Image) (n : ℕ) (m : Machine) → Means k image n m → refusal k.config m Erase ≡ checked k
 same_check k image n m means = ap (λ mode. first_broken (idle_checks mode ++ erase_checks m.generation)) means.mode ∙ same_by k.work k m refl means.numbers
 
 pub erase_refused : StepsStaySound → (k : Kept) (image : Image) (n : ℕ) (m : Machine) (r : Refusal) → IsConfig k.config → Means k image n m → checked k ≡ Some r → Leads none_taken k m Erase (replies.Refused r) k image n

@@ -32,3 +32,4 @@ mod Moments
 mod Stopped
 mod Works
 mod Effecting
+mod Making

@@ -188,7 +188,7 @@ last_changes change [] f = refl
 last_changes change (x ∷ []) f = refl
 last_changes change (x ∷ y ∷ files) f = ap (λ (l : List File). x ∷ l) (last_changes change (y ∷ files) f)
 
-seals_so : (k : Kept) (old : Image) (now : ℕ) (m : Machine) (chain : List ChainBlock) (nodes : ℕ) (l : Left k old chain nodes m) (size : ℕ) → cost_of l.f ≤ area k.config l.f
+pub seals_so : (k : Kept) (old : Image) (now : ℕ) (m : Machine) (chain : List ChainBlock) (nodes : ℕ) (l : Left k old chain nodes m) (size : ℕ) → cost_of l.f ≤ area k.config l.f
     → Seals k.config (failing now m) (record m { files = l.files ++ closed_in size l.f ∷ []; failures = now })
 seals_so k old now m chain nodes l size room =
     let shown : List File = l.files ++ closed_in size l.f ∷ [] in

@@ -41,11 +41,12 @@ abbrev pub closed_with : ℕ → List Part → File → File
 closed_with size parts f = closed_whole size (with_entries (entries_of parts) f)
 
 -- an image says the file closed, with what was taken from the lanes
-pub record SaysStopped {L : Type 0} (took : L → List Sample → L → Type 0) (spec_of : L → ChannelSpec) (lanes lanes' : List L) (s : Config) (files : List File) (f : File) (image : Image) : Type 0 where
-  pub parts : List Part
-  pub taken : TookAll took spec_of parts lanes lanes'
+pub record SaysStopped {L : Type 0} (took : L → List Sample → L → Type 0) (quiet : L → Option (List Sample)) (reached : L → ℕ) (spec_of : L → ChannelSpec) (order shares : List ℕ) (nodes area : ℕ) (lanes lanes' : List L)
+    (old : Open) (before : Image) (chain : List ChainBlock) (s : Config) (files : List File) (f : File) (image : Image) : Type 0 where
+  pub said : Stopped
+  pub taken : TakenAll took quiet reached spec_of order shares nodes area lanes lanes' old before chain said
   pub size : ℕ
-  pub says : MediumSays s image (files ++ closed_with size parts f ∷ [])
+  pub says : MediumSays s image (files ++ closed_with size taken.parts f ∷ [])
 
 -- the directory holds it so, no shorter than it was shown
 abbrev pub ClosesSo : {L : Type 0} → (L → ℕ) → (L → ChannelSpec) → List L → Open → Image → List ChainBlock → List ChainBlock → Image → ℕ → List Part → Type 0

@@ -13,5 +13,5 @@ pub mod Taking
 pub mod Raising
 pub mod Recording
 pub mod Closing
-pub mod Stopped
 pub mod Effects
+pub mod Safely

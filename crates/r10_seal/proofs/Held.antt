@@ -7,9 +7,9 @@ use Rattle.std.proofs.lemmas.Bool.{ne_eqb}
 use Rattle.std.proofs.lemmas.List.{append-nil, nil_from_length}
 use Rattle.std.proofs.lemmas.List.Concat.{flat_map-append}
 use Rattle.r10_count.specs.declared.civil.Parts.{Parts}
-use Rattle.r10_medium.specs.Disk.{Disk, Image, IsWhole}
+use Rattle.r10_medium.specs.Disk.{Disk, Image, IsWhole, Unchanged}
 use Rattle.r10_medium.specs.Stop.{Leaves, PutsSome, SameBelow, Settled}
-use Rattle.r10_medium.proofs.Stops.{settled_reads, weakened, whole_left, whole_reads}
+use Rattle.r10_medium.proofs.Stops.{settled_reads, stayed, weakened, whole_left, whole_reads}
 use Rattle.r10_blockout.specs.Blocks.{Shows, bytes_from, file_blocks}
 use Rattle.r10_blockout.proofs.Showing.{shown_length}
 use Rattle.r10_body.specs.Files.{PacketsSay}
@@ -42,7 +42,7 @@ use Rattle.r10_volume.specs.Settling.{IsSettled, SaysAs}
 use Rattle.r10_volume.proofs.Turning.{keep_both}
 use Rattle.r10_seal.specs.Judging.{IsSealable}
 use Rattle.r10_seal.specs.declared.judging.Sealable.{Sealable}
-use Rattle.r10_seal.specs.Leftover.{IsEither, IsLeftOpen, SealsLast, shown_cost}
+use Rattle.r10_seal.specs.Leftover.{IsEither, IsLeftOpen, SealsLast, StaysOpen, shown_cost}
 use Rattle.r10_seal.specs.Sealing.{IsClosed, IsPartlySealed, IsSealing, IsUnsealed, Seals, sealed, sealed_bytes, sealed_entry}
 use Rattle.r10_seal.proofs.Left.{area_is, cost, its_packets, lists, long, packets, put_below, put_bytes, put_says, put_whole, said, say, unsealed, usable}
 use Rattle.r10_seal.proofs.Placing.{directory_stays, last_place}
@@ -230,9 +230,12 @@ pub sealable_costs : (s : Config) (old : Image) (chain : List ChainBlock) (nodes
 sealable_costs s old chain nodes area' v files f e whole left last is all =
     omega (arith, is.room, all, cost s old chain nodes files f left whole e is.text is.packets last is.unsealed, area_is s old chain nodes files f left whole e last)
 
--- where nothing was put, the files are said as they were
-pub still_said : (s : Config) (old new : Image) (chain : List ChainBlock) (nodes : ℕ) (files : List File) (f : File) → IsLeftOpen s old chain nodes files f → new ≡ old → MediumSays s new (files ++ f ∷ [])
-still_said s old new chain nodes files f left same = subst (λ (image : Image). MediumSays s image (files ++ f ∷ [])) (sym same) left.held.says
+-- where nothing changed, the files are said as they were
+pub still_open : (s : Config) (old new : Disk) (chain : List ChainBlock) (nodes : ℕ) (files : List File) (f : File) → IsLeftOpen s old.blocks chain nodes files f → Unchanged old new → StaysOpen s files f old new
+still_open s old new chain nodes files f left same = record {
+  says = subst (λ (image : Image). MediumSays s image (files ++ f ∷ [])) (sym same.reads) left.held.says;
+  left = λ settled. stayed (λ image. MediumSays s image (files ++ f ∷ [])) old new same (λ image may. (settled image may).says);
+}
 
 module _ {T E : Type 0} (s : Config) (old new : Disk) (chain made : List ChainBlock) (nodes : ℕ) (files : List File) (f : File) (left : IsLeftOpen s old.blocks chain nodes files f) (e : Listed) (last : last_or None (listed_files chain) ≡ Some e)
     (result : Result T E) where

@@ -40,6 +40,11 @@ IsLeftFault s f OutOfMemory = Unit {0}
 abbrev pub IsEither : Config → List File → File → List Packet → Image → Type 0
 IsEither s files f packets image = MediumSays s image (files ++ f ∷ []) ⊎ MediumSays s image (files ++ sealed packets f ∷ [])
 
+-- Nothing is closed: the medium says the file as it was left, and where a stop left that before, it leaves it at every moment.
+pub record StaysOpen (s : Config) (files : List File) (f : File) (old new : Disk) : Type 0 where
+  pub says : MediumSays s new.blocks (files ++ f ∷ [])
+  pub left : IsSettled s (files ++ f ∷ []) old → Leaves (λ image. MediumSays s image (files ++ f ∷ [])) old new
+
 -- The medium has these packets of the file, which with their index are no fewer bytes. After an Ok the file is held closed with their index, and a stop leaves it so; else, and at every moment, the medium says the file as it was left, or so. All files keep the bytes that they showed.
 pub record SealsLast {T E : Type 0} (s : Config) (files : List File) (f : File) (old new : Disk) (made : List ChainBlock) (result : Result T E) : Type 0 where
   pub packets : List Packet

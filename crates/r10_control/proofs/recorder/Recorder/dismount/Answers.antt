@@ -7,16 +7,18 @@ use Rattle.r10_means.specs.Kept.{Kept, mode_of, idle}
 use Rattle.r10_means.specs.Means.{Means}
 use Rattle.r10_control.specs.Leading.{KeepsShown, Leads, none_taken}
 use Rattle.r10_control.specs.State.{State}
-use Rattle.r10_control.specs.Stopped.{LeavesShown, none_made}
 use Rattle.r10_control.specs.Work.{work_of}
 use Rattle.r10_control.specs.declared.work.Doing.{Doing}
 use Rattle.r10_control.proofs.Bytes.{holds_of}
 use Rattle.r10_control.proofs.Dismounts.{dismount_done, dismount_fails, dismount_refused, held}
-use Rattle.r10_control.proofs.Stopped.{idle_leaves, left_alone}
 use Rattle.r10_machine.specs.declared.event.Event.TheVariants as events
 use Rattle.r10_machine.specs.declared.reply.Reply.TheVariants as replies
 use Rattle.r10_control.proofs.Effecting.{dismount_effect, idle_usable}
 use Rattle.r10_control.specs.Effects.{DismountEffect}
+use Rattle.r10_stops.proofs.Behind.{failed_safely, refused_safely, synced_safely}
+use Rattle.r10_stops.specs.Left.{StaysSafe, whichever}
+use Rattle.r10_control.proofs.Stopped.{idle_leaves, none_of}
+use Rattle.r10_medium.proofs.Stops.{unchanged}
 use Rattle.r10_control.proofs.recorder.Recorder.dismount.Goals as goal
 
 pub returns-in-Err-clause-steps : goal.returns-in-Err-clause-steps
@@ -71,31 +73,6 @@ returns-in-Err-dismount-clause-bytes g c =
     subst (λ (v : State _ _). KeepsShown v.kept (disk v.medium).blocks (disk v.medium).failures (disk c.dismount.new.medium).blocks) c.self.view_is
     (λ m means. c.dismount.ensures.bytes w.settings m.files (holds_of w.settings (work_of w.work) c.in-Idle.directory (disk w.medium).blocks m.files (ap work_of c.in-Idle.is) means.files))
 
-pub returns-in-Err-clause-moments : goal.returns-in-Err-clause-moments
-returns-in-Err-clause-moments g c =
-    let w = c.self.inside in
-    let disk = g.M.BlockMedium.disk in
-    let k : Kept = record { config = w.settings; work = work_of w.work; tick = w.tick; last_event = w.last_event; generation = w.generation; taken = w.taken.items; erased = w.erased.items } in
-    subst (λ (v : State _ _). LeavesShown none_made v.kept (disk v.medium) (disk v.medium)) c.self.view_is (left_alone none_made k (disk w.medium))
-
-pub returns-in-Ok-clause-moments : goal.returns-in-Ok-clause-moments
-returns-in-Ok-clause-moments g c =
-    let w = c.self.inside in
-    let disk = g.M.BlockMedium.disk in
-    let later = disk c.dismount.new.medium in
-    let k : Kept = record { config = w.settings; work = work_of w.work; tick = w.tick; last_event = w.last_event; generation = w.generation; taken = w.taken.items; erased = w.erased.items } in
-    subst (λ (v : State _ _). LeavesShown none_made v.kept (disk v.medium) later) c.self.view_is
-    (idle_leaves none_made k (disk w.medium) later c.in-Idle.directory (ap work_of c.in-Idle.is) (λ files held settled. c.dismount.ensures.moments k.config files held settled))
-
-pub returns-in-Err-dismount-clause-moments : goal.returns-in-Err-dismount-clause-moments
-returns-in-Err-dismount-clause-moments g c =
-    let w = c.self.inside in
-    let disk = g.M.BlockMedium.disk in
-    let later = disk c.dismount.new.medium in
-    let k : Kept = record { config = w.settings; work = work_of w.work; tick = w.tick; last_event = w.last_event; generation = w.generation; taken = w.taken.items; erased = w.erased.items } in
-    subst (λ (v : State _ _). LeavesShown none_made v.kept (disk v.medium) later) c.self.view_is
-    (idle_leaves none_made k (disk w.medium) later c.in-Idle.directory (ap work_of c.in-Idle.is) (λ files held settled. c.dismount.ensures.moments k.config files held settled))
-
 pub returns-in-Ok-clause-effect : goal.returns-in-Ok-clause-effect
 returns-in-Ok-clause-effect g c =
     let w = c.self.inside in
@@ -107,3 +84,29 @@ returns-in-Ok-clause-effect g c =
     (subst (λ (x : Doing). DismountEffect k (disk w.medium) (record k { work = work_of x }) later) (sym c.turn.ensures)
     (dismount_effect k (disk w.medium) later c.in-Idle.directory c.dismount.new.directory c.dismount.result at
     (idle_usable g.L.LaneOut.spec_of g.L.LaneOut.reached k (disk w.medium).blocks w.lanes.items c.in-Idle.directory at c.self.invariant.work) c.dismount.ensures.turns c.in-Ok.ensures.done c.in-Ok.ensures.directory))
+
+pub returns-in-Err-clause-stops : goal.returns-in-Err-clause-stops
+returns-in-Err-clause-stops g c =
+    let w = c.self.inside in
+    let disk = g.M.BlockMedium.disk in
+    let k : Kept = record { config = w.settings; work = work_of w.work; tick = w.tick; last_event = w.last_event; generation = w.generation; taken = w.taken.items; erased = w.erased.items } in
+    subst (λ (v : State _ _). StaysSafe whichever v.kept events.Dismount (replies.Refused c.in-Err.refusal) (disk v.medium) v.kept (disk v.medium)) c.self.view_is
+    (refused_safely whichever k k events.Dismount c.in-Err.refusal (disk w.medium) (disk w.medium) refl (unchanged (disk w.medium)))
+
+pub returns-in-Ok-clause-stops : goal.returns-in-Ok-clause-stops
+returns-in-Ok-clause-stops g c =
+    let w = c.self.inside in
+    let disk = g.M.BlockMedium.disk in
+    let k : Kept = record { config = w.settings; work = work_of w.work; tick = w.tick; last_event = w.last_event; generation = w.generation; taken = w.taken.items; erased = w.erased.items } in
+    let later = disk c.dismount.new.medium in
+    subst (λ (v : State _ _). StaysSafe whichever v.kept events.Dismount replies.Done (disk v.medium) (record k { work = work_of c.turn.new.work }) later) c.self.view_is
+    (synced_safely whichever k (record k { work = work_of c.turn.new.work }) events.Dismount replies.Done (disk w.medium) later c.in-Ok.ensures.directory.synced (none_of whichever k events.Dismount (disk w.medium) later (idle_leaves k (disk w.medium) later c.in-Idle.directory (ap work_of c.in-Idle.is) (λ files held settled. c.dismount.ensures.moments k.config files held settled))))
+
+pub returns-in-Err-dismount-clause-stops : goal.returns-in-Err-dismount-clause-stops
+returns-in-Err-dismount-clause-stops g c =
+    let w = c.self.inside in
+    let disk = g.M.BlockMedium.disk in
+    let k : Kept = record { config = w.settings; work = work_of w.work; tick = w.tick; last_event = w.last_event; generation = w.generation; taken = w.taken.items; erased = w.erased.items } in
+    let later = disk c.dismount.new.medium in
+    subst (λ (v : State _ _). StaysSafe whichever v.kept events.Dismount (replies.Refused refusals.Medium) (disk v.medium) (record k { work = work_of c.turn-in-Err-dismount.new.work }) later) c.self.view_is
+    (failed_safely whichever k (record k { work = work_of c.turn-in-Err-dismount.new.work }) events.Dismount (replies.Refused refusals.Medium) (disk w.medium) later (ap work_of c.turn-in-Err-dismount.ensures) (none_of whichever k events.Dismount (disk w.medium) later (idle_leaves k (disk w.medium) later c.in-Idle.directory (ap work_of c.in-Idle.is) (λ files held settled. c.dismount.ensures.moments k.config files held settled))))

@@ -8,18 +8,21 @@ use Rattle.r10_means.specs.Kept.{Kept, mode_of, idle}
 use Rattle.r10_means.specs.Means.{Means}
 use Rattle.r10_control.specs.Leading.{KeepsShown, Leads, none_taken}
 use Rattle.r10_control.specs.State.{State}
-use Rattle.r10_control.specs.Stopped.{LeavesShown, erase_made}
 use Rattle.r10_control.specs.Work.{work_of}
 use Rattle.r10_control.specs.declared.work.Doing.{Doing}
 use Rattle.r10_control.proofs.Bytes.{holds_of}
 use Rattle.r10_control.proofs.Dismounts.{held}
 use Rattle.r10_control.proofs.Erases.{checked, erase_done, erase_fails, erase_lacks, erase_refused}
-use Rattle.r10_control.proofs.Stopped.{idle_becomes, left_alone}
 use Rattle.r10_machine.specs.EventChecks.{erase_checks}
 use Rattle.r10_machine.specs.declared.event.Event.TheVariants as events
 use Rattle.r10_machine.specs.declared.reply.Reply.TheVariants as replies
 use Rattle.r10_control.proofs.Effecting.{erase_effect, idle_usable}
 use Rattle.r10_control.specs.Effects.{EraseEffect}
+use Rattle.r10_stops.proofs.Behind.{failed_safely, refused_safely, synced_safely}
+use Rattle.r10_stops.specs.Left.{StaysSafe, whichever}
+use Rattle.r10_control.proofs.Stopped.{made_of}
+use Rattle.r10_control.proofs.Making.{erase_left}
+use Rattle.r10_medium.proofs.Stops.{unchanged}
 use Rattle.r10_control.proofs.recorder.Recorder.erase.Goals as goal
 
 pub returns-in-Err-clause-steps : goal.returns-in-Err-clause-steps
@@ -98,45 +101,6 @@ returns-in-Err-erase-clause-bytes g c =
     subst (λ (v : State _ _). KeepsShown v.kept (disk v.medium).blocks (disk v.medium).failures (disk c.erase.new.medium).blocks) c.self.view_is
     (λ m means. c.erase.ensures.bytes w.settings m.files (holds_of w.settings (work_of w.work) c.in-Idle.directory (disk w.medium).blocks m.files (ap work_of c.in-Idle.is) means.files))
 
-pub returns-in-Err-clause-moments : goal.returns-in-Err-clause-moments
-returns-in-Err-clause-moments g c =
-    let w = c.self.inside in
-    let disk = g.M.BlockMedium.disk in
-    let k : Kept = record { config = w.settings; work = work_of w.work; tick = w.tick; last_event = w.last_event; generation = w.generation; taken = w.taken.items; erased = w.erased.items } in
-    subst (λ (v : State _ _). LeavesShown (erase_made v.kept.config) v.kept (disk v.medium) (disk v.medium)) c.self.view_is (left_alone (erase_made k.config) k (disk w.medium))
-
-pub returns-in-Err-check_erase-clause-moments : goal.returns-in-Err-check_erase-clause-moments
-returns-in-Err-check_erase-clause-moments g c =
-    let w = c.self.inside in
-    let disk = g.M.BlockMedium.disk in
-    let k : Kept = record { config = w.settings; work = work_of w.work; tick = w.tick; last_event = w.last_event; generation = w.generation; taken = w.taken.items; erased = w.erased.items } in
-    subst (λ (v : State _ _). LeavesShown (erase_made v.kept.config) v.kept (disk v.medium) (disk v.medium)) c.self.view_is (left_alone (erase_made k.config) k (disk w.medium))
-
-pub returns-in_default-from_slice-clause-moments : goal.returns-in_default-from_slice-clause-moments
-returns-in_default-from_slice-clause-moments g c =
-    let w = c.self.inside in
-    let disk = g.M.BlockMedium.disk in
-    let k : Kept = record { config = w.settings; work = work_of w.work; tick = w.tick; last_event = w.last_event; generation = w.generation; taken = w.taken.items; erased = w.erased.items } in
-    subst (λ (v : State _ _). LeavesShown (erase_made v.kept.config) v.kept (disk v.medium) (disk v.medium)) c.self.view_is (left_alone (erase_made k.config) k (disk w.medium))
-
-pub returns-in-Ok-erase-clause-moments : goal.returns-in-Ok-erase-clause-moments
-returns-in-Ok-erase-clause-moments g c =
-    let w = c.self.inside in
-    let disk = g.M.BlockMedium.disk in
-    let later = disk c.erase.new.medium in
-    let k : Kept = record { config = w.settings; work = work_of w.work; tick = w.tick; last_event = w.last_event; generation = w.generation; taken = w.taken.items; erased = w.erased.items } in
-    subst (λ (v : State _ _). LeavesShown (erase_made v.kept.config) v.kept (disk v.medium) later) c.self.view_is
-    (idle_becomes (erase_made k.config) k (disk w.medium) later c.in-Idle.directory (ap work_of c.in-Idle.is) (λ files held settled. c.erase.ensures.moments k.config files held settled))
-
-pub returns-in-Err-erase-clause-moments : goal.returns-in-Err-erase-clause-moments
-returns-in-Err-erase-clause-moments g c =
-    let w = c.self.inside in
-    let disk = g.M.BlockMedium.disk in
-    let later = disk c.erase.new.medium in
-    let k : Kept = record { config = w.settings; work = work_of w.work; tick = w.tick; last_event = w.last_event; generation = w.generation; taken = w.taken.items; erased = w.erased.items } in
-    subst (λ (v : State _ _). LeavesShown (erase_made v.kept.config) v.kept (disk v.medium) later) c.self.view_is
-    (idle_becomes (erase_made k.config) k (disk w.medium) later c.in-Idle.directory (ap work_of c.in-Idle.is) (λ files held settled. c.erase.ensures.moments k.config files held settled))
-
 pub returns-in-Ok-erase-clause-effect : goal.returns-in-Ok-erase-clause-effect
 returns-in-Ok-erase-clause-effect g c =
     let w = c.self.inside in
@@ -149,3 +113,49 @@ returns-in-Ok-erase-clause-effect g c =
     (erase_effect k (disk w.medium) later c.in-Idle.directory c.erase.new.directory c.erase.result at
     (idle_usable g.L.LaneOut.spec_of g.L.LaneOut.reached k (disk w.medium).blocks w.lanes.items c.in-Idle.directory at c.self.invariant.work) c.erase.ensures.turns c.in-Ok-erase.ensures.done c.in-Ok-erase.ensures.directory
     c.in-Ok.erased.items copied)
+
+pub returns-in-Err-clause-stops : goal.returns-in-Err-clause-stops
+returns-in-Err-clause-stops g c =
+    let w = c.self.inside in
+    let disk = g.M.BlockMedium.disk in
+    let k : Kept = record { config = w.settings; work = work_of w.work; tick = w.tick; last_event = w.last_event; generation = w.generation; taken = w.taken.items; erased = w.erased.items } in
+    subst (λ (v : State _ _). StaysSafe whichever v.kept events.Erase (replies.Refused c.in-Err.refusal) (disk v.medium) v.kept (disk v.medium)) c.self.view_is
+    (refused_safely whichever k k events.Erase c.in-Err.refusal (disk w.medium) (disk w.medium) refl (unchanged (disk w.medium)))
+
+pub returns-in-Err-check_erase-clause-stops : goal.returns-in-Err-check_erase-clause-stops
+returns-in-Err-check_erase-clause-stops g c =
+    let w = c.self.inside in
+    let disk = g.M.BlockMedium.disk in
+    let k : Kept = record { config = w.settings; work = work_of w.work; tick = w.tick; last_event = w.last_event; generation = w.generation; taken = w.taken.items; erased = w.erased.items } in
+    subst (λ (v : State _ _). StaysSafe whichever v.kept events.Erase (replies.Refused c.in-Err-check_erase.refusal) (disk v.medium) v.kept (disk v.medium)) c.self.view_is
+    (refused_safely whichever k k events.Erase c.in-Err-check_erase.refusal (disk w.medium) (disk w.medium) refl (unchanged (disk w.medium)))
+
+pub returns-in_default-from_slice-clause-stops : goal.returns-in_default-from_slice-clause-stops
+returns-in_default-from_slice-clause-stops g c =
+    let w = c.self.inside in
+    let disk = g.M.BlockMedium.disk in
+    let k : Kept = record { config = w.settings; work = work_of w.work; tick = w.tick; last_event = w.last_event; generation = w.generation; taken = w.taken.items; erased = w.erased.items } in
+    subst (λ (v : State _ _). StaysSafe whichever v.kept events.Erase (replies.Refused refusals.OutOfMemory) (disk v.medium) v.kept (disk v.medium)) c.self.view_is
+    (refused_safely whichever k k events.Erase refusals.OutOfMemory (disk w.medium) (disk w.medium) refl (unchanged (disk w.medium)))
+
+pub returns-in-Ok-erase-clause-stops : goal.returns-in-Ok-erase-clause-stops
+returns-in-Ok-erase-clause-stops g c =
+    let w = c.self.inside in
+    let disk = g.M.BlockMedium.disk in
+    let k : Kept = record { config = w.settings; work = work_of w.work; tick = w.tick; last_event = w.last_event; generation = w.generation; taken = w.taken.items; erased = w.erased.items } in
+    let later = disk c.erase.new.medium in
+    let fine : checked k ≡ None =
+    rules_pass (idle_checks (mode_of k.work)) (erase_checks k.generation) (ap (λ mode. first_broken (idle_checks mode)) (sym c.mode_in.ensures) ∙ c.in_default.ensures) ∙ c.in_default-check_erase.ensures in
+    subst (λ (v : State _ _). StaysSafe whichever v.kept events.Erase replies.Done (disk v.medium) (record k { work = idle c.erase.new.directory; generation = w.generation + 1; erased = c.in-Ok.erased.items }) later) c.self.view_is
+    (synced_safely whichever k (record k { work = idle c.erase.new.directory; generation = w.generation + 1; erased = c.in-Ok.erased.items }) events.Erase replies.Done (disk w.medium) later c.in-Ok-erase.ensures.directory.synced (made_of whichever k events.Erase (disk w.medium) later (erase_left k (disk w.medium) later c.in-Idle.directory (ap work_of c.in-Idle.is) fine (λ files held settled. c.erase.ensures.moments k.config files held settled))))
+
+pub returns-in-Err-erase-clause-stops : goal.returns-in-Err-erase-clause-stops
+returns-in-Err-erase-clause-stops g c =
+    let w = c.self.inside in
+    let disk = g.M.BlockMedium.disk in
+    let k : Kept = record { config = w.settings; work = work_of w.work; tick = w.tick; last_event = w.last_event; generation = w.generation; taken = w.taken.items; erased = w.erased.items } in
+    let later = disk c.erase.new.medium in
+    let fine : checked k ≡ None =
+    rules_pass (idle_checks (mode_of k.work)) (erase_checks k.generation) (ap (λ mode. first_broken (idle_checks mode)) (sym c.mode_in.ensures) ∙ c.in_default.ensures) ∙ c.in_default-check_erase.ensures in
+    subst (λ (v : State _ _). StaysSafe whichever v.kept events.Erase (replies.Refused refusals.Medium) (disk v.medium) (record k { work = work_of c.turn.new.work }) later) c.self.view_is
+    (failed_safely whichever k (record k { work = work_of c.turn.new.work }) events.Erase (replies.Refused refusals.Medium) (disk w.medium) later (ap work_of c.turn.ensures) (made_of whichever k events.Erase (disk w.medium) later (erase_left k (disk w.medium) later c.in-Idle.directory (ap work_of c.in-Idle.is) fine (λ files held settled. c.erase.ensures.moments k.config files held settled))))

@@ -8,18 +8,20 @@ use Rattle.r10_means.specs.Means.{Means}
 use Rattle.r10_control.specs.Leading.{KeepsShown, Leads, none_taken}
 use Rattle.r10_control.specs.Refused.{Refuses, IsMountRefusal}
 use Rattle.r10_control.specs.State.{State}
-use Rattle.r10_control.specs.Stopped.{LeavesShown, none_made}
 use Rattle.r10_control.specs.Work.{work_of}
 use Rattle.r10_control.specs.declared.work.Doing.{Doing}
 use Rattle.r10_control.proofs.Bytes.{says_of}
 use Rattle.r10_control.proofs.Leading.{lacking}
 use Rattle.r10_control.proofs.Mounts.{mount_done, mount_fails, mount_lacks, mount_refused, said, unmounted_work}
-use Rattle.r10_control.proofs.Stopped.{left_alone, unmounted_leaves}
 use Rattle.r10_machine.specs.declared.event.Event.TheVariants as events
 use Rattle.r10_machine.specs.declared.reply.Reply.TheVariants as replies
 use Rattle.r10_volume.specs.Mounting.{IsMounted, IsUsable}
 use Rattle.r10_control.proofs.Effecting.{mount_effect}
 use Rattle.r10_control.specs.Effects.{MountEffect}
+use Rattle.r10_stops.proofs.Behind.{failed_safely, refused_safely, synced_safely}
+use Rattle.r10_stops.specs.Left.{StaysSafe, whichever}
+use Rattle.r10_control.proofs.Stopped.{none_of, unmounted_leaves}
+use Rattle.r10_medium.proofs.Stops.{unchanged}
 use Rattle.r10_control.proofs.recorder.Recorder.mount.Goals as goal
 
 pub returns-in-Err-clause-steps : goal.returns-in-Err-clause-steps
@@ -112,53 +114,6 @@ returns-in-Err-Medium-clause-bytes g c =
     subst (λ (v : State _ _). KeepsShown v.kept (disk v.medium).blocks (disk v.medium).failures (disk c.mount.new.medium).blocks) c.self.view_is
     (λ m means. c.mount.ensures.bytes w.settings m.files (says_of w.settings (work_of w.work) (disk w.medium).blocks m.files (unmounted_work (work_of w.work) fine) means.files))
 
-pub returns-in-Err-clause-moments : goal.returns-in-Err-clause-moments
-returns-in-Err-clause-moments g c =
-    let w = c.self.inside in
-    let disk = g.M.BlockMedium.disk in
-    let k : Kept = record { config = w.settings; work = work_of w.work; tick = w.tick; last_event = w.last_event; generation = w.generation; taken = w.taken.items; erased = w.erased.items } in
-    subst (λ (v : State _ _). LeavesShown none_made v.kept (disk v.medium) (disk v.medium)) c.self.view_is (left_alone none_made k (disk w.medium))
-
-pub returns-in-Ok-clause-moments : goal.returns-in-Ok-clause-moments
-returns-in-Ok-clause-moments g c =
-    let w = c.self.inside in
-    let disk = g.M.BlockMedium.disk in
-    let later = disk c.mount.new.medium in
-    let k : Kept = record { config = w.settings; work = work_of w.work; tick = w.tick; last_event = w.last_event; generation = w.generation; taken = w.taken.items; erased = w.erased.items } in
-    let fine : first_broken (unmounted_checks (mode_of k.work)) ≡ None = ap (λ mode. first_broken (unmounted_checks mode)) (sym c.mode_in.ensures) ∙ c.in_default.ensures in
-    subst (λ (v : State _ _). LeavesShown none_made v.kept (disk v.medium) later) c.self.view_is
-    (unmounted_leaves none_made k (disk w.medium) later (unmounted_work k.work fine) (λ files settled. c.mount.ensures.moments k.config files settled))
-
-pub returns-in-Err-BadDirectory-clause-moments : goal.returns-in-Err-BadDirectory-clause-moments
-returns-in-Err-BadDirectory-clause-moments g c =
-    let w = c.self.inside in
-    let disk = g.M.BlockMedium.disk in
-    let later = disk c.mount.new.medium in
-    let k : Kept = record { config = w.settings; work = work_of w.work; tick = w.tick; last_event = w.last_event; generation = w.generation; taken = w.taken.items; erased = w.erased.items } in
-    let fine : first_broken (unmounted_checks (mode_of k.work)) ≡ None = ap (λ mode. first_broken (unmounted_checks mode)) (sym c.mode_in.ensures) ∙ c.in_default.ensures in
-    subst (λ (v : State _ _). LeavesShown none_made v.kept (disk v.medium) later) c.self.view_is
-    (unmounted_leaves none_made k (disk w.medium) later (unmounted_work k.work fine) (λ files settled. c.mount.ensures.moments k.config files settled))
-
-pub returns-in-Err-OutOfMemory-clause-moments : goal.returns-in-Err-OutOfMemory-clause-moments
-returns-in-Err-OutOfMemory-clause-moments g c =
-    let w = c.self.inside in
-    let disk = g.M.BlockMedium.disk in
-    let later = disk c.mount.new.medium in
-    let k : Kept = record { config = w.settings; work = work_of w.work; tick = w.tick; last_event = w.last_event; generation = w.generation; taken = w.taken.items; erased = w.erased.items } in
-    let fine : first_broken (unmounted_checks (mode_of k.work)) ≡ None = ap (λ mode. first_broken (unmounted_checks mode)) (sym c.mode_in.ensures) ∙ c.in_default.ensures in
-    subst (λ (v : State _ _). LeavesShown none_made v.kept (disk v.medium) later) c.self.view_is
-    (unmounted_leaves none_made k (disk w.medium) later (unmounted_work k.work fine) (λ files settled. c.mount.ensures.moments k.config files settled))
-
-pub returns-in-Err-Medium-clause-moments : goal.returns-in-Err-Medium-clause-moments
-returns-in-Err-Medium-clause-moments g c =
-    let w = c.self.inside in
-    let disk = g.M.BlockMedium.disk in
-    let later = disk c.mount.new.medium in
-    let k : Kept = record { config = w.settings; work = work_of w.work; tick = w.tick; last_event = w.last_event; generation = w.generation; taken = w.taken.items; erased = w.erased.items } in
-    let fine : first_broken (unmounted_checks (mode_of k.work)) ≡ None = ap (λ mode. first_broken (unmounted_checks mode)) (sym c.mode_in.ensures) ∙ c.in_default.ensures in
-    subst (λ (v : State _ _). LeavesShown none_made v.kept (disk v.medium) later) c.self.view_is
-    (unmounted_leaves none_made k (disk w.medium) later (unmounted_work k.work fine) (λ files settled. c.mount.ensures.moments k.config files settled))
-
 pub returns-in-Ok-clause-effect : goal.returns-in-Ok-clause-effect
 returns-in-Ok-clause-effect g c =
     let w = c.self.inside in
@@ -170,3 +125,49 @@ returns-in-Ok-clause-effect g c =
     (subst (λ (x : Doing). MountEffect k (disk w.medium) (record k { work = work_of x }) later) (sym c.turn.ensures)
     (mount_effect k (disk w.medium) later c.in-Ok.directory c.mount.result (subst (λ (n : ℕ). IsMounted n (disk w.medium).blocks c.in-Ok.directory) reserved c.in-Ok.ensures.mounted)
     (λ chain usable. c.mount.ensures.turns chain (subst (λ (n : ℕ). IsUsable n (disk w.medium).blocks chain) (sym reserved) usable)) c.in-Ok.ensures.directory))
+
+pub returns-in-Err-clause-stops : goal.returns-in-Err-clause-stops
+returns-in-Err-clause-stops g c =
+    let w = c.self.inside in
+    let disk = g.M.BlockMedium.disk in
+    let k : Kept = record { config = w.settings; work = work_of w.work; tick = w.tick; last_event = w.last_event; generation = w.generation; taken = w.taken.items; erased = w.erased.items } in
+    subst (λ (v : State _ _). StaysSafe whichever v.kept events.Mount (replies.Refused c.in-Err.refusal) (disk v.medium) v.kept (disk v.medium)) c.self.view_is
+    (refused_safely whichever k k events.Mount c.in-Err.refusal (disk w.medium) (disk w.medium) refl (unchanged (disk w.medium)))
+
+pub returns-in-Ok-clause-stops : goal.returns-in-Ok-clause-stops
+returns-in-Ok-clause-stops g c =
+    let w = c.self.inside in
+    let disk = g.M.BlockMedium.disk in
+    let k : Kept = record { config = w.settings; work = work_of w.work; tick = w.tick; last_event = w.last_event; generation = w.generation; taken = w.taken.items; erased = w.erased.items } in
+    let later = disk c.mount.new.medium in
+    let fine : first_broken (unmounted_checks (mode_of k.work)) ≡ None = ap (λ mode. first_broken (unmounted_checks mode)) (sym c.mode_in.ensures) ∙ c.in_default.ensures in
+    subst (λ (v : State _ _). StaysSafe whichever v.kept events.Mount replies.Done (disk v.medium) (record k { work = work_of c.turn.new.work }) later) c.self.view_is
+    (synced_safely whichever k (record k { work = work_of c.turn.new.work }) events.Mount replies.Done (disk w.medium) later c.in-Ok.ensures.directory.synced (none_of whichever k events.Mount (disk w.medium) later (unmounted_leaves k (disk w.medium) later (unmounted_work k.work fine) (λ files settled. c.mount.ensures.moments k.config files settled))))
+
+pub returns-in-Err-BadDirectory-clause-stops : goal.returns-in-Err-BadDirectory-clause-stops
+returns-in-Err-BadDirectory-clause-stops g c =
+    let w = c.self.inside in
+    let disk = g.M.BlockMedium.disk in
+    let k : Kept = record { config = w.settings; work = work_of w.work; tick = w.tick; last_event = w.last_event; generation = w.generation; taken = w.taken.items; erased = w.erased.items } in
+    let later = disk c.mount.new.medium in
+    subst (λ (v : State _ _). StaysSafe whichever v.kept events.Mount (replies.Refused (refusals.BadDirectory c.in-Err-BadDirectory.block)) (disk v.medium) k later) c.self.view_is
+    (refused_safely whichever k k events.Mount (refusals.BadDirectory c.in-Err-BadDirectory.block) (disk w.medium) later refl (rw c.in-Err-BadDirectory.field-0-is at c.in-Err-BadDirectory.ensures.left))
+
+pub returns-in-Err-OutOfMemory-clause-stops : goal.returns-in-Err-OutOfMemory-clause-stops
+returns-in-Err-OutOfMemory-clause-stops g c =
+    let w = c.self.inside in
+    let disk = g.M.BlockMedium.disk in
+    let k : Kept = record { config = w.settings; work = work_of w.work; tick = w.tick; last_event = w.last_event; generation = w.generation; taken = w.taken.items; erased = w.erased.items } in
+    let later = disk c.mount.new.medium in
+    subst (λ (v : State _ _). StaysSafe whichever v.kept events.Mount (replies.Refused refusals.OutOfMemory) (disk v.medium) k later) c.self.view_is
+    (refused_safely whichever k k events.Mount refusals.OutOfMemory (disk w.medium) later refl (rw c.in-Err-OutOfMemory.field-0-is at c.in-Err-OutOfMemory.ensures.left))
+
+pub returns-in-Err-Medium-clause-stops : goal.returns-in-Err-Medium-clause-stops
+returns-in-Err-Medium-clause-stops g c =
+    let w = c.self.inside in
+    let disk = g.M.BlockMedium.disk in
+    let k : Kept = record { config = w.settings; work = work_of w.work; tick = w.tick; last_event = w.last_event; generation = w.generation; taken = w.taken.items; erased = w.erased.items } in
+    let later = disk c.mount.new.medium in
+    let fine : first_broken (unmounted_checks (mode_of k.work)) ≡ None = ap (λ mode. first_broken (unmounted_checks mode)) (sym c.mode_in.ensures) ∙ c.in_default.ensures in
+    subst (λ (v : State _ _). StaysSafe whichever v.kept events.Mount (replies.Refused refusals.Medium) (disk v.medium) (record k { work = work_of c.turn-in-Err-Medium.new.work }) later) c.self.view_is
+    (failed_safely whichever k (record k { work = work_of c.turn-in-Err-Medium.new.work }) events.Mount (replies.Refused refusals.Medium) (disk w.medium) later (ap work_of c.turn-in-Err-Medium.ensures) (none_of whichever k events.Mount (disk w.medium) later (unmounted_leaves k (disk w.medium) later (unmounted_work k.work fine) (λ files settled. c.mount.ensures.moments k.config files settled))))

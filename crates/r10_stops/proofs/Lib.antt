@@ -1,0 +1,5 @@
+pub mod Finding
+pub mod Showing
+pub mod Leaving
+pub mod Keeping
+pub mod Behind

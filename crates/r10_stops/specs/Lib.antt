@@ -1,0 +1,4 @@
+pub mod Again
+pub mod Left
+pub mod Quiet
+pub mod Safe
