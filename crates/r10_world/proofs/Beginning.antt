@@ -12,7 +12,9 @@ use Rattle.r10_world.specs.Telling.{StandsWith}
 use Rattle.r10_means.specs.Kept.{Kept}
 use Rattle.r10_control.specs.Lanes.{unerased}
 use Rattle.r10_world.specs.Standing.{Stands}
-use Rattle.r10_machine.specs.Says.{MediumHas}
+use Rattle.r10_machine.specs.Says.{MediumHas, MediumSays}
+use Rattle.r10_medium.specs.Stop.{Settled}
+use Rattle.r10_stops.specs.Safe.{IsSafe}
 
 -- lanes of which nothing has come are of these channels, and of them nothing was erased
 pub specs_of_fresh : (specs : List ChannelSpec) → map (λ (lane : Lane). lane.spec) (map fresh_lane specs) ≡ specs
@@ -39,3 +41,8 @@ pub new_world : {M : Type 0} (disk : M → Disk) → BeginsLaw → (s : Config) 
     → r.medium ≡ medium → slots ≡ [] → MediumHas s (disk medium).blocks files → StandsWith disk r slots (fresh s.channels files (disk medium).failures)
 new_world disk law s r slots medium files limits kept left same none has =
     rw (same, none) (new_stands law s r.kept (disk medium).blocks (disk medium).failures r.lanes files limits kept left has)
+
+-- a new recorder's files are safe where a stop leaves them
+pub new_safe : {M : Type 0} (disk : M → Disk) (s : Config) (r : Recorded M Lane) (medium : M) (files : List File) → r.kept ≡ new_kept s → r.medium ≡ medium → Settled (λ image. MediumSays s image files) (disk medium)
+    → IsSafe r.kept.config r.kept.work files (disk r.medium)
+new_safe disk s r medium files kept same settled = rw (kept, same) settled

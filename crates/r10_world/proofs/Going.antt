@@ -23,7 +23,7 @@ RunsJoin = (s : Config) (old mid new : Machine) (es fs : List Asked) (rs qs : Li
 begins : {M : Type 0} (disk : M → Disk) (w : State M) → Runs disk w [] [] w
 begins disk w = λ m stands. record { images = []; machine = m; run = refl; stands = stands; config = refl }
 
-none_behind : {A : Type 0} (xs : List A) → drop (length xs) xs ≡ []
+pub none_behind : {A : Type 0} (xs : List A) → drop (length xs) xs ≡ []
 none_behind [] = refl
 none_behind (x ∷ xs) = none_behind xs
 
@@ -59,7 +59,7 @@ goes_on law k mid later m es rs event reply image new failures now lanes lanes' 
     }
 
 -- a list behind its first ones, with one element more
-drop_one_more : {A : Type 0} (n : ℕ) (xs ys : List A) (x : A) → n ≤ length xs → ys ≡ xs ++ x ∷ [] → drop n ys ≡ drop n xs ++ x ∷ []
+pub drop_one_more : {A : Type 0} (n : ℕ) (xs ys : List A) (x : A) → n ≤ length xs → ys ≡ xs ++ x ∷ [] → drop n ys ≡ drop n xs ++ x ∷ []
 drop_one_more n xs ys x within longer = grind (arith, common_steps)
 
 pub take_one_more : {A : Type 0} (n : ℕ) (xs ys : List A) (x : A) → n ≤ length xs → ys ≡ xs ++ x ∷ [] → take n ys ≡ take n xs

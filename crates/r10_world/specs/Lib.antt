@@ -3,3 +3,4 @@ pub mod State
 pub mod Telling
 pub mod Copies
 pub mod Joined
+pub mod Stopping

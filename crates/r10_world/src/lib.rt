@@ -6,6 +6,7 @@ mod control;
 mod laws;
 mod readers;
 mod running;
+mod whole;
 mod world;
 
 pub use laws::{
@@ -13,4 +14,5 @@ pub use laws::{
     tables_calls_are_steps,
 };
 pub use running::run;
+pub use whole::record_all;
 pub use world::World;

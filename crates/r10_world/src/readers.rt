@@ -5,6 +5,7 @@ ghost use Rattle.r10_machine.specs.Machine.{Lane, Machine};
 ghost use Rattle.r10_means.specs.Kept.{Kept};
 ghost use Rattle.r10_medium.specs.Disk.{Image};
 ghost use Rattle.r10_world.specs.Standing.{Goes, Stands};
+ghost use Rattle.r10_world.specs.Stopping.{Survives};
 ghost use Rattle.r10_world.specs.Telling.{Tells};
 ghost use Rattle.r10_machine.specs.declared.event.Event.TheVariants as events;
 ghost use Rattle.r10_machine.specs.declared.reply.Reply.TheVariants as replies;
@@ -34,6 +35,7 @@ pub(crate) fn open<M: BlockMedium>(
     to: u64,
 ) -> Reply
     ensures tells { Tells M.disk recorder.old cursors.old.slots (events.Cursor file channels.now from to) result recorder.new cursors.new.slots }
+    ensures stops { Survives M.disk recorder.old (events.Cursor file channels.now from to) result recorder.new }
     ensures config { recorder.new.kept.config ≡ recorder.old.kept.config }
 {
     recorders_calls_are_steps();
@@ -60,6 +62,7 @@ pub(crate) fn advance<M: BlockMedium>(
     id: usize,
 ) -> Reply
     ensures tells { Tells M.disk recorder.old cursors.old.slots (events.Advance id) result recorder.new cursors.new.slots }
+    ensures stops { Survives M.disk recorder.old (events.Advance id) result recorder.new }
     ensures config { recorder.new.kept.config ≡ recorder.old.kept.config }
 {
     recorders_calls_are_steps();

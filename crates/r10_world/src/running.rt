@@ -2,6 +2,7 @@
 
 ghost use Rattle.std.specs.Prelude.{◌≡◌, ◌<◌, ◌≤◌, ◌+◌, Ok, Err, IfOk, OnErr, length, take, drop, vec_len};
 ghost use Rattle.r10_world.specs.Copies.{IsCopy};
+ghost use Rattle.r10_world.specs.Stopping.{RunsSafely};
 ghost use Rattle.r10_world.specs.Telling.{Runs};
 
 use crate::world::World;
@@ -29,6 +30,7 @@ pub fn run<M: BlockMedium>(
     replies: &mut Vec<Reply>,
 ) -> Result<usize, AllocError>
     ensures run { IfOk result (λ n. Runs M.disk world.old (take n events.now) (drop (vec_len replies.old) replies.new.items) world.new) }
+    ensures stops { IfOk result (λ n. RunsSafely M.disk world.old (take n events.now) (drop (vec_len replies.old) replies.new.items) world.new) }
     ensures config { world.new.recorder.kept.config ≡ world.old.recorder.kept.config }
     ensures within { IfOk result (λ n. n ≤ length events.now) }
     ensures some { IfOk result (λ n. 0 < length events.now → 0 < n) }

@@ -3,8 +3,11 @@
 ghost use Rattle.std.specs.Prelude.{◌≡◌, List, length, map, IfErr, IfOk};
 ghost use Rattle.r10_machine.specs.Machine.{File, fresh, fresh_lane};
 ghost use Rattle.r10_world.specs.Copies.{IsCopy};
+ghost use Rattle.r10_medium.specs.Stop.{Settled};
+ghost use Rattle.r10_stops.specs.Safe.{IsSafe};
+ghost use Rattle.r10_world.specs.Stopping.{Recovers, Survives};
 ghost use Rattle.r10_world.specs.Telling.{StandsFor, Tells};
-ghost use Rattle.r10_machine.specs.Says.{MediumHas};
+ghost use Rattle.r10_machine.specs.Says.{MediumHas, MediumSays};
 
 use crate::a_new_recorder_stands;
 use crate::control::{
@@ -55,6 +58,9 @@ impl<M: BlockMedium> World<M> {
     pub fn new(alloc: Global, settings: Settings, medium: M) -> Result<World<M>, (Settings, M)>
         requires { length (M.disk medium).blocks ≡ settings.blocks }
         ensures stands { (files : List File) → MediumHas settings (M.disk medium).blocks files → IfOk result (λ w. StandsFor M.disk w (fresh settings.channels files (M.disk medium).failures)) }
+        // So it does over what a stop left of a medium that said files: it finds these again.
+        ensures recovers { (files : List File) → MediumSays settings (M.disk medium).blocks files → IfOk result (Recovers M.disk settings (M.disk medium) files) }
+        ensures safe { (files : List File) → Settled (λ image. MediumSays settings image files) (M.disk medium) → IfOk result (λ w. IsSafe w.recorder.kept.config w.recorder.kept.work files (M.disk w.recorder.medium)) }
         ensures config { IfOk result (λ w. w.recorder.kept.config ≡ settings) }
         ensures medium { IfOk result (λ w. w.recorder.medium ≡ medium) }
         ensures refused { IfErr result (λ back. (back.0 ≡ settings) × (back.1 ≡ medium)) }
@@ -94,6 +100,7 @@ impl<M: BlockMedium> World<M> {
     pub(crate) fn step(&mut self, event: &Event, copy: &mut Option<Message>) -> Reply
         requires { IsCopy event.now copy.old }
         ensures tells { Tells M.disk self.old.recorder self.old.slots event.now result self.new.recorder self.new.slots }
+        ensures stops { Survives M.disk self.old.recorder event.now result self.new.recorder }
         ensures config { self.new.recorder.kept.config ≡ self.old.recorder.kept.config }
     {
         answer(
@@ -116,6 +123,7 @@ fn answer<M: BlockMedium>(
 ) -> Reply
     requires { IsCopy event.now copy.old }
     ensures tells { Tells M.disk recorder.old cursors.old.slots event.now result recorder.new cursors.new.slots }
+    ensures stops { Survives M.disk recorder.old event.now result recorder.new }
     ensures config { recorder.new.kept.config ≡ recorder.old.kept.config }
 {
     match event {

@@ -1,12 +1,16 @@
-use Rattle.std.proofs.Common.{ℕ, refl, sym, subst, ◌≡◌, Some}
+use Rattle.std.proofs.Common.{ℕ, ap, refl, sym, subst, ◌≡◌, ◌∙◌, Some}
 use Rattle.std.specs.Prelude.{slice_set}
 use Rattle.r10_count.specs.Checks.{first_broken}
-use Rattle.r10_machine.specs.Checks.{advance_checks}
+use Rattle.r10_machine.specs.Checks.{advance_checks, mounted_checks}
 use Rattle.r10_cursor.specs.Standing.{slot_at}
 use Rattle.r10_machine.specs.Machine.{cursor_of}
 use Rattle.r10_cursor.specs.declared.cursor.Cursor.{Cursor}
 use Rattle.r10_world.proofs.Tables.{advance_refused, advances_on, passes_too, reads, same_slots, set_same, slot_tells}
 use Rattle.r10_world.proofs.Telling.{refused_on}
+use Rattle.r10_body.specs.declared.refusal.Refusal.TheVariants.{Failed}
+use Rattle.r10_body.specs.declared.refusal.Refusal.TheVariants as refusals
+use Rattle.r10_means.specs.Kept.{Kept, Work, mode_of}
+use Rattle.r10_world.proofs.Stopping.{alone_if, survives_kept, survives_refused, survives_same}
 use Rattle.r10_world.proofs.readers.advance.Goals as goal
 use Rattle.r10_machine.specs.declared.event.Event.TheVariants as events
 use Rattle.r10_machine.specs.declared.reply.Reply.TheVariants as replies
@@ -66,3 +70,33 @@ returns-in-Err-take_instalment-clause-tells g c = λ m stands.
     same_slots old.kept m (events.Advance a.id) (replies.Refused r) new.kept after.blocks after.failures new.lanes slots later kept
     (refused_on g.M.BlockMedium.disk old new c.recorders_calls_are_steps.ensures.moves (events.Advance a.id) r c.take_instalment.ensures.same.reads c.take_instalment.ensures.lanes c.take_instalment.ensures.config slots m stands
     (c.in-Err-take_instalment.ensures.steps a.id m means one.there passes))
+
+pub returns-in-Err-clause-stops : goal.returns-in-Err-clause-stops
+returns-in-Err-clause-stops g c =
+    let a = c.args in
+    survives_same g.M.BlockMedium.disk a.recorder.now a.recorder.now (events.Advance a.id) (replies.Refused c.in-Err.refusal) refl refl refl
+
+pub returns-in-Err-check_read-clause-stops : goal.returns-in-Err-check_read-clause-stops
+returns-in-Err-check_read-clause-stops g c =
+    let a = c.args in
+    survives_same g.M.BlockMedium.disk a.recorder.now a.recorder.now (events.Advance a.id) (replies.Refused c.in-Err-check_read.refusal) refl refl refl
+
+pub returns-in_default-get_mut-clause-stops : goal.returns-in_default-get_mut-clause-stops
+returns-in_default-get_mut-clause-stops g c =
+    let a = c.args in
+    survives_same g.M.BlockMedium.disk a.recorder.now a.recorder.now (events.Advance a.id) (replies.Refused refusals.NoCursor) refl refl refl
+
+pub returns-in-Ok-take_instalment-clause-stops : goal.returns-in-Ok-take_instalment-clause-stops
+returns-in-Ok-take_instalment-clause-stops g c =
+    let a = c.args in
+    survives_kept g.M.BlockMedium.disk a.recorder.now c.take_instalment.new.self (events.Advance a.id) (replies.Advanced c.in-Ok-take_instalment.queued) refl c.in-Ok-take_instalment.ensures.kept c.take_instalment.ensures.same
+
+pub returns-in-Err-take_instalment-clause-stops : goal.returns-in-Err-take_instalment-clause-stops
+returns-in-Err-take_instalment-clause-stops g c =
+    let a = c.args in
+    let disk = g.M.BlockMedium.disk in
+    let old = a.recorder.now in
+    let call = c.take_instalment in
+    let new = call.new.self in
+    survives_refused disk old new (events.Advance a.id) c.in-Err-take_instalment.refusal call.ensures.config call.ensures.same (λ is.
+    (ap (λ (k : Kept). k.work) (alone_if disk (first_broken (mounted_checks (mode_of old.kept.work))) _ Failed old.kept new.kept old.medium new.medium c.in-Err-take_instalment.refusal (ap (λ (w : Work). first_broken (mounted_checks (mode_of w))) is) c.in-Err-take_instalment.ensures.refused).0 ∙ is))

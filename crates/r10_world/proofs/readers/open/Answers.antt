@@ -1,5 +1,12 @@
+use Rattle.std.proofs.Common.{ap, refl, ◌∙◌}
 use Rattle.r10_world.proofs.Tables.{is_mounted, open_lacks, opens_on}
 use Rattle.r10_world.proofs.Telling.{refused_on}
+use Rattle.r10_body.specs.declared.refusal.Refusal.TheVariants.{Failed}
+use Rattle.r10_body.specs.declared.refusal.Refusal.TheVariants as refusals
+use Rattle.r10_control.specs.Checks.{refusal}
+use Rattle.r10_machine.specs.declared.reply.Reply.TheVariants as replies
+use Rattle.r10_means.specs.Kept.{Kept, Work}
+use Rattle.r10_world.proofs.Stopping.{alone_if, survives_kept, survives_refused}
 use Rattle.r10_world.proofs.readers.open.Goals as goal
 use Rattle.r10_machine.specs.declared.event.Event.TheVariants as events
 
@@ -29,3 +36,28 @@ returns-in-Err-open_cursor-clause-tells g c = λ m stands.
     let call = c.check_file in
     open_lacks g.M.BlockMedium.disk a.recorder.now call.new.self c.recorders_calls_are_steps.ensures.stays c.lacks_of_memory_are_steps.ensures a.file a.channels.now a.from a.to a.cursors.now.slots c.open_cursor.new.cursors.slots
     c.in-Ok.ensures.kept call.ensures.same.reads call.ensures.lanes call.ensures.no_fewer c.in-Err-open_cursor.ensures.kept m stands (c.in-Ok.ensures.steps a.channels.now m stands.joined.means)
+
+pub returns-in-Err-clause-stops : goal.returns-in-Err-clause-stops
+returns-in-Err-clause-stops g c =
+    let a = c.args in
+    let disk = g.M.BlockMedium.disk in
+    let old = a.recorder.now in
+    let call = c.check_file in
+    let new = call.new.self in
+    survives_refused disk old new (events.Cursor a.file a.channels.now a.from a.to) c.in-Err.refusal call.ensures.config call.ensures.same (λ is.
+    (ap (λ (k : Kept). k.work) (alone_if disk (refusal old.kept (events.Cursor a.file a.channels.now a.from a.to)) _ Failed old.kept new.kept old.medium new.medium c.in-Err.refusal (ap (λ (w : Work). refusal (record old.kept { work = w }) (events.Cursor a.file a.channels.now a.from a.to)) is) (c.in-Err.ensures.refused a.channels.now)).0 ∙ is))
+
+pub returns-in-Err-generation-clause-stops : goal.returns-in-Err-generation-clause-stops
+returns-in-Err-generation-clause-stops g c =
+    let a = c.args in
+    survives_kept g.M.BlockMedium.disk a.recorder.now c.check_file.new.self (events.Cursor a.file a.channels.now a.from a.to) (replies.Refused c.in-Err-generation.refusal) refl c.in-Ok.ensures.kept c.check_file.ensures.same
+
+pub returns-in-Ok-open_cursor-clause-stops : goal.returns-in-Ok-open_cursor-clause-stops
+returns-in-Ok-open_cursor-clause-stops g c =
+    let a = c.args in
+    survives_kept g.M.BlockMedium.disk a.recorder.now c.check_file.new.self (events.Cursor a.file a.channels.now a.from a.to) (replies.Cursor c.in-Ok-open_cursor.id) refl c.in-Ok.ensures.kept c.check_file.ensures.same
+
+pub returns-in-Err-open_cursor-clause-stops : goal.returns-in-Err-open_cursor-clause-stops
+returns-in-Err-open_cursor-clause-stops g c =
+    let a = c.args in
+    survives_kept g.M.BlockMedium.disk a.recorder.now c.check_file.new.self (events.Cursor a.file a.channels.now a.from a.to) (replies.Refused refusals.OutOfMemory) refl c.in-Ok.ensures.kept c.check_file.ensures.same

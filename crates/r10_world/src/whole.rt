@@ -1,0 +1,39 @@
+//! A whole recording: a new world that is told events, and the medium that it leaves.
+
+ghost use Rattle.std.specs.Prelude.{◌≡◌, List, IfErr, IfOk, drop, length, take, vec_len};
+ghost use Rattle.r10_machine.specs.Machine.{File};
+ghost use Rattle.r10_machine.specs.Says.{MediumSays};
+ghost use Rattle.r10_world.specs.Stopping.{Records};
+
+use crate::running::run;
+use crate::world::World;
+use r10_machine::{Event, Reply, Settings};
+use r10_medium::BlockMedium;
+use std::alloc::Global;
+
+/// Tells a new world over this medium, which says some files, these events, and gives how many it did and the medium that they leave. Their
+/// replies are added to those that are there: they are a run of the small machine from these files, and the medium says the files that
+/// the run ends with. Where memory is refused before the first event, the medium comes back as it was.
+pub fn record_all<M: BlockMedium + Drop>(
+    alloc: Global,
+    settings: Settings,
+    medium: M,
+    events: &[Event],
+    replies: &mut Vec<Reply>,
+) -> Result<(usize, M), M>
+    requires { length (M.disk medium).blocks ≡ settings.blocks }
+    ensures records { (files : List File) → MediumSays settings (M.disk medium).blocks files
+        → IfOk result (λ r. Records settings files (take r.0 events.now) (drop (vec_len replies.old) replies.new.items) (M.disk medium) (M.disk r.1)) }
+    ensures earlier { take (vec_len replies.old) replies.new.items ≡ replies.old.items }
+    ensures refused { IfErr result (λ back. back ≡ medium) }
+    ensures none { IfErr result (λ back. replies.new.items ≡ replies.old.items) }
+{
+    let mut world = match World::new(alloc, settings, medium) {
+        Ok(world) => world,
+        Err((_, medium)) => return Err(medium),
+    };
+    match run(&mut world, events, replies) {
+        Ok(done) => Ok((done, world.into_medium())),
+        Err(_) => Err(world.into_medium()),
+    }
+}
