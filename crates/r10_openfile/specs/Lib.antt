@@ -4,3 +4,4 @@ pub mod Keeping
 pub mod Putting
 pub mod Starting
 pub mod Begun
+pub mod Carrying
