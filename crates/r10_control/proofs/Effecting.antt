@@ -16,19 +16,22 @@ use Rattle.r10_machine.specs.Machine.{Tick}
 use Rattle.r10_means.specs.Kept.{Kept, Work, unmounted, idle, recording, failed}
 use Rattle.r10_medium.specs.Disk.{Disk, Image, block_at}
 use Rattle.r10_control.specs.Closing.{IsListedClosed}
-use Rattle.r10_control.specs.Effects.{CommitEffect, DismountEffect, Effect, EraseEffect, EventEffect, HasDirectory, MountEffect, PumpEffect, StartEffect, StopEffect, StopEffectAt, TickEffect, WhereRecording}
+use Rattle.r10_body.specs.declared.entry.Entry.{Entry}
+use Rattle.r10_openfile.specs.Carrying.{IsShown}
+use Rattle.r10_packetout.specs.Carries.{time_entry}
+use Rattle.r10_control.specs.Effects.{CommitEffect, DismountEffect, Effect, EraseEffect, EventEffect, HasDirectory, MountEffect, PumpEffect, StartEffect, StartEffectAt, StopEffect, StopEffectAt, TickEffect, WhereIdle, WhereRecording}
 use Rattle.r10_control.specs.Owns.{OwnsWork}
 use Rattle.r10_volume.specs.Front.{KeepsFront}
 use Rattle.r10_volume.specs.Listing.{block_behind}
 use Rattle.r10_volume.specs.Mounting.{IsMounted, IsUsable}
 
 -- of a directory that is used some block is reserved
-some_reserved : (reserved : ℕ) (image : Image) (chain : List ChainBlock) → IsUsable reserved image chain → 1 ≤ reserved
+pub some_reserved : (reserved : ℕ) (image : Image) (chain : List ChainBlock) → IsUsable reserved image chain → 1 ≤ reserved
 some_reserved reserved image chain usable =
     omega (arith, (placed reserved 1 chain (place_rules_hold reserved (length image) chain usable.rules) 0 (some_block image chain usable.directory)).1)
 
 -- a step that writes block 1 alone
-one_block : {T E : Type 0} (reserved first : ℕ) (chain made : List ChainBlock) (old new : Disk) (result : Result T E) → 1 ≤ reserved → Turns chain made [] (1 ∷ []) old new result → KeepsFront reserved first old.blocks new.blocks
+pub one_block : {T E : Type 0} (reserved first : ℕ) (chain made : List ChainBlock) (old new : Disk) (result : Result T E) → 1 ≤ reserved → Turns chain made [] (1 ∷ []) old new result → KeepsFront reserved first old.blocks new.blocks
 one_block reserved first chain made old new result some turns = record {
   size = ⊎_elim (λ was. was.others.size) (λ is. is.others.size) turns.reads;
   blocks = λ k behind less. ⊎_elim (λ was. was.others.others k (All-nil (λ (n : ℕ). k ≢ n)))
@@ -74,31 +77,37 @@ erase_effect k old new chain made result at usable turns is published erased cop
 
 -- ---- the calls on the file that is recorded
 
-pub start_effect : (k : Kept) (old new : Disk) (chain made : List ChainBlock) (o : Open) (tick : Tick) (name : List ℕ) → k.work ≡ idle chain → k.tick ≡ Some tick
+pub start_effect : (k : Kept) (old new : Disk) (chain made : List ChainBlock) (o : Open) (tick : Tick) (name setup : List ℕ) → k.work ≡ idle chain → k.tick ≡ Some tick
     → first_of o.recording.out.blocks ≡ block_behind k.config.directory (listed_files chain)
     → made ≡ added (sized (size_of o.recording.out.blocks) (listing name (first_of o.recording.out.blocks) tick.civil)) chain
-    → KeepsFront k.config.directory (block_behind k.config.directory (listed_files chain)) old.blocks new.blocks → IsPublished made new
-    → StartEffect name k old (record k { work = recording made o }) new
-start_effect k old new chain made o tick name at ticked first is front published =
+    → KeepsFront k.config.directory (block_behind k.config.directory (listed_files chain)) old.blocks new.blocks → IsPublished made new → IsShown new.blocks o setup (time_entry k.config.time tick.count tick.civil ∷ []) 1
+    → StartEffect name setup k old (record k { work = recording made o }) new
+start_effect k old new chain made o tick name setup at ticked first is front published shows =
     let listed : made ≡ added (sized (size_of o.recording.out.blocks) (listing name (block_behind k.config.directory (listed_files chain)) tick.civil)) chain =
     is ∙ ap (λ (n : ℕ). added (sized (size_of o.recording.out.blocks) (listing name n tick.civil)) chain) first in
-    let lists : Tick → List ChainBlock = λ t. added (sized (size_of o.recording.out.blocks) (listing name (block_behind k.config.directory (listed_files chain)) t.civil)) chain in
-    let does : Tick → Type 0 = λ t.
-    Effect (block_behind k.config.directory (listed_files chain)) (record k { work = recording (lists t) o }) (IsPublished (lists t)) old.blocks (record k { work = recording made o }) new in
+    let does : Tick → Type 0 = λ t. StartEffectAt name setup t chain o k old (record k { work = recording made o }) new in
     let done : does tick = record {
-      kept = ap (λ (l : List ChainBlock). record k { work = recording l o }) listed;
-      front = front;
-      directory = subst (λ (l : List ChainBlock). IsPublished l new) listed published;
+      effect = record {
+        kept = ap (λ (l : List ChainBlock). record k { work = recording l o }) listed;
+        front = front;
+        directory = subst (λ (l : List ChainBlock). IsPublished l new) listed published;
+      };
+      shows = shows;
     } in
-    rw at (subst (λ (t : Option Tick). IsSomeAnd t does) (sym ticked) done)
+    let later : Kept = record k { work = recording made o } in
+    subst (λ (w : Work). WhereIdle w (λ c. WhereRecording (recording made o) (λ m p. IsSomeAnd k.tick (λ (t : Tick). StartEffectAt name setup t c p k old later new)))) (sym at)
+    (subst (λ (t : Option Tick). IsSomeAnd t does) (sym ticked) done)
 
 pub commit_effect : (k : Kept) (old new : Disk) (chain made : List ChainBlock) (o p : Open) → k.work ≡ recording chain o
     → made ≡ updated (sized (size_of p.recording.out.blocks) (last_file chain)) chain → KeepsFront k.config.directory (first_of o.recording.out.blocks) old.blocks new.blocks → IsPublished made new
-    → CommitEffect k old (record k { work = recording made p }) new
-commit_effect k old new chain made o p at is front published = rw at (record {
-  kept = ap (λ (l : List ChainBlock). record k { work = recording l p }) is;
-  front = front;
-  directory = subst (λ (l : List ChainBlock). IsPublished l new) is published;
+    → ((text : List ℕ) (entries : List Entry) (n : ℕ) → IsShown old.blocks o text entries n → IsShown new.blocks p text entries (length entries)) → CommitEffect k old (record k { work = recording made p }) new
+commit_effect k old new chain made o p at is front published shows = rw at (record {
+  effect = record {
+    kept = ap (λ (l : List ChainBlock). record k { work = recording l p }) is;
+    front = front;
+    directory = subst (λ (l : List ChainBlock). IsPublished l new) is published;
+  };
+  shows = shows;
 })
 
 pub stop_effect : (k : Kept) (old new : Disk) (chain made : List ChainBlock) (o : Open) (tick : Tick) (taken : List ℕ) → k.work ≡ recording chain o → k.tick ≡ Some tick → IsListedClosed tick.civil chain made new

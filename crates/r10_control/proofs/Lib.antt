@@ -33,3 +33,5 @@ mod Stopped
 mod Works
 mod Effecting
 mod Making
+mod Owning
+mod Meant

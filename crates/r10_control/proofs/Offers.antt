@@ -125,6 +125,7 @@ recorded_risen : (s : Config) (tick : Option Tick) (last_event : Option ℕ) (im
 recorded_risen s tick last_event image chain o old new risen is = record {
   text = is.text;
   entries = is.entries;
+  shown = is.shown;
   carries = is.carries;
   lanes_end = risen_end is.entries old new risen is.lanes_end;
   times_end = is.times_end;

@@ -36,7 +36,7 @@ four false b c d is = absurd (cc)
 count_of : (blocks n : ℕ) (e : Listed) → stands blocks n e ≡ true → e.block_count ≡ (e.size + 511) / 512
 count_of blocks n e is = eqb-true e.block_count ((e.size + 511) / 512) (four (e.first_block == n) (nat_lt 0 e.size) (e.block_count == (e.size + 511) / 512) (nat_le (n + e.block_count) blocks) is)
 
-front_keeps : (reserved first start : ℕ) (old new : Image) (entries : List Listed) → IsWhole old → KeepsFront reserved first old new → reserved < start → Stand (length old) start entries → start + blocks_in entries ≤ first
+pub front_keeps : (reserved first start : ℕ) (old new : Image) (entries : List Listed) → IsWhole old → KeepsFront reserved first old new → reserved < start → Stand (length old) start entries → start + blocks_in entries ≤ first
     → KeepListed old new entries
 front_keeps reserved first start old new [] whole same behind stand room = tt
 front_keeps reserved first start old new (e ∷ entries) whole same behind stand room =
@@ -49,7 +49,7 @@ front_keeps reserved first start old new (e ∷ entries) whole same behind stand
 
 -- ---- where the last of the files is
 
-last_first : (blocks n first : ℕ) (entries : List Listed) → Stand blocks n entries → IsSomeAnd (last_or None entries) (λ (e : Listed). e.first_block ≡ first) → n + blocks_in (take (length entries - 1) entries) ≡ first
+pub last_first : (blocks n first : ℕ) (entries : List Listed) → Stand blocks n entries → IsSomeAnd (last_or None entries) (λ (e : Listed). e.first_block ≡ first) → n + blocks_in (take (length entries - 1) entries) ≡ first
 last_first blocks n first [] stand last = absurd last
 last_first blocks n first (e ∷ []) stand last = let place = placed_at blocks n e stand.0 in omega (arith, place.first, last)
 last_first blocks n first (e ∷ d ∷ entries) stand last =

@@ -128,8 +128,8 @@ either_of known makes k event old new leaves gives m means is safe =
     weakened (λ image. IsAsShown k.config k.work m.files old.blocks image ⊎ makes m image) (IsEither k.config m event) old new
     (λ image. ⊎_elim (λ shown. inl shown.says) (λ made. inr (gives m image means is made))) (leaves m means safe)
 
-pub none_of : (known : Machine → Type 0) (k : Kept) (event : Asked) (old new : Disk) → LeavesShown none_made k old new → IsLeftEither known k event old new
-none_of known k event old new leaves = either_of known none_made k event old new leaves (λ m image means is none. absurd none)
+pub makes_none : (known : Machine → Type 0) (k : Kept) (event : Asked) (old new : Disk) → LeavesShown none_made k old new → IsLeftEither known k event old new
+makes_none known k event old new leaves = either_of known none_made k event old new leaves (λ m image means is none. absurd none)
 
 -- what a step makes
 pub made_of : (known : Machine → Type 0) (k : Kept) (event : Asked) (old new : Disk) → LeavesShown (λ m. Makes k.config m event) k old new → IsLeftEither known k event old new

@@ -1,6 +1,7 @@
 -- What a stop leaves.
 use Rattle.std.specs.Prelude.{◌≡◌, ◌≤◌, ◌-◌, ◌^◌, ◌⊎◌, ℕ, List, [], ◌∷◌, ◌++◌, length, map, min, None, Option, Some}
 use Rattle.std.specs.List.{AllByRecursion, sum_by}
+use Rattle.r10_blockout.specs.Output.{first_of}
 use Rattle.r10_body.specs.declared.entry.Entry.{Entry}
 use Rattle.r10_body.specs.declared.entry.Sample.{Sample}
 use Rattle.r10_body.specs.declared.spec.ChannelSpec.{ChannelSpec}
@@ -16,7 +17,8 @@ use Rattle.r10_machine.specs.Room.{area as area_of}
 use Rattle.r10_machine.specs.declared.mode.Stopped.{Stopped}
 use Rattle.r10_medium.specs.Disk.{Disk, Image, Rose}
 use Rattle.r10_control.specs.Effects.{closed_listing}
-use Rattle.r10_openfile.specs.Keeping.{ended_in}
+use Rattle.r10_openfile.specs.Carrying.{EndsLast, IsShown}
+use Rattle.r10_openfile.specs.Keeping.{ListsLast, ended_in}
 use Rattle.r10_openfile.specs.Intake.{AreMovedIn}
 use Rattle.r10_pump.specs.Stopping.{AllEnd, FailsAll, Part, Tells, TookAll, entries_of, most_of}
 use Rattle.r10_machine.specs.Says.{MediumSays}
@@ -53,6 +55,12 @@ abbrev pub ClosesSo : {L : Type 0} → (L → ℕ) → (L → ChannelSpec) → L
 ClosesSo reached spec_of lanes old before chain made after size parts =
     (s : Config) (files : List File) (f : File) → Holds s before chain (Some old) (files ++ f ∷ []) → AllEnd spec_of reached lanes f.entries → Holds s after made None (files ++ closed_with size parts f ∷ []) × (f.size ≤ size)
 
+-- whatever files the medium has, the last of the directory is ended with what the file carried, and with what was taken
+abbrev pub EndsSo : {L : Type 0} → (L → ℕ) → (L → ChannelSpec) → List L → Open → Image → List ChainBlock → List ChainBlock → Image → List Part → Type 0
+EndsSo reached spec_of lanes old before chain made after parts =
+    ListsLast (first_of old.recording.out.blocks) chain → (text : List ℕ) (entries : List Entry) (n : ℕ) → IsShown before old text entries n → AllEnd spec_of reached lanes entries
+    → EndsLast after made (first_of old.recording.out.blocks) text (entries ++ entries_of parts)
+
 -- the medium failed before the file was listed, and says it as it was; or while it was, and may say it closed
 abbrev pub MaySay : {L : Type 0} → (L → ℕ) → (L → ChannelSpec) → List L → Open → Image → List ChainBlock → Image → ℕ → List Part → Type 0
 MaySay reached spec_of lanes old before chain after size parts =
@@ -73,6 +81,7 @@ pub record StopCloses {L : Type 0} (took : L → List Sample → L → Type 0) (
   pub taken : TakenAll took quiet reached spec_of order shares nodes area lanes lanes' old before chain said
   pub size : ℕ
   pub closes : ClosesSo reached spec_of lanes old before chain made after size taken.parts
+  pub ends : EndsSo reached spec_of lanes old before chain made after taken.parts
 
 -- of a directory the last file alone is listed anew, closed at this time in so many bytes; it is the medium's directory, which is synced
 pub record IsListedClosed (civil : Parts) (chain made : List ChainBlock) (disk : Disk) : Type 0 where

@@ -1,5 +1,5 @@
--- What a call that answers Ok has done, whatever files the medium has: what is kept then, the medium's directory, and which blocks stay.
-use Rattle.std.specs.Prelude.{◌≡◌, ℕ, ◌+◌, List, length, Option, Some, IsSomeAnd}
+-- What a call that answers Ok has done, whatever files the medium has: what is kept then, the medium's directory, which blocks stay, and what the file that is recorded shows.
+use Rattle.std.specs.Prelude.{◌≡◌, ℕ, ◌+◌, List, [], ◌∷◌, length, Option, Some, IsSomeAnd}
 use Rattle.r10_blockout.specs.Output.{first_of, size_of}
 use Rattle.r10_count.specs.declared.civil.Parts.{Parts}
 use Rattle.r10_dirblock.specs.Block.{begun as listing, sized}
@@ -8,6 +8,9 @@ use Rattle.r10_dirchain.specs.Chain.{IsDirectory, files as listed_files}
 use Rattle.r10_dirchain.specs.OnMedium.{IsPublished}
 use Rattle.r10_dirchain.specs.Steps.{added, emptied, last_file, updated, with_shutdown}
 use Rattle.r10_dirchain.specs.declared.chain.ChainBlock.{ChainBlock}
+use Rattle.r10_openfile.specs.Carrying.{IsShown}
+use Rattle.r10_packetout.specs.Carries.{time_entry}
+use Rattle.r10_body.specs.declared.entry.Entry.{Entry}
 use Rattle.r10_volume.specs.Holding.{Open}
 use Rattle.r10_machine.specs.Machine.{Tick}
 use Rattle.r10_means.specs.Kept.{Kept, Work, unmounted, idle, recording, failed}
@@ -54,20 +57,27 @@ EraseEffect k old later new =
 
 -- ---- the calls on the file that is recorded
 
--- a start: one file more is listed, of this name, from the block behind the others on, begun at the last tick's civil time, with as many blocks as its bytes need
-abbrev pub StartEffect : List ℕ → Kept → Disk → Kept → Disk → Type 0
-StartEffect name k old later new =
-    WhereIdle k.work (λ chain. WhereRecording later.work (λ made o. IsSomeAnd k.tick (λ (tick : Tick).
-    let first = block_behind k.config.directory (listed_files chain) in
-    let lists = added (sized (size_of o.recording.out.blocks) (listing name first tick.civil)) chain in
-    Effect first (record k { work = recording lists o }) (IsPublished lists) old.blocks later new)))
+-- the directory with one file more, of this name, from the block behind the others on, begun at this time, with as many blocks as its bytes need
+abbrev pub longer_listing : ℕ → List ℕ → Parts → Open → List ChainBlock → List ChainBlock
+longer_listing reserved name civil o chain = added (sized (size_of o.recording.out.blocks) (listing name (block_behind reserved (listed_files chain)) civil)) chain
 
--- a commit: the last file is listed with its bytes, and as many blocks as they need
+-- a start: one file more is listed, begun at the last tick's civil time; it carries its setup text and that tick's time, and shows both
+pub record StartEffectAt (name setup : List ℕ) (tick : Tick) (chain : List ChainBlock) (o : Open) (k : Kept) (old : Disk) (later : Kept) (new : Disk) : Type 0 where
+  pub effect : Effect (block_behind k.config.directory (listed_files chain)) (record k { work = recording (longer_listing k.config.directory name tick.civil o chain) o }) (IsPublished (longer_listing k.config.directory name tick.civil o chain)) old.blocks later new
+  pub shows : IsShown new.blocks o setup (time_entry k.config.time tick.count tick.civil ∷ []) 1
+
+abbrev pub StartEffect : List ℕ → List ℕ → Kept → Disk → Kept → Disk → Type 0
+StartEffect name setup k old later new =
+    WhereIdle k.work (λ chain. WhereRecording later.work (λ made o. IsSomeAnd k.tick (λ (tick : Tick). StartEffectAt name setup tick chain o k old later new)))
+
+-- a commit: the last file is listed with its bytes, and as many blocks as they need; whatever it carried, it shows all of that
+pub record CommitEffectAt (chain : List ChainBlock) (o p : Open) (k : Kept) (old : Disk) (later : Kept) (new : Disk) : Type 0 where
+  pub effect : Effect (first_of o.recording.out.blocks) (record k { work = recording (updated (sized (size_of p.recording.out.blocks) (last_file chain)) chain) p })
+      (IsPublished (updated (sized (size_of p.recording.out.blocks) (last_file chain)) chain)) old.blocks later new
+  pub shows : (text : List ℕ) (entries : List Entry) (n : ℕ) → IsShown old.blocks o text entries n → IsShown new.blocks p text entries (length entries)
+
 abbrev pub CommitEffect : Kept → Disk → Kept → Disk → Type 0
-CommitEffect k old later new =
-    WhereRecording k.work (λ chain o. WhereRecording later.work (λ made p.
-    let lists = updated (sized (size_of p.recording.out.blocks) (last_file chain)) chain in
-    Effect (first_of o.recording.out.blocks) (record k { work = recording lists p }) (IsPublished lists) old.blocks later new))
+CommitEffect k old later new = WhereRecording k.work (λ chain o. WhereRecording later.work (λ made p. CommitEffectAt chain o p k old later new))
 
 -- the directory with the last file closed at this time, in so many bytes
 abbrev pub closed_listing : Parts → ℕ → List ChainBlock → List ChainBlock

@@ -15,3 +15,4 @@ pub mod Recording
 pub mod Closing
 pub mod Effects
 pub mod Safely
+pub mod Own

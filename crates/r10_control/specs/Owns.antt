@@ -9,13 +9,14 @@ use Rattle.r10_packetout.specs.Carries.{packets_of}
 use Rattle.r10_dirblock.specs.declared.entry.Entry.{Entry as Listed}
 use Rattle.r10_dirchain.specs.Chain.{files as listed_files}
 use Rattle.r10_dirchain.specs.declared.chain.ChainBlock.{ChainBlock}
-use Rattle.r10_volume.specs.Holding.{IsCarried, Open}
+use Rattle.r10_volume.specs.Holding.{Open}
 use Rattle.r10_machine.specs.Config.{Config}
 use Rattle.r10_machine.specs.Limits.{IsConfig}
 use Rattle.r10_machine.specs.Machine.{Tick}
 use Rattle.r10_machine.specs.SoundParts.{count_or_0}
 use Rattle.r10_means.specs.Kept.{Kept, Work, unmounted, idle, recording, failed}
 use Rattle.r10_medium.specs.Disk.{Image}
+use Rattle.r10_openfile.specs.Carrying.{IsShown}
 use Rattle.r10_openfile.specs.Keeping.{MayGoOn}
 use Rattle.r10_pump.specs.Pumping.{EndsBy, HasBuilder}
 use Rattle.r10_pump.specs.Stopping.{AllEnd}
@@ -29,12 +30,13 @@ abbrev pub tick_count : Option Tick → Option ℕ
 tick_count None = None
 tick_count (Some tick) = Some tick.count
 
--- The file that is recorded goes on with times, events and what the lanes give: it carries entries of which none is later than what may come, and the medium shows the first of its packets, as many as are shown.
+-- The file that is recorded goes on with times, events and what the lanes give: it carries entries of which none is later than what may come, and the medium shows the first of them, so many.
 -- It has no more packets than its index may name, and costs no more than there is of the medium; the directory lists it last.
 pub record IsRecorded {L : Type 0} (spec_of : L → ChannelSpec) (reached : L → ℕ) (s : Config) (tick : Option Tick) (last_event : Option ℕ) (image : Image) (chain : List ChainBlock) (o : Open) (lanes : List L) : Type 0 where
   pub text : List ℕ
   pub entries : List Entry
-  pub carries : IsCarried image o text entries
+  pub shown : ℕ
+  pub carries : IsShown image o text entries shown
   pub lanes_end : AllEnd spec_of reached lanes entries
   pub times_end : EndsBy s.time (count_or_0 (tick_count tick)) entries
   pub events_end : EndsBy s.event (count_or_0 last_event) entries

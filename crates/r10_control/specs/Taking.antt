@@ -2,6 +2,7 @@
 use Rattle.r10_blockout.specs.Output.{first_of}
 use Rattle.std.specs.Prelude.{◌≡◌, ◌⊎◌, ℕ, ◌-◌, ◌^◌, ◌≤◌, List, [], ◌∷◌, ◌++◌, length, map, min, Option, None, Some, IfErr, IfOk, IsSomeAnd, OnOk, Result, Ok, Err, MatchResult, slice_get}
 use Rattle.std.specs.List.{AllByRecursion, sum_by}
+use Rattle.r10_control.specs.Own.{OwnGrow}
 use Rattle.r10_control.specs.Refused.{IsSameKept}
 use Rattle.r10_control.specs.Recording.{IsAskedFor}
 use Rattle.r10_body.specs.declared.entry.Entry.{Entry}
@@ -13,7 +14,7 @@ use Rattle.r10_builder.specs.State.{IsReady as HasRoomForTwo}
 use Rattle.r10_packetout.specs.Carries.{packets_of}
 use Rattle.r10_dirblock.specs.declared.entry.Entry.{Entry as Listed}
 use Rattle.r10_dirchain.specs.declared.chain.ChainBlock.{ChainBlock}
-use Rattle.r10_volume.specs.Holding.{Holds, IsCarried, Open}
+use Rattle.r10_volume.specs.Holding.{Holds, Open}
 use Rattle.r10_machine.specs.Config.{Config}
 use Rattle.r10_machine.specs.Machine.{File, Machine, with_entries}
 use Rattle.r10_machine.specs.Room.{area as area_of, area_from}
@@ -25,6 +26,7 @@ use Rattle.r10_medium.specs.Disk.{Disk, Image, Rose}
 use Rattle.r10_mux.specs.Writes.{IsSame, IsSameFile}
 use Rattle.r10_mux.specs.declared.fault.Full.{Full}
 use Rattle.r10_mux.specs.declared.fault.Full.TheVariants as full
+use Rattle.r10_openfile.specs.Carrying.{IsShown}
 use Rattle.r10_openfile.specs.Intake.{IsMovedIn}
 use Rattle.r10_openfile.specs.Keeping.{MayGoOn}
 use Rattle.r10_pump.specs.Machines.{HasWaiting}
@@ -48,7 +50,7 @@ abbrev pub one_part : ℕ → List Sample → List Sample → Part
 one_part channel samples rest = record { channel = channel; samples = samples; rest = rest; full = None }
 
 -- Channel by channel in this order, up to some, a call took these parts from the lanes, no more of a channel than may be; of a lane that is quiet, a part and its rest are all that waited. Where the medium failed while they were taken, nothing is told of the rests.
--- They are counted where the call succeeds. From each machine that is meant, and in whose lanes the parts and their rests wait, what the call answers leads to one that is meant then.
+-- They are counted where the call succeeds, and whatever entries the recorder's own files had, these are behind them then. From each machine that is meant, and in whose lanes the parts and their rests wait, what the call answers leads to one that is meant then.
 pub record Takes {L T : Type 0} (took : L → List Sample → L → Type 0) (quiet : L → Option (List Sample)) (spec_of : L → ChannelSpec) (order : List ℕ) (most : ℕ → ℕ) (says : T → List Part → Type 0)
     (k : Kept) (old : Image) (before : ℕ) (event : Asked) (reply : T → Answered) (result : Result T Refusal) (later : Kept) (new : Image) (now : ℕ) (lanes lanes' : List L) : Type 0 where
   pub parts : List Part
@@ -63,6 +65,7 @@ pub record Takes {L T : Type 0} (took : L → List Sample → L → Type 0) (qui
   pub counts : OnOk result (AreGrown (entries_of parts) k.config.channels k.taken later.taken)
   pub none : IfErr result (λ r. (r ≡ Medium) ⊎ AllByRecursion (λ (p : Part). p.samples ≡ []) parts)
   pub numbers : OnOk result (later ≡ record k { work = later.work; taken = later.taken })
+  pub own : OwnGrow k old later new (entries_of parts)
   pub steps : (m : Machine) → Means k old before m → AllByRecursion (HasWaiting m.lanes) known
       → MatchResult result (λ v. Leads (taken_of parts) k m event (reply v) later new now) (λ r. Leads (taken_of parts) k m event (Refused r) later new now)
 
@@ -85,7 +88,7 @@ RefusesReadied disk None lacks old new medium medium' r = lacks r × IsSameKept 
 
 -- The file took these entries in, and goes on: no packet of it lacks a place in an index of so many nodes, and it costs no more than there is, where that was so before.
 pub record WentOn (nodes area : ℕ) (ends ends' : List Entry → Type 0) (more : List Entry) (old : Open) (before : Image) (new : Open) (after : Image) : Type 0 where
-  pub carries : (text : List ℕ) (entries : List Entry) → IsCarried before old text entries → ends entries → IsCarried after new text (entries ++ more)
+  pub carries : (text : List ℕ) (entries : List Entry) (n : ℕ) → IsShown before old text entries n → ends entries → IsShown after new text (entries ++ more) n
   pub follows : (entries : List Entry) → ends entries → ends' (entries ++ more)
   pub file : IsSameFile old.recording new.recording
   pub counts : length new.recording.counts ≡ length old.recording.counts

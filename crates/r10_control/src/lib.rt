@@ -6,6 +6,7 @@ mod clock;
 mod lanes;
 mod mounting;
 mod offering;
+mod own_laws;
 mod pumping;
 mod reading;
 mod recorder;
@@ -18,4 +19,5 @@ mod telling;
 mod work;
 
 pub use lanes::lanes_stay_the_machines;
+pub use own_laws::{own_entries_are_meant, own_entries_stay};
 pub use recorder::Recorder;

@@ -2,6 +2,7 @@
 
 ghost use Rattle.std.specs.Prelude.{◌≡◌, ◌≤◌, [], length, map, replicate, None, IfOk, IfErr};
 ghost use Rattle.std.specs.List.{AllByRecursion};
+ghost use Rattle.r10_control.specs.Own.{AreOwn};
 ghost use Rattle.r10_means.specs.Kept.{unmounted};
 ghost use Rattle.r10_control.specs.Work.{work_of};
 
@@ -73,6 +74,7 @@ impl<M: BlockMedium, L: LaneOut> Recorder<M, L> {
         ensures kept { IfOk result (λ r. r.kept ≡ record { config = settings; work = unmounted; tick = None; last_event = None; generation = 0; taken = replicate (length settings.channels) 0; erased = replicate (length settings.channels) 0 }) }
         ensures lanes { IfOk result (λ r. r.lanes ≡ lanes.items) }
         ensures medium { IfOk result (λ r. r.medium ≡ medium) }
+        ensures owned { IfOk result (λ r. AreOwn r.kept.work (M.disk r.medium).blocks []) }
         ensures refused { IfErr result (λ back. (back.0 ≡ settings) × (back.1 ≡ medium) × (back.2.items ≡ lanes.items)) }
     {
         let channels = settings.channels().len();

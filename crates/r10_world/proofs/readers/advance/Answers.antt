@@ -8,7 +8,6 @@ use Rattle.r10_cursor.specs.declared.cursor.Cursor.{Cursor}
 use Rattle.r10_world.proofs.Tables.{advance_refused, advances_on, passes_too, reads, same_slots, set_same, slot_tells}
 use Rattle.r10_world.proofs.Telling.{refused_on}
 use Rattle.r10_body.specs.declared.refusal.Refusal.TheVariants.{Failed}
-use Rattle.r10_body.specs.declared.refusal.Refusal.TheVariants as refusals
 use Rattle.r10_means.specs.Kept.{Kept, Work, mode_of}
 use Rattle.r10_world.proofs.Stopping.{alone_if, survives_kept, survives_refused, survives_same}
 use Rattle.r10_world.proofs.readers.advance.Goals as goal
@@ -80,11 +79,6 @@ pub returns-in-Err-check_read-clause-stops : goal.returns-in-Err-check_read-clau
 returns-in-Err-check_read-clause-stops g c =
     let a = c.args in
     survives_same g.M.BlockMedium.disk a.recorder.now a.recorder.now (events.Advance a.id) (replies.Refused c.in-Err-check_read.refusal) refl refl refl
-
-pub returns-in_default-get_mut-clause-stops : goal.returns-in_default-get_mut-clause-stops
-returns-in_default-get_mut-clause-stops g c =
-    let a = c.args in
-    survives_same g.M.BlockMedium.disk a.recorder.now a.recorder.now (events.Advance a.id) (replies.Refused refusals.NoCursor) refl refl refl
 
 pub returns-in-Ok-take_instalment-clause-stops : goal.returns-in-Ok-take_instalment-clause-stops
 returns-in-Ok-take_instalment-clause-stops g c =

@@ -1,4 +1,4 @@
-use Rattle.std.proofs.Common.{◌≡◌, None, refl, sym, ap, ◌∙◌, subst}
+use Rattle.std.proofs.Common.{◌≡◌, None, refl, sym, ap, ◌∙◌, subst, length, List}
 use Rattle.r10_body.specs.declared.refusal.Refusal.TheVariants as refusals
 use Rattle.r10_count.specs.Checks.{first_broken}
 use Rattle.r10_machine.specs.Checks.{idle_checks}
@@ -13,12 +13,17 @@ use Rattle.r10_control.proofs.Bytes.{holds_of}
 use Rattle.r10_control.proofs.Dismounts.{dismount_done, dismount_fails, dismount_refused, held}
 use Rattle.r10_machine.specs.declared.event.Event.TheVariants as events
 use Rattle.r10_machine.specs.declared.reply.Reply.TheVariants as replies
-use Rattle.r10_control.proofs.Effecting.{dismount_effect, idle_usable}
+use Rattle.r10_control.proofs.Effecting.{dismount_effect, idle_usable, one_block, some_reserved}
 use Rattle.r10_control.specs.Effects.{DismountEffect}
+use Rattle.r10_control.specs.Own.{OwnStay}
+use Rattle.r10_control.proofs.Owning.{dismounted_own, stay_by, stay_failed, stay_same}
+use Rattle.r10_dirchain.specs.Steps.{with_shutdown}
+use Rattle.r10_medium.proofs.Stops.{unchanged, whole_reads}
+use Rattle.r10_dirchain.specs.Chain.{IsDirectory}
+use Rattle.r10_dirchain.specs.declared.chain.ChainBlock.{ChainBlock}
 use Rattle.r10_stops.proofs.Behind.{failed_safely, refused_safely, synced_safely}
 use Rattle.r10_stops.specs.Left.{StaysSafe, whichever}
-use Rattle.r10_control.proofs.Stopped.{idle_leaves, none_of}
-use Rattle.r10_medium.proofs.Stops.{unchanged}
+use Rattle.r10_control.proofs.Stopped.{idle_leaves, makes_none}
 use Rattle.r10_control.proofs.recorder.Recorder.dismount.Goals as goal
 
 pub returns-in-Err-clause-steps : goal.returns-in-Err-clause-steps
@@ -58,6 +63,36 @@ returns-in-Err-dismount-clause-steps g c =
     (λ m means.
     dismount_fails c.a_step_stays_sound.ensures k (disk w.medium).blocks later.blocks (disk w.medium).failures later.failures m c.self.invariant.limits means fine c.dismount.ensures.counts.no_fewer
     (c.in-Err-dismount.ensures.counts.cause refl) (c.dismount.ensures.says k.config m.files (held k c.in-Idle.directory (disk w.medium).blocks m at means.files))))
+
+pub returns-in-Err-clause-owned : goal.returns-in-Err-clause-owned
+returns-in-Err-clause-owned g c =
+    let w = c.self.inside in
+    let disk = g.M.BlockMedium.disk in
+    let k : Kept = record { config = w.settings; work = work_of w.work; tick = w.tick; last_event = w.last_event; generation = w.generation; taken = w.taken.items; erased = w.erased.items } in
+    subst (λ (v : State _ _). OwnStay v.kept (disk v.medium).blocks v.kept (disk v.medium).blocks) c.self.view_is (stay_same k (disk w.medium).blocks)
+
+pub returns-in-Err-dismount-clause-owned : goal.returns-in-Err-dismount-clause-owned
+returns-in-Err-dismount-clause-owned g c =
+    let w = c.self.inside in
+    let disk = g.M.BlockMedium.disk in
+    let k : Kept = record { config = w.settings; work = work_of w.work; tick = w.tick; last_event = w.last_event; generation = w.generation; taken = w.taken.items; erased = w.erased.items } in
+    subst (λ (v : State _ _). OwnStay v.kept (disk v.medium).blocks (record k { work = work_of c.turn-in-Err-dismount.new.work }) (disk c.dismount.new.medium).blocks) c.self.view_is
+    (stay_failed k (record k { work = work_of c.turn-in-Err-dismount.new.work }) (disk w.medium).blocks (disk c.dismount.new.medium).blocks (ap work_of c.turn-in-Err-dismount.ensures))
+
+pub returns-in-Ok-clause-owned : goal.returns-in-Ok-clause-owned
+returns-in-Ok-clause-owned g c =
+    let w = c.self.inside in
+    let disk = g.M.BlockMedium.disk in
+    let k : Kept = record { config = w.settings; work = work_of w.work; tick = w.tick; last_event = w.last_event; generation = w.generation; taken = w.taken.items; erased = w.erased.items } in
+    let later = disk c.dismount.new.medium in
+    let chain = c.in-Idle.directory in
+    let at : k.work ≡ idle chain = ap work_of c.in-Idle.is in
+    let usable = idle_usable g.L.LaneOut.spec_of g.L.LaneOut.reached k (disk w.medium).blocks w.lanes.items chain at c.self.invariant.work in
+    subst (λ (v : State _ _). OwnStay v.kept (disk v.medium).blocks (record k { work = work_of c.turn.new.work }) later.blocks) c.self.view_is
+    (stay_by k (record k { work = work_of c.turn.new.work }) (disk w.medium).blocks later.blocks
+    (dismounted_own k (record k { work = work_of c.turn.new.work }) (disk w.medium).blocks later.blocks chain at (whole_reads (disk w.medium)) usable
+    (one_block k.config.directory (length (disk w.medium).blocks) chain (with_shutdown 0xFF chain) (disk w.medium) later c.dismount.result (some_reserved k.config.directory (disk w.medium).blocks chain usable) c.dismount.ensures.turns)
+    (subst (λ (l : List ChainBlock). IsDirectory later.blocks l) c.in-Ok.ensures.done c.in-Ok.ensures.directory.directory) (ap work_of c.turn.ensures)))
 
 pub returns-in-Ok-clause-bytes : goal.returns-in-Ok-clause-bytes
 returns-in-Ok-clause-bytes g c =
@@ -100,7 +135,7 @@ returns-in-Ok-clause-stops g c =
     let k : Kept = record { config = w.settings; work = work_of w.work; tick = w.tick; last_event = w.last_event; generation = w.generation; taken = w.taken.items; erased = w.erased.items } in
     let later = disk c.dismount.new.medium in
     subst (λ (v : State _ _). StaysSafe whichever v.kept events.Dismount replies.Done (disk v.medium) (record k { work = work_of c.turn.new.work }) later) c.self.view_is
-    (synced_safely whichever k (record k { work = work_of c.turn.new.work }) events.Dismount replies.Done (disk w.medium) later c.in-Ok.ensures.directory.synced (none_of whichever k events.Dismount (disk w.medium) later (idle_leaves k (disk w.medium) later c.in-Idle.directory (ap work_of c.in-Idle.is) (λ files held settled. c.dismount.ensures.moments k.config files held settled))))
+    (synced_safely whichever k (record k { work = work_of c.turn.new.work }) events.Dismount replies.Done (disk w.medium) later c.in-Ok.ensures.directory.synced (makes_none whichever k events.Dismount (disk w.medium) later (idle_leaves k (disk w.medium) later c.in-Idle.directory (ap work_of c.in-Idle.is) (λ files held settled. c.dismount.ensures.moments k.config files held settled))))
 
 pub returns-in-Err-dismount-clause-stops : goal.returns-in-Err-dismount-clause-stops
 returns-in-Err-dismount-clause-stops g c =
@@ -109,4 +144,4 @@ returns-in-Err-dismount-clause-stops g c =
     let k : Kept = record { config = w.settings; work = work_of w.work; tick = w.tick; last_event = w.last_event; generation = w.generation; taken = w.taken.items; erased = w.erased.items } in
     let later = disk c.dismount.new.medium in
     subst (λ (v : State _ _). StaysSafe whichever v.kept events.Dismount (replies.Refused refusals.Medium) (disk v.medium) (record k { work = work_of c.turn-in-Err-dismount.new.work }) later) c.self.view_is
-    (failed_safely whichever k (record k { work = work_of c.turn-in-Err-dismount.new.work }) events.Dismount (replies.Refused refusals.Medium) (disk w.medium) later (ap work_of c.turn-in-Err-dismount.ensures) (none_of whichever k events.Dismount (disk w.medium) later (idle_leaves k (disk w.medium) later c.in-Idle.directory (ap work_of c.in-Idle.is) (λ files held settled. c.dismount.ensures.moments k.config files held settled))))
+    (failed_safely whichever k (record k { work = work_of c.turn-in-Err-dismount.new.work }) events.Dismount (replies.Refused refusals.Medium) (disk w.medium) later (ap work_of c.turn-in-Err-dismount.ensures) (makes_none whichever k events.Dismount (disk w.medium) later (idle_leaves k (disk w.medium) later c.in-Idle.directory (ap work_of c.in-Idle.is) (λ files held settled. c.dismount.ensures.moments k.config files held settled))))

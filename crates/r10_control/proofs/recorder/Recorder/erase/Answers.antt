@@ -18,6 +18,9 @@ use Rattle.r10_machine.specs.declared.event.Event.TheVariants as events
 use Rattle.r10_machine.specs.declared.reply.Reply.TheVariants as replies
 use Rattle.r10_control.proofs.Effecting.{erase_effect, idle_usable}
 use Rattle.r10_control.specs.Effects.{EraseEffect}
+use Rattle.r10_control.specs.Own.{OwnStay}
+use Rattle.r10_control.proofs.Owning.{none_among, stay_failed, stay_same}
+use Rattle.r10_dirchain.specs.Chain.{files as listed_files}
 use Rattle.r10_stops.proofs.Behind.{failed_safely, refused_safely, synced_safely}
 use Rattle.r10_stops.specs.Left.{StaysSafe, whichever}
 use Rattle.r10_control.proofs.Stopped.{made_of}
@@ -86,6 +89,40 @@ returns-in-Err-erase-clause-steps g c =
     (λ m means.
     erase_fails c.a_step_stays_sound.ensures k (disk w.medium).blocks later.blocks (disk w.medium).failures later.failures m c.self.invariant.limits means fine c.erase.ensures.counts.no_fewer
     (c.in-Err-erase.ensures.counts.cause refl) (c.in-Err-erase.ensures.failed k.config m.files (held k c.in-Idle.directory (disk w.medium).blocks m at means.files))))
+
+pub returns-in-Err-clause-owned : goal.returns-in-Err-clause-owned
+returns-in-Err-clause-owned g c =
+    let w = c.self.inside in
+    let disk = g.M.BlockMedium.disk in
+    let k : Kept = record { config = w.settings; work = work_of w.work; tick = w.tick; last_event = w.last_event; generation = w.generation; taken = w.taken.items; erased = w.erased.items } in
+    subst (λ (v : State _ _). OwnStay v.kept (disk v.medium).blocks v.kept (disk v.medium).blocks) c.self.view_is (stay_same k (disk w.medium).blocks)
+
+pub returns-in-Err-check_erase-clause-owned : goal.returns-in-Err-check_erase-clause-owned
+returns-in-Err-check_erase-clause-owned g c =
+    let w = c.self.inside in
+    let disk = g.M.BlockMedium.disk in
+    let k : Kept = record { config = w.settings; work = work_of w.work; tick = w.tick; last_event = w.last_event; generation = w.generation; taken = w.taken.items; erased = w.erased.items } in
+    subst (λ (v : State _ _). OwnStay v.kept (disk v.medium).blocks v.kept (disk v.medium).blocks) c.self.view_is (stay_same k (disk w.medium).blocks)
+
+pub returns-in_default-from_slice-clause-owned : goal.returns-in_default-from_slice-clause-owned
+returns-in_default-from_slice-clause-owned g c =
+    let w = c.self.inside in
+    let disk = g.M.BlockMedium.disk in
+    let k : Kept = record { config = w.settings; work = work_of w.work; tick = w.tick; last_event = w.last_event; generation = w.generation; taken = w.taken.items; erased = w.erased.items } in
+    subst (λ (v : State _ _). OwnStay v.kept (disk v.medium).blocks v.kept (disk v.medium).blocks) c.self.view_is (stay_same k (disk w.medium).blocks)
+
+pub returns-in-Err-erase-clause-owned : goal.returns-in-Err-erase-clause-owned
+returns-in-Err-erase-clause-owned g c =
+    let w = c.self.inside in
+    let disk = g.M.BlockMedium.disk in
+    let k : Kept = record { config = w.settings; work = work_of w.work; tick = w.tick; last_event = w.last_event; generation = w.generation; taken = w.taken.items; erased = w.erased.items } in
+    subst (λ (v : State _ _). OwnStay v.kept (disk v.medium).blocks (record k { work = work_of c.turn.new.work }) (disk c.erase.new.medium).blocks) c.self.view_is
+    (stay_failed k (record k { work = work_of c.turn.new.work }) (disk w.medium).blocks (disk c.erase.new.medium).blocks (ap work_of c.turn.ensures))
+
+pub returns-in-Ok-erase-clause-owned : goal.returns-in-Ok-erase-clause-owned
+returns-in-Ok-erase-clause-owned g c =
+    let disk = g.M.BlockMedium.disk in
+    none_among (disk c.erase.new.medium).blocks (listed_files c.erase.new.directory)
 
 pub returns-in-Ok-erase-clause-bytes : goal.returns-in-Ok-erase-clause-bytes
 returns-in-Ok-erase-clause-bytes g c =

@@ -1,4 +1,4 @@
-use Rattle.std.proofs.Common.{◌≡◌, ℕ, None, Option, Err, refl, sym, ap, ◌∙◌, subst}
+use Rattle.std.proofs.Common.{◌≡◌, ℕ, None, Option, Err, refl, sym, ap, ◌∙◌, subst, length}
 use Rattle.r10_body.specs.declared.refusal.Refusal.TheVariants as refusals
 use Rattle.r10_count.specs.Checks.{first_broken}
 use Rattle.r10_machine.specs.Checks.{unmounted_checks}
@@ -16,12 +16,16 @@ use Rattle.r10_control.proofs.Mounts.{mount_done, mount_fails, mount_lacks, moun
 use Rattle.r10_machine.specs.declared.event.Event.TheVariants as events
 use Rattle.r10_machine.specs.declared.reply.Reply.TheVariants as replies
 use Rattle.r10_volume.specs.Mounting.{IsMounted, IsUsable}
-use Rattle.r10_control.proofs.Effecting.{mount_effect}
+use Rattle.r10_control.proofs.Effecting.{mount_effect, one_block, some_reserved}
 use Rattle.r10_control.specs.Effects.{MountEffect}
+use Rattle.r10_control.specs.Own.{OwnStay}
+use Rattle.r10_control.proofs.Owning.{mounted_own, stay_by, stay_failed, stay_same}
+use Rattle.r10_dirchain.specs.Steps.{with_shutdown}
+use Rattle.r10_medium.proofs.Stops.{unchanged, whole_reads}
+use Rattle.r10_medium.specs.Disk.{Image}
 use Rattle.r10_stops.proofs.Behind.{failed_safely, refused_safely, synced_safely}
 use Rattle.r10_stops.specs.Left.{StaysSafe, whichever}
-use Rattle.r10_control.proofs.Stopped.{none_of, unmounted_leaves}
-use Rattle.r10_medium.proofs.Stops.{unchanged}
+use Rattle.r10_control.proofs.Stopped.{makes_none, unmounted_leaves}
 use Rattle.r10_control.proofs.recorder.Recorder.mount.Goals as goal
 
 pub returns-in-Err-clause-steps : goal.returns-in-Err-clause-steps
@@ -98,6 +102,53 @@ returns-in-Err-Medium-clause-steps g c =
     mount_fails c.a_step_stays_sound.ensures k (disk w.medium).blocks later.blocks (disk w.medium).failures later.failures m c.self.invariant.limits means fine c.mount.ensures.no_fewer
     (c.in-Err-Medium.ensures.cause (ap Err c.in-Err-Medium.field-0-is)) (c.mount.ensures.says k.config m.files says.0)))
 
+pub returns-in-Err-clause-owned : goal.returns-in-Err-clause-owned
+returns-in-Err-clause-owned g c =
+    let w = c.self.inside in
+    let disk = g.M.BlockMedium.disk in
+    let k : Kept = record { config = w.settings; work = work_of w.work; tick = w.tick; last_event = w.last_event; generation = w.generation; taken = w.taken.items; erased = w.erased.items } in
+    subst (λ (v : State _ _). OwnStay v.kept (disk v.medium).blocks v.kept (disk v.medium).blocks) c.self.view_is (stay_same k (disk w.medium).blocks)
+
+pub returns-in-Err-BadDirectory-clause-owned : goal.returns-in-Err-BadDirectory-clause-owned
+returns-in-Err-BadDirectory-clause-owned g c =
+    let w = c.self.inside in
+    let disk = g.M.BlockMedium.disk in
+    let k : Kept = record { config = w.settings; work = work_of w.work; tick = w.tick; last_event = w.last_event; generation = w.generation; taken = w.taken.items; erased = w.erased.items } in
+    subst (λ (v : State _ _). OwnStay v.kept (disk v.medium).blocks k (disk c.mount.new.medium).blocks) c.self.view_is
+    (subst (λ (image : Image). OwnStay k (disk w.medium).blocks k image) (sym ((rw c.in-Err-BadDirectory.field-0-is at c.in-Err-BadDirectory.ensures.left).reads)) (stay_same k (disk w.medium).blocks))
+
+pub returns-in-Err-OutOfMemory-clause-owned : goal.returns-in-Err-OutOfMemory-clause-owned
+returns-in-Err-OutOfMemory-clause-owned g c =
+    let w = c.self.inside in
+    let disk = g.M.BlockMedium.disk in
+    let k : Kept = record { config = w.settings; work = work_of w.work; tick = w.tick; last_event = w.last_event; generation = w.generation; taken = w.taken.items; erased = w.erased.items } in
+    subst (λ (v : State _ _). OwnStay v.kept (disk v.medium).blocks k (disk c.mount.new.medium).blocks) c.self.view_is
+    (subst (λ (image : Image). OwnStay k (disk w.medium).blocks k image) (sym ((rw c.in-Err-OutOfMemory.field-0-is at c.in-Err-OutOfMemory.ensures.left).reads)) (stay_same k (disk w.medium).blocks))
+
+pub returns-in-Err-Medium-clause-owned : goal.returns-in-Err-Medium-clause-owned
+returns-in-Err-Medium-clause-owned g c =
+    let w = c.self.inside in
+    let disk = g.M.BlockMedium.disk in
+    let k : Kept = record { config = w.settings; work = work_of w.work; tick = w.tick; last_event = w.last_event; generation = w.generation; taken = w.taken.items; erased = w.erased.items } in
+    subst (λ (v : State _ _). OwnStay v.kept (disk v.medium).blocks (record k { work = work_of c.turn-in-Err-Medium.new.work }) (disk c.mount.new.medium).blocks) c.self.view_is
+    (stay_failed k (record k { work = work_of c.turn-in-Err-Medium.new.work }) (disk w.medium).blocks (disk c.mount.new.medium).blocks (ap work_of c.turn-in-Err-Medium.ensures))
+
+pub returns-in-Ok-clause-owned : goal.returns-in-Ok-clause-owned
+returns-in-Ok-clause-owned g c =
+    let w = c.self.inside in
+    let disk = g.M.BlockMedium.disk in
+    let k : Kept = record { config = w.settings; work = work_of w.work; tick = w.tick; last_event = w.last_event; generation = w.generation; taken = w.taken.items; erased = w.erased.items } in
+    let later = disk c.mount.new.medium in
+    let fine : first_broken (unmounted_checks (mode_of k.work)) ≡ None = ap (λ mode. first_broken (unmounted_checks mode)) (sym c.mode_in.ensures) ∙ c.in_default.ensures in
+    let reserved : c.directory.result ≡ k.config.directory = c.directory.ensures.value in
+    let is = subst (λ (n : ℕ). IsMounted n (disk w.medium).blocks c.in-Ok.directory) reserved c.in-Ok.ensures.mounted in
+    let turns = c.mount.ensures.turns is.chain (subst (λ (n : ℕ). IsUsable n (disk w.medium).blocks is.chain) (sym reserved) is.usable) in
+    subst (λ (v : State _ _). OwnStay v.kept (disk v.medium).blocks (record k { work = work_of c.turn.new.work }) later.blocks) c.self.view_is
+    (stay_by k (record k { work = work_of c.turn.new.work }) (disk w.medium).blocks later.blocks
+    (mounted_own k (record k { work = work_of c.turn.new.work }) (disk w.medium).blocks later.blocks is.chain (unmounted_work k.work fine) (whole_reads (disk w.medium)) is.usable
+    (one_block k.config.directory (length (disk w.medium).blocks) is.chain (with_shutdown 0x00 is.chain) (disk w.medium) later c.mount.result (some_reserved k.config.directory (disk w.medium).blocks is.chain is.usable) turns)
+    (ap work_of c.turn.ensures ∙ ap idle is.made_is)))
+
 pub returns-in-Ok-clause-bytes : goal.returns-in-Ok-clause-bytes
 returns-in-Ok-clause-bytes g c =
     let w = c.self.inside in
@@ -142,7 +193,7 @@ returns-in-Ok-clause-stops g c =
     let later = disk c.mount.new.medium in
     let fine : first_broken (unmounted_checks (mode_of k.work)) ≡ None = ap (λ mode. first_broken (unmounted_checks mode)) (sym c.mode_in.ensures) ∙ c.in_default.ensures in
     subst (λ (v : State _ _). StaysSafe whichever v.kept events.Mount replies.Done (disk v.medium) (record k { work = work_of c.turn.new.work }) later) c.self.view_is
-    (synced_safely whichever k (record k { work = work_of c.turn.new.work }) events.Mount replies.Done (disk w.medium) later c.in-Ok.ensures.directory.synced (none_of whichever k events.Mount (disk w.medium) later (unmounted_leaves k (disk w.medium) later (unmounted_work k.work fine) (λ files settled. c.mount.ensures.moments k.config files settled))))
+    (synced_safely whichever k (record k { work = work_of c.turn.new.work }) events.Mount replies.Done (disk w.medium) later c.in-Ok.ensures.directory.synced (makes_none whichever k events.Mount (disk w.medium) later (unmounted_leaves k (disk w.medium) later (unmounted_work k.work fine) (λ files settled. c.mount.ensures.moments k.config files settled))))
 
 pub returns-in-Err-BadDirectory-clause-stops : goal.returns-in-Err-BadDirectory-clause-stops
 returns-in-Err-BadDirectory-clause-stops g c =
@@ -170,4 +221,4 @@ returns-in-Err-Medium-clause-stops g c =
     let later = disk c.mount.new.medium in
     let fine : first_broken (unmounted_checks (mode_of k.work)) ≡ None = ap (λ mode. first_broken (unmounted_checks mode)) (sym c.mode_in.ensures) ∙ c.in_default.ensures in
     subst (λ (v : State _ _). StaysSafe whichever v.kept events.Mount (replies.Refused refusals.Medium) (disk v.medium) (record k { work = work_of c.turn-in-Err-Medium.new.work }) later) c.self.view_is
-    (failed_safely whichever k (record k { work = work_of c.turn-in-Err-Medium.new.work }) events.Mount (replies.Refused refusals.Medium) (disk w.medium) later (ap work_of c.turn-in-Err-Medium.ensures) (none_of whichever k events.Mount (disk w.medium) later (unmounted_leaves k (disk w.medium) later (unmounted_work k.work fine) (λ files settled. c.mount.ensures.moments k.config files settled))))
+    (failed_safely whichever k (record k { work = work_of c.turn-in-Err-Medium.new.work }) events.Mount (replies.Refused refusals.Medium) (disk w.medium) later (ap work_of c.turn-in-Err-Medium.ensures) (makes_none whichever k events.Mount (disk w.medium) later (unmounted_leaves k (disk w.medium) later (unmounted_work k.work fine) (λ files settled. c.mount.ensures.moments k.config files settled))))
