@@ -29,7 +29,7 @@ fn pack(sample: Sample, builder: &mut Builder, packets: &mut Packets)
     requires behind { IsBehind builder.old.spec sample.count builder.old }
     ensures { IsBehind builder.old.spec sample.count builder.new }
 {
-    match builder.push(&sample) {
+    match builder.push_lent(&sample) {
         Ok(None) => (),
         Ok(Some(closed)) => {
             packets.add(&closed);

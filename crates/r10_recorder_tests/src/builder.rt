@@ -29,7 +29,7 @@ fn pushed(builder: &mut Builder, count: Count, message: Message) -> Option<Close
     if !builder.accepts(&sample) {
         return None;
     }
-    match builder.push(&sample) {
+    match builder.push_lent(&sample) {
         Ok(closed) => closed,
         Err(_) => None,
     }
