@@ -29,17 +29,20 @@ one_found : (image : Image) (e : Listed) (f : File) → Lists f e → (says : Sa
 one_found image e f lists says =
     let packets = says.says.0 in
     let entries = file_entries packets in
-    let all : shown_entries (found_of f entries) ≡ entries = take_all (length entries) entries (omega arith) in
-    (
+    let all : shown_entries (found_of f entries) ≡ entries = take_all (length entries) entries (omega arith) in (
       record { name = lists.name; first_block = lists.first_block; block_count = lists.block_count; size = lists.size; closed = lists.closed },
       record {
         inside = says.inside;
-        says = (packets, says.says.1, record {
-          file = says.says.2.file;
-          setup_is = says.says.2.setup_is;
-          entries_are = λ channel. ap (λ (es : List Entry). on_channel channel es) (sym all);
-          closed_is = says.says.2.closed_is;
-        });
+        says = (
+          packets,
+          says.says.1,
+          record {
+            file = says.says.2.file;
+            setup_is = says.says.2.setup_is;
+            entries_are = λ channel. ap (λ (es : List Entry). on_channel channel es) (sym all);
+            closed_is = says.says.2.closed_is;
+          },
+        );
       },
       record { packets = packets; bytes_are = says.says.1; each = says.says.2.file.each; entries_are = refl; shown = refl; own = refl },
       record { name = refl; setup = refl; first_block = refl; size = refl; closed = refl; entries = says.says.2.entries_are; shown = refl; own = refl },
@@ -81,12 +84,16 @@ again_one image e f again is lists said =
       },
       record {
         inside = rw (is.first_block, is.size) said.inside;
-        says = rw (is.first_block, is.size, is.setup, is.closed) (said.says.0, said.says.1, record {
-          file = said.says.2.file;
-          setup_is = said.says.2.setup_is;
-          entries_are = λ channel. said.says.2.entries_are channel ∙ sym (is.entries channel) ∙ ap (λ (es : List Entry). on_channel channel es) (sym all);
-          closed_is = said.says.2.closed_is;
-        });
+        says = rw (is.first_block, is.size, is.setup, is.closed) (
+          said.says.0,
+          said.says.1,
+          record {
+            file = said.says.2.file;
+            setup_is = said.says.2.setup_is;
+            entries_are = λ channel. said.says.2.entries_are channel ∙ sym (is.entries channel) ∙ ap (λ (es : List Entry). on_channel channel es) (sym all);
+            closed_is = said.says.2.closed_is;
+          },
+        );
       },
     )
 
