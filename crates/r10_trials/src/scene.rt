@@ -1,0 +1,100 @@
+//! Recorders over media in memory.
+
+use crate::fault::TrialFault;
+use r10_body::Refusal;
+use r10_machine::{Event, Reply, Settings};
+use r10_medium::{BlockMedium, Memory};
+use r10_world::{World, run};
+use std::alloc::{AllocError, Global};
+
+/// The same settings once more.
+fn copy_of(alloc: Global, settings: &Settings) -> Result<Settings, AllocError> {
+    let volume = Vec::from_slice(alloc, settings.volume())?;
+    let channels = Vec::from_slice(alloc, settings.channels())?;
+    let copy = Settings::of(
+        settings.blocks(),
+        settings.directory(),
+        volume,
+        settings.nodes(),
+        settings.time(),
+        settings.event(),
+        channels,
+    );
+    copy.ok().ok_or(AllocError)
+}
+
+/// The bytes of a medium that was formatted for these settings.
+pub fn formatted(alloc: Global, settings: &Settings) -> Result<Vec<u8>, TrialFault> {
+    let mut medium = Memory::new(alloc, settings.blocks())?;
+    match r10_volume::format(&mut medium, settings) {
+        Ok(()) => Ok(medium.image(alloc)?),
+        Err(Refusal::OutOfMemory) => Err(TrialFault::Memory(AllocError)),
+        Err(refusal) => Err(TrialFault::Format(refusal)),
+    }
+}
+
+/// A medium that reads as these bytes.
+pub fn medium_of(alloc: Global, image: &[u8]) -> Result<Memory, TrialFault> {
+    if image.len() % 512 != 0 {
+        return Err(TrialFault::Size);
+    }
+    Ok(Memory::of_image(alloc, image)?)
+}
+
+/// A recorder of these settings and its readers, over this medium.
+pub fn world_over<M: BlockMedium + Drop>(
+    alloc: Global,
+    settings: &Settings,
+    medium: M,
+) -> Result<World<M>, TrialFault> {
+    let settings = copy_of(alloc, settings)?;
+    if medium.blocks() != settings.blocks() {
+        return Err(TrialFault::Size);
+    }
+    match World::new(alloc, settings, medium) {
+        Ok(world) => Ok(world),
+        Err(_) => Err(TrialFault::Memory(AllocError)),
+    }
+}
+
+/// Does events, and adds their replies.
+pub fn tell<M: BlockMedium>(
+    world: &mut World<M>,
+    events: &[Event],
+    replies: &mut Vec<Reply>,
+) -> Result<(), TrialFault> {
+    let done = run(world, events, replies)?;
+    if done < events.len() {
+        return Err(TrialFault::Memory(AllocError));
+    }
+    Ok(())
+}
+
+/// What a new recorder over this medium answers to events, and the medium behind them.
+pub fn told<M: BlockMedium + Drop>(
+    alloc: Global,
+    settings: &Settings,
+    medium: M,
+    events: &[Event],
+) -> Result<(Vec<Reply>, M), TrialFault> {
+    let mut world = world_over(alloc, settings, medium)?;
+    let mut replies = Vec::new(alloc);
+    tell(&mut world, events, &mut replies)?;
+    Ok((replies, world.into_medium()))
+}
+
+/// The bytes that a new recorder leaves behind events, on a medium of these bytes that never fails.
+pub fn image_behind(
+    alloc: Global,
+    settings: &Settings,
+    image: &[u8],
+    events: &[Event],
+) -> Result<Vec<u8>, TrialFault> {
+    let (_, medium) = told(alloc, settings, medium_of(alloc, image)?, events)?;
+    Ok(medium.image(alloc)?)
+}
+
+/// The first so many, or all where there are fewer.
+pub fn first_of(events: &[Event], number: usize) -> &[Event] {
+    &events[..number.min(events.len())]
+}
