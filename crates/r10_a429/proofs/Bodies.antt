@@ -6,7 +6,7 @@ use Rattle.r10_count.specs.Bytes.{le_bytes}
 use Rattle.r10_count.specs.Form.{IsBody, IsForeign, FitsAll, OpensAll, SuitsAll, spelled_all, body_bytes}
 use Rattle.r10_count.proofs.Bodies.{one_spelled}
 use Rattle.r10_count.proofs.Fixed.{fixed_length, fixed_parts}
-use Rattle.r10_a429.specs.Arinc.{FitsArinc, FitsPacket, HasShortGaps, HasGaps, IsArinc, IsForeignArinc, arinc_body, arinc_entries}
+use Rattle.r10_a429.specs.Arinc.{FitsArinc, FitsArincBody, HasShortGaps, HasGaps, IsArinc, IsForeignArinc, arinc_body, arinc_entries}
 use Rattle.r10_a429.specs.Entry.{arinc_form}
 use Rattle.r10_a429.specs.declared.entry.ArincEntry.{ArincEntry}
 
@@ -67,7 +67,7 @@ is_foreign body f =
     (f.0, parts.0, f.2, eq-eqb (f.0 % 65536) (length parts.0) (sym parts.2), parts.1, f.4 ∙ ap (λ t. le_bytes 4 f.0 ++ t) parts.3)
 
 -- a body is made of one list of words
-pub one_arinc_body : (counter : ℕ) (es ds : List ArincEntry) → FitsPacket counter es → FitsPacket counter ds → arinc_body counter es ≡ arinc_body counter ds → es ≡ ds
+pub one_arinc_body : (counter : ℕ) (es ds : List ArincEntry) → FitsArincBody counter es → FitsArincBody counter ds → arinc_body counter es ≡ arinc_body counter ds → es ≡ ds
 one_arinc_body counter es ds fe fd same =
     one_spelled arinc_form counter es ds (fits_are counter es fe.fields fe.gaps.1) (fits_are counter ds fd.fields fd.gaps.1) (spelled_is counter es ∙ ap (drop 4) same ∙ sym (spelled_is counter ds))
 
@@ -80,9 +80,9 @@ pub body-length : (counter : ℕ) (es : List ArincEntry) → length (arinc_body 
 body-length counter es = omega (arith, entries-length counter es)
 
 -- words of a packet, by their first
-pub packet_from : (counter : ℕ) (es : List ArincEntry) (d : ArincEntry) → 0 < length es → (get_or es 0 d).count ≡ counter → length es < 65536 → FitsAll arinc_form counter es → FitsPacket counter es
+pub packet_from : (counter : ℕ) (es : List ArincEntry) (d : ArincEntry) → 0 < length es → (get_or es 0 d).count ≡ counter → length es < 65536 → FitsAll arinc_form counter es → FitsArincBody counter es
 packet_from counter [] d some first told fits = absurd (omega (arith, some))
 packet_from counter (e ∷ es) d some first told fits = let are = are_fits counter (e ∷ es) fits in record { some = some; told = told; fields = are.0; gaps = ((first, tt), are.1) }
 
-pub packet_fits : (counter : ℕ) (es : List ArincEntry) → FitsPacket counter es → FitsAll arinc_form counter es
+pub packet_fits : (counter : ℕ) (es : List ArincEntry) → FitsArincBody counter es → FitsAll arinc_form counter es
 packet_fits counter es packet = fits_are counter es packet.fields packet.gaps.1

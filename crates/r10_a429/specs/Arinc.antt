@@ -41,7 +41,7 @@ abbrev pub HasGaps : ℕ → List ArincEntry → Type 0
 HasGaps counter entries = AllByRecursion (λ e. e.count ≡ counter) (take 1 entries) × HasShortGaps counter entries
 
 -- words that a packet of this counter may have: at least one, and as many as its word can tell
-pub record FitsPacket (counter : ℕ) (entries : List ArincEntry) : Type 0 where
+pub record FitsArincBody (counter : ℕ) (entries : List ArincEntry) : Type 0 where
   pub some : 0 < length entries
   pub told : length entries < 2 ^ 16
   pub fields : AllByRecursion FitsArinc entries
@@ -49,7 +49,7 @@ pub record FitsPacket (counter : ℕ) (entries : List ArincEntry) : Type 0 where
 
 -- the body that the writer makes of these words in a packet of this counter
 abbrev pub IsArinc : ℕ → List ArincEntry → List ℕ → Type 0
-IsArinc counter entries body = FitsPacket counter entries × (body ≡ arinc_body counter entries)
+IsArinc counter entries body = FitsArincBody counter entries × (body ≡ arinc_body counter entries)
 
 -- whoever wrote it: a word, and eight bytes for each of as many words as it tells
 abbrev pub IsForeignArinc : List ℕ → Type 0

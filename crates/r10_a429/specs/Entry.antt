@@ -13,8 +13,8 @@ pub record FitsBehind (before : ℕ) (e : ArincEntry) : Type 0 where
   pub fields : FitsArinc e
   pub soon : FollowsSoon before e
 
-pub eight : (n : ℕ) → Some 8 ≡ Some n → 8 ≤ n
-eight n e = let is : 8 ≡ n = cc in omega arith
+pub eight_at_least : (n : ℕ) → Some 8 ≡ Some n → 8 ≤ n
+eight_at_least n e = let is : 8 ≡ n = cc in omega arith
 
 pub low_word : (n : ℕ) → n % 65536 < 2 ^ 32
 low_word n = omega arith
@@ -96,7 +96,7 @@ arinc_form = record {
   word = λ setting n. n % 65536;
   agrees = λ word n. word % 65536 == n;
   some = lit< tt;
-  covers = λ front. eight;
+  covers = λ front. eight_at_least;
   sized = λ before e fits. refl;
   tells = λ before e fits. (lit< tt, refl);
   one = arinc_one;

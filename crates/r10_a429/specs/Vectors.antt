@@ -5,11 +5,11 @@ use Rattle.r10_a429.specs.declared.entry.ArincEntry.{ArincEntry}
 use Rattle.r10_a429.specs.Arinc.{FollowsSoon, IsForeignArinc, arinc_body}
 
 -- a word on the high speed bus 1
-abbrev pub word_at : ℕ → ArincEntry
-word_at count = record { count = count; bus = 1; format = false; parity = false; high = true; word = 0x12345678 }
+abbrev pub a_word : ℕ → ArincEntry
+a_word count = record { count = count; bus = 1; format = false; parity = false; high = true; word = 0x12345678 }
 
 -- at 5000, 5100 and 5300: gaps of 0, 100 and 200
-pub three_words-body : arinc_body 5000 (word_at 5000 ∷ word_at 5100 ∷ word_at 5300 ∷ [])
+pub three_words-body : arinc_body 5000 (a_word 5000 ∷ a_word 5100 ∷ a_word 5300 ∷ [])
     ≡ (3 ∷ 0 ∷ 0 ∷ 0 ∷ [])
     ++ (0x00 ∷ 0x00 ∷ 0x20 ∷ 0x01 ∷ 0x78 ∷ 0x56 ∷ 0x34 ∷ 0x12 ∷ [])
     ++ (0x64 ∷ 0x00 ∷ 0x20 ∷ 0x01 ∷ 0x78 ∷ 0x56 ∷ 0x34 ∷ 0x12 ∷ [])
@@ -26,16 +26,16 @@ pub two_buses-body : arinc_body 5000 two_buses
 two_buses-body = refl
 
 -- a tenth of a second later, and a count more; no later, and a count before
-pub soon-enough : FollowsSoon 5000 (word_at 1005000)
+pub soon-enough : FollowsSoon 5000 (a_word 1005000)
 soon-enough = (lit≤ tt, lit≤ tt)
 
-pub too-late : FollowsSoon 5000 (word_at 1005001) → ⊥
+pub too-late : FollowsSoon 5000 (a_word 1005001) → ⊥
 too-late soon = omega (arith, soon.1)
 
-pub at-once : FollowsSoon 5000 (word_at 5000)
+pub at-once : FollowsSoon 5000 (a_word 5000)
 at-once = (lit≤ tt, lit≤ tt)
 
-pub too-soon : FollowsSoon 5000 (word_at 4999) → ⊥
+pub too-soon : FollowsSoon 5000 (a_word 4999) → ⊥
 too-soon soon = omega (arith, soon.0)
 
 -- any upper half of the word, and any bytes of as many words, may be another recorder's

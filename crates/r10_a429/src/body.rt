@@ -3,11 +3,11 @@
 ghost use Rattle.std.specs.Prelude.{◌≡◌, ◌↔◌, ◌+◌, ◌*◌, ◌^◌, ◌<◌, ℕ, List, length, IsTrue, IfOk};
 ghost use Rattle.r10_count.specs.Append.{Appends};
 ghost use Rattle.r10_count.specs.Form.{FitsAll};
-ghost use Rattle.r10_count.specs.Reading.{Reads};
+ghost use Rattle.r10_count.specs.Reading.{ReadsBody};
 ghost use Rattle.r10_count.specs.declared.reading.Reading.TheVariants.{Strict};
-ghost use Rattle.r10_a429.specs.Arinc.{FitsPacket, IsArinc, IsForeignArinc, arinc_body};
+ghost use Rattle.r10_a429.specs.Arinc.{FitsArincBody, IsArinc, IsForeignArinc, arinc_body};
 ghost use Rattle.r10_a429.specs.Entry.{arinc_form};
-ghost use Rattle.r10_a429.specs.declared.entry.ArincEntry.{ArincEntry as Spoken};
+ghost use Rattle.r10_a429.specs.declared.entry.ArincEntry.{ArincEntry as ArincEntryValue};
 
 use crate::entry::ArincEntry;
 use r10_count::{Count, Items, Reading, read_body, write_body};
@@ -41,7 +41,7 @@ impl ArincBody {
     /// Whether these are the words of a packet of this counter: 1 to 65,535, the first at the
     /// counter, and each at most a tenth of a second after the one before.
     pub fn check(&self, counter: Count) -> bool
-        ensures { IsTrue result ↔ FitsPacket counter self.now.entries }
+        ensures { IsTrue result ↔ FitsArincBody counter self.now.entries }
     {
         let counter = counter.get();
         let entries = self.entries.as_slice();
@@ -62,7 +62,7 @@ impl ArincBody {
     /// Adds the bytes of the body in a packet of this counter. Where memory is refused, nothing is
     /// added.
     pub fn encode_into(&self, counter: Count, out: &mut Vec<u8>) -> Result<(), AllocError>
-        requires { FitsPacket counter self.now.entries }
+        requires { FitsArincBody counter self.now.entries }
         ensures { Appends (arinc_body counter self.now.entries) out.old out.new result }
     {
         write_body(0, counter.get(), self.entries.as_slice(), out)
@@ -75,8 +75,8 @@ impl ArincBody {
         counter: Count,
         body: &[u8],
     ) -> Result<Reading<ArincBody>, AllocError>
-        ensures found { IfOk result (Reads (λ read. IsArinc counter read.entries body.now) (IsForeignArinc body.now)) }
-        ensures only { (entries : List Spoken) → IsArinc counter entries body.now → IfOk result (λ reading. reading ≡ Strict (record { entries = entries })) }
+        ensures found { IfOk result (ReadsBody (λ read. IsArinc counter read.entries body.now) (IsForeignArinc body.now)) }
+        ensures only { (entries : List ArincEntryValue) → IsArinc counter entries body.now → IfOk result (λ reading. reading ≡ Strict (record { entries = entries })) }
     {
         match read_body(alloc, 0, counter.get(), body)? {
             Reading::Strict(entries) => Ok(Reading::Strict(ArincBody { entries })),

@@ -7,8 +7,8 @@ use Rattle.r10_count.proofs.Bodies.{one_spelled}
 use Rattle.r10_count.proofs.BodyParts.{first_is}
 use Rattle.r10_count.proofs.Lengths.{next_long, sizes_from}
 use Rattle.r10_count.proofs.Plain.{plain_spelled, plain_fits, plain_all}
-use Rattle.r10_b1553.specs.Bus.{FitsBus, IsBus, IsForeignBus, bus_body, bus_entry, entry_size, told_size}
-use Rattle.r10_b1553.specs.Entry.{bus_form, entry-told, entry-one, entry-size}
+use Rattle.r10_b1553.specs.Bus.{FitsBus, IsBus, IsForeignBus, bus_body, bus_entry, bus_entry_size, bus_told_size}
+use Rattle.r10_b1553.specs.Entry.{bus_form, bus_entry-told, bus_entry-one, bus_entry-size}
 use Rattle.r10_b1553.specs.declared.entry.BusEntry.{BusEntry}
 
 pub spelled_is : (before : ℕ) (es : List BusEntry) → spelled_all bus_form before es ≡ flat_map bus_entry es
@@ -62,8 +62,8 @@ is_foreign body f = (f.0, f.1, f.2, eq-eqb (f.0 % 16777216) (length f.1) f.3, f.
 -- an entry is read from the front of bytes in one way
 pub one_bus_entry : (e d : BusEntry) (x y : List ℕ) → FitsBus e → FitsBus d → bus_entry e ++ x ≡ bus_entry d ++ y → (e ≡ d) × (x ≡ y)
 one_bus_entry e d x y fe fd same =
-    let first = first_is 14 told_size (bus_entry e) x (bus_entry d) y (entry-told e fe) (entry-told d fd) same in
-    (entry-one e d fe fd first.0, first.1)
+    let first = first_is 14 bus_told_size (bus_entry e) x (bus_entry d) y (bus_entry-told e fe) (bus_entry-told d fd) same in
+    (bus_entry-one e d fe fd first.0, first.1)
 
 -- a body is made of one list of entries
 pub one_bus_body : (es ds : List BusEntry) → AllByRecursion FitsBus es → AllByRecursion FitsBus ds → bus_body es ≡ bus_body ds → es ≡ ds
@@ -71,16 +71,16 @@ one_bus_body es ds fe fd same =
     one_spelled bus_form 0 es ds (fits_are 0 es fe) (fits_are 0 ds fd) (spelled_is 0 es ∙ ap (drop 4) same ∙ sym (spelled_is 0 ds))
 
 -- the entries that are left are the next one and those behind it
-pub next_size : (es : List BusEntry) (i : ℕ) (e : BusEntry) → i < length es → e ≡ get_or es i e → length (flat_map bus_entry (drop i es)) ≡ entry_size e + length (flat_map bus_entry (drop (i + 1) es))
-next_size = next_long bus_entry entry_size entry-size
+pub next_size : (es : List BusEntry) (i : ℕ) (e : BusEntry) → i < length es → e ≡ get_or es i e → length (flat_map bus_entry (drop i es)) ≡ bus_entry_size e + length (flat_map bus_entry (drop (i + 1) es))
+next_size = next_long bus_entry bus_entry_size bus_entry-size
 
 -- a body has its word and the sizes of its entries
-pub body-length : (es : List BusEntry) → length (bus_body es) ≡ 4 + sum_by entry_size es
-body-length es = omega (arith, sizes_from bus_entry entry_size entry-size 0 es)
+pub body-length : (es : List BusEntry) → length (bus_body es) ≡ 4 + sum_by bus_entry_size es
+body-length es = omega (arith, sizes_from bus_entry bus_entry_size bus_entry-size 0 es)
 
 entries_long : (es : List BusEntry) → 14 * length es ≤ length (flat_map bus_entry es)
 entries_long [] = omega arith
-entries_long (e ∷ es) = omega (arith, length-append (bus_entry e) (flat_map bus_entry es), entry-size e, entries_long es)
+entries_long (e ∷ es) = omega (arith, length-append (bus_entry e) (flat_map bus_entry es), bus_entry-size e, entries_long es)
 
 -- each entry has fourteen bytes or more, so that a short body has few entries
 pub body_long : (es : List BusEntry) → 4 + 14 * length es ≤ length (bus_body es)

@@ -3,7 +3,7 @@ use Rattle.std.specs.Prelude.{◌≡◌, ℕ, ◌+◌, ◌*◌, ◌%◌, ◌^◌
 use Rattle.std.specs.List.{flat_map, AllByRecursion, concat}
 use Rattle.r10_count.specs.Bytes.{le_bytes, u16_at}
 use Rattle.r10_count.specs.Count.{IsCount, stamp}
-use Rattle.r10_count.specs.Form.{IsEntry}
+use Rattle.r10_count.specs.Form.{IsEntryBytes}
 use Rattle.r10_b1553.specs.declared.entry.BusEntry.{BusEntry}
 
 -- the word has the number of messages
@@ -11,16 +11,16 @@ abbrev pub bus_word : ℕ → List ℕ
 bus_word count = le_bytes 4 count
 
 -- 16-bit words, the low byte of each first
-abbrev pub words_bytes : List ℕ → List ℕ
-words_bytes words = flat_map (le_bytes 2) words
+abbrev pub words_low_first : List ℕ → List ℕ
+words_low_first words = flat_map (le_bytes 2) words
 
 -- the length is that of the words in bytes
 abbrev pub bus_entry : BusEntry → List ℕ
-bus_entry e = stamp e.count ++ le_bytes 2 e.status ++ le_bytes 2 e.gap ++ le_bytes 2 (2 * length e.words) ++ words_bytes e.words
+bus_entry e = stamp e.count ++ le_bytes 2 e.status ++ le_bytes 2 e.gap ++ le_bytes 2 (2 * length e.words) ++ words_low_first e.words
 
 -- the length of an entry in the body
-abbrev pub entry_size : BusEntry → ℕ
-entry_size e = 14 + 2 * length e.words
+abbrev pub bus_entry_size : BusEntry → ℕ
+bus_entry_size e = 14 + 2 * length e.words
 
 abbrev pub bus_body : List BusEntry → List ℕ
 bus_body entries = bus_word (length entries) ++ flat_map bus_entry entries
@@ -51,15 +51,15 @@ abbrev pub IsBus : List BusEntry → List ℕ → Type 0
 IsBus entries body = FitsBusBody entries × (body ≡ bus_body entries)
 
 -- the number of bytes that the length word tells
-abbrev pub told_bytes : List ℕ → ℕ
-told_bytes front = u16_at front 12
+abbrev pub bus_told_bytes : List ℕ → ℕ
+bus_told_bytes front = u16_at front 12
 
 -- the length of an entry that begins so; none begins with an odd number of bytes
-abbrev pub told_size : List ℕ → Option ℕ
-told_size front = cond (told_bytes front % 2 == 0) (Some (14 + told_bytes front)) None
+abbrev pub bus_told_size : List ℕ → Option ℕ
+bus_told_size front = cond (bus_told_bytes front % 2 == 0) (Some (14 + bus_told_bytes front)) None
 
 -- whoever wrote it: a word, and exactly as many entries as it tells
 abbrev pub IsForeignBus : List ℕ → Type 0
 IsForeignBus body =
     (word : ℕ) × (entries : List (List ℕ)) × (word < 2 ^ 32) × (word % 2 ^ 24 ≡ length entries)
-    × AllByRecursion (IsEntry 14 told_size) entries × (body ≡ le_bytes 4 word ++ concat entries)
+    × AllByRecursion (IsEntryBytes 14 bus_told_size) entries × (body ≡ le_bytes 4 word ++ concat entries)

@@ -1,7 +1,7 @@
 -- Bus messages written out.
 use Rattle.std.specs.Prelude.{◌≡◌, ℕ, List, Some, None, [], ◌∷◌, ◌++◌, bit_and, refl, replicate}
 use Rattle.std.proofs.Common.{arith, lit<, lit≤}
-use Rattle.r10_b1553.specs.Bus.{FitsBus, IsForeignBus, bus_body, bus_of, named_bits, told_size}
+use Rattle.r10_b1553.specs.Bus.{FitsBus, IsForeignBus, bus_body, bus_of, named_bits, bus_told_size}
 
 -- on bus B, a command and a data word at 2000
 pub one_message-body : bus_body (bus_of 2000 0x2000 0 (0x0821 ∷ 0xABCD ∷ []) ∷ [])
@@ -22,13 +22,13 @@ bits_kept = refl
 pub bits_dropped : bit_and 0xC1C7 named_bits ≡ 0
 bits_dropped = refl
 
-abbrev pub front_of : ℕ → List ℕ
-front_of bytes = 0 ∷ 0 ∷ 0 ∷ 0 ∷ 0 ∷ 0 ∷ 0 ∷ 0 ∷ 0 ∷ 0 ∷ 0 ∷ 0 ∷ bytes ∷ 0 ∷ []
+abbrev pub entry_front : ℕ → List ℕ
+entry_front bytes = 0 ∷ 0 ∷ 0 ∷ 0 ∷ 0 ∷ 0 ∷ 0 ∷ 0 ∷ 0 ∷ 0 ∷ 0 ∷ 0 ∷ bytes ∷ 0 ∷ []
 
-pub four-bytes : told_size (front_of 4) ≡ Some 18
+pub four-bytes : bus_told_size (entry_front 4) ≡ Some 18
 four-bytes = refl
 
-pub five-bytes : told_size (front_of 5) ≡ None
+pub five-bytes : bus_told_size (entry_front 5) ≡ None
 five-bytes = refl
 
 pub too-many-words : FitsBus (bus_of 0 0 0 (replicate 37 7)) → ⊥

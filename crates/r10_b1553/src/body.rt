@@ -2,10 +2,10 @@
 
 ghost use Rattle.std.specs.Prelude.{◌≡◌, ◌↔◌, ◌^◌, ◌<◌, List, length, IsTrue, IfOk};
 ghost use Rattle.r10_count.specs.Append.{Appends};
-ghost use Rattle.r10_count.specs.Reading.{Reads};
+ghost use Rattle.r10_count.specs.Reading.{ReadsBody};
 ghost use Rattle.r10_count.specs.declared.reading.Reading.TheVariants.{Strict};
 ghost use Rattle.r10_b1553.specs.Bus.{FitsBusBody, IsBus, IsForeignBus, bus_body};
-ghost use Rattle.r10_b1553.specs.declared.entry.BusEntry.{BusEntry as Spoken};
+ghost use Rattle.r10_b1553.specs.declared.entry.BusEntry.{BusEntry as BusEntryValue};
 
 use crate::entry::BusEntry;
 use r10_count::{BodyEntry, Items, Reading, read_body, write_body};
@@ -53,8 +53,8 @@ impl BusBody {
     /// Reads a body: the entries that this recorder writes as these bytes, or whether another recorder may have
     /// written them.
     pub fn decode(alloc: Global, body: &[u8]) -> Result<Reading<BusBody>, AllocError>
-        ensures found { IfOk result (Reads (λ read. IsBus read.entries body.now) (IsForeignBus body.now)) }
-        ensures only { (entries : List Spoken) → IsBus entries body.now → IfOk result (λ reading. reading ≡ Strict (record { entries = entries })) }
+        ensures found { IfOk result (ReadsBody (λ read. IsBus read.entries body.now) (IsForeignBus body.now)) }
+        ensures only { (entries : List BusEntryValue) → IsBus entries body.now → IfOk result (λ reading. reading ≡ Strict (record { entries = entries })) }
     {
         match read_body(alloc, 0, 0, body)? {
             Reading::Strict(entries) => Ok(Reading::Strict(BusBody { entries })),

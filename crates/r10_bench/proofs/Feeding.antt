@@ -7,20 +7,20 @@ use Rattle.std.proofs.lemmas.List.Elements.{filter-append}
 use Rattle.r10_medium.specs.Disk.{Disk, Image}
 use Rattle.r10_blockout.specs.Output.{first_of}
 use Rattle.r10_body.specs.Files.{on_channel}
-use Rattle.r10_body.specs.Rules.{Rise, entry_on as is_on}
+use Rattle.r10_body.specs.Rules.{Rise, is_entry_on}
 use Rattle.r10_body.specs.declared.entry.Entry.{Entry}
 use Rattle.r10_body.specs.declared.entry.Sample.{Sample}
 use Rattle.r10_body.specs.Sequence.{last_count}
-use Rattle.r10_builder.specs.State.{State}
+use Rattle.r10_builder.specs.State.{BuilderState}
 use Rattle.r10_builder.specs.Settings.{specs_of}
-use Rattle.r10_builder.specs.Grows.{is_open}
+use Rattle.r10_builder.specs.Grows.{is_open_builder}
 use Rattle.r10_packetout.specs.Output.{IsReady, Writing}
 use Rattle.r10_packetout.proofs.Having.{ready_fewer}
-use Rattle.r10_packetout.specs.Carries.{Carries, Recording, packets_of}
-use Rattle.r10_mux.specs.Writes.{IsSame, IsSameFile, Leads, MayGrow}
+use Rattle.r10_packetout.specs.Carries.{Records, Recording, packets_of}
+use Rattle.r10_mux.specs.Writes.{IsSame, IsSameFile, LeadsToRecords, MayGrow}
 use Rattle.r10_machine.specs.Machine.{Lane}
 use Rattle.r10_machine.specs.SoundParts.{count_or_0}
-use Rattle.r10_lane.specs.Lanes.{Took, first_count, reached}
+use Rattle.r10_lane.specs.Lanes.{TookWaiting, first_count_or, reached}
 use Rattle.r10_pump.specs.Pumping.{EndsBy, IsOpenTo, TakenIn, entries_on}
 use Rattle.r10_pump.proofs.Coming.{has_builder}
 use Rattle.r10_bench.specs.Recording.{IsFed, IsLine}
@@ -31,7 +31,7 @@ use Rattle.r10_bench.specs.Recording.{IsFed, IsLine}
 pub first_reached : (lane : Lane) (s : Sample) → Some s ≡ slice_get lane.waiting 0 → reached lane ≡ s.count
 first_reached lane s is = by lane.waiting is
   where
-    by : (waiting : List Sample) → Some s ≡ slice_get waiting 0 → first_count waiting (count_or_0 lane.last) ≡ s.count
+    by : (waiting : List Sample) → Some s ≡ slice_get waiting 0 → first_count_or waiting (count_or_0 lane.last) ≡ s.count
     by [] is = cc
     by (x ∷ waiting) is = ap (λ (t : Sample). t.count) (some_is x is)
       where
@@ -39,22 +39,22 @@ first_reached lane s is = by lane.waiting is
         some_is x is = cc
 
 -- a lane of which nothing was taken has reached what it had
-pub stays : (a b : Lane) → Took a [] b → reached b ≡ reached a
-stays a b took = ap (λ (l : Lane). reached l) took.others ∙ ap (λ (w : List Sample). first_count w (count_or_0 a.last)) (sym took.front)
+pub stays : (a b : Lane) → TookWaiting a [] b → reached b ≡ reached a
+stays a b took = ap (λ (l : Lane). reached l) took.others ∙ ap (λ (w : List Sample). first_count_or w (count_or_0 a.last)) (sym took.front)
 
 -- an empty one has reached the last that was accepted
-pub emptied : (a b : Lane) (samples : List Sample) → Took a samples b → length b.waiting ≡ 0 → reached b ≡ count_or_0 a.last
+pub emptied : (a b : Lane) (samples : List Sample) → TookWaiting a samples b → length b.waiting ≡ 0 → reached b ≡ count_or_0 a.last
 emptied a b samples took none = ap (λ (l : Lane). reached l) took.others ∙ by b.waiting none
   where
-    by : (waiting : List Sample) → length waiting ≡ 0 → first_count waiting (count_or_0 a.last) ≡ count_or_0 a.last
+    by : (waiting : List Sample) → length waiting ≡ 0 → first_count_or waiting (count_or_0 a.last) ≡ count_or_0 a.last
     by [] none = refl
     by (x ∷ waiting) none = absurd (omega (arith, none))
 
 -- ---- files
 
 -- a lane that goes on has a file that is open to it, once memory was asked for
-pub opens : (old new : Recording) (image : Image) (last area top : ℕ) (a b : Lane) → IsFed old image last area → IsLine old.builders top a → last ≤ reached a → Took a [] b → IsSame old new
-    → ((image : Image) (text : List ℕ) (entries : List Entry) → Carries old image text entries → Carries new image text entries) → IsOpenTo new image b.spec (reached b) area
+pub opens : (old new : Recording) (image : Image) (last area top : ℕ) (a b : Lane) → IsFed old image last area → IsLine old.builders top a → last ≤ reached a → TookWaiting a [] b → IsSame old new
+    → ((image : Image) (text : List ℕ) (entries : List Entry) → Records old image text entries → Records new image text entries) → IsOpenTo new image b.spec (reached b) area
 opens old new image last area top a b fed line le took same carries = rw (ap (λ (l : Lane). l.spec) took.others, stays a b took) (record {
   text = fed.text;
   entries = fed.entries;
@@ -90,18 +90,18 @@ fed_on id m n last top area samples old new before after fed taken le up later b
         subst (λ (c : ℕ). EndsBy c top (fed.entries ++ entries_on id samples)) (eqb-true id channel on) (omega (arith, follows, up))
     by channel false off =
         let same : on_channel channel (fed.entries ++ entries_on id samples) ≡ on_channel channel fed.entries =
-        filter-append (is_on channel) fed.entries (entries_on id samples) ∙ ap (λ (es : List Entry). on_channel channel fed.entries ++ es) (none_on channel id samples off) ∙ append-nil (on_channel channel fed.entries) in
+        filter-append (is_entry_on channel) fed.entries (entries_on id samples) ∙ ap (λ (es : List Entry). on_channel channel fed.entries ++ es) (none_on channel id samples off) ∙ append-nil (on_channel channel fed.entries) in
         omega (arith, ap (λ (es : List Entry). last_count 0 es) same, fed.ends channel, later)
 
 -- other lanes are where they were
-pub line_on : (old new : List State) (last top : ℕ) (lane : Lane) → specs_of new ≡ specs_of old → last ≤ top → IsLine old last lane → IsLine new top lane
+pub line_on : (old new : List BuilderState) (last top : ℕ) (lane : Lane) → specs_of new ≡ specs_of old → last ≤ top → IsLine old last lane → IsLine new top lane
 line_on old new last top lane specs le line = record {
   builder = has_builder lane.spec new old specs line.builder;
   before = omega (arith, line.before, le);
 }
 
 -- what is kept stays so where memory was asked for
-pub kept : (old new : Recording) (image : Image) (last area : ℕ) → IsFed old image last area → IsSame old new → ((image : Image) (text : List ℕ) (entries : List Entry) → Carries old image text entries → Carries new image text entries) → IsFed new image last area
+pub kept : (old new : Recording) (image : Image) (last area : ℕ) → IsFed old image last area → IsSame old new → ((image : Image) (text : List ℕ) (entries : List Entry) → Records old image text entries → Records new image text entries) → IsFed new image last area
 kept old new image last area fed same carries = record {
   text = fed.text;
   entries = fed.entries;
@@ -112,7 +112,7 @@ kept old new image last area fed same carries = record {
 }
 
 -- a lane from which samples were taken is still its channel's
-pub line_took : (old new : List State) (top : ℕ) (a b : Lane) (samples : List Sample) → specs_of new ≡ specs_of old → Took a samples b → IsLine old top a → IsLine new top b
+pub line_took : (old new : List BuilderState) (top : ℕ) (a b : Lane) (samples : List Sample) → specs_of new ≡ specs_of old → TookWaiting a samples b → IsLine old top a → IsLine new top b
 line_took old new top a b samples specs took line = record {
   builder = rw (ap (λ (l : Lane). l.spec) took.others) (has_builder a.spec new old specs line.builder);
   before = rw (ap (λ (l : Lane). l.last) took.others) line.before;
@@ -131,7 +131,7 @@ may_end r image last area fed room = record {
 
 -- what was open is in packets now
 pub flushed : (old new : Recording) (before after : Disk) (last area : ℕ) (fed : IsFed old before.blocks last area) → IsSameFile old new → length after.blocks ≡ length before.blocks
-    → Leads old before fed.text fed.entries fed.carries new after fed.entries → IsFed new after.blocks last area
+    → LeadsToRecords old before fed.text fed.entries fed.carries new after fed.entries → IsFed new after.blocks last area
 flushed old new before after last area fed same blocks led = record {
   text = fed.text;
   entries = fed.entries;
@@ -142,8 +142,8 @@ flushed old new before after last area fed same blocks led = record {
 }
 
 -- there is memory for the packets that are open
-pub few_open : (r : Recording) (n m : ℕ) → IsReady r.out n → m ≡ min (packets_of r) (2 ^ 64 - 1) → m ≤ n → n ≤ 3_276_500 → IsReady r.out (count_by is_open r.builders)
-few_open r n m ready is few most = ready_fewer r.out n (count_by is_open r.builders) (omega (arith, is, few, most)) ready
+pub few_open : (r : Recording) (n m : ℕ) → IsReady r.out n → m ≡ min (packets_of r) (2 ^ 64 - 1) → m ≤ n → n ≤ 3_276_500 → IsReady r.out (count_by is_open_builder r.builders)
+few_open r n m ready is few most = ready_fewer r.out n (count_by is_open_builder r.builders) (omega (arith, is, few, most)) ready
 
 -- few are named
 pub few_named : (r : Recording) (n : ℕ) → n ≡ min (packets_of r) (2 ^ 64 - 1) → n ≤ 3_276_500 → length r.out.entries ≤ 3_276_500

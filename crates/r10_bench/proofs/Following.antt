@@ -2,13 +2,13 @@
 use Rattle.std.proofs.Common.{◌≡◌, ◌≤◌, ℕ, List, [], ◌∷◌, ◌++◌, Option, None, MatchOption, refl, sym, ap, subst, ◌∙◌, arith}
 use Rattle.r10_body.specs.declared.entry.Sample.{Sample}
 use Rattle.r10_body.specs.declared.spec.ChannelSpec.{ChannelSpec}
-use Rattle.r10_builder.specs.Packing.{last_count}
-use Rattle.r10_builder.specs.State.{State, IsReady, IsReadyWith, Pushed}
+use Rattle.r10_builder.specs.Packing.{last_sample_count}
+use Rattle.r10_builder.specs.State.{BuilderState, HasRoomForTwo, IsReadyWith, Pushed}
 use Rattle.r10_builder.specs.declared.closed.Closed.{Closed}
 use Rattle.r10_bench.specs.Behind.{IsBehind}
 
 -- what comes at this count comes later too, or at once
-pub later : (spec next : ChannelSpec) (n m : ℕ) (b : State) → IsBehind spec n b → next ≡ spec → n ≤ m → IsBehind next m b
+pub later : (spec next : ChannelSpec) (n m : ℕ) (b : BuilderState) → IsBehind spec n b → next ≡ spec → n ≤ m → IsBehind next m b
 later spec next n m b behind same up = record {
   same = behind.same ∙ sym same;
   later = omega (arith, behind.later, up);
@@ -16,17 +16,17 @@ later spec next n m b behind same up = record {
 }
 
 -- the last of samples
-last_of : (before : ℕ) (samples : List Sample) (s : Sample) → last_count before (samples ++ s ∷ []) ≡ s.count
+last_of : (before : ℕ) (samples : List Sample) (s : Sample) → last_sample_count before (samples ++ s ∷ []) ≡ s.count
 last_of before [] s = refl
 last_of before (x ∷ samples) s = last_of x.count samples s
 
 -- a sample that joined the others is the last one
-pub joined : (old new : State) (s : Sample) (closed : Option Closed) → closed ≡ None → new.spec ≡ old.spec → Pushed old s closed new → MatchOption closed (IsReady new) (λ closed. IsReadyWith closed new) → IsBehind old.spec s.count new
+pub joined : (old new : BuilderState) (s : Sample) (closed : Option Closed) → closed ≡ None → new.spec ≡ old.spec → Pushed old s closed new → MatchOption closed (HasRoomForTwo new) (λ closed. IsReadyWith closed new) → IsBehind old.spec s.count new
 joined old new s closed none same pushed ready =
     let p : Pushed old s None new = subst (λ o. Pushed old s o new) none pushed in
-    let r : IsReady new = subst (λ o. MatchOption o (IsReady new) (λ closed. IsReadyWith closed new)) none ready in
+    let r : HasRoomForTwo new = subst (λ o. MatchOption o (HasRoomForTwo new) (λ closed. IsReadyWith closed new)) none ready in
     record {
       same = same;
-      later = omega (arith, ap (λ samples. last_count 0 samples) p.1, last_of 0 old.samples s);
+      later = omega (arith, ap (λ samples. last_sample_count 0 samples) p.1, last_of 0 old.samples s);
       ready = r;
     }

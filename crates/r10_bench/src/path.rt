@@ -2,7 +2,7 @@
 
 ghost use Rattle.std.specs.Prelude.{◌≡◌, ◌≤◌, ◌+◌, List, length, None, OnOk};
 ghost use Rattle.r10_body.specs.Messages.{channel_refusal};
-ghost use Rattle.r10_body.specs.declared.entry.Sample.{Sample as One};
+ghost use Rattle.r10_body.specs.declared.entry.Sample.{Sample as SampleValue};
 ghost use Rattle.r10_lane.specs.Lanes.{reached};
 ghost use Rattle.r10_bench.specs.Behind.{IsBehind};
 
@@ -43,7 +43,7 @@ fn pack(sample: Sample, builder: &mut Builder, packets: &mut Packets)
 pub fn pack_all<L: LaneOut>(lane: &mut L, builder: &mut Builder, packets: &mut Packets) -> u64
     requires { IsBehind (L.spec_of lane.old) (L.reached lane.old) builder.old }
     ensures behind { IsBehind (L.spec_of lane.new) (L.reached lane.new) builder.new }
-    ensures taken { (samples : List One) × (L.took lane.old samples lane.new × (result ≡ length samples)) }
+    ensures taken { (samples : List SampleValue) × (L.took lane.old samples lane.new × (result ≡ length samples)) }
 {
     let mut number = 0;
     for _ in 0..lane.held() {

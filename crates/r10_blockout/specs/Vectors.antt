@@ -1,11 +1,11 @@
 -- Worked values.
 use Rattle.std.specs.Prelude.{◌≡◌, [], ◌∷◌, ◌++◌, map, replicate, refl}
-use Rattle.r10_blockout.specs.Blocks.{Shows, blocks_for, file_block, full_blocks, padded}
+use Rattle.r10_blockout.specs.Blocks.{Shows, blocks_for, file_block, full_blocks, padded_block}
 
-pub one_byte : padded (0x41 ∷ []) ≡ 0x41 ∷ replicate 511 0
+pub one_byte : padded_block (0x41 ∷ []) ≡ 0x41 ∷ replicate 511 0
 one_byte = refl
 
-pub longer_bytes : padded (replicate 513 7) ≡ replicate 512 7
+pub longer_bytes : padded_block (replicate 513 7) ≡ replicate 512 7
 longer_bytes = refl
 
 pub second_block : file_block (replicate 512 7 ++ 0x41 ∷ []) 1 ≡ 0x41 ∷ replicate 511 0
@@ -19,5 +19,5 @@ pub a_full_block : full_blocks (replicate 512 7 ++ 0x41 ∷ []) ≡ replicate 51
 a_full_block = refl
 
 -- what block 1 begins with is shown from block 1 on
-pub shown : Shows (replicate 512 0 ∷ (0x41 ∷ 0x42 ∷ replicate 510 9) ∷ []) 1 (0x41 ∷ 0x42 ∷ [])
-shown = refl
+pub shown_twice : Shows (replicate 512 0 ∷ (0x41 ∷ 0x42 ∷ replicate 510 9) ∷ []) 1 (0x41 ∷ 0x42 ∷ [])
+shown_twice = refl

@@ -9,11 +9,11 @@ use Rattle.r10_count.specs.declared.civil.Parts.{Parts}
 use Rattle.r10_count.specs.Padding.{padding}
 use Rattle.r10_uart.specs.Uart.{FitsUart, uart_entry, uart_header, uart_body}
 use Rattle.r10_uart.specs.declared.entry.UartEntry.{UartEntry}
-use Rattle.r10_timebody.specs.Time.{two_digits, digits_word, time_body}
+use Rattle.r10_timebody.specs.Time.{two_packed_digits, digits_word, time_body}
 use Rattle.r10_event.proofs.Events.{one_event_body}
 use Rattle.r10_b1553.proofs.Bodies.{one_bus_body}
 use Rattle.r10_a429.proofs.Bodies.{one_arinc_body}
-use Rattle.r10_a429.specs.Arinc.{arinc_body, FitsPacket as FitsArincBody}
+use Rattle.r10_a429.specs.Arinc.{arinc_body, FitsArincBody}
 use Rattle.r10_discrete.proofs.Bodies.{one_discrete_body}
 use Rattle.r10_message.proofs.Bodies.{one_message_body}
 use Rattle.r10_indexbody.specs.Index.{node_entry, root_entry}
@@ -67,7 +67,7 @@ one_uart_body es fs fe ff same = one_list FitsUart uart_entry es fs one_uart_way
 -- a word of two numbers below 100
 one_digits_word : (a b c d : ℕ) → a < 100 → b < 100 → c < 100 → d < 100 → digits_word a b ≡ digits_word c d → (a ≡ c) × (b ≡ d)
 one_digits_word a b c d ha hb hc hd same =
-    let whole : 256 * two_digits a + two_digits b ≡ 256 * two_digits c + two_digits d = (same_u16 (256 * two_digits a + two_digits b) (256 * two_digits c + two_digits d) [] [] (omega arith) (omega arith) same).0 in
+    let whole : 256 * two_packed_digits a + two_packed_digits b ≡ 256 * two_packed_digits c + two_packed_digits d = (same_u16 (256 * two_packed_digits a + two_packed_digits b) (256 * two_packed_digits c + two_packed_digits d) [] [] (omega arith) (omega arith) same).0 in
     (omega arith, omega arith)
 
 same_parts : (p q : Parts) → p.year ≡ q.year → p.month ≡ q.month → p.day ≡ q.day → p.hour ≡ q.hour → p.minute ≡ q.minute → p.second ≡ q.second → p.centi ≡ q.centi → p ≡ q

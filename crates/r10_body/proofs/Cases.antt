@@ -2,18 +2,18 @@
 use Rattle.std.specs.Prelude.{ℕ, true, false, List, [], ◌∷◌, ◌++◌, length, take, replicate, refl}
 use Rattle.std.specs.List.{sum_by}
 use Rattle.std.proofs.Common.{lit<, lit≤, arith, sym, ap, ◌≤◌}
-use Rattle.r10_indexbody.specs.Vectors.{names, stands}
+use Rattle.r10_indexbody.specs.Vectors.{a_node_entry, a_root_entry}
 use Rattle.r10_indexbody.specs.declared.entry.RootEntry.{RootEntry}
 use Rattle.r10_uart.specs.declared.entry.UartEntry.{UartEntry}
 use Rattle.r10_body.specs.Content.{event, uart, node, root}
 use Rattle.r10_packet.specs.Header.{header_bytes}
 use Rattle.r10_body.specs.Packets.{Packet, packet_bytes, file_bytes}
 use Rattle.r10_body.specs.Rules.{KeepsChecksums, KeepsStart, KeepsChannels, KeepsSequence, KeepsCounts, KeepsIndex, KeepsCounters, KeepsEvents, node_entries}
-use Rattle.r10_body.specs.Faults.{IsAtFault, KeepsHeader, KeepsFiller, Reads, BreaksRule, first_packet, rule, no_time, no_index}
-use Rattle.r10_body.specs.Faults as faults
+use Rattle.r10_body.specs.Faults.{IsAtFault, KeepsHeader, KeepsFiller, ReadsPacket, BreaksRule, first_packet, rule, no_time, no_index}
+use Rattle.r10_body.specs.Faults as broken_rules
 use Rattle.r10_body.specs.Foreign.{IsForeignPacket}
 use Rattle.r10_body.specs.declared.fault.FileFault.TheVariants.{Rule}
-use Rattle.r10_body.specs.Vectors.{setup_packet, time_packet, uart_packet, node_packet, root_packet, data_packets, recording}
+use Rattle.r10_body.specs.Vectors.{a_setup_packet, a_time_packet, uart_packet, a_node_packet, a_root_packet, data_packets, a_recording}
 use Rattle.r10_body.proofs.Recording.{setup-first, time-second, uart-third, node-fourth, no}
 
 abbrev pub text_at : ℕ → UartEntry
@@ -28,36 +28,36 @@ abbrev pub event_packet : ℕ → ℕ → ℕ → Packet
 event_packet sequence number occurrence = record { channel = 2; sequence = sequence; flagged = false; check = 0; counter = 1010; content = event (record { count = 1010; number = number; occurrence = occurrence }) }
 
 -- rule 3: no data checksum on a time packet or an event
-pub time-with-checksum : KeepsChecksums (record time_packet { check = 1 }) → ⊥
+pub time-with-checksum : KeepsChecksums (record a_time_packet { check = 1 }) → ⊥
 time-with-checksum keeps = omega (arith, keeps refl)
 
 pub event-with-checksum : KeepsChecksums (record (event_packet 0 3 0) { check = 1 }) → ⊥
 event-with-checksum keeps = omega (arith, keeps refl)
 
 -- rule 4: one setup packet, and a time packet second
-pub second-setup : KeepsStart data_packets setup_packet → ⊥
+pub second-setup : KeepsStart data_packets a_setup_packet → ⊥
 second-setup ((only-first, first), second) = omega (arith, only-first refl)
 
-pub no-setup : KeepsStart [] time_packet → ⊥
+pub no-setup : KeepsStart [] a_time_packet → ⊥
 no-setup ((only-first, first), second) = no (first refl)
 
-pub no-time-second : KeepsStart (setup_packet ∷ []) uart_packet → ⊥
+pub no-time-second : KeepsStart (a_setup_packet ∷ []) uart_packet → ⊥
 no-time-second (start, second) = no (second refl)
 
 -- rule 5: channels
 pub data-on-channel-0 : KeepsChannels data_packets (record uart_packet { channel = 0 }) → ⊥
 data-on-channel-0 ((there, back), one-type, flags) = no (back refl)
 
-pub index-on-channel-5 : KeepsChannels data_packets (record node_packet { channel = 5 }) → ⊥
+pub index-on-channel-5 : KeepsChannels data_packets (record a_node_packet { channel = 5 }) → ⊥
 index-on-channel-5 ((there, back), one-type, flags) = omega (arith, there refl)
 
-pub setup-on-channel-5 : KeepsChannels [] (record setup_packet { channel = 5 }) → ⊥
+pub setup-on-channel-5 : KeepsChannels [] (record a_setup_packet { channel = 5 }) → ⊥
 setup-on-channel-5 ((there, back), one-type, flags) = omega (arith, there refl)
 
 pub another-type : KeepsChannels data_packets (record uart_packet { channel = 1 }) → ⊥
 another-type (place, one-type, flags) = omega (arith, (one-type (lit< tt)).1.0 refl)
 
-pub flagged-time : KeepsChannels (setup_packet ∷ []) (record time_packet { flagged = true }) → ⊥
+pub flagged-time : KeepsChannels (a_setup_packet ∷ []) (record a_time_packet { flagged = true }) → ⊥
 flagged-time (place, one-type, flags) = no (sym (flags refl))
 
 pub flagged-event : KeepsChannels data_packets (record (event_packet 0 3 0) { flagged = true }) → ⊥
@@ -84,42 +84,42 @@ pub other-counter : KeepsCounts data_packets (record (next_packet 1 1010 1010) {
 other-counter ((first, end), rise, near) = omega (arith, first)
 
 -- rule 8: the index
-pub data-behind-node : KeepsIndex (data_packets ++ node_packet ∷ []) (next_packet 1 1010 1010) → ⊥
+pub data-behind-node : KeepsIndex (data_packets ++ a_node_packet ∷ []) (next_packet 1 1010 1010) → ⊥
 data-behind-node (roots, nodes) = omega (arith, nodes)
 
-pub node-behind-root : KeepsIndex recording node_packet → ⊥
+pub node-behind-root : KeepsIndex a_recording a_node_packet → ⊥
 node-behind-root (roots, entries) = omega (arith, roots)
 
-pub root-without-node : KeepsIndex data_packets root_packet → ⊥
+pub root-without-node : KeepsIndex data_packets a_root_packet → ⊥
 root-without-node (roots, (named, entries)) = omega (arith, named)
 
 -- a node without the last packet, and one without the setup packet
-pub entry-left-out : KeepsIndex data_packets (record node_packet { content = node (names 0x01 0 0 ∷ names 0x11 1 32 ∷ []) }) → ⊥
+pub entry-left-out : KeepsIndex data_packets (record a_node_packet { content = node (a_node_entry 0x01 0 0 ∷ a_node_entry 0x11 1 32 ∷ []) }) → ⊥
 entry-left-out (roots, entries) = omega (arith, ap length entries)
 
-pub setup-left-out : KeepsIndex data_packets (record node_packet { content = node (names 0x11 1 32 ∷ names 0x50 5 68 ∷ []) }) → ⊥
+pub setup-left-out : KeepsIndex data_packets (record a_node_packet { content = node (a_node_entry 0x11 1 32 ∷ a_node_entry 0x50 5 68 ∷ []) }) → ⊥
 setup-left-out (roots, entries) = omega (arith, ap length entries)
 
 -- a node of 99 entries where there are 101 packets
 abbrev many : List Packet
-many = setup_packet ∷ time_packet ∷ replicate 99 uart_packet
+many = a_setup_packet ∷ a_time_packet ∷ replicate 99 uart_packet
 
-pub ninety-nine : KeepsIndex many (record node_packet { content = node (take 99 (node_entries 0 many)) }) → ⊥
+pub ninety-nine : KeepsIndex many (record a_node_packet { content = node (take 99 (node_entries 0 many)) }) → ⊥
 ninety-nine (roots, entries) = omega (arith, ap length entries)
 
 -- a root that doesn't name itself, and one that names itself where the node stands
-pub root-not-named : KeepsIndex (data_packets ++ node_packet ∷ []) (record root_packet { content = root (stands 124 ∷ []) }) → ⊥
+pub root-not-named : KeepsIndex (data_packets ++ a_node_packet ∷ []) (record a_root_packet { content = root (a_root_entry 124 ∷ []) }) → ⊥
 root-not-named (roots, (named, entries)) = omega (arith, ap length entries)
 
-pub root-names-another : KeepsIndex (data_packets ++ node_packet ∷ []) (record root_packet { content = root (stands 124 ∷ stands 124 ∷ []) }) → ⊥
+pub root-names-another : KeepsIndex (data_packets ++ a_node_packet ∷ []) (record a_root_packet { content = root (a_root_entry 124 ∷ a_root_entry 124 ∷ []) }) → ⊥
 unfolding packet_bytes header_bytes
 root-names-another (roots, (named, entries)) = omega (arith, ap (sum_by (λ (e : RootEntry). e.offset)) entries)
 
 -- rule 9: the counter of the setup packet and of the index
-pub setup-counter : KeepsCounters (record setup_packet { counter = 999 } ∷ []) time_packet → ⊥
+pub setup-counter : KeepsCounters (record a_setup_packet { counter = 999 } ∷ []) a_time_packet → ⊥
 setup-counter (first, last) = omega (arith, (first refl).0)
 
-pub node-counter : KeepsCounters data_packets (record node_packet { counter = 1010 }) → ⊥
+pub node-counter : KeepsCounters data_packets (record a_node_packet { counter = 1010 }) → ⊥
 node-counter (first, last) = omega (arith, last refl)
 
 -- rule 10: how many events of its number came before
@@ -136,19 +136,19 @@ pub other-event : KeepsEvents (data_packets ++ event_packet 0 3 0 ∷ []) (event
 other-event = refl
 
 -- a file that ends behind its setup packet
-pub no-time-at-all : IsAtFault (file_bytes (setup_packet ∷ [])) false 32 (Rule 4)
+pub no-time-at-all : IsAtFault (file_bytes (a_setup_packet ∷ [])) false 32 (Rule 4)
 unfolding packet_bytes header_bytes
-no-time-at-all = record { packets = setup_packet ∷ []; rest = []; bytes_are = refl; offset_is = refl; strict = (setup-first, tt); unclosed = λ _. refl; wrong = no_time refl refl }
+no-time-at-all = record { packets = a_setup_packet ∷ []; rest = []; bytes_are = refl; offset_is = refl; strict = (setup-first, tt); unclosed = λ _. refl; wrong = no_time refl refl }
 
 -- a file whose directory entry is closed has an index, and the root too
 pub index-missing : IsAtFault (file_bytes data_packets) true 124 (Rule 8)
 unfolding packet_bytes header_bytes
 index-missing = record { packets = data_packets; rest = []; bytes_are = refl; offset_is = refl; strict = (setup-first, (time-second, (uart-third, tt))); unclosed = λ _. refl; wrong = no_index refl (lit≤ tt) refl refl }
 
-pub root-missing : IsAtFault (take 212 (file_bytes recording)) true 212 (Rule 8)
+pub root-missing : IsAtFault (take 212 (file_bytes a_recording)) true 212 (Rule 8)
 unfolding packet_bytes header_bytes
 root-missing = record {
-  packets = data_packets ++ node_packet ∷ [];
+  packets = data_packets ++ a_node_packet ∷ [];
   rest = [];
   bytes_are = refl;
   offset_is = refl;
@@ -158,34 +158,34 @@ root-missing = record {
 }
 
 -- a file that begins with its time packet: everything about the packet is right but its place
-pub time-reads : Reads (packet_bytes time_packet) time_packet
+pub time-reads : ReadsPacket (packet_bytes a_time_packet) a_time_packet
 unfolding packet_bytes header_bytes
 time-reads = (time-second.fits, time-second.checksums, refl)
 
-pub time-is : IsForeignPacket (first_packet (packet_bytes time_packet))
+pub time-is : IsForeignPacket (first_packet (packet_bytes a_time_packet))
 unfolding packet_bytes header_bytes
 time-is = record { framed = refl; whole = refl; checked = λ _. refl; body = λ _. record { setup = λ e. absurd (omega (arith, e)); event = λ e. absurd (omega (arith, e)); index = λ e. absurd (omega (arith, e)); time = λ _. refl; bus = λ e. absurd (omega (arith, e)); discrete = λ e. absurd (omega (arith, e)); message = λ e. absurd (omega (arith, e)); arinc = λ e. absurd (omega (arith, e)); uart = λ e. absurd (omega (arith, e)) } }
 
-pub time-header : KeepsHeader (packet_bytes time_packet)
+pub time-header : KeepsHeader (packet_bytes a_time_packet)
 unfolding packet_bytes header_bytes
 time-header = (refl, refl, lit≤ tt)
 
-pub time-filler : KeepsFiller (packet_bytes time_packet)
+pub time-filler : KeepsFiller (packet_bytes a_time_packet)
 unfolding packet_bytes header_bytes
 time-filler = refl
 
-least-four : (m : ℕ) → BreaksRule [] (packet_bytes time_packet) false m → 4 ≤ m
-least-four m (faults.version breaks) = absurd (breaks time-header)
-least-four m (faults.filler is breaks) = absurd (breaks time-filler)
-least-four m (faults.body breaks) = absurd (breaks (time_packet, time-reads))
-least-four m (faults.start p reads breaks) = lit≤ tt
-least-four m (faults.channels p reads breaks) = lit≤ tt
-least-four m (faults.sequence p reads breaks) = lit≤ tt
-least-four m (faults.counts p reads breaks) = lit≤ tt
-least-four m (faults.index p reads breaks) = lit≤ tt
-least-four m (faults.unclosed p reads index unclosed) = lit≤ tt
-least-four m (faults.counters p reads breaks) = lit≤ tt
-least-four m (faults.events p reads breaks) = lit≤ tt
+least-four : (m : ℕ) → BreaksRule [] (packet_bytes a_time_packet) false m → 4 ≤ m
+least-four m (broken_rules.version breaks) = absurd (breaks time-header)
+least-four m (broken_rules.filler is breaks) = absurd (breaks time-filler)
+least-four m (broken_rules.body breaks) = absurd (breaks (a_time_packet, time-reads))
+least-four m (broken_rules.start p reads breaks) = lit≤ tt
+least-four m (broken_rules.channels p reads breaks) = lit≤ tt
+least-four m (broken_rules.sequence p reads breaks) = lit≤ tt
+least-four m (broken_rules.counts p reads breaks) = lit≤ tt
+least-four m (broken_rules.index p reads breaks) = lit≤ tt
+least-four m (broken_rules.unclosed p reads index unclosed) = lit≤ tt
+least-four m (broken_rules.counters p reads breaks) = lit≤ tt
+least-four m (broken_rules.events p reads breaks) = lit≤ tt
 
-pub begins-with-time : IsAtFault (packet_bytes time_packet) false 0 (Rule 4)
-begins-with-time = record { packets = []; rest = packet_bytes time_packet; bytes_are = refl; offset_is = refl; strict = tt; unclosed = λ _. refl; wrong = rule time-is (faults.start time_packet time-reads no-setup) least-four }
+pub begins-with-time : IsAtFault (packet_bytes a_time_packet) false 0 (Rule 4)
+begins-with-time = record { packets = []; rest = packet_bytes a_time_packet; bytes_are = refl; offset_is = refl; strict = tt; unclosed = λ _. refl; wrong = rule time-is (broken_rules.start a_time_packet time-reads no-setup) least-four }

@@ -13,7 +13,7 @@ use Rattle.r10_indexbody.proofs.Roots.{body-length as root_length}
 use Rattle.r10_body.proofs.Lone.{packet-length}
 use Rattle.r10_body.specs.Content.{Content, setup, time, event, uart, bus, arinc, discrete, message, node, root, type_of, body_of}
 use Rattle.r10_body.specs.Packets.{Packet, packet_bytes, file_bytes}
-use Rattle.r10_body.specs.Rules.{MayFollow, EachFollows, KeepsChecksums, IsNextNode, IsNextRoot, is_index, is_data, is_node, is_root, is_closed, node_entries, root_entries, root_entry}
+use Rattle.r10_body.specs.Rules.{MayFollow, EachFollows, KeepsChecksums, IsNextNode, IsNextRoot, is_index, is_data, is_node, is_root, is_closed_file, node_entries, root_entries, root_entry_of}
 use Rattle.r10_body.proofs.Sentences.{rest_length}
 
 -- ---- what a packet is
@@ -83,7 +83,7 @@ no_roots (p ∷ ps) none =
     let parts = none_at p ps (part_of p) none in
     omega (arith, counted_first is_root p ps, counted_no is_root p parts.2, no_roots ps parts.3)
 
-pub not_closed : (ps : List Packet) → count_by is_index ps ≡ 0 → is_closed ps ≡ false
+pub not_closed : (ps : List Packet) → count_by is_index ps ≡ 0 → is_closed_file ps ≡ false
 not_closed [] none = refl
 not_closed (p ∷ ps) none = let parts = none_at p ps (part_of p) none in rw parts.2 (not_closed ps parts.3)
 
@@ -153,7 +153,7 @@ next_names : (before : List Packet) (p : Packet) (entries : List RootEntry) → 
 next_names before p entries next =
     let nodes = filter is_node before in
     let front = root_entries (length (file_bytes (filter is_data before))) nodes in
-    let own = root_entry (length (file_bytes before)) p in
+    let own = root_entry_of (length (file_bytes before)) p in
     omega (
       arith,
       ap (λ (es : List RootEntry). length es) next.1,

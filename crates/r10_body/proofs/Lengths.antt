@@ -6,20 +6,20 @@ use Rattle.std.proofs.lemmas.Bool.{false_from_ne_true}
 use Rattle.std.proofs.lemmas.List.{length-append}
 use Rattle.std.proofs.lemmas.List.Sums.{sum_by-append, sum_by-cons}
 use Rattle.r10_packet.proofs.Lengths.{checksum_width}
-use Rattle.r10_uart.specs.Uart.{entry_size as uart_size}
+use Rattle.r10_uart.specs.Uart.{uart_entry_size}
 use Rattle.r10_uart.proofs.Bodies.{body-length as uart_length}
-use Rattle.r10_b1553.specs.Bus.{entry_size as bus_size}
+use Rattle.r10_b1553.specs.Bus.{bus_entry_size}
 use Rattle.r10_b1553.proofs.Bodies.{body-length as bus_length}
 use Rattle.r10_a429.proofs.Bodies.{body-length as arinc_length}
 use Rattle.r10_discrete.proofs.Bodies.{body-length as discrete_length}
-use Rattle.r10_message.specs.Message.{entry_size as message_size}
+use Rattle.r10_message.specs.Message.{message_entry_size}
 use Rattle.r10_message.proofs.Bodies.{body-length as message_length}
 use Rattle.r10_body.proofs.Lone.{packet-length}
 use Rattle.r10_body.specs.Content.{Content, setup, time, event, uart, bus, arinc, discrete, message, node, root, type_of, body_of, FitsContent, timed, messages_of}
 use Rattle.r10_body.specs.Cost.{each_file, message_cost, entry_cost, file_cost}
 use Rattle.r10_body.specs.Files.{FileSays}
 use Rattle.r10_body.specs.Packets.{Packet, FitsPacket, packet_body, packet_bytes, packet_entries, with_gaps, file_bytes, file_entries}
-use Rattle.r10_body.specs.Rules.{MayFollow, EachFollows, is_setup, is_index, is_data}
+use Rattle.r10_body.specs.Rules.{MayFollow, EachFollows, is_setup_packet, is_index, is_data}
 use Rattle.r10_body.specs.declared.entry.Entry.{Entry}
 use Rattle.r10_body.specs.declared.entry.Timed.{Timed}
 use Rattle.r10_body.specs.declared.message.Message.TheVariants as messages
@@ -62,21 +62,21 @@ content_covered (root es) counter channel gap other plain fits = absurd (let no 
 content_covered (time civil) counter channel gap other plain fits = omega arith
 content_covered (event e) counter channel gap other plain fits = omega arith
 content_covered (uart es) counter channel gap other plain fits =
-    omega (arith, uart_length es, entries_paid uart_size (λ e. timed e.count (messages.Uart e.parity e.sub e.bytes)) (λ e. omega arith) es channel gap, fits.0)
+    omega (arith, uart_length es, entries_paid uart_entry_size (λ e. timed e.count (messages.Uart e.parity e.sub e.bytes)) (λ e. omega arith) es channel gap, fits.0)
 content_covered (bus es) counter channel gap other plain fits =
-    omega (arith, bus_length es, entries_paid bus_size (λ e. timed e.count (messages.Bus1553 e.status e.gap e.words)) (λ e. omega arith) es channel gap, fits.some)
+    omega (arith, bus_length es, entries_paid bus_entry_size (λ e. timed e.count (messages.Bus1553 e.status e.gap e.words)) (λ e. omega arith) es channel gap, fits.some)
 content_covered (arinc es) counter channel gap other plain fits =
     omega (arith, arinc_length counter es, same_sizes 8 es, entries_paid (λ e. 8) (λ e. timed e.count (messages.Arinc e.bus e.format e.parity e.high e.word)) (λ e. omega arith) es channel gap, fits.some)
 content_covered (discrete bits es) counter channel gap other plain fits =
     omega (arith, discrete_length bits es, same_sizes 12 es, entries_paid (λ e. 12) (λ e. timed e.count (messages.Discrete e.states)) (λ e. omega arith) es channel gap, fits.some)
 content_covered (message es) counter channel gap other plain fits =
-    omega (arith, message_length es, entries_paid message_size (λ e. timed e.count (messages.Message e.data_error e.format e.sub e.bytes)) (λ e. omega arith) es channel gap, fits.some)
+    omega (arith, message_length es, entries_paid message_entry_size (λ e. timed e.count (messages.Message e.data_error e.format e.sub e.bytes)) (λ e. omega arith) es channel gap, fits.some)
 
 -- a packet of data leaves 64 bytes of its entries' cost to the index
-data_covered : (p : Packet) → FitsPacket p → is_setup p ≡ false → is_index p ≡ false → length (packet_bytes p) + 64 ≤ sum_by entry_cost (packet_entries p)
+data_covered : (p : Packet) → FitsPacket p → is_setup_packet p ≡ false → is_index p ≡ false → length (packet_bytes p) + 64 ≤ sum_by entry_cost (packet_entries p)
 data_covered p fits other plain = omega (arith, packet_short p, content_covered p.content p.counter p.channel p.flagged other plain fits.content)
 
-packet_covered : (before : List Packet) (p : Packet) (b : Bool) → is_index p ≡ b → MayFollow before p → is_setup p ≡ false
+packet_covered : (before : List Packet) (p : Packet) (b : Bool) → is_index p ≡ b → MayFollow before p → is_setup_packet p ≡ false
     → length (packet_bytes p) + 64 * count_by is_data (p ∷ []) ≤ sum_by entry_cost (packet_entries p) + index_len p.content
 packet_covered before p true is may other =
     let none : count_by is_data (p ∷ []) ≡ 0 = rw is refl in omega (arith, none, index_long p may.checksums is)
@@ -86,8 +86,8 @@ packet_covered before p false is may other =
 -- ---- files
 
 -- behind the first packet there is no setup packet
-pub not_setup : (before : List Packet) (p : Packet) → 0 < length before → MayFollow before p → is_setup p ≡ false
-not_setup before p some may = false_from_ne_true (is_setup p) (λ h. let none : length before ≡ 0 = may.start.0.0 h in omega arith)
+pub not_setup : (before : List Packet) (p : Packet) → 0 < length before → MayFollow before p → is_setup_packet p ≡ false
+not_setup before p some may = false_from_ne_true (is_setup_packet p) (λ h. let none : length before ≡ 0 = may.start.0.0 h in omega arith)
 
 rest_covered : (before ps : List Packet) → 0 < length before → EachFollows before ps → length (file_bytes ps) + 64 * count_by is_data ps ≤ sum_by entry_cost (file_entries ps) + index_bytes ps
 rest_covered before [] some each = omega arith

@@ -3,7 +3,7 @@ use Rattle.std.proofs.Common.{◌≡◌, ℕ, Bool, List, [], ◌∷◌, map, ta
 use Rattle.r10_body.specs.Content.{setup}
 use Rattle.r10_body.specs.Files.{FileSays, on_channel}
 use Rattle.r10_body.specs.Packets.{Packet, file_bytes, file_entries}
-use Rattle.r10_body.specs.Rules.{EachFollows, is_closed}
+use Rattle.r10_body.specs.Rules.{EachFollows, is_closed_file}
 use Rattle.r10_body.specs.declared.entry.Entry.{Entry}
 use Rattle.r10_body.proofs.Rules.{follows_fit}
 use Rattle.r10_body.proofs.Injective.{one_file}
@@ -20,5 +20,5 @@ one_meaning bytes text other entries others closed shut says too =
     let same : says.0 ≡ too.0 = one_list says.0 too.0 says.2.file.each too.2.file.each (sym says.1 ∙ too.1) in (
       one_setup text other (sym says.2.setup_is ∙ ap (λ (ps : List Packet). map (λ p. p.content) (take 1 ps)) same ∙ too.2.setup_is),
       λ channel. sym (says.2.entries_are channel) ∙ ap (λ (ps : List Packet). on_channel channel (file_entries ps)) same ∙ too.2.entries_are channel,
-      sym says.2.closed_is ∙ ap is_closed same ∙ too.2.closed_is,
+      sym says.2.closed_is ∙ ap is_closed_file same ∙ too.2.closed_is,
     )

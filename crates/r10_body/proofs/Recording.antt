@@ -5,12 +5,12 @@ use Rattle.r10_packet.specs.Header.{header_bytes}
 use Rattle.r10_body.specs.Packets.{packet_bytes, file_bytes}
 use Rattle.r10_body.specs.Rules.{MayFollow, IsFile}
 use Rattle.r10_body.specs.Files.{FileSays}
-use Rattle.r10_body.specs.Vectors.{setup_packet, time_packet, uart_packet, node_packet, root_packet, data_packets, recording, recorded}
+use Rattle.r10_body.specs.Vectors.{a_setup_packet, a_time_packet, uart_packet, a_node_packet, a_root_packet, data_packets, a_recording, recorded}
 
 pub no : false ≡ true → ⊥
 no e = cc
 
-pub setup-first : MayFollow [] setup_packet
+pub setup-first : MayFollow [] a_setup_packet
 setup-first = record {
   fits = record { channel = lit< tt; sequence = lit< tt; check = lit< tt; counter = lit< tt; content = tt; short = lit≤ tt };
   checksums = λ _. refl;
@@ -23,7 +23,7 @@ setup-first = record {
   events = tt;
 }
 
-pub time-second : MayFollow (setup_packet ∷ []) time_packet
+pub time-second : MayFollow (a_setup_packet ∷ []) a_time_packet
 time-second = record {
   fits = record { channel = lit< tt; sequence = lit< tt; check = lit< tt; counter = lit< tt; content = refl; short = lit≤ tt };
   checksums = λ _. refl;
@@ -36,7 +36,7 @@ time-second = record {
   events = tt;
 }
 
-pub uart-third : MayFollow (setup_packet ∷ time_packet ∷ []) uart_packet
+pub uart-third : MayFollow (a_setup_packet ∷ a_time_packet ∷ []) uart_packet
 uart-third = record {
   fits = record {
     channel = lit< tt;
@@ -56,7 +56,7 @@ uart-third = record {
   events = tt;
 }
 
-pub node-fourth : MayFollow data_packets node_packet
+pub node-fourth : MayFollow data_packets a_node_packet
 unfolding packet_bytes header_bytes
 node-fourth = record {
   fits = record {
@@ -77,7 +77,7 @@ node-fourth = record {
   events = tt;
 }
 
-pub root-fifth : MayFollow (data_packets ++ node_packet ∷ []) root_packet
+pub root-fifth : MayFollow (data_packets ++ a_node_packet ∷ []) a_root_packet
 unfolding packet_bytes header_bytes
 root-fifth = record {
   fits = record {
@@ -112,9 +112,9 @@ recording-says = (
 )
 
 -- with the index they are a closed one
-pub closed-says : FileSays (file_bytes recording) (0x41 ∷ 0x42 ∷ 0x43 ∷ 0x44 ∷ []) recorded true
+pub closed-says : FileSays (file_bytes a_recording) (0x41 ∷ 0x42 ∷ 0x43 ∷ 0x44 ∷ []) recorded true
 closed-says = (
-  recording,
+  a_recording,
   refl,
   record {
     file = record { each = (setup-first, (time-second, (uart-third, (node-fourth, (root-fifth, tt))))); start = lit≤ tt; index = λ e. absurd (no (sym e)) };
@@ -125,5 +125,5 @@ closed-says = (
 )
 
 -- and without the root none
-pub no-root : IsFile (data_packets ++ node_packet ∷ []) → ⊥
+pub no-root : IsFile (data_packets ++ a_node_packet ∷ []) → ⊥
 no-root file = omega (arith, file.index refl)

@@ -2,22 +2,22 @@
 use Rattle.std.proofs.Common.{◌≡◌, ℕ, ◌≤◌, true, false, List, [], ◌∷◌, ◌++◌, length, lit<, lit≤, refl, sym, ap, ◌∙◌, subst, arith}
 use Rattle.r10_packet.specs.Header.{header_bytes}
 use Rattle.r10_indexbody.specs.Index.{FitsRootBody}
-use Rattle.r10_indexbody.specs.Vectors.{stands}
+use Rattle.r10_indexbody.specs.Vectors.{a_root_entry}
 use Rattle.r10_indexbody.specs.declared.entry.RootEntry.{RootEntry}
 use Rattle.r10_body.proofs.Lenient.{strict-lenient}
 use Rattle.r10_body.proofs.Recording.{setup-first, time-second, uart-third, node-fourth, no}
 use Rattle.r10_body.specs.Content.{FitsContent, root, uart}
-use Rattle.r10_body.specs.Faults.{IsAtFault, KeepsHeader, KeepsFiller, Reads, BreaksRule, first_packet, rule}
-use Rattle.r10_body.specs.Faults as faults
+use Rattle.r10_body.specs.Faults.{IsAtFault, KeepsHeader, KeepsFiller, ReadsPacket, BreaksRule, first_packet, rule}
+use Rattle.r10_body.specs.Faults as broken_rules
 use Rattle.r10_body.specs.Foreign.{IsForeignPacket}
 use Rattle.r10_body.specs.Packets.{Packet, packet_bytes, file_bytes}
 use Rattle.r10_body.specs.Rules.{EachFollows, KeepsStart, KeepsChannels, KeepsSequence, KeepsCounts, KeepsIndex}
-use Rattle.r10_body.specs.Vectors.{uart_packet, node_packet, root_packet, data_packets}
+use Rattle.r10_body.specs.Vectors.{uart_packet, a_node_packet, a_root_packet, data_packets}
 use Rattle.r10_body.specs.declared.fault.FileFault.TheVariants.{Rule}
 use Rattle.r10_body.proofs.Injective.{one_packet}
 
 -- what stands first is one packet
-the_packet : (p q : Packet) (bytes : List ℕ) → Reads bytes p → Reads bytes q → q ≡ p
+the_packet : (p q : Packet) (bytes : List ℕ) → ReadsPacket bytes p → ReadsPacket bytes q → q ≡ p
 the_packet p q bytes rp rq = one_packet q p [] [] rq.0 rp.0 (ap (λ (b : List ℕ). b ++ []) (sym rq.2 ∙ rp.2))
 
 -- a packet that keeps the rules below 8
@@ -27,20 +27,20 @@ pub record KeepsBelow (before : List Packet) (p : Packet) : Type 0 where
   pub sequence : KeepsSequence before p
   pub counts : KeepsCounts before p
 
-least_eight : (before : List Packet) (p : Packet) (bytes : List ℕ) → KeepsHeader bytes → KeepsFiller bytes → Reads bytes p → KeepsBelow before p → (m : ℕ) → BreaksRule before bytes true m → 8 ≤ m
-least_eight before p bytes header filler reads keeps m (faults.version breaks) = absurd (breaks header)
-least_eight before p bytes header filler reads keeps m (faults.filler is breaks) = absurd (breaks filler)
-least_eight before p bytes header filler reads keeps m (faults.body breaks) = absurd (breaks (p, reads))
-least_eight before p bytes header filler reads keeps m (faults.start q here breaks) = absurd (breaks (subst (λ (x : Packet). KeepsStart before x) (sym (the_packet p q bytes reads here)) keeps.start))
-least_eight before p bytes header filler reads keeps m (faults.channels q here breaks) = absurd (breaks (subst (λ (x : Packet). KeepsChannels before x) (sym (the_packet p q bytes reads here)) keeps.channels))
-least_eight before p bytes header filler reads keeps m (faults.sequence q here breaks) = absurd (breaks (subst (λ (x : Packet). KeepsSequence before x) (sym (the_packet p q bytes reads here)) keeps.sequence))
-least_eight before p bytes header filler reads keeps m (faults.counts q here breaks) = absurd (breaks (subst (λ (x : Packet). KeepsCounts before x) (sym (the_packet p q bytes reads here)) keeps.counts))
-least_eight before p bytes header filler reads keeps m (faults.index q here breaks) = lit≤ tt
-least_eight before p bytes header filler reads keeps m (faults.unclosed q here is unclosed) = lit≤ tt
-least_eight before p bytes header filler reads keeps m (faults.counters q here breaks) = lit≤ tt
-least_eight before p bytes header filler reads keeps m (faults.events q here breaks) = lit≤ tt
+least_eight : (before : List Packet) (p : Packet) (bytes : List ℕ) → KeepsHeader bytes → KeepsFiller bytes → ReadsPacket bytes p → KeepsBelow before p → (m : ℕ) → BreaksRule before bytes true m → 8 ≤ m
+least_eight before p bytes header filler reads keeps m (broken_rules.version breaks) = absurd (breaks header)
+least_eight before p bytes header filler reads keeps m (broken_rules.filler is breaks) = absurd (breaks filler)
+least_eight before p bytes header filler reads keeps m (broken_rules.body breaks) = absurd (breaks (p, reads))
+least_eight before p bytes header filler reads keeps m (broken_rules.start q here breaks) = absurd (breaks (subst (λ (x : Packet). KeepsStart before x) (sym (the_packet p q bytes reads here)) keeps.start))
+least_eight before p bytes header filler reads keeps m (broken_rules.channels q here breaks) = absurd (breaks (subst (λ (x : Packet). KeepsChannels before x) (sym (the_packet p q bytes reads here)) keeps.channels))
+least_eight before p bytes header filler reads keeps m (broken_rules.sequence q here breaks) = absurd (breaks (subst (λ (x : Packet). KeepsSequence before x) (sym (the_packet p q bytes reads here)) keeps.sequence))
+least_eight before p bytes header filler reads keeps m (broken_rules.counts q here breaks) = absurd (breaks (subst (λ (x : Packet). KeepsCounts before x) (sym (the_packet p q bytes reads here)) keeps.counts))
+least_eight before p bytes header filler reads keeps m (broken_rules.index q here breaks) = lit≤ tt
+least_eight before p bytes header filler reads keeps m (broken_rules.unclosed q here is unclosed) = lit≤ tt
+least_eight before p bytes header filler reads keeps m (broken_rules.counters q here breaks) = lit≤ tt
+least_eight before p bytes header filler reads keeps m (broken_rules.events q here breaks) = lit≤ tt
 
-fault_8 : (before : List Packet) (p : Packet) → EachFollows [] before → IsForeignPacket (first_packet (packet_bytes p)) → KeepsHeader (packet_bytes p) → KeepsFiller (packet_bytes p) → Reads (packet_bytes p) p
+fault_8 : (before : List Packet) (p : Packet) → EachFollows [] before → IsForeignPacket (first_packet (packet_bytes p)) → KeepsHeader (packet_bytes p) → KeepsFiller (packet_bytes p) → ReadsPacket (packet_bytes p) p
     → KeepsBelow before p → ¬ KeepsIndex before p → IsAtFault (file_bytes before ++ packet_bytes p) true (length (file_bytes before)) (Rule 8)
 fault_8 before p each foreign header filler reads keeps breaks = record {
   packets = before;
@@ -49,15 +49,15 @@ fault_8 before p each foreign header filler reads keeps breaks = record {
   offset_is = refl;
   strict = each;
   unclosed = λ e. absurd (no (sym e));
-  wrong = rule foreign (faults.index p reads breaks) (least_eight before p (packet_bytes p) header filler reads keeps);
+  wrong = rule foreign (broken_rules.index p reads breaks) (least_eight before p (packet_bytes p) header filler reads keeps);
 }
 
 abbrev with_node : List Packet
-with_node = data_packets ++ node_packet ∷ []
+with_node = data_packets ++ a_node_packet ∷ []
 
 -- a root that names itself where the node stands
 abbrev pub misplaced : Packet
-misplaced = record root_packet { content = root (stands 124 ∷ stands 124 ∷ []) }
+misplaced = record a_root_packet { content = root (a_root_entry 124 ∷ a_root_entry 124 ∷ []) }
 
 not_itself : KeepsIndex with_node misplaced → ⊥
 unfolding packet_bytes header_bytes
@@ -70,9 +70,9 @@ not_itself (roots, (named, entries)) = omega (arith, ap last_offset entries)
 pub root-misplaced : IsAtFault (file_bytes with_node ++ packet_bytes misplaced) true 212 (Rule 8)
 unfolding packet_bytes header_bytes
 root-misplaced =
-    let fields : FitsRootBody (stands 124 ∷ stands 124 ∷ []) = record { some = lit< tt; counted = lit< tt; fields = (record { counter = lit< tt; offset = lit< tt }, (record { counter = lit< tt; offset = lit< tt }, tt)) } in
+    let fields : FitsRootBody (a_root_entry 124 ∷ a_root_entry 124 ∷ []) = record { some = lit< tt; counted = lit< tt; fields = (record { counter = lit< tt; offset = lit< tt }, (record { counter = lit< tt; offset = lit< tt }, tt)) } in
     fault_8 with_node misplaced (setup-first, (time-second, (uart-third, (node-fourth, tt))))
-    (record { framed = refl; whole = refl; checked = λ _. refl; body = λ _. strict-lenient 3 1000 _ [] (root (stands 124 ∷ stands 124 ∷ []), record { type_is = refl; fits = fields; body_is = refl }, refl) })
+    (record { framed = refl; whole = refl; checked = λ _. refl; body = λ _. strict-lenient 3 1000 _ [] (root (a_root_entry 124 ∷ a_root_entry 124 ∷ []), record { type_is = refl; fits = fields; body_is = refl }, refl) })
     (refl, refl, lit≤ tt) refl
     (record { channel = lit< tt; sequence = lit< tt; check = lit< tt; counter = lit< tt; content = fields; short = lit≤ tt }, λ _. refl, refl)
     (record {

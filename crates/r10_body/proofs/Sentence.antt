@@ -1,6 +1,6 @@
 -- One message has one content.
 use Rattle.std.proofs.Common.{◌≡◌, ℕ, List, [], ◌∷◌, length, refl, ap, ◌∙◌, arith}
-use Rattle.r10_body.specs.Bodies.{bits_of, content_of}
+use Rattle.r10_body.specs.Bodies.{discretes_of, content_of}
 use Rattle.r10_body.specs.Content.{Content, Timed, setup, time, event, uart, bus, arinc, discrete, message, node, root, messages_of, timed}
 use Rattle.r10_body.specs.declared.message.Message.{Message}
 use Rattle.r10_body.specs.declared.message.Message.TheVariants as messages
@@ -30,7 +30,7 @@ one-content bits count other m n e =
     ap (λ at. content_of bits at n) (first-count (timed other n) (timed count m) e)
     ∙ ap (content_of bits count) (first-message (timed other n) (timed count m) e)
 
-pub only-content : (count : ℕ) (m : Message) (content : Content) → messages_of count content ≡ timed count m ∷ [] → content ≡ content_of (bits_of content) count m
+pub only-content : (count : ℕ) (m : Message) (content : Content) → messages_of count content ≡ timed count m ∷ [] → content ≡ content_of (discretes_of content) count m
 only-content count m (setup text) e = absurd (omega (arith, ap length e))
 only-content count m (node entries) e = absurd (omega (arith, ap length e))
 only-content count m (root entries) e = absurd (omega (arith, ap length e))

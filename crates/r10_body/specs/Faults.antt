@@ -4,9 +4,9 @@ use Rattle.std.specs.List.{AllByRecursion, concat}
 use Rattle.r10_packet.specs.Framing.{framing_fault, header_at, body_at, has_data_checksum}
 use Rattle.r10_packet.specs.Header.{checksum_bits}
 use Rattle.r10_packet.specs.Packet.{filled, least_filler}
-use Rattle.r10_packet.specs.declared.fault.PacketFault.TheVariants as framing
+use Rattle.r10_packet.specs.declared.fault.PacketFault.TheVariants as packet_faults
 use Rattle.r10_body.specs.Packets.{Packet, FitsPacket, packet_bytes, file_bytes}
-use Rattle.r10_body.specs.Rules.{KeepsChecksums, KeepsStart, KeepsChannels, KeepsSequence, KeepsCounts, KeepsIndex, KeepsCounters, KeepsEvents, EachFollows, is_index, is_closed}
+use Rattle.r10_body.specs.Rules.{KeepsChecksums, KeepsStart, KeepsChannels, KeepsSequence, KeepsCounts, KeepsIndex, KeepsCounters, KeepsEvents, EachFollows, is_index, is_closed_file}
 use Rattle.r10_body.specs.Foreign.{opaque_at, IsForeignBody, IsForeignPacket}
 use Rattle.r10_body.specs.declared.fault.FileFault.{FileFault}
 use Rattle.r10_body.specs.declared.fault.FileFault.TheVariants.{Truncated, Sync, HeaderSum, Length, DataSum, Body, Rule}
@@ -15,10 +15,10 @@ use Rattle.r10_body.specs.declared.fault.FileFault.TheVariants.{Truncated, Sync,
 
 -- the packet that stands first has this fault of framing, data checksum or body
 abbrev pub HasFault : List ℕ → FileFault → Type 0
-HasFault bytes Truncated = framing_fault bytes ≡ Some framing.Truncated
-HasFault bytes Sync = framing_fault bytes ≡ Some framing.Sync
-HasFault bytes HeaderSum = framing_fault bytes ≡ Some framing.HeaderSum
-HasFault bytes Length = framing_fault bytes ≡ Some framing.Length
+HasFault bytes Truncated = framing_fault bytes ≡ Some packet_faults.Truncated
+HasFault bytes Sync = framing_fault bytes ≡ Some packet_faults.Sync
+HasFault bytes HeaderSum = framing_fault bytes ≡ Some packet_faults.HeaderSum
+HasFault bytes Length = framing_fault bytes ≡ Some packet_faults.Length
 HasFault bytes DataSum = (framing_fault bytes ≡ None) × (opaque_at bytes ≡ false) × (has_data_checksum bytes ≡ false)
 HasFault bytes Body =
     (framing_fault bytes ≡ None) × (opaque_at bytes ≡ false) × (has_data_checksum bytes ≡ true)
@@ -49,22 +49,22 @@ KeepsFiller bytes =
     slice_range bytes 24 h.packet_len ≡ filled bits (body_at bytes) (least_filler bits (body_at bytes))
 
 -- the packet that stands first is this one of the recorder's
-abbrev pub Reads : List ℕ → Packet → Type 0
-Reads bytes p = FitsPacket p × KeepsChecksums p × (first_packet bytes ≡ packet_bytes p)
+abbrev pub ReadsPacket : List ℕ → Packet → Type 0
+ReadsPacket bytes p = FitsPacket p × KeepsChecksums p × (first_packet bytes ≡ packet_bytes p)
 
 -- what stands first breaks a rule, behind these packets of a file whose directory entry is closed or not
 pub data BreaksRule (before : List Packet) (bytes : List ℕ) (closed : Bool) : ℕ → Type 0 where
   version : ¬ KeepsHeader bytes → BreaksRule before bytes closed 1
   filler : opaque_at bytes ≡ false → ¬ KeepsFiller bytes → BreaksRule before bytes closed 2
-  body : ¬ ((p : Packet) × Reads bytes p) → BreaksRule before bytes closed 3
-  start : (p : Packet) → Reads bytes p → ¬ KeepsStart before p → BreaksRule before bytes closed 4
-  channels : (p : Packet) → Reads bytes p → ¬ KeepsChannels before p → BreaksRule before bytes closed 5
-  sequence : (p : Packet) → Reads bytes p → ¬ KeepsSequence before p → BreaksRule before bytes closed 6
-  counts : (p : Packet) → Reads bytes p → ¬ KeepsCounts before p → BreaksRule before bytes closed 7
-  index : (p : Packet) → Reads bytes p → ¬ KeepsIndex before p → BreaksRule before bytes closed 8
-  unclosed : (p : Packet) → Reads bytes p → IsTrue (is_index p) → closed ≡ false → BreaksRule before bytes closed 8
-  counters : (p : Packet) → Reads bytes p → ¬ KeepsCounters before p → BreaksRule before bytes closed 9
-  events : (p : Packet) → Reads bytes p → ¬ KeepsEvents before p → BreaksRule before bytes closed 10
+  body : ¬ ((p : Packet) × ReadsPacket bytes p) → BreaksRule before bytes closed 3
+  start : (p : Packet) → ReadsPacket bytes p → ¬ KeepsStart before p → BreaksRule before bytes closed 4
+  channels : (p : Packet) → ReadsPacket bytes p → ¬ KeepsChannels before p → BreaksRule before bytes closed 5
+  sequence : (p : Packet) → ReadsPacket bytes p → ¬ KeepsSequence before p → BreaksRule before bytes closed 6
+  counts : (p : Packet) → ReadsPacket bytes p → ¬ KeepsCounts before p → BreaksRule before bytes closed 7
+  index : (p : Packet) → ReadsPacket bytes p → ¬ KeepsIndex before p → BreaksRule before bytes closed 8
+  unclosed : (p : Packet) → ReadsPacket bytes p → IsTrue (is_index p) → closed ≡ false → BreaksRule before bytes closed 8
+  counters : (p : Packet) → ReadsPacket bytes p → ¬ KeepsCounters before p → BreaksRule before bytes closed 9
+  events : (p : Packet) → ReadsPacket bytes p → ¬ KeepsEvents before p → BreaksRule before bytes closed 10
 
 -- what is wrong behind these packets, where no fault of framing, data checksum or body comes before a rule, and of rules the least is named
 pub data IsWrongHere (before : List Packet) (rest : List ℕ) (closed : Bool) : FileFault → Type 0 where
@@ -72,7 +72,7 @@ pub data IsWrongHere (before : List Packet) (rest : List ℕ) (closed : Bool) : 
   rule : {n : ℕ} → IsForeignPacket (first_packet rest) → BreaksRule before rest closed n → ((m : ℕ) → BreaksRule before rest closed m → n ≤ m) → IsWrongHere before rest closed (Rule n)
   no_time : length rest ≡ 0 → length before ≡ 1 → IsWrongHere before rest closed (Rule 4)
   -- nodes or the root are missing
-  no_index : length rest ≡ 0 → 2 ≤ length before → closed ≡ true → is_closed before ≡ false → IsWrongHere before rest closed (Rule 8)
+  no_index : length rest ≡ 0 → 2 ≤ length before → closed ≡ true → is_closed_file before ≡ false → IsWrongHere before rest closed (Rule 8)
 
 -- a file that should be strict, with a closed directory entry or an unclosed one, is at fault first at an offset: what stands before are packets that follow each other, without an index where the entry is unclosed
 pub record IsAtFault (bytes : List ℕ) (closed : Bool) (offset : ℕ) (fault : FileFault) : Type 0 where

@@ -4,15 +4,15 @@ use Rattle.std.specs.List.{AllByRecursion, concat, list_any}
 use Rattle.r10_count.specs.Bytes.{bit_of}
 use Rattle.r10_packet.specs.Framing.{framing_fault, header_at, body_at, has_data_checksum}
 use Rattle.r10_packet.specs.declared.header.Header.{Header}
-use Rattle.r10_setup.specs.Setup as setups
-use Rattle.r10_timebody.specs.Time as times
-use Rattle.r10_event.specs.Event as events
-use Rattle.r10_indexbody.specs.Index as indexes
-use Rattle.r10_uart.specs.Uart as uarts
-use Rattle.r10_b1553.specs.Bus as buses
-use Rattle.r10_a429.specs.Arinc as arincs
-use Rattle.r10_discrete.specs.Discrete as discretes
-use Rattle.r10_message.specs.Message as messages
+use Rattle.r10_setup.specs.Setup as setup_bodies
+use Rattle.r10_timebody.specs.Time as time_bodies
+use Rattle.r10_event.specs.Event as event_bodies
+use Rattle.r10_indexbody.specs.Index as index_bodies
+use Rattle.r10_uart.specs.Uart as uart_bodies
+use Rattle.r10_b1553.specs.Bus as bus_bodies
+use Rattle.r10_a429.specs.Arinc as arinc_bodies
+use Rattle.r10_discrete.specs.Discrete as discrete_bodies
+use Rattle.r10_message.specs.Message as message_bodies
 
 -- the data types that are read: setup, event, index, time, MIL-STD-1553, discrete, message, ARINC 429 and UART
 abbrev pub known_types : List ℕ
@@ -21,30 +21,30 @@ known_types = 0x01 ∷ 0x02 ∷ 0x03 ∷ 0x11 ∷ 0x19 ∷ 0x29 ∷ 0x30 ∷ 0x3
 -- the channel specific word of a body selects a form that isn't read; a body without a whole word selects nothing
 abbrev pub selects_other : ℕ → List ℕ → Bool
 selects_other type body =
-    (type == 0x01 && setups.is_opaque body) || (type == 0x02 && events.is_opaque body) || (type == 0x03 && indexes.is_opaque body) || (type == 0x11 && times.is_opaque body)
-    || (type == 0x30 && messages.is_opaque body) || (type == 0x50 && uarts.is_opaque body)
+    (type == 0x01 && setup_bodies.is_opaque_setup body) || (type == 0x02 && event_bodies.is_opaque_event body) || (type == 0x03 && index_bodies.is_opaque_index body) || (type == 0x11 && time_bodies.is_opaque_time body)
+    || (type == 0x30 && message_bodies.is_opaque_message body) || (type == 0x50 && uart_bodies.is_opaque_uart body)
 
 -- a packet with a secondary header or with another intra-packet time than the counter's, of another type, or of a form that isn't read
-abbrev pub is_opaque : Header → List ℕ → Bool
-is_opaque h body =
+abbrev pub is_opaque_packet : Header → List ℕ → Bool
+is_opaque_packet h body =
     bit_of 7 h.flags || bit_of 6 h.flags || not (list_any (λ type. type == h.data_type) known_types)
     || selects_other h.data_type body
 
 -- the body is a word and exactly the entries that its type has
 pub record IsForeignBody (type : ℕ) (body : List ℕ) : Type 0 where
-  pub setup : type ≡ 0x01 → setups.IsForeignSetup body
-  pub event : type ≡ 0x02 → events.IsForeignEvents body
-  pub index : type ≡ 0x03 → indexes.IsForeignIndex body
-  pub time : type ≡ 0x11 → times.IsForeignTime body
-  pub bus : type ≡ 0x19 → buses.IsForeignBus body
-  pub discrete : type ≡ 0x29 → discretes.IsForeignDiscrete body
-  pub message : type ≡ 0x30 → messages.IsForeignMessage body
-  pub arinc : type ≡ 0x38 → arincs.IsForeignArinc body
-  pub uart : type ≡ 0x50 → uarts.IsForeignUart body
+  pub setup : type ≡ 0x01 → setup_bodies.IsForeignSetup body
+  pub event : type ≡ 0x02 → event_bodies.IsForeignEvents body
+  pub index : type ≡ 0x03 → index_bodies.IsForeignIndex body
+  pub time : type ≡ 0x11 → time_bodies.IsForeignTime body
+  pub bus : type ≡ 0x19 → bus_bodies.IsForeignBus body
+  pub discrete : type ≡ 0x29 → discrete_bodies.IsForeignDiscrete body
+  pub message : type ≡ 0x30 → message_bodies.IsForeignMessage body
+  pub arinc : type ≡ 0x38 → arinc_bodies.IsForeignArinc body
+  pub uart : type ≡ 0x50 → uart_bodies.IsForeignUart body
 
 -- the packet that stands first in these bytes is opaque
 abbrev pub opaque_at : List ℕ → Bool
-opaque_at bytes = is_opaque (header_at bytes) (body_at bytes)
+opaque_at bytes = is_opaque_packet (header_at bytes) (body_at bytes)
 
 -- the bytes are one whole packet, opaque or read
 pub record IsForeignPacket (bytes : List ℕ) : Type 0 where

@@ -7,12 +7,12 @@ use Rattle.r10_uart.specs.declared.entry.UartEntry.{UartEntry}
 use Rattle.r10_a429.specs.declared.entry.ArincEntry.{ArincEntry}
 use Rattle.r10_body.specs.Bodies.{content_of, message_type}
 use Rattle.r10_body.specs.Content.{body_of, setup, time, uart, arinc, node, root}
-use Rattle.r10_indexbody.specs.Vectors.{at_1000, names, stands}
+use Rattle.r10_indexbody.specs.Vectors.{at_1000, a_node_entry, a_root_entry}
 use Rattle.r10_body.specs.Rules.{node_entries}
 use Rattle.r10_body.specs.Packets.{Packet, packet_bytes, file_bytes, file_entries}
 use Rattle.r10_body.specs.Cost.{message_cost, file_cost}
 use Rattle.r10_body.specs.Messages.{alone_len, channel_refusal, is_in_range, is_kind}
-use Rattle.r10_body.specs.Foreign.{opaque_at, is_opaque, IsForeignPacket}
+use Rattle.r10_body.specs.Foreign.{opaque_at, is_opaque_packet, IsForeignPacket}
 use Rattle.r10_body.specs.Faults.{HasFault, IsFaulty}
 use Rattle.r10_body.specs.declared.fault.FileFault.TheVariants.{Truncated, HeaderSum}
 use Rattle.r10_body.specs.declared.entry.Entry.{Entry}
@@ -29,11 +29,11 @@ use Rattle.r10_body.specs.declared.spec.ChannelSpec.{ChannelSpec}
 abbrev pub leap_day : Parts
 leap_day = record { year = 2024; month = 2; day = 29; hour = 12; minute = 34; second = 56; centi = 78 }
 
-abbrev pub setup_packet : Packet
-setup_packet = record { channel = 0; sequence = 0; flagged = false; check = 0; counter = 1000; content = setup (0x41 ∷ 0x42 ∷ 0x43 ∷ 0x44 ∷ []) }
+abbrev pub a_setup_packet : Packet
+a_setup_packet = record { channel = 0; sequence = 0; flagged = false; check = 0; counter = 1000; content = setup (0x41 ∷ 0x42 ∷ 0x43 ∷ 0x44 ∷ []) }
 
-abbrev pub time_packet : Packet
-time_packet = record { channel = 1; sequence = 0; flagged = false; check = 0; counter = 1000; content = time leap_day }
+abbrev pub a_time_packet : Packet
+a_time_packet = record { channel = 1; sequence = 0; flagged = false; check = 0; counter = 1000; content = time leap_day }
 
 abbrev pub two_messages : List UartEntry
 two_messages = record { count = 1000; parity = false; sub = 0; bytes = 0x41 ∷ 0x42 ∷ 0x43 ∷ [] } ∷ record { count = 1010; parity = false; sub = 0; bytes = [] } ∷ []
@@ -41,13 +41,13 @@ two_messages = record { count = 1000; parity = false; sub = 0; bytes = 0x41 ∷ 
 abbrev pub uart_packet : Packet
 uart_packet = record { channel = 5; sequence = 0; flagged = false; check = 0; counter = 1000; content = uart two_messages }
 
-pub setup-bytes : packet_bytes setup_packet ≡
+pub setup-bytes : packet_bytes a_setup_packet ≡
     (0x25 ∷ 0xEB ∷ 0x00 ∷ 0x00 ∷ 0x20 ∷ 0x00 ∷ 0x00 ∷ 0x00 ∷ 0x08 ∷ 0x00 ∷ 0x00 ∷ 0x00 ∷ 0x08 ∷ 0x00 ∷ 0x00 ∷ 0x01 ∷ 0xE8 ∷ 0x03 ∷ 0x00 ∷ 0x00 ∷ 0x00 ∷ 0x00 ∷ 0x3D ∷ 0xF0 ∷ [])
     ++ (0x0C ∷ 0x00 ∷ 0x00 ∷ 0x00 ∷ 0x41 ∷ 0x42 ∷ 0x43 ∷ 0x44 ∷ [])
 unfolding packet_bytes header_bytes
 setup-bytes = refl
 
-pub time-bytes : packet_bytes time_packet ≡
+pub time-bytes : packet_bytes a_time_packet ≡
     (0x25 ∷ 0xEB ∷ 0x01 ∷ 0x00 ∷ 0x24 ∷ 0x00 ∷ 0x00 ∷ 0x00 ∷ 0x0C ∷ 0x00 ∷ 0x00 ∷ 0x00 ∷ 0x08 ∷ 0x00 ∷ 0x00 ∷ 0x11 ∷ 0xE8 ∷ 0x03 ∷ 0x00 ∷ 0x00 ∷ 0x00 ∷ 0x00 ∷ 0x46 ∷ 0x00 ∷ [])
     ++ (0x01 ∷ 0x03 ∷ 0x00 ∷ 0x00 ∷ 0x78 ∷ 0x56 ∷ 0x34 ∷ 0x12 ∷ 0x29 ∷ 0x02 ∷ 0x24 ∷ 0x20 ∷ [])
 unfolding packet_bytes header_bytes
@@ -215,20 +215,20 @@ event-ranges = refl
 
 -- setup, time and data
 abbrev pub data_packets : List Packet
-data_packets = setup_packet ∷ time_packet ∷ uart_packet ∷ []
+data_packets = a_setup_packet ∷ a_time_packet ∷ uart_packet ∷ []
 
 pub data-len : length (file_bytes data_packets) ≡ 124
 unfolding packet_bytes header_bytes
 data-len = refl
 
 -- what names them, and what names that
-abbrev pub node_packet : Packet
-node_packet = record { channel = 0; sequence = 1; flagged = false; check = 0; counter = 1000; content = node (names 0x01 0 0 ∷ names 0x11 1 32 ∷ names 0x50 5 68 ∷ []) }
+abbrev pub a_node_packet : Packet
+a_node_packet = record { channel = 0; sequence = 1; flagged = false; check = 0; counter = 1000; content = node (a_node_entry 0x01 0 0 ∷ a_node_entry 0x11 1 32 ∷ a_node_entry 0x50 5 68 ∷ []) }
 
-abbrev pub root_packet : Packet
-root_packet = record { channel = 0; sequence = 2; flagged = false; check = 0; counter = 1000; content = root (stands 124 ∷ stands 212 ∷ []) }
+abbrev pub a_root_packet : Packet
+a_root_packet = record { channel = 0; sequence = 2; flagged = false; check = 0; counter = 1000; content = root (a_root_entry 124 ∷ a_root_entry 212 ∷ []) }
 
-pub node-bytes : packet_bytes node_packet ≡
+pub node-bytes : packet_bytes a_node_packet ≡
     (0x25 ∷ 0xEB ∷ 0x00 ∷ 0x00 ∷ 0x58 ∷ 0x00 ∷ 0x00 ∷ 0x00 ∷ 0x40 ∷ 0x00 ∷ 0x00 ∷ 0x00 ∷ 0x08 ∷ 0x01 ∷ 0x00 ∷ 0x03 ∷ 0xE8 ∷ 0x03 ∷ 0x00 ∷ 0x00 ∷ 0x00 ∷ 0x00 ∷ 0xAD ∷ 0xF3 ∷ [])
     ++ (0x03 ∷ 0x00 ∷ 0x00 ∷ 0x80 ∷ [])
     ++ at_1000 ++ (0x00 ∷ 0x00 ∷ 0x01 ∷ 0x00 ∷ 0 ∷ 0 ∷ 0 ∷ 0 ∷ 0 ∷ 0 ∷ 0 ∷ 0 ∷ [])
@@ -237,34 +237,34 @@ pub node-bytes : packet_bytes node_packet ≡
 unfolding packet_bytes header_bytes
 node-bytes = refl
 
-pub root-bytes : packet_bytes root_packet ≡
+pub root-bytes : packet_bytes a_root_packet ≡
     (0x25 ∷ 0xEB ∷ 0x00 ∷ 0x00 ∷ 0x3C ∷ 0x00 ∷ 0x00 ∷ 0x00 ∷ 0x24 ∷ 0x00 ∷ 0x00 ∷ 0x00 ∷ 0x08 ∷ 0x02 ∷ 0x00 ∷ 0x03 ∷ 0xE8 ∷ 0x03 ∷ 0x00 ∷ 0x00 ∷ 0x00 ∷ 0x00 ∷ 0x75 ∷ 0xF4 ∷ [])
     ++ (0x02 ∷ 0x00 ∷ 0x00 ∷ 0x00 ∷ []) ++ at_1000 ++ (124 ∷ 0 ∷ 0 ∷ 0 ∷ 0 ∷ 0 ∷ 0 ∷ 0 ∷ []) ++ at_1000 ++ (212 ∷ 0 ∷ 0 ∷ 0 ∷ 0 ∷ 0 ∷ 0 ∷ 0 ∷ [])
 unfolding packet_bytes header_bytes
 root-bytes = refl
 
-abbrev pub recording : List Packet
-recording = data_packets ++ node_packet ∷ root_packet ∷ []
+abbrev pub a_recording : List Packet
+a_recording = data_packets ++ a_node_packet ∷ a_root_packet ∷ []
 
-pub recording-len : length (file_bytes recording) ≡ 272
+pub recording-len : length (file_bytes a_recording) ≡ 272
 unfolding packet_bytes header_bytes
 recording-len = refl
 
 -- a setup, a time and 257 packets more are named by nodes of 100, 100 and 59 entries
-pub node-counts : map (λ k. length (take 100 (drop (100 * k) (node_entries 0 (setup_packet ∷ time_packet ∷ replicate 257 uart_packet))))) (0 ∷ 1 ∷ 2 ∷ 3 ∷ []) ≡ 100 ∷ 100 ∷ 59 ∷ 0 ∷ []
+pub node-counts : map (λ k. length (take 100 (drop (100 * k) (node_entries 0 (a_setup_packet ∷ a_time_packet ∷ replicate 257 uart_packet))))) (0 ∷ 1 ∷ 2 ∷ 3 ∷ []) ≡ 100 ∷ 100 ∷ 59 ∷ 0 ∷ []
 node-counts = refl
 
 abbrev pub entry : ℕ → ℕ → List ℕ → Entry
 entry channel count bytes = record { channel = channel; count = count; message = Uart false 0 bytes; gap = false }
 
-abbrev pub time_entry : Entry
-time_entry = record { channel = 1; count = 1000; message = Time leap_day; gap = false }
+abbrev pub a_time_entry : Entry
+a_time_entry = record { channel = 1; count = 1000; message = Time leap_day; gap = false }
 
 abbrev pub recorded : List Entry
-recorded = time_entry ∷ entry 5 1000 (0x41 ∷ 0x42 ∷ 0x43 ∷ []) ∷ entry 5 1010 [] ∷ []
+recorded = a_time_entry ∷ entry 5 1000 (0x41 ∷ 0x42 ∷ 0x43 ∷ []) ∷ entry 5 1010 [] ∷ []
 
 -- an index says no entry
-pub recording-entries : file_entries recording ≡ recorded
+pub recording-entries : file_entries a_recording ≡ recorded
 recording-entries = refl
 
 -- only the first entry of a flagged packet has a gap
@@ -275,15 +275,15 @@ flagged-entries = refl
 -- ---- costs
 
 -- a setup of 100 bytes and a time
-pub start-cost : file_cost (replicate 100 0) (time_entry ∷ []) ≡ 364
+pub start-cost : file_cost (replicate 100 0) (a_time_entry ∷ []) ≡ 364
 start-cost = refl
 
 -- with one message of 4 bytes 28 of 512 bytes are free
-pub four-bytes-cost : file_cost (replicate 100 0) (time_entry ∷ entry 5 1001 (1 ∷ 2 ∷ 3 ∷ 4 ∷ []) ∷ []) + 28 ≡ 512
+pub four-bytes-cost : file_cost (replicate 100 0) (a_time_entry ∷ entry 5 1001 (1 ∷ 2 ∷ 3 ∷ 4 ∷ []) ∷ []) + 28 ≡ 512
 four-bytes-cost = refl
 
 -- a setup of 4 bytes and a time leave 30,964 bytes of the 61 blocks behind the directory
-pub free : file_cost (replicate 4 0) (time_entry ∷ []) + 30964 ≡ 61 * 512
+pub free : file_cost (replicate 4 0) (a_time_entry ∷ []) + 30964 ≡ 61 * 512
 free = refl
 
 -- a message of 3 bytes makes a packet of 44 bytes, and of 48 with a data checksum
@@ -345,20 +345,20 @@ pub empty : IsFaulty [] 0 Truncated
 empty = ([], [], refl, refl, tt, inr refl, refl)
 
 -- a time body without month and year is opaque, and one that isn't a whole word is not
-pub three-bytes : is_opaque (record { channel = 1; packet_len = 28; data_len = 3; version = 8; sequence = 0; flags = 0; data_type = 0x11; counter = 0 }) (0 ∷ 0 ∷ 0 ∷ []) ≡ false
+pub three-bytes : is_opaque_packet (record { channel = 1; packet_len = 28; data_len = 3; version = 8; sequence = 0; flags = 0; data_type = 0x11; counter = 0 }) (0 ∷ 0 ∷ 0 ∷ []) ≡ false
 three-bytes = refl
 
-pub day-of-year : is_opaque (record { channel = 1; packet_len = 36; data_len = 12; version = 8; sequence = 0; flags = 0; data_type = 0x11; counter = 0 }) (replicate 12 0) ≡ true
+pub day-of-year : is_opaque_packet (record { channel = 1; packet_len = 36; data_len = 12; version = 8; sequence = 0; flags = 0; data_type = 0x11; counter = 0 }) (replicate 12 0) ≡ true
 day-of-year = refl
 
 -- segments of messages, events with data headers, and an index with the size of the file, are opaque
-pub segments : is_opaque (record { channel = 1; packet_len = 28; data_len = 4; version = 8; sequence = 0; flags = 0; data_type = 0x30; counter = 0 }) (1 ∷ 0 ∷ 1 ∷ 0 ∷ []) ≡ true
+pub segments : is_opaque_packet (record { channel = 1; packet_len = 28; data_len = 4; version = 8; sequence = 0; flags = 0; data_type = 0x30; counter = 0 }) (1 ∷ 0 ∷ 1 ∷ 0 ∷ []) ≡ true
 segments = refl
 
-pub with-data-headers : is_opaque (record { channel = 1; packet_len = 28; data_len = 4; version = 8; sequence = 0; flags = 0; data_type = 0x02; counter = 0 }) (1 ∷ 0 ∷ 0 ∷ 0x80 ∷ []) ≡ true
+pub with-data-headers : is_opaque_packet (record { channel = 1; packet_len = 28; data_len = 4; version = 8; sequence = 0; flags = 0; data_type = 0x02; counter = 0 }) (1 ∷ 0 ∷ 0 ∷ 0x80 ∷ []) ≡ true
 with-data-headers = refl
 
-pub with-file-size : is_opaque (record { channel = 0; packet_len = 28; data_len = 4; version = 8; sequence = 0; flags = 0; data_type = 0x03; counter = 0 }) (1 ∷ 0 ∷ 0 ∷ 0xC0 ∷ []) ≡ true
+pub with-file-size : is_opaque_packet (record { channel = 0; packet_len = 28; data_len = 4; version = 8; sequence = 0; flags = 0; data_type = 0x03; counter = 0 }) (1 ∷ 0 ∷ 0 ∷ 0xC0 ∷ []) ≡ true
 with-file-size = refl
 
 -- a bus packet of this recorder is one of any recorder

@@ -2,7 +2,7 @@
 
 ghost use Rattle.std.specs.Prelude.{◌≡◌, ◌==◌};
 ghost use Rattle.std.specs.List.{list_any};
-ghost use Rattle.r10_body.specs.Foreign.{known_types, selects_other as word_selects, is_opaque as opaque};
+ghost use Rattle.r10_body.specs.Foreign.{known_types, selects_other as word_selects, is_opaque_packet as opaque};
 
 use r10_event::EventBody;
 use r10_message::MessageBody;

@@ -23,9 +23,9 @@ use Rattle.r10_body.proofs.ChannelLists.{rises}
 use Rattle.r10_body.proofs.Indexes.{counted, counted_no, no_nodes, no_roots, not_closed}
 use Rattle.r10_body.proofs.Rules.{follows_more}
 use Rattle.r10_body.proofs.Sentences.{rest_length}
-use Rattle.r10_builder.specs.Packing.{IsClosed, entry_on, first_count}
+use Rattle.r10_builder.specs.Packing.{IsClosedPacket, entry_on, first_count}
 use Rattle.r10_builder.specs.declared.closed.Closed.{Closed}
-use Rattle.r10_builder.specs.Next.{GoesOn, IsGrowing, event_packet, setup_packet, time_packet}
+use Rattle.r10_builder.specs.Next.{ChannelGoesOn, IsGrowing, event_packet, setup_packet, time_packet}
 use Rattle.r10_builder.proofs.Rising.{rise_join}
 
 no : false ≡ true → ⊥
@@ -92,8 +92,8 @@ first_is channel n (s ∷ samples) e = (e, tt)
 sequence_small : (channel : ℕ) (packets : List Packet) → next_sequence channel packets < 2 ^ 8
 sequence_small channel packets = omega arith
 
-pub handed_out_follows : (packets : List Packet) (spec : ChannelSpec) (samples : List Sample) (closed : Closed) (closes : IsClosed spec samples closed)
-    → IsGrowing packets → GoesOn packets spec.id (kind_type spec.kind) (first_count samples) → MayFollow packets (numbered packets closes.packet)
+pub handed_out_follows : (packets : List Packet) (spec : ChannelSpec) (samples : List Sample) (closed : Closed) (closes : IsClosedPacket spec samples closed)
+    → IsGrowing packets → ChannelGoesOn packets spec.id (kind_type spec.kind) (first_count samples) → MayFollow packets (numbered packets closes.packet)
 handed_out_follows packets spec samples closed closes growing goes =
     let p : Packet = closes.packet in
     let two : 2 ≤ length packets = growing.start in
@@ -124,7 +124,7 @@ handed_out_follows packets spec samples closed closes growing goes =
 
 -- ---- packets of the recorder's own
 
-pub time_follows : (packets : List Packet) (channel count : ℕ) (civil : Parts) → IsGrowing packets → GoesOn packets channel 0x11 count → channel < 2 ^ 16 → IsCount count → IsCivil civil
+pub time_follows : (packets : List Packet) (channel count : ℕ) (civil : Parts) → IsGrowing packets → ChannelGoesOn packets channel 0x11 count → channel < 2 ^ 16 → IsCount count → IsCivil civil
     → MayFollow packets (numbered packets (time_packet channel count civil))
 time_follows packets channel count civil growing goes small counts is =
     let p : Packet = numbered packets (time_packet channel count civil) in
@@ -148,7 +148,7 @@ time_follows packets channel count civil growing goes small counts is =
       events = tt;
     }
 
-pub event_follows : (packets : List Packet) (channel count number : ℕ) → IsGrowing packets → GoesOn packets channel 0x02 count → channel < 2 ^ 16 → IsCount count → number < 2 ^ 12
+pub event_follows : (packets : List Packet) (channel count number : ℕ) → IsGrowing packets → ChannelGoesOn packets channel 0x02 count → channel < 2 ^ 16 → IsCount count → number < 2 ^ 12
     → MayFollow packets (numbered packets (event_packet channel count number packets))
 event_follows packets channel count number growing goes small counts few =
     let p : Packet = numbered packets (event_packet channel count number packets) in

@@ -5,7 +5,7 @@ use Rattle.r10_packet.specs.Packet.{framed_bytes}
 use Rattle.r10_body.specs.Packets.{Packet, header_of, packet_body, packet_bytes}
 use Rattle.r10_body.specs.declared.entry.Sample.{Sample}
 use Rattle.r10_body.specs.declared.spec.ChannelSpec.{ChannelSpec}
-use Rattle.r10_builder.specs.Packing.{IsClosed}
+use Rattle.r10_builder.specs.Packing.{IsClosedPacket}
 use Rattle.r10_builder.specs.declared.closed.Closed.{Closed}
 
 -- the flag of lost data is none of the bits that tell the data checksum
@@ -17,6 +17,6 @@ pub frames : (p : Packet) → framed_bytes (header_of p) (packet_body p) ≡ pac
 unfolding packet_bytes
 frames p = rw (low_bits p.flagged p.check) refl
 
-pub handed_out : (spec : ChannelSpec) (samples : List Sample) (closed : Closed) (closes : IsClosed spec samples closed) (number : ℕ)
+pub handed_out : (spec : ChannelSpec) (samples : List Sample) (closed : Closed) (closes : IsClosedPacket spec samples closed) (number : ℕ)
     → framed_bytes (record closed.header { sequence = number }) closed.body.items ≡ packet_bytes (record closes.packet { sequence = number })
 handed_out spec samples closed closes number = rw (closes.header, closes.body) (frames (record closes.packet { sequence = number }))

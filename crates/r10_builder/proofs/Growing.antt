@@ -9,14 +9,14 @@ use Rattle.std.proofs.lemmas.List.Sums.{sum_by-append, sum_by-set}
 use Rattle.r10_body.specs.Cost.{entry_cost, file_cost}
 use Rattle.r10_body.specs.Files.{on_channel}
 use Rattle.r10_body.specs.Packets.{Packet, packet_entries, file_entries}
-use Rattle.r10_body.specs.Rules.{entry_on as is_on}
+use Rattle.r10_body.specs.Rules.{is_entry_on}
 use Rattle.r10_body.specs.declared.entry.Entry.{Entry}
 use Rattle.r10_body.specs.declared.entry.Sample.{Sample}
 use Rattle.r10_body.proofs.ChannelLists.{channel_more, packet_off_channel}
 use Rattle.r10_body.proofs.Sums.{same_sum}
 use Rattle.r10_builder.specs.Packing.{entry_on}
-use Rattle.r10_builder.specs.State.{State}
-use Rattle.r10_builder.specs.Grows.{AreApart, Grows, HasNone, all_held, held, is_open, packet_count, taken_in}
+use Rattle.r10_builder.specs.State.{BuilderState}
+use Rattle.r10_builder.specs.Grows.{BuildersAreApart, Grows, HasNone, all_held, held, is_open_builder, packet_count, taken_in}
 
 -- ---- samples of a channel
 
@@ -34,10 +34,10 @@ two_of f (x ∷ xs) ys = ap (λ t. f x ∷ t) (two_of f xs ys)
 
 -- ---- builders
 
-split : (channel : ℕ) (b : State) (builders : List State) → on_channel channel (all_held (b ∷ builders)) ≡ on_channel channel (held b) ++ on_channel channel (all_held builders)
-split channel b builders = filter-append (is_on channel) (held b) (all_held builders)
+split : (channel : ℕ) (b : BuilderState) (builders : List BuilderState) → on_channel channel (all_held (b ∷ builders)) ≡ on_channel channel (held b) ++ on_channel channel (all_held builders)
+split channel b builders = filter-append (is_entry_on channel) (held b) (all_held builders)
 
-pub none_held : (builders : List State) (channel : ℕ) → HasNone channel builders → on_channel channel (all_held builders) ≡ []
+pub none_held : (builders : List BuilderState) (channel : ℕ) → HasNone channel builders → on_channel channel (all_held builders) ≡ []
 none_held [] channel none = refl
 none_held (b ∷ builders) channel none =
     split channel b builders
@@ -45,12 +45,12 @@ none_held (b ∷ builders) channel none =
     ∙ none_held builders channel none.1
 
 -- at a place that isn't the first
-not_first : (b d : State) (builders : List State) (i : ℕ) → i < length builders → AllByRecursion (λ (c : State). c.spec.id ≡ b.spec.id → ⊥) builders → (get_or builders i d).spec.id ≡ b.spec.id → ⊥
+not_first : (b d : BuilderState) (builders : List BuilderState) (i : ℕ) → i < length builders → AllByRecursion (λ (c : BuilderState). c.spec.id ≡ b.spec.id → ⊥) builders → (get_or builders i d).spec.id ≡ b.spec.id → ⊥
 not_first b d [] i lt apart same = absurd (omega arith)
 not_first b d (c ∷ builders) zero lt apart same = apart.0 same
 not_first b d (c ∷ builders) (suc i) lt apart same = not_first b d builders i (omega arith) apart.1 same
 
-pub one_held : (builders : List State) (i : ℕ) (d : State) → i < length builders → AreApart builders → on_channel (get_or builders i d).spec.id (all_held builders) ≡ held (get_or builders i d)
+pub one_held : (builders : List BuilderState) (i : ℕ) (d : BuilderState) → i < length builders → BuildersAreApart builders → on_channel (get_or builders i d).spec.id (all_held builders) ≡ held (get_or builders i d)
 one_held [] i d lt apart = absurd (omega arith)
 one_held (b ∷ builders) zero d lt apart =
     split b.spec.id b builders
@@ -64,7 +64,7 @@ one_held (b ∷ builders) (suc i) d lt apart =
     ∙ one_held builders i d (omega arith) apart.1
 
 -- the others' channels stay where one changes
-others_held : (channel : ℕ) (builders : List State) (i : ℕ) (d new : State) → i < length builders → new.spec ≡ (get_or builders i d).spec → new.spec.id == channel ≡ false
+others_held : (channel : ℕ) (builders : List BuilderState) (i : ℕ) (d new : BuilderState) → i < length builders → new.spec ≡ (get_or builders i d).spec → new.spec.id == channel ≡ false
     → on_channel channel (all_held (set builders i new)) ≡ on_channel channel (all_held builders)
 others_held channel [] i d new lt same off = absurd (omega arith)
 others_held channel (b ∷ builders) zero d new lt same off =
@@ -76,22 +76,22 @@ others_held channel (b ∷ builders) (suc i) d new lt same off =
     ∙ ap (λ (es : List Entry). on_channel channel (held b) ++ es) (others_held channel builders i d new (omega arith) same off)
     ∙ sym (split channel b builders)
 
-apart_from : (b d new : State) (builders : List State) (i : ℕ) → i < length builders → new.spec ≡ (get_or builders i d).spec → AllByRecursion (λ (c : State). c.spec.id ≡ b.spec.id → ⊥) builders
-    → AllByRecursion (λ (c : State). c.spec.id ≡ b.spec.id → ⊥) (set builders i new)
+apart_from : (b d new : BuilderState) (builders : List BuilderState) (i : ℕ) → i < length builders → new.spec ≡ (get_or builders i d).spec → AllByRecursion (λ (c : BuilderState). c.spec.id ≡ b.spec.id → ⊥) builders
+    → AllByRecursion (λ (c : BuilderState). c.spec.id ≡ b.spec.id → ⊥) (set builders i new)
 apart_from b d new [] i lt same all = absurd (omega arith)
 apart_from b d new (c ∷ builders) zero lt same all = (λ e. all.0 (ap (λ s. s.id) (sym same) ∙ e), all.1)
 apart_from b d new (c ∷ builders) (suc i) lt same all = (all.0, apart_from b d new builders i (omega arith) same all.1)
 
-same_apart : (b new : State) (builders : List State) → new.spec ≡ b.spec → AllByRecursion (λ (c : State). c.spec.id ≡ b.spec.id → ⊥) builders → AllByRecursion (λ (c : State). c.spec.id ≡ new.spec.id → ⊥) builders
+same_apart : (b new : BuilderState) (builders : List BuilderState) → new.spec ≡ b.spec → AllByRecursion (λ (c : BuilderState). c.spec.id ≡ b.spec.id → ⊥) builders → AllByRecursion (λ (c : BuilderState). c.spec.id ≡ new.spec.id → ⊥) builders
 same_apart b new builders same all = rw same all
 
-pub still_apart : (builders : List State) (i : ℕ) (d new : State) → i < length builders → AreApart builders → new.spec ≡ (get_or builders i d).spec → AreApart (set builders i new)
+pub still_apart : (builders : List BuilderState) (i : ℕ) (d new : BuilderState) → i < length builders → BuildersAreApart builders → new.spec ≡ (get_or builders i d).spec → BuildersAreApart (set builders i new)
 still_apart [] i d new lt apart same = absurd (omega arith)
 still_apart (b ∷ builders) zero d new lt apart same = (same_apart b new builders same apart.0, apart.1)
 still_apart (b ∷ builders) (suc i) d new lt apart same = (apart_from b d new builders i (omega arith) same apart.0, still_apart builders i d new (omega arith) apart.1 same)
 
 -- of the new list the changed one is what it holds
-now_held : (builders : List State) (i : ℕ) (d new : State) → i < length builders → AreApart builders → new.spec ≡ (get_or builders i d).spec → on_channel new.spec.id (all_held (set builders i new)) ≡ held new
+now_held : (builders : List BuilderState) (i : ℕ) (d new : BuilderState) → i < length builders → BuildersAreApart builders → new.spec ≡ (get_or builders i d).spec → on_channel new.spec.id (all_held (set builders i new)) ≡ held new
 now_held [] i d new lt apart same = absurd (omega arith)
 now_held (b ∷ builders) zero d new lt apart same = one_held (new ∷ builders) 0 d (omega arith) (same_apart b new builders same apart.0, apart.1)
 now_held (b ∷ builders) (suc i) d new lt apart same =
@@ -103,17 +103,17 @@ now_held (b ∷ builders) (suc i) d new lt apart same =
 -- ---- a builder changes, and what it no longer holds stands in packets
 
 -- entries in packets, then those that builders hold
-pub both : (channel : ℕ) (packets : List Packet) (builders : List State) → on_channel channel (taken_in packets builders) ≡ on_channel channel (file_entries packets) ++ on_channel channel (all_held builders)
-both channel packets builders = filter-append (is_on channel) (file_entries packets) (all_held builders)
+pub both : (channel : ℕ) (packets : List Packet) (builders : List BuilderState) → on_channel channel (taken_in packets builders) ≡ on_channel channel (file_entries packets) ++ on_channel channel (all_held builders)
+both channel packets builders = filter-append (is_entry_on channel) (file_entries packets) (all_held builders)
 
-moved_at : (packets packets' : List Packet) (builders : List State) (i : ℕ) (d new : State) (more written : List Sample) (channel : ℕ) (b : Bool) → new.spec.id == channel ≡ b
-    → i < length builders → AreApart builders → new.spec ≡ (get_or builders i d).spec → written ++ new.samples ≡ (get_or builders i d).samples ++ more
+moved_at : (packets packets' : List Packet) (builders : List BuilderState) (i : ℕ) (d new : BuilderState) (more written : List Sample) (channel : ℕ) (b : Bool) → new.spec.id == channel ≡ b
+    → i < length builders → BuildersAreApart builders → new.spec ≡ (get_or builders i d).spec → written ++ new.samples ≡ (get_or builders i d).samples ++ more
     → on_channel channel (file_entries packets') ≡ on_channel channel (file_entries packets) ++ on_channel channel (map (entry_on new.spec.id) written)
     → on_channel channel (taken_in packets' (set builders i new)) ≡ on_channel channel (taken_in packets builders) ++ on_channel channel (map (entry_on new.spec.id) more)
 moved_at packets packets' builders i d new more written channel true on lt apart same samples files =
     let id : ℕ = new.spec.id in
     let is : id ≡ channel = eqb-true id channel on in
-    let old : State = get_or builders i d in
+    let old : BuilderState = get_or builders i d in
     let ids : id ≡ old.spec.id = ap (λ s. s.id) same in
     let had : on_channel id (all_held builders) ≡ map (entry_on id) old.samples = subst (λ (n : ℕ). on_channel n (all_held builders) ≡ map (entry_on n) old.samples) (sym ids) (one_held builders i d lt apart) in
     let has : on_channel id (all_held (set builders i new)) ≡ map (entry_on id) new.samples = now_held builders i d new lt apart same in
@@ -143,14 +143,14 @@ moved_at packets packets' builders i d new more written channel false off lt apa
     ∙ sym (append-nil (on_channel channel (taken_in packets builders)))
     ∙ ap (λ (es : List Entry). on_channel channel (taken_in packets builders) ++ es) (sym (none_on channel id more off))
 
-pub joins : (packets : List Packet) (builders : List State) (i : ℕ) (d new : State) (more : List Sample)
-    → i < length builders → AreApart builders → new.spec ≡ (get_or builders i d).spec → new.samples ≡ (get_or builders i d).samples ++ more
+pub joins : (packets : List Packet) (builders : List BuilderState) (i : ℕ) (d new : BuilderState) (more : List Sample)
+    → i < length builders → BuildersAreApart builders → new.spec ≡ (get_or builders i d).spec → new.samples ≡ (get_or builders i d).samples ++ more
     → Grows packets builders (map (entry_on new.spec.id) more) packets (set builders i new)
 joins packets builders i d new more lt apart same samples = λ channel.
     moved_at packets packets builders i d new more [] channel (new.spec.id == channel) refl lt apart same samples (sym (append-nil (on_channel channel (file_entries packets))))
 
-pub closes : (packets : List Packet) (builders : List State) (i : ℕ) (d new : State) (more : List Sample) (p : Packet) (written : List Sample)
-    → i < length builders → AreApart builders → new.spec ≡ (get_or builders i d).spec → written ++ new.samples ≡ (get_or builders i d).samples ++ more
+pub closes : (packets : List Packet) (builders : List BuilderState) (i : ℕ) (d new : BuilderState) (more : List Sample) (p : Packet) (written : List Sample)
+    → i < length builders → BuildersAreApart builders → new.spec ≡ (get_or builders i d).spec → written ++ new.samples ≡ (get_or builders i d).samples ++ more
     → packet_entries p ≡ map (entry_on new.spec.id) written → Grows packets builders (map (entry_on new.spec.id) more) (packets ++ p ∷ []) (set builders i new)
 closes packets builders i d new more p written lt apart same samples says = λ channel.
     moved_at packets (packets ++ p ∷ []) builders i d new more written channel (new.spec.id == channel) refl lt apart same samples
@@ -158,7 +158,7 @@ closes packets builders i d new more p written lt apart same samples says = λ c
 
 -- ---- a packet of another channel
 
-between_at : (packets : List Packet) (builders : List State) (p : Packet) (channel : ℕ) (b : Bool) → p.channel == channel ≡ b → HasNone p.channel builders
+between_at : (packets : List Packet) (builders : List BuilderState) (p : Packet) (channel : ℕ) (b : Bool) → p.channel == channel ≡ b → HasNone p.channel builders
     → on_channel channel (taken_in (packets ++ p ∷ []) builders) ≡ on_channel channel (taken_in packets builders) ++ on_channel channel (packet_entries p)
 between_at packets builders p channel true on none =
     let is : p.channel ≡ channel = eqb-true p.channel channel on in
@@ -178,37 +178,37 @@ between_at packets builders p channel false off none =
     ∙ sym (append-nil (on_channel channel (taken_in packets builders)))
     ∙ ap (λ (es : List Entry). on_channel channel (taken_in packets builders) ++ es) (sym gone)
 
-pub between : (packets : List Packet) (builders : List State) (p : Packet) → HasNone p.channel builders → Grows packets builders (packet_entries p) (packets ++ p ∷ []) builders
+pub between : (packets : List Packet) (builders : List BuilderState) (p : Packet) → HasNone p.channel builders → Grows packets builders (packet_entries p) (packets ++ p ∷ []) builders
 between packets builders p none = λ channel. between_at packets builders p channel (p.channel == channel) refl none
 
 -- ---- one after the other
 
-pub goes_on : (a : List Packet) (b : List State) (more : List Entry) (c : List Packet) (d : List State) (most : List Entry) (e : List Packet) (f : List State)
+pub goes_on : (a : List Packet) (b : List BuilderState) (more : List Entry) (c : List Packet) (d : List BuilderState) (most : List Entry) (e : List Packet) (f : List BuilderState)
     → Grows a b more c d → Grows c d most e f → Grows a b (more ++ most) e f
 goes_on a b more c d most e f first second = λ channel.
     second channel ∙ ap (λ (es : List Entry). es ++ on_channel channel most) (first channel)
     ∙ append_assoc (on_channel channel (taken_in a b)) (on_channel channel more) (on_channel channel most)
-    ∙ ap (λ (es : List Entry). on_channel channel (taken_in a b) ++ es) (sym (filter-append (is_on channel) more most))
+    ∙ ap (λ (es : List Entry). on_channel channel (taken_in a b) ++ es) (sym (filter-append (is_entry_on channel) more most))
 
-pub same_cost : (a : List Packet) (b : List State) (entries : List Entry) → ((channel : ℕ) → on_channel channel (taken_in a b) ≡ on_channel channel entries)
+pub same_cost : (a : List Packet) (b : List BuilderState) (entries : List Entry) → ((channel : ℕ) → on_channel channel (taken_in a b) ≡ on_channel channel entries)
     → (text : List ℕ) → file_cost text (taken_in a b) ≡ file_cost text entries
 same_cost a b entries same text = ap (λ n. 152 + length text + n) (same_sum entry_cost (taken_in a b) entries same)
 
-pub cost_more : (text : List ℕ) (a : List Packet) (b : List State) (more : List Entry) (c : List Packet) (d : List State)
+pub cost_more : (text : List ℕ) (a : List Packet) (b : List BuilderState) (more : List Entry) (c : List Packet) (d : List BuilderState)
     → Grows a b more c d → file_cost text (taken_in c d) ≡ file_cost text (taken_in a b) + sum_by entry_cost more
 cost_more text a b more c d grows =
     let all : List Entry = taken_in a b ++ more in
-    let same : file_cost text (taken_in c d) ≡ file_cost text all = same_cost c d all (λ channel. grows channel ∙ sym (filter-append (is_on channel) (taken_in a b) more)) text in
+    let same : file_cost text (taken_in c d) ≡ file_cost text all = same_cost c d all (λ channel. grows channel ∙ sym (filter-append (is_entry_on channel) (taken_in a b) more)) text in
     omega (arith, same, sum_by-append entry_cost (taken_in a b) more)
 
 -- ---- how many packets
 
-pub one_packet : (packets : List Packet) (builders : List State) (p : Packet) → packet_count (packets ++ p ∷ []) builders ≡ packet_count packets builders + 1
+pub one_packet : (packets : List Packet) (builders : List BuilderState) (p : Packet) → packet_count (packets ++ p ∷ []) builders ≡ packet_count packets builders + 1
 one_packet packets builders p = omega (arith, length-append packets (p ∷ []))
 
-opened : State → ℕ
-opened b = count_by is_open (b ∷ [])
+opened : BuilderState → ℕ
+opened b = count_by is_open_builder (b ∷ [])
 
-pub one_changed : (packets : List Packet) (builders : List State) (i : ℕ) (d new : State) → i < length builders
-    → packet_count packets (set builders i new) + count_by is_open (get_or builders i d ∷ []) ≡ packet_count packets builders + count_by is_open (new ∷ [])
-one_changed packets builders i d new lt = omega (arith, sum_by-set (λ (b : State). cond (is_open b) 1 0) builders i new d lt)
+pub one_changed : (packets : List Packet) (builders : List BuilderState) (i : ℕ) (d new : BuilderState) → i < length builders
+    → packet_count packets (set builders i new) + count_by is_open_builder (get_or builders i d ∷ []) ≡ packet_count packets builders + count_by is_open_builder (new ∷ [])
+one_changed packets builders i d new lt = omega (arith, sum_by-set (λ (b : BuilderState). cond (is_open_builder b) 1 0) builders i new d lt)

@@ -4,11 +4,11 @@ use Rattle.std.specs.Prelude.{nat_le}
 use Rattle.std.specs.List.{AllByRecursion, sum_by}
 use Rattle.std.proofs.lemmas.Bool.{and_parts, leb-true, le-leb}
 use Rattle.std.proofs.lemmas.List.Sums.{sum_by-cons}
-use Rattle.r10_uart.specs.Entry.{entry-size as uart-size}
+use Rattle.r10_uart.specs.Entry.{uart_entry-size}
 use Rattle.r10_uart.specs.Uart.{uart_of}
-use Rattle.r10_b1553.specs.Entry.{entry-size as bus-size}
+use Rattle.r10_b1553.specs.Entry.{bus_entry-size}
 use Rattle.r10_b1553.specs.Bus.{bus_of}
-use Rattle.r10_message.specs.Entry.{entry-size as message-size}
+use Rattle.r10_message.specs.Entry.{message_entry-size}
 use Rattle.r10_message.specs.Message.{message_of}
 use Rattle.r10_body.specs.Messages.{alone_len, channel_refusal, fits_channel, is_in_range, is_kind, is_short, spelling_len}
 use Rattle.r10_body.specs.declared.entry.Sample.{Sample}
@@ -41,11 +41,11 @@ taken spec m none =
 -- ---- lengths
 
 message_length : (kind : Kind) (before count : ℕ) (m : Message) → is_kind kind m ≡ true → length (message_bytes before count m) ≡ spelling_len m
-message_length kinds.Uart before count (messages.Uart parity sub bytes) is = uart-size (uart_of count parity sub bytes)
-message_length kinds.Bus1553 before count (messages.Bus1553 status gap words) is = bus-size (bus_of count status gap words)
+message_length kinds.Uart before count (messages.Uart parity sub bytes) is = uart_entry-size (uart_of count parity sub bytes)
+message_length kinds.Bus1553 before count (messages.Bus1553 status gap words) is = bus_entry-size (bus_of count status gap words)
 message_length kinds.Arinc before count (messages.Arinc bus format parity high word) is = refl
 message_length kinds.Discrete before count (messages.Discrete states) is = refl
-message_length kinds.Message before count (messages.Message data_error format sub bytes) is = message-size (message_of count data_error format sub bytes)
+message_length kinds.Message before count (messages.Message data_error format sub bytes) is = message_entry-size (message_of count data_error format sub bytes)
 message_length kind before count m is = absurd (no is)
 
 pub sample_length : (kind : Kind) (before : ℕ) (s : Sample) → is_kind kind s.message ≡ true → length (sample_bytes before s) ≡ spelling_len s.message

@@ -5,36 +5,36 @@ use Rattle.r10_body.specs.Files.{on_channel}
 use Rattle.r10_body.specs.Packets.{Packet, file_entries}
 use Rattle.r10_body.specs.declared.entry.Entry.{Entry}
 use Rattle.r10_builder.specs.Packing.{entry_on}
-use Rattle.r10_builder.specs.State.{State}
+use Rattle.r10_builder.specs.State.{BuilderState}
 
 -- what a builder holds, as entries of its channel
-abbrev pub held : State → List Entry
+abbrev pub held : BuilderState → List Entry
 held b = map (entry_on b.spec.id) b.samples
 
-abbrev pub all_held : List State → List Entry
+abbrev pub all_held : List BuilderState → List Entry
 all_held builders = flat_map held builders
 
 -- the entries that were taken in: those of packets, and then those of builders
-abbrev pub taken_in : List Packet → List State → List Entry
+abbrev pub taken_in : List Packet → List BuilderState → List Entry
 taken_in packets builders = file_entries packets ++ all_held builders
 
 -- on each channel there is what was there before, and then these
-abbrev pub Grows : List Packet → List State → List Entry → List Packet → List State → Type 0
+abbrev pub Grows : List Packet → List BuilderState → List Entry → List Packet → List BuilderState → Type 0
 Grows packets builders more packets' builders' =
     (channel : ℕ) → on_channel channel (taken_in packets' builders') ≡ on_channel channel (taken_in packets builders) ++ on_channel channel more
 
 -- no two builders are of one channel
-abbrev pub AreApart : List State → Type 0
-AreApart [] = Unit {0}
-AreApart (b ∷ builders) = AllByRecursion (λ (c : State). c.spec.id ≡ b.spec.id → ⊥) builders × AreApart builders
+abbrev pub BuildersAreApart : List BuilderState → Type 0
+BuildersAreApart [] = Unit {0}
+BuildersAreApart (b ∷ builders) = AllByRecursion (λ (c : BuilderState). c.spec.id ≡ b.spec.id → ⊥) builders × BuildersAreApart builders
 
 -- none is of this channel
-abbrev pub HasNone : ℕ → List State → Type 0
-HasNone channel builders = AllByRecursion (λ (b : State). b.spec.id ≡ channel → ⊥) builders
+abbrev pub HasNone : ℕ → List BuilderState → Type 0
+HasNone channel builders = AllByRecursion (λ (b : BuilderState). b.spec.id ≡ channel → ⊥) builders
 
-abbrev pub is_open : State → Bool
-is_open b = nat_lt 0 (length b.samples)
+abbrev pub is_open_builder : BuilderState → Bool
+is_open_builder b = nat_lt 0 (length b.samples)
 
 -- how many packets there are, where an open builder counts as one
-abbrev pub packet_count : List Packet → List State → ℕ
-packet_count packets builders = length packets + count_by is_open builders
+abbrev pub packet_count : List Packet → List BuilderState → ℕ
+packet_count packets builders = length packets + count_by is_open_builder builders

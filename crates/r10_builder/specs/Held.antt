@@ -5,7 +5,7 @@ use Rattle.r10_body.specs.Messages.{channel_refusal}
 use Rattle.r10_body.specs.declared.entry.Sample.{Sample}
 use Rattle.r10_body.specs.declared.message.Kind.{Kind}
 use Rattle.r10_body.specs.declared.spec.ChannelSpec.{ChannelSpec}
-use Rattle.r10_builder.specs.Packing.{first_count, is_near, last_count, packet_len, tenth}
+use Rattle.r10_builder.specs.Packing.{first_count, is_near, last_sample_count, packet_len, tenth}
 use Rattle.r10_builder.specs.Spelled.{Typed, open_body}
 use Rattle.r10_builder.specs.declared.open_packet.OpenPacket.{OpenPacket}
 
@@ -20,7 +20,7 @@ NearFrom kind count [] = Unit {0}
 NearFrom kind count (s ∷ samples) = (is_near kind count s.count ≡ true) × NearFrom kind s.count samples
 
 -- samples of a channel that share a packet
-pub record Share (spec : ChannelSpec) (samples : List Sample) : Type 0 where
+pub record HasShare (spec : ChannelSpec) (samples : List Sample) : Type 0 where
   pub taken : AllByRecursion (λ s. channel_refusal spec s.message ≡ None) samples
   pub typed : AllByRecursion Typed samples
   pub rise : RiseFrom (first_count samples) samples
@@ -35,16 +35,16 @@ first_gap [] = false
 first_gap (s ∷ samples) = s.gap
 
 -- what is known of an open packet
-pub record Opens (o : OpenPacket) (samples : List Sample) : Type 0 where
+pub record IsOpenPacket (o : OpenPacket) (samples : List Sample) : Type 0 where
   pub some : 0 < length samples
   pub number : o.number ≡ length samples
   pub first : o.first ≡ first_count samples
-  pub last : o.last ≡ last_count 0 samples
+  pub last : o.last ≡ last_sample_count 0 samples
   pub gap : o.gap ≡ first_gap samples
 
 -- packet, body and spare buffer of a channel, of which these are the samples
-pub record Holds (spec : ChannelSpec) (packet : Option OpenPacket) (body spare : List ℕ) (samples : List Sample) : Type 0 where
-  pub open_is : MatchOption packet (samples ≡ []) (λ o. Opens o samples)
+pub record HoldsSamples (spec : ChannelSpec) (packet : Option OpenPacket) (body spare : List ℕ) (samples : List Sample) : Type 0 where
+  pub open_is : MatchOption packet (samples ≡ []) (λ o. IsOpenPacket o samples)
   pub body_is : body ≡ open_body samples
   pub spare_is : spare ≡ []
-  pub share : Share spec samples
+  pub share : HasShare spec samples

@@ -3,11 +3,11 @@ use Rattle.std.specs.Prelude.{◌≡◌, ℕ, Bool, true, false, List, [], ◌�
 use Rattle.r10_packet.specs.Header.{header_bytes}
 use Rattle.r10_body.specs.Content.{uart}
 use Rattle.r10_body.specs.Packets.{Packet, packet_bytes}
-use Rattle.r10_body.specs.Vectors.{channel_of, setup_packet, time_packet}
+use Rattle.r10_body.specs.Vectors.{channel_of, a_setup_packet, a_time_packet}
 use Rattle.r10_body.specs.declared.entry.Entry.{Entry}
 use Rattle.r10_body.specs.declared.message.Kind.TheVariants as kinds
 use Rattle.r10_body.specs.declared.message.Message.TheVariants.{Uart}
-use Rattle.r10_builder.specs.State.{State}
+use Rattle.r10_builder.specs.State.{BuilderState}
 use Rattle.r10_uart.specs.declared.entry.UartEntry.{UartEntry}
 use Rattle.r10_builder.specs.Grows.{packet_count, taken_in}
 use Rattle.r10_body.specs.Sequence.{numbered}
@@ -19,7 +19,7 @@ abbrev letters : Bool → ℕ → List UartEntry → Packet
 letters flagged counter es = record { channel = 5; sequence = 0; flagged = flagged; check = 0; counter = counter; content = uart es }
 
 abbrev begun : List Packet
-begun = setup_packet ∷ time_packet ∷ []
+begun = a_setup_packet ∷ a_time_packet ∷ []
 
 abbrev a_and_b : Packet
 a_and_b = numbered begun (letters false 1000 (letter 1000 0x41 ∷ letter 1001 0x42 ∷ []))
@@ -46,10 +46,10 @@ said count byte gap = record { channel = 5; count = count; message = Uart false 
 abbrev all_three : List Entry
 all_three = said 1001 0x42 false ∷ said 1003 0x44 true ∷ []
 
-abbrev open_d : State
+abbrev open_d : BuilderState
 open_d = record { spec = record (channel_of kinds.Uart 0) { id = 5 }; samples = record { count = 1003; message = Uart false 0 (0x44 ∷ []); gap = true } ∷ []; room = 0; next_room = 0 }
 
-abbrev none_open : State
+abbrev none_open : BuilderState
 none_open = record open_d { samples = [] }
 
 pub open-in-its-builder : drop 2 (taken_in (begun ++ a_and_b ∷ []) (open_d ∷ [])) ≡ all_three

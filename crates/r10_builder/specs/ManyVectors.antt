@@ -5,8 +5,8 @@ use Rattle.r10_body.specs.declared.entry.Sample.{Sample}
 use Rattle.r10_body.specs.declared.message.Kind.TheVariants as kinds
 use Rattle.r10_body.specs.declared.message.Message.TheVariants.{Uart}
 use Rattle.r10_body.specs.declared.spec.ChannelSpec.{ChannelSpec}
-use Rattle.r10_builder.specs.State.{State}
-use Rattle.r10_builder.specs.Grows.{is_open}
+use Rattle.r10_builder.specs.State.{BuilderState}
+use Rattle.r10_builder.specs.Grows.{is_open_builder}
 use Rattle.r10_builder.specs.Settings.{is_of, is_old}
 
 abbrev line : ℕ → ChannelSpec
@@ -15,14 +15,14 @@ line id = record (channel_of kinds.Uart 0) { id = id }
 abbrev text_at : ℕ → Sample
 text_at count = record { count = count; message = Uart false 0 (0x41 ∷ []); gap = false }
 
-abbrev holding : ℕ → List Sample → State
+abbrev holding : ℕ → List Sample → BuilderState
 holding id samples = record { spec = line id; samples = samples; room = 0; next_room = 0 }
 
-abbrev three : List State
+abbrev three : List BuilderState
 three = holding 5 [] ∷ holding 6 (text_at 1000 ∷ text_at 2000 ∷ []) ∷ holding 9 (text_at 500 ∷ []) ∷ []
 
 -- the first that is open, by rising ID, and the channel that was asked for
-pub first-open : find is_open three ≡ Some (holding 6 (text_at 1000 ∷ text_at 2000 ∷ []))
+pub first-open : find is_open_builder three ≡ Some (holding 6 (text_at 1000 ∷ text_at 2000 ∷ []))
 first-open = refl
 
 pub by-channel : find (is_of 9) three ≡ Some (holding 9 (text_at 500 ∷ []))

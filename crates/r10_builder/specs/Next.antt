@@ -19,7 +19,7 @@ abbrev pub HasType : ℕ → ℕ → List Packet → Type 0
 HasType channel type packets = AllByRecursion (λ p. p.channel ≡ channel → type_of p.content ≡ type) packets
 
 -- a channel that may go on at a count with packets of a type: setup and index are on another, its packets are of this type, and no count on it is later
-pub record GoesOn (packets : List Packet) (channel type count : ℕ) : Type 0 where
+pub record ChannelGoesOn (packets : List Packet) (channel type count : ℕ) : Type 0 where
   pub above : 0 < channel
   pub type_is : HasType channel type packets
   pub later : last_count 0 (on_channel channel (file_entries packets)) ≤ count

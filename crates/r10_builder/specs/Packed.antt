@@ -6,7 +6,7 @@ use Rattle.r10_body.specs.Files.{on_channel}
 use Rattle.r10_body.specs.Packets.{Packet, FitsPacket, header_of, packet_body, packet_entries}
 use Rattle.r10_body.specs.Rules.{MayFollow, Rise}
 use Rattle.r10_body.specs.declared.entry.Entry.{Entry}
-use Rattle.r10_builder.specs.State.{State}
+use Rattle.r10_builder.specs.State.{BuilderState}
 use Rattle.r10_builder.specs.declared.closed.Closed.{Closed}
 use Rattle.r10_builder.specs.Grows.{Grows, HasNone, taken_in}
 use Rattle.r10_builder.specs.Next.{IsGrowing}
@@ -14,17 +14,17 @@ use Rattle.r10_body.specs.Sequence.{numbered}
 use Rattle.r10_builder.specs.Settings.{KeepsSettings, specs_of}
 
 -- the packets of a file that grows keep to the settings of their channels, and on no channel counts fall, from the packets to the builder
-pub record Packed (packets : List Packet) (builders : List State) : Type 0 where
+pub record Packed (packets : List Packet) (builders : List BuilderState) : Type 0 where
   pub growing : IsGrowing packets
   pub kept : AllByRecursion (KeepsSettings (specs_of builders)) packets
   pub rise : (channel : ℕ) → Rise 0 (on_channel channel (taken_in packets builders))
 
 -- counts don't fall with these entries behind those that were taken in
-abbrev pub MayTake : List Packet → List State → List Entry → Type 0
+abbrev pub MayTake : List Packet → List BuilderState → List Entry → Type 0
 MayTake packets builders more = (channel : ℕ) → Rise 0 (on_channel channel (taken_in packets builders) ++ on_channel channel more)
 
 -- what was handed out is a packet that may come next; with it and with the builders that are left these entries were taken in
-pub record HandsOn (closed : Closed) (packets : List Packet) (builders : List State) (more : List Entry) (left : List State) : Type 0 where
+pub record HandsOn (closed : Closed) (packets : List Packet) (builders : List BuilderState) (more : List Entry) (left : List BuilderState) : Type 0 where
   pub packet : Packet
   pub fits : FitsPacket packet
   pub header : closed.header ≡ header_of packet
@@ -38,6 +38,6 @@ pub record HandsOn (closed : Closed) (packets : List Packet) (builders : List St
   pub grows : Grows packets builders more (packets ++ numbered packets packet ∷ []) left
 
 -- whether a packet was handed out or not, these entries were taken in
-abbrev pub TakesIn : List Packet → List State → List Entry → Option Closed → List State → Type 0
-TakesIn packets builders more None left = Packed packets left × Grows packets builders more packets left
-TakesIn packets builders more (Some closed) left = HandsOn closed packets builders more left
+abbrev pub TakesInSamples : List Packet → List BuilderState → List Entry → Option Closed → List BuilderState → Type 0
+TakesInSamples packets builders more None left = Packed packets left × Grows packets builders more packets left
+TakesInSamples packets builders more (Some closed) left = HandsOn closed packets builders more left

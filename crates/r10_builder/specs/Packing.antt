@@ -2,8 +2,8 @@
 use Rattle.std.specs.Prelude.{◌≡◌, ℕ, ◌+◌, ◌*◌, ◌/◌, ◌<◌, ◌≤◌, Bool, true, not, List, [], ◌∷◌, ◌++◌, length, map, Option, None, nat_lt, nat_le}
 use Rattle.std.specs.List.{AllByRecursion, sum_by}
 use Rattle.r10_count.specs.Checks.{first_broken}
-use Rattle.r10_packet.specs.Header.{bits_of, check_of_bits, checksum_bits}
-use Rattle.r10_body.specs.Bodies.{bits_of as told_bits}
+use Rattle.r10_packet.specs.Header.{check_bits_of, check_of_bits, checksum_bits}
+use Rattle.r10_body.specs.Bodies.{discretes_of}
 use Rattle.r10_body.specs.Content.{type_of}
 use Rattle.r10_body.specs.Messages.{kind_type, spelling_len}
 use Rattle.r10_body.specs.Packets.{Packet, FitsPacket, header_of, packet_body, packet_entries}
@@ -28,9 +28,9 @@ abbrev pub first_count : List Sample → ℕ
 first_count [] = 0
 first_count (s ∷ samples) = s.count
 
-abbrev pub last_count : ℕ → List Sample → ℕ
-last_count before [] = before
-last_count before (s ∷ samples) = last_count s.count samples
+abbrev pub last_sample_count : ℕ → List Sample → ℕ
+last_sample_count before [] = before
+last_sample_count before (s ∷ samples) = last_sample_count s.count samples
 
 -- the bytes of a packet of these samples: header, word, messages and checksum, in whole words
 abbrev pub packet_len : ℕ → List Sample → ℕ
@@ -46,7 +46,7 @@ abbrev pub reason : ChannelSpec → List Sample → Sample → Option Reason
 reason spec [] s = None
 reason spec (first ∷ rest) s =
     first_broken ((not s.gap, Gap)
-    ∷ (is_near spec.kind (last_count first.count rest) s.count, BusGap)
+    ∷ (is_near spec.kind (last_sample_count first.count rest) s.count, BusGap)
     ∷ (nat_le s.count (first.count + tenth), Age)
     ∷ (nat_lt (length (first ∷ rest)) spec.number, Number)
     ∷ (nat_le (packet_len spec.check ((first ∷ rest) ++ s ∷ [])) spec.bytes, Size)
@@ -61,7 +61,7 @@ IsYoung now (first ∷ rest) = now ≤ first.count + tenth
 
 -- settings within the limits of a recorder
 pub record IsLimited (spec : ChannelSpec) : Type 0 where
-  pub check : bits_of (check_of_bits spec.check) ≡ spec.check
+  pub check : check_bits_of (check_of_bits spec.check) ≡ spec.check
   pub bytes : spec.bytes ≤ 524288
   pub some : 0 < spec.number
   pub number : spec.number < 65536
@@ -71,7 +71,7 @@ abbrev pub entry_on : ℕ → Sample → Entry
 entry_on channel s = record { channel = channel; count = s.count; message = s.message; gap = s.gap }
 
 -- header and body of the first packet of a channel that says these samples, in order: its entries have their counts and messages, and of them the first alone has a gap, exactly where the packet is flagged
-pub record IsClosed (spec : ChannelSpec) (samples : List Sample) (closed : Closed) : Type 0 where
+pub record IsClosedPacket (spec : ChannelSpec) (samples : List Sample) (closed : Closed) : Type 0 where
   pub packet : Packet
   pub header : closed.header ≡ header_of packet
   pub body : closed.body.items ≡ packet_body packet
@@ -82,7 +82,7 @@ pub record IsClosed (spec : ChannelSpec) (samples : List Sample) (closed : Close
   pub sequence : packet.sequence ≡ 0
   pub check : checksum_bits packet.check ≡ spec.check
   pub type_is : type_of packet.content ≡ kind_type spec.kind
-  pub bits_are : spec.kind ≡ kinds.Discrete → told_bits packet.content ≡ spec.bits
+  pub bits_are : spec.kind ≡ kinds.Discrete → discretes_of packet.content ≡ spec.bits
   -- the counter is the first entry's count, counts don't fall, and none is more than a tenth of a second later
   pub counter : packet.counter ≡ first_count samples
   pub rise : Rise packet.counter (packet_entries packet)

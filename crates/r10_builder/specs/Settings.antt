@@ -2,38 +2,38 @@
 use Rattle.std.specs.Prelude.{◌≡◌, ℕ, ◌<◌, ◌≤◌, ◌+◌, Bool, false, not, nat_le, ◌==◌, List, [], ◌∷◌, length, map, find, Option, None, Some, IsSomeAnd}
 use Rattle.std.specs.List.{AllByRecursion}
 use Rattle.r10_packet.specs.Header.{checksum_bits}
-use Rattle.r10_body.specs.Bodies.{bits_of}
+use Rattle.r10_body.specs.Bodies.{discretes_of}
 use Rattle.r10_body.specs.Content.{type_of}
 use Rattle.r10_body.specs.Messages.{channel_refusal, kind_type}
 use Rattle.r10_body.specs.Packets.{Packet, packet_bytes, packet_entries}
 use Rattle.r10_body.specs.declared.entry.Sample.{Sample}
 use Rattle.r10_body.specs.declared.message.Kind.TheVariants as kinds
 use Rattle.r10_body.specs.declared.spec.ChannelSpec.{ChannelSpec}
-use Rattle.r10_builder.specs.Packing.{IsLimited, last_count, reason, tenth}
-use Rattle.r10_builder.specs.State.{IsReady, IsReadyWith, State}
+use Rattle.r10_builder.specs.Packing.{IsLimited, last_sample_count, reason, tenth}
+use Rattle.r10_builder.specs.State.{HasRoomForTwo, IsReadyWith, BuilderState}
 use Rattle.r10_builder.specs.declared.closed.Closed.{Closed}
 
-abbrev pub specs_of : List State → List ChannelSpec
-specs_of builders = map (λ (b : State). b.spec) builders
+abbrev pub specs_of : List BuilderState → List ChannelSpec
+specs_of builders = map (λ (b : BuilderState). b.spec) builders
 
 -- channels by rising ID, each above this one and within a recorder's limits
-abbrev pub AreSettings : ℕ → List ChannelSpec → Type 0
-AreSettings least [] = Unit {0}
-AreSettings least (spec ∷ specs) = (least < spec.id) × IsLimited spec × AreSettings spec.id specs
+abbrev pub AreChannelSettings : ℕ → List ChannelSpec → Type 0
+AreChannelSettings least [] = Unit {0}
+AreChannelSettings least (spec ∷ specs) = (least < spec.id) × IsLimited spec × AreChannelSettings spec.id specs
 
-abbrev pub is_of : ℕ → State → Bool
+abbrev pub is_of : ℕ → BuilderState → Bool
 is_of channel b = b.spec.id == channel
 
 -- its first sample is more than a tenth of a second before now
-abbrev pub is_old : ℕ → State → Bool
+abbrev pub is_old : ℕ → BuilderState → Bool
 is_old now b = elim b.samples [ [] ↦ false | s ∷ samples ↦ not (nat_le now (s.count + tenth)) ]
 
 -- the channel has a builder, which takes the sample behind those that it holds
-abbrev pub Takes : ℕ → Sample → List State → Type 0
-Takes channel s builders = IsSomeAnd (find (is_of channel) builders) (λ b. (channel_refusal b.spec s.message ≡ None) × (last_count 0 b.samples ≤ s.count))
+abbrev pub BuilderTakes : ℕ → Sample → List BuilderState → Type 0
+BuilderTakes channel s builders = IsSomeAnd (find (is_of channel) builders) (λ b. (channel_refusal b.spec s.message ≡ None) × (last_sample_count 0 b.samples ≤ s.count))
 
 -- the sample goes into the packet that is open on its channel
-abbrev pub Joins : ℕ → Sample → List State → Type 0
+abbrev pub Joins : ℕ → Sample → List BuilderState → Type 0
 Joins channel s builders = IsSomeAnd (find (is_of channel) builders) (λ b. (0 < length b.samples) × (reason b.spec b.samples s ≡ None))
 
 -- how many packets were handed out
@@ -42,13 +42,13 @@ handed None = 0
 handed (Some closed) = 1
 
 -- all are ready but the one of a channel that handed a packet out, which is once the packet's room is given back
-abbrev pub AreReadyWith : ℕ → Closed → List State → Type 0
-AreReadyWith channel closed builders = AllByRecursion (λ (b : State). (b.spec.id ≡ channel → IsReadyWith closed b) × ((b.spec.id ≡ channel → ⊥) → IsReady b)) builders
+abbrev pub AreReadyWith : ℕ → Closed → List BuilderState → Type 0
+AreReadyWith channel closed builders = AllByRecursion (λ (b : BuilderState). (b.spec.id ≡ channel → IsReadyWith closed b) × ((b.spec.id ≡ channel → ⊥) → HasRoomForTwo b)) builders
 
 -- a packet of a channel with these settings
 pub record KeepsSpec (spec : ChannelSpec) (p : Packet) : Type 0 where
   pub type_is : type_of p.content ≡ kind_type spec.kind
-  pub bits_are : spec.kind ≡ kinds.Discrete → bits_of p.content ≡ spec.bits
+  pub bits_are : spec.kind ≡ kinds.Discrete → discretes_of p.content ≡ spec.bits
   pub check : checksum_bits p.check ≡ spec.check
   pub bytes : length (packet_bytes p) ≤ spec.bytes
   pub number : length (packet_entries p) ≤ spec.number

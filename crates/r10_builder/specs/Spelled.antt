@@ -3,7 +3,7 @@ use Rattle.std.specs.Prelude.{ℕ, ◌+◌, ◌-◌, ◌*◌, ◌/◌, ◌%◌, 
 use Rattle.std.specs.List.{AllByRecursion}
 use Rattle.r10_count.specs.Bytes.{flag_at, le_bytes}
 use Rattle.r10_count.specs.Count.{IsCount}
-use Rattle.r10_packet.specs.Header.{bits_of, check_of_bits, flags_of}
+use Rattle.r10_packet.specs.Header.{check_bits_of, check_of_bits, flags_of}
 use Rattle.r10_packet.specs.declared.header.Header.{Header}
 use Rattle.r10_uart.specs.Uart.{uart_entry, uart_of}
 use Rattle.r10_b1553.specs.Bus.{bus_entry, bus_of}
@@ -88,7 +88,7 @@ word_bytes spec number = le_bytes 4 (word_of spec.kind spec.bits number)
 abbrev pub closed_header : ChannelSpec → OpenPacket → ℕ → Header
 closed_header spec o size = record {
   channel = spec.id;
-  packet_len = min ((size + bits_of (check_of_bits spec.check) / 8 + 27) / 4 * 4) 4294967295;
+  packet_len = min ((size + check_bits_of (check_of_bits spec.check) / 8 + 27) / 4 * 4) 4294967295;
   data_len = min size 4294967295;
   version = 8;
   sequence = 0;

@@ -4,10 +4,10 @@ use Rattle.std.proofs.Common.{arith, lit≤}
 use Rattle.r10_body.specs.declared.entry.Sample.{Sample}
 use Rattle.r10_body.specs.declared.message.Kind.{Kind}
 use Rattle.r10_body.specs.declared.message.Kind.TheVariants as kinds
-use Rattle.r10_body.specs.declared.message.Message.{Message as Said}
+use Rattle.r10_body.specs.declared.message.Message.{Message as MessageValue}
 use Rattle.r10_body.specs.declared.message.Message.TheVariants.{Arinc, Bus1553, Discrete, Message, Uart}
 use Rattle.r10_body.specs.declared.spec.ChannelSpec.{ChannelSpec}
-use Rattle.r10_builder.specs.Packing.{IsYoung, first_count, last_count, packet_len, reason}
+use Rattle.r10_builder.specs.Packing.{IsYoung, first_count, last_sample_count, packet_len, reason}
 use Rattle.r10_builder.specs.Read.{sample_at, samples_in}
 use Rattle.r10_builder.specs.Spelled.{open_body, sample_bytes}
 use Rattle.r10_builder.specs.declared.closed.Reason.TheVariants.{Gap, BusGap, Age, Number, Size}
@@ -15,33 +15,33 @@ use Rattle.r10_builder.specs.declared.closed.Reason.TheVariants.{Gap, BusGap, Ag
 abbrev pub uart_channel : ℕ → ℕ → ℕ → ChannelSpec
 uart_channel check bytes number = record { id = 5; kind = kinds.Uart; capacity = 2; check = check; bytes = bytes; number = number; bits = 0 }
 
-abbrev pub text_at : ℕ → List ℕ → Sample
-text_at count bytes = record { count = count; message = Uart false 0 bytes; gap = false }
+abbrev pub text_sample : ℕ → List ℕ → Sample
+text_sample count bytes = record { count = count; message = Uart false 0 bytes; gap = false }
 
 -- the third is more than a tenth of a second after the first
-pub soon-enough : reason (uart_channel 0 524288 65535) (text_at 0 [] ∷ []) (text_at 1000000 []) ≡ None
+pub soon-enough : reason (uart_channel 0 524288 65535) (text_sample 0 [] ∷ []) (text_sample 1000000 []) ≡ None
 soon-enough = refl
 
-pub too-late : reason (uart_channel 0 524288 65535) (text_at 0 [] ∷ text_at 1000000 [] ∷ []) (text_at 1000001 []) ≡ Some Age
+pub too-late : reason (uart_channel 0 524288 65535) (text_sample 0 [] ∷ text_sample 1000000 [] ∷ []) (text_sample 1000001 []) ≡ Some Age
 too-late = refl
 
 -- a tenth of a second after the first, and a count later
-pub still-young : IsYoung 1001000 (text_at 1000 [] ∷ [])
+pub still-young : IsYoung 1001000 (text_sample 1000 [] ∷ [])
 still-young = lit≤ tt
 
-pub no-longer-young : IsYoung 1001001 (text_at 1000 [] ∷ []) → ⊥
+pub no-longer-young : IsYoung 1001001 (text_sample 1000 [] ∷ []) → ⊥
 no-longer-young young = omega (arith, young)
 
 -- a packet of two
-pub one-of-two : reason (uart_channel 0 524288 2) (text_at 0 [] ∷ []) (text_at 1 []) ≡ None
+pub one-of-two : reason (uart_channel 0 524288 2) (text_sample 0 [] ∷ []) (text_sample 1 []) ≡ None
 one-of-two = refl
 
-pub two-of-two : reason (uart_channel 0 524288 2) (text_at 0 [] ∷ text_at 1 [] ∷ []) (text_at 2 []) ≡ Some Number
+pub two-of-two : reason (uart_channel 0 524288 2) (text_sample 0 [] ∷ text_sample 1 [] ∷ []) (text_sample 2 []) ≡ Some Number
 two-of-two = refl
 
 -- messages of 20 bytes, of which three go into 128 bytes
 abbrev pub long_at : ℕ → Sample
-long_at count = text_at count (replicate 20 0x78)
+long_at count = text_sample count (replicate 20 0x78)
 
 abbrev pub three_long : List Sample
 three_long = long_at 0 ∷ long_at 1 ∷ long_at 2 ∷ []
@@ -80,25 +80,25 @@ abbrev pub arinc_channel : ChannelSpec
 arinc_channel = record { id = 8; kind = kinds.Arinc; capacity = 2; check = 0; bytes = 524288; number = 65535; bits = 0 }
 
 -- a word of the high speed bus 1
-abbrev pub word_at : ℕ → Sample
-word_at count = record { count = count; message = Arinc 1 false false true 0x12345678; gap = false }
+abbrev pub word_sample : ℕ → Sample
+word_sample count = record { count = count; message = Arinc 1 false false true 0x12345678; gap = false }
 
-pub near-enough : reason arinc_channel (word_at 5000 ∷ []) (word_at 1005000) ≡ None
+pub near-enough : reason arinc_channel (word_sample 5000 ∷ []) (word_sample 1005000) ≡ None
 near-enough = refl
 
-pub too-far : reason arinc_channel (word_at 5000 ∷ word_at 1005000 ∷ []) (word_at 2005001) ≡ Some BusGap
+pub too-far : reason arinc_channel (word_sample 5000 ∷ word_sample 1005000 ∷ []) (word_sample 2005001) ≡ Some BusGap
 too-far = refl
 
 -- near the last word, but not the first
-pub near-and-late : reason arinc_channel (word_at 5000 ∷ word_at 1005000 ∷ []) (word_at 1005001) ≡ Some Age
+pub near-and-late : reason arinc_channel (word_sample 5000 ∷ word_sample 1005000 ∷ []) (word_sample 1005001) ≡ Some Age
 near-and-late = refl
 
 -- a UART message may be far from the last one
-pub far-text : reason (uart_channel 0 524288 65535) (text_at 5000 [] ∷ text_at 1005000 [] ∷ []) (text_at 2005001 []) ≡ Some Age
+pub far-text : reason (uart_channel 0 524288 65535) (text_sample 5000 [] ∷ text_sample 1005000 [] ∷ []) (text_sample 2005001 []) ≡ Some Age
 far-text = refl
 
 abbrev pub three_words : List Sample
-three_words = word_at 5000 ∷ word_at 5100 ∷ word_at 5300 ∷ []
+three_words = word_sample 5000 ∷ word_sample 5100 ∷ word_sample 5300 ∷ []
 
 pub three-words : packet_len 0 three_words ≡ 52
 three-words = refl
@@ -122,25 +122,25 @@ three-words-read = refl
 
 -- ---- the other kinds: two samples, the first behind a gap
 
-abbrev pub two_of : ℕ → Said → Said → List Sample
+abbrev pub two_of : ℕ → MessageValue → MessageValue → List Sample
 two_of count m n = record { count = count; message = m; gap = true } ∷ record { count = count + 1; message = n; gap = false } ∷ []
 
 -- they are read back from the body of their packet
-abbrev pub IsRead : Kind → List Sample → Type 0
-IsRead kind samples = samples_in kind (Some (record { first = first_count samples; last = last_count 0 samples; number = length samples; gap = true })) (open_body samples) ≡ samples
+abbrev pub IsReadBack : Kind → List Sample → Type 0
+IsReadBack kind samples = samples_in kind (Some (record { first = first_count samples; last = last_sample_count 0 samples; number = length samples; gap = true })) (open_body samples) ≡ samples
 
-pub two-texts-read : IsRead kinds.Uart (two_of 1000 (Uart true 16383 (0x41 ∷ 0x42 ∷ 0x43 ∷ [])) (Uart false 0 []))
+pub two-texts-read : IsReadBack kinds.Uart (two_of 1000 (Uart true 16383 (0x41 ∷ 0x42 ∷ 0x43 ∷ [])) (Uart false 0 []))
 unfolding samples_in sample_at sample_bytes
 two-texts-read = refl
 
-pub two-bus-messages-read : IsRead kinds.Bus1553 (two_of 2000 (Bus1553 0x2000 7 (0x0821 ∷ 0xABCD ∷ [])) (Bus1553 0x1038 0 []))
+pub two-bus-messages-read : IsReadBack kinds.Bus1553 (two_of 2000 (Bus1553 0x2000 7 (0x0821 ∷ 0xABCD ∷ [])) (Bus1553 0x1038 0 []))
 unfolding samples_in sample_at sample_bytes
 two-bus-messages-read = refl
 
-pub two-states-read : IsRead kinds.Discrete (two_of 3000 (Discrete 0x81) (Discrete 0))
+pub two-states-read : IsReadBack kinds.Discrete (two_of 3000 (Discrete 0x81) (Discrete 0))
 unfolding samples_in sample_at sample_bytes
 two-states-read = refl
 
-pub two-messages-read : IsRead kinds.Message (two_of 4000 (Message true false 16383 (0x41 ∷ [])) (Message false true 1 []))
+pub two-messages-read : IsReadBack kinds.Message (two_of 4000 (Message true false 16383 (0x41 ∷ [])) (Message false true 1 []))
 unfolding samples_in sample_at sample_bytes
 two-messages-read = refl

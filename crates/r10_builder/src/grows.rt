@@ -8,38 +8,38 @@ ghost use Rattle.r10_body.specs.Packets.{Packet, packet_entries};
 ghost use Rattle.r10_body.specs.declared.entry.Entry.{Entry};
 ghost use Rattle.r10_body.specs.declared.entry.Sample.{Sample};
 ghost use Rattle.r10_builder.specs.Packing.{entry_on};
-ghost use Rattle.r10_builder.specs.State.{State};
-ghost use Rattle.r10_builder.specs.Grows.{AreApart, Grows, HasNone, all_held, held, is_open, packet_count, taken_in};
+ghost use Rattle.r10_builder.specs.State.{BuilderState};
+ghost use Rattle.r10_builder.specs.Grows.{BuildersAreApart, Grows, HasNone, all_held, held, is_open_builder, packet_count, taken_in};
 
 /// Of builders that are apart, one holds what is open on its channel; where it changes, the others' channels stay.
 pub fn builders_by_channel()
-    ensures own { (builders : List State) (i : ℕ) (d : State) → i < length builders → AreApart builders
+    ensures own { (builders : List BuilderState) (i : ℕ) (d : BuilderState) → i < length builders → BuildersAreApart builders
         → on_channel (get_or builders i d).spec.id (all_held builders) ≡ held (get_or builders i d) }
-    ensures none { (builders : List State) (channel : ℕ) → HasNone channel builders → on_channel channel (all_held builders) ≡ [] }
-    ensures apart { (builders : List State) (i : ℕ) (d : State) (new : State) → i < length builders → AreApart builders → new.spec ≡ (get_or builders i d).spec → AreApart (set builders i new) }
+    ensures none { (builders : List BuilderState) (channel : ℕ) → HasNone channel builders → on_channel channel (all_held builders) ≡ [] }
+    ensures apart { (builders : List BuilderState) (i : ℕ) (d : BuilderState) (new : BuilderState) → i < length builders → BuildersAreApart builders → new.spec ≡ (get_or builders i d).spec → BuildersAreApart (set builders i new) }
 {}
 
 /// Nothing is lost, doubled or put in another order on its channel: not where a sample joins a builder,
 /// nor where a packet of a builder's first samples is written, nor where a packet of another channel is.
 pub fn entries_are_kept()
-    ensures joins { (packets : List Packet) (builders : List State) (i : ℕ) (d : State) (new : State) (more : List Sample)
-        → i < length builders → AreApart builders → new.spec ≡ (get_or builders i d).spec → new.samples ≡ (get_or builders i d).samples ++ more
+    ensures joins { (packets : List Packet) (builders : List BuilderState) (i : ℕ) (d : BuilderState) (new : BuilderState) (more : List Sample)
+        → i < length builders → BuildersAreApart builders → new.spec ≡ (get_or builders i d).spec → new.samples ≡ (get_or builders i d).samples ++ more
         → Grows packets builders (map (entry_on new.spec.id) more) packets (set builders i new) }
-    ensures closes { (packets : List Packet) (builders : List State) (i : ℕ) (d : State) (new : State) (more : List Sample) (p : Packet) (written : List Sample)
-        → i < length builders → AreApart builders → new.spec ≡ (get_or builders i d).spec → written ++ new.samples ≡ (get_or builders i d).samples ++ more
+    ensures closes { (packets : List Packet) (builders : List BuilderState) (i : ℕ) (d : BuilderState) (new : BuilderState) (more : List Sample) (p : Packet) (written : List Sample)
+        → i < length builders → BuildersAreApart builders → new.spec ≡ (get_or builders i d).spec → written ++ new.samples ≡ (get_or builders i d).samples ++ more
         → packet_entries p ≡ map (entry_on new.spec.id) written → Grows packets builders (map (entry_on new.spec.id) more) (packets ++ p ∷ []) (set builders i new) }
-    ensures between { (packets : List Packet) (builders : List State) (p : Packet) → HasNone p.channel builders → Grows packets builders (packet_entries p) (packets ++ p ∷ []) builders }
-    ensures goes_on { (a : List Packet) (b : List State) (more : List Entry) (c : List Packet) (d : List State) (most : List Entry) (e : List Packet) (f : List State)
+    ensures between { (packets : List Packet) (builders : List BuilderState) (p : Packet) → HasNone p.channel builders → Grows packets builders (packet_entries p) (packets ++ p ∷ []) builders }
+    ensures goes_on { (a : List Packet) (b : List BuilderState) (more : List Entry) (c : List Packet) (d : List BuilderState) (most : List Entry) (e : List Packet) (f : List BuilderState)
         → Grows a b more c d → Grows c d most e f → Grows a b (more ++ most) e f }
-    ensures cost { (text : List ℕ) (a : List Packet) (b : List State) (more : List Entry) (c : List Packet) (d : List State)
+    ensures cost { (text : List ℕ) (a : List Packet) (b : List BuilderState) (more : List Entry) (c : List Packet) (d : List BuilderState)
         → Grows a b more c d → file_cost text (taken_in c d) ≡ file_cost text (taken_in a b) + sum_by entry_cost more }
-    ensures same { (a : List Packet) (b : List State) (entries : List Entry) → ((channel : ℕ) → on_channel channel (taken_in a b) ≡ on_channel channel entries)
+    ensures same { (a : List Packet) (b : List BuilderState) (entries : List Entry) → ((channel : ℕ) → on_channel channel (taken_in a b) ≡ on_channel channel entries)
         → (text : List ℕ) → file_cost text (taken_in a b) ≡ file_cost text entries }
 {}
 
 /// A packet more counts one, and a builder where it opens; where one closes, it counts one less.
 pub fn packets_are_counted()
-    ensures more { (packets : List Packet) (builders : List State) (p : Packet) → packet_count (packets ++ p ∷ []) builders ≡ packet_count packets builders + 1 }
-    ensures changed { (packets : List Packet) (builders : List State) (i : ℕ) (d : State) (new : State) → i < length builders
-        → packet_count packets (set builders i new) + count_by is_open (get_or builders i d ∷ []) ≡ packet_count packets builders + count_by is_open (new ∷ []) }
+    ensures more { (packets : List Packet) (builders : List BuilderState) (p : Packet) → packet_count (packets ++ p ∷ []) builders ≡ packet_count packets builders + 1 }
+    ensures changed { (packets : List Packet) (builders : List BuilderState) (i : ℕ) (d : BuilderState) (new : BuilderState) → i < length builders
+        → packet_count packets (set builders i new) + count_by is_open_builder (get_or builders i d ∷ []) ≡ packet_count packets builders + count_by is_open_builder (new ∷ []) }
 {}

@@ -12,26 +12,26 @@ ghost use Rattle.r10_body.specs.Rules.{MayFollow, is_index};
 ghost use Rattle.r10_body.specs.declared.entry.Entry.{Entry};
 ghost use Rattle.r10_body.specs.declared.entry.Sample.{Sample};
 ghost use Rattle.r10_body.specs.declared.spec.ChannelSpec.{ChannelSpec};
-ghost use Rattle.r10_builder.specs.Packing.{IsClosed, first_count};
+ghost use Rattle.r10_builder.specs.Packing.{IsClosedPacket, first_count};
 ghost use Rattle.r10_builder.specs.declared.closed.Closed.{Closed};
-ghost use Rattle.r10_builder.specs.Next.{GoesOn, IsGrowing, event_packet, setup_packet, time_packet};
+ghost use Rattle.r10_builder.specs.Next.{ChannelGoesOn, IsGrowing, event_packet, setup_packet, time_packet};
 ghost use Rattle.r10_body.specs.Sequence.{numbered};
 
 /// What a builder hands out may come next, with its channel's next number.
 pub fn handed_out_may_follow()
-    ensures { (packets : List Packet) (spec : ChannelSpec) (samples : List Sample) (closed : Closed) (closes : IsClosed spec samples closed)
-        → IsGrowing packets → GoesOn packets spec.id (kind_type spec.kind) (first_count samples) → MayFollow packets (numbered packets closes.packet) }
+    ensures { (packets : List Packet) (spec : ChannelSpec) (samples : List Sample) (closed : Closed) (closes : IsClosedPacket spec samples closed)
+        → IsGrowing packets → ChannelGoesOn packets spec.id (kind_type spec.kind) (first_count samples) → MayFollow packets (numbered packets closes.packet) }
 {}
 
 /// A time may come next, on a channel of times.
 pub fn time_may_follow()
-    ensures { (packets : List Packet) (channel : ℕ) (count : ℕ) (civil : Parts) → IsGrowing packets → GoesOn packets channel 0x11 count → channel < 2 ^ 16 → IsCount count → IsCivil civil
+    ensures { (packets : List Packet) (channel : ℕ) (count : ℕ) (civil : Parts) → IsGrowing packets → ChannelGoesOn packets channel 0x11 count → channel < 2 ^ 16 → IsCount count → IsCivil civil
         → MayFollow packets (numbered packets (time_packet channel count civil)) }
 {}
 
 /// An event may come next, on a channel of events. It tells how many of its number came before it.
 pub fn event_may_follow()
-    ensures { (packets : List Packet) (channel : ℕ) (count : ℕ) (number : ℕ) → IsGrowing packets → GoesOn packets channel 0x02 count → channel < 2 ^ 16 → IsCount count → number < 2 ^ 12
+    ensures { (packets : List Packet) (channel : ℕ) (count : ℕ) (number : ℕ) → IsGrowing packets → ChannelGoesOn packets channel 0x02 count → channel < 2 ^ 16 → IsCount count → number < 2 ^ 12
         → MayFollow packets (numbered packets (event_packet channel count number packets)) }
 {}
 

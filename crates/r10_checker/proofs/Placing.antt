@@ -5,8 +5,8 @@ use Rattle.std.proofs.lemmas.Bool.{leb-true}
 use Rattle.std.proofs.lemmas.List.Elements.{All-cons, All-nil, All-head, All-tail, All-map, All-append}
 use Rattle.r10_count.specs.Checks.{first_broken}
 use Rattle.r10_medium.specs.Disk.{Image}
-use Rattle.r10_dirblock.specs.Block.{has_room}
-use Rattle.r10_dirchain.specs.Chain.{Holds, IsDirectory}
+use Rattle.r10_dirblock.specs.Block.{has_room_for_size}
+use Rattle.r10_dirchain.specs.Chain.{HoldsBlock, IsDirectory}
 use Rattle.r10_dirchain.specs.Mount.{listed, listed_in}
 use Rattle.r10_dirchain.specs.declared.chain.ChainBlock.{ChainBlock}
 use Rattle.r10_dirchain.specs.declared.chain.Listed.{Listed}
@@ -14,15 +14,15 @@ use Rattle.r10_dirchain.proofs.Standing.{each_of}
 use Rattle.r10_checker.specs.Place.{inside_rule, inside_rules, is_inside, IsPlaced}
 
 abbrev HasRoom : Listed → Type 0
-HasRoom f = has_room f.entry ≡ true
+HasRoom f = has_room_for_size f.entry ≡ true
 
 -- the blocks of each file have room for its bytes
-pub rooms : (image : Image) (chain : List ChainBlock) → All (Holds image) chain → All HasRoom (listed chain)
+pub rooms : (image : Image) (chain : List ChainBlock) → All (HoldsBlock image) chain → All HasRoom (listed chain)
 rooms image [] all = All-nil HasRoom
 rooms image (b ∷ chain) all =
     All-append HasRoom (map (listed_in b.number) b.block.entries) (listed chain)
-    (All-map HasRoom (listed_in b.number) b.block.entries (All-head (Holds image) b chain all).is.rooms)
-    (rooms image chain (All-tail (Holds image) b chain all))
+    (All-map HasRoom (listed_in b.number) b.block.entries (All-head (HoldsBlock image) b chain all).is.rooms)
+    (rooms image chain (All-tail (HoldsBlock image) b chain all))
 
 -- so the bytes of a file lie inside where its blocks do
 pub placed : (image : Image) (f : Listed) → HasRoom f → is_inside (length image) f.entry ≡ true → IsPlaced image f

@@ -3,7 +3,7 @@ use Rattle.std.specs.Prelude.{ℕ, Bool, false, List, ◌++◌}
 use Rattle.std.proofs.Common.{lit≤}
 use Rattle.r10_body.specs.Faults.{IsAtFault}
 use Rattle.r10_body.specs.Packets.{packet_bytes, file_bytes}
-use Rattle.r10_body.specs.Vectors.{data_packets, node_packet}
+use Rattle.r10_body.specs.Vectors.{data_packets, a_node_packet}
 use Rattle.r10_body.specs.declared.fault.FileFault.TheVariants.{Rule}
 use Rattle.r10_judge.specs.Copies.{copies, node_of_99}
 use Rattle.r10_judge.proofs.Eighth.{short_node, open_index}
@@ -13,5 +13,5 @@ pub ninety-nine : (closed : Bool) (more : List ℕ) → IsAtFault (file_bytes (c
 ninety-nine closed more = short_node 99 closed more (lit≤ tt) (lit≤ tt)
 
 -- the node of the first recording where the directory entry is unclosed, whatever stands behind it
-pub index-in-open-file : (more : List ℕ) → IsAtFault (file_bytes data_packets ++ (packet_bytes node_packet ++ more)) false 124 (Rule 8)
+pub index-in-open-file : (more : List ℕ) → IsAtFault (file_bytes data_packets ++ (packet_bytes a_node_packet ++ more)) false 124 (Rule 8)
 index-in-open-file = open_index

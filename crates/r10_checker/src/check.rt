@@ -1,8 +1,8 @@
 //! Files on their own, without a directory.
 
 ghost use Rattle.std.specs.Prelude.{◌≡◌, ℕ, List, true, IfOk};
-ghost use Rattle.r10_strict.specs.Tracks.{Stands as StandsForeign};
-ghost use Rattle.r10_judge.specs.Judged.{Stands};
+ghost use Rattle.r10_strict.specs.Tracks.{TracksForeign};
+ghost use Rattle.r10_judge.specs.Judged.{TracksJudged};
 ghost use Rattle.r10_checker.specs.Verdict.{IsVerdict};
 ghost use Rattle.r10_checker.specs.declared.check.Verdict.TheVariants as verdicts;
 
@@ -44,7 +44,7 @@ pub fn check_file(alloc: Global, bytes: &[u8]) -> Result<Verdict, AllocError>
 
 /// The verdict on a file that ends here, by its packets, whoever wrote them, and by the rules that they keep.
 pub fn end_verdict(track: &ForeignTrack, judge: &Judge) -> Verdict
-    ensures { (bytes : List ℕ) → StandsForeign track.now bytes → Stands judge.now bytes → judge.now.closed ≡ true → IsVerdict bytes result }
+    ensures { (bytes : List ℕ) → TracksForeign track.now bytes → TracksJudged judge.now bytes → judge.now.closed ≡ true → IsVerdict bytes result }
 {
     match track.end() {
         Err(at) => faulty(&at),

@@ -2,7 +2,7 @@
 
 ghost use Rattle.std.specs.Prelude.{◌≡◌, ◌+◌, ◌*◌, ◌≤◌, ◌^◌, true, map, IfSome};
 ghost use Rattle.r10_count.specs.Checks.{first_broken};
-ghost use Rattle.r10_dirblock.specs.Block.{has_room};
+ghost use Rattle.r10_dirblock.specs.Block.{has_room_for_size};
 ghost use Rattle.r10_checker.specs.Place.{inside_rule, is_inside};
 
 use r10_dirblock::Entry;

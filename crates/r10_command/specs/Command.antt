@@ -5,7 +5,7 @@ use Rattle.r10_words.specs.Words.{AsksSim, AsksImage, AsksFiles, AsksCheck, Give
 use Rattle.r10_words.specs.declared.asked.FormatWords.{FormatWords}
 use Rattle.r10_words.specs.declared.asked.PlayWords.{PlayWords}
 use Rattle.r10_images.specs.Image.{image_blocks}
-use Rattle.r10_images.specs.Listing.{Lists}
+use Rattle.r10_images.specs.Listing.{ListsFiles}
 use Rattle.r10_images.specs.declared.listing.Outcome.{Outcome}
 use Rattle.r10_images.specs.declared.listing.Outcome.TheVariants.{Done}
 use Rattle.r10_playback.specs.Lines.{Plays}
@@ -27,19 +27,19 @@ abbrev pub PlaysBack : List (List ℕ) → Option (List ℕ) → Option (List �
 PlaysBack words input old new outcome = (play : PlayWords) × GivesSelection words play × IfSome input (λ bytes. Plays (selected play) (image_blocks bytes) outcome old new)
 
 -- help, or the version, was written
-abbrev pub Says : Option (List ℕ) → Option (List ℕ) → Type 0
-Says old new = (text : List ℕ) × Appends old new text
+abbrev pub WritesText : Option (List ℕ) → Option (List ℕ) → Type 0
+WritesText old new = (text : List ℕ) × Appends old new text
 
 -- The words are those of a call, the input is what the reader had left, and a writer that held `old` then held `new`.
-pub record Does (words : List (List ℕ)) (input old new : Option (List ℕ)) (outcome : Outcome) : Type 0 where
+pub record DoesCommand (words : List (List ℕ)) (input old new : Option (List ℕ)) (outcome : Outcome) : Type 0 where
   -- a run: the script that was read was played
   pub sim : AsksSim words → (outcome ≡ Done) × IfSome input (λ text. Simulates text old new)
   -- a run's medium: its image
   pub image : AsksImage words → (outcome ≡ Done) × IfSome input (λ text. WritesLeft text old new)
   -- a list: of the image that was read
-  pub files : AsksFiles words → IfSome input (λ bytes. Lists (image_blocks bytes) outcome old new)
+  pub files : AsksFiles words → IfSome input (λ bytes. ListsFiles (image_blocks bytes) outcome old new)
   -- a verdict: on the recording that was read
   pub check : AsksCheck words → IfSome input (λ bytes. Checks bytes outcome old new)
   -- all else
   pub other : (AsksSim words → ⊥) → (AsksImage words → ⊥) → (AsksFiles words → ⊥) → (AsksCheck words → ⊥)
-      → PlaysBack words input old new outcome ⊎ ((outcome ≡ Done) × (Formats words old new ⊎ Says old new))
+      → PlaysBack words input old new outcome ⊎ ((outcome ≡ Done) × (Formats words old new ⊎ WritesText old new))

@@ -5,8 +5,8 @@ use Rattle.r10_lines.specs.Replies.{reply_lines}
 use Rattle.r10_machine.specs.Config.{Config}
 use Rattle.r10_machine.specs.Machine.{Machine}
 use Rattle.r10_medium.specs.Disk.{Disk, Image}
-use Rattle.r10_world.specs.State.{State}
-use Rattle.r10_world.specs.Telling.{StandsFor}
+use Rattle.r10_world.specs.State.{WorldState}
+use Rattle.r10_world.specs.Telling.{WorldStandsFor}
 use Rattle.r10_machine.specs.Step.{Run}
 use Rattle.r10_machine.specs.declared.event.Event.{Event}
 use Rattle.r10_machine.specs.declared.reply.Reply.{Reply}
@@ -21,10 +21,10 @@ abbrev pub WritesLines : Option (List ℕ) → Option (List ℕ) → ℕ → Lis
 WritesLines old new done replies = Appends old new (all_lines done replies)
 
 -- these events are a run from the machine to one for which the world stands, and the lines of the replies were written, numbered from 1
-pub record RunsAndWrites {M : Type 0} (disk : M → Disk) (s : Config) (start : Machine) (events : List Event) (world : State M) (old new : Option (List ℕ)) : Type 0 where
+pub record RunsAndWrites {M : Type 0} (disk : M → Disk) (s : Config) (start : Machine) (events : List Event) (world : WorldState M) (old new : Option (List ℕ)) : Type 0 where
   pub replies : List Reply
   pub images : List Image
   pub machine : Machine
   pub run : Run s start events replies images machine
-  pub stands : StandsFor disk world machine
+  pub stands : WorldStandsFor disk world machine
   pub lines : WritesLines old new 0 replies

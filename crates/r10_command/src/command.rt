@@ -2,8 +2,8 @@
 
 ghost use Rattle.std.specs.Prelude.{◌≡◌, IfOk, OnOk, map, string_bytes};
 ghost use Rattle.std.specs.Io.KnownBytes.{Appends};
-ghost use Rattle.r10_command.specs.Command.{Does, selected};
-ghost use Rattle.r10_command.specs.Status.{status_of, Ends, IsFailure};
+ghost use Rattle.r10_command.specs.Command.{DoesCommand, selected};
+ghost use Rattle.r10_command.specs.Status.{fault_status, EndsWithStatus, IsFailure};
 ghost use Rattle.r10_command.specs.Written.{WritesFormatted};
 
 use crate::fault::Fault;
@@ -25,7 +25,7 @@ pub fn run<R: Read, W: Write, E: Write>(
     writer: &mut W,
     faults: &mut E,
 ) -> u8
-    ensures { Ends result (Does (map string_bytes words.now) (R.remaining reader.old) (W.contents writer.old) (W.contents writer.new)) }
+    ensures { EndsWithStatus result (DoesCommand (map string_bytes words.now) (R.remaining reader.old) (W.contents writer.old) (W.contents writer.new)) }
 {
     match perform(alloc, words, reader, writer) {
         Ok(Outcome::Done) => 0,
@@ -36,7 +36,7 @@ pub fn run<R: Read, W: Write, E: Write>(
 
 /// Says the fault in one line, and answers its status. Where even this can't be written the status says it.
 pub fn report<E: Write>(faults: &mut E, fault: &Fault) -> u8
-    ensures value { result ≡ status_of fault.now }
+    ensures value { result ≡ fault_status fault.now }
     ensures range { IsFailure result }
 {
     let _ = writeln!(faults, "r10: {fault}");
@@ -49,7 +49,7 @@ fn perform<R: Read, W: Write>(
     reader: &mut R,
     writer: &mut W,
 ) -> Result<Outcome, Fault>
-    ensures { IfOk result (Does (map string_bytes words.now) (R.remaining reader.old) (W.contents writer.old) (W.contents writer.new)) }
+    ensures { IfOk result (DoesCommand (map string_bytes words.now) (R.remaining reader.old) (W.contents writer.old) (W.contents writer.new)) }
 {
     match read_words(alloc, words) {
         Ok(Asked::Sim) => {

@@ -2,7 +2,7 @@
 
 ghost use Rattle.std.specs.Prelude.{◌≡◌};
 ghost use Rattle.std.specs.IoError.{error_kind};
-ghost use Rattle.r10_command.specs.Status.{status_of, IsFailure};
+ghost use Rattle.r10_command.specs.Status.{fault_status, IsFailure};
 ghost use Rattle.r10_command.specs.declared.fault.Fault.TheVariants.{NotText};
 
 use r10_body::Refusal;
@@ -47,9 +47,9 @@ pub enum Fault {
 
 impl From<StreamFault> for Fault {
     ghost use Rattle.std.specs.Prelude.{◌≡◌};
-    ghost use Rattle.r10_command.specs.Status.{status_of};
+    ghost use Rattle.r10_command.specs.Status.{fault_status};
 
-    ghost from_gives = { λ _ fault. status_of fault ≡ 3 };
+    ghost from_gives = { λ _ fault. fault_status fault ≡ 3 };
 
     fn from(fault: StreamFault) -> Fault {
         match fault {
@@ -75,7 +75,7 @@ impl Fault {
 
     /// The exit status: 2 for wrong words, values beyond their limits or a wrong script, 3 for want of memory and for what can't be read or written.
     pub fn status(&self) -> u8
-        ensures value { result ≡ status_of self.now }
+        ensures value { result ≡ fault_status self.now }
         ensures range { IsFailure result }
     {
         match self {

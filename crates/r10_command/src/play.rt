@@ -3,9 +3,9 @@
 ghost use Rattle.std.specs.Prelude.{◌≡◌, ◌<◌, ◌+◌, ◌^◌, ℕ, [], length, IfOk, IfSome, OnOk};
 ghost use Rattle.r10_machine.specs.Machine.{Machine, fresh};
 ghost use Rattle.r10_medium.specs.MemoryDisk.{memory_disk};
-ghost use Rattle.r10_world.specs.Telling.{StandsFor};
+ghost use Rattle.r10_world.specs.Telling.{WorldStandsFor};
 ghost use Rattle.r10_command.specs.Lines.{WritesLines, RunsAndWrites};
-ghost use Rattle.r10_command.specs.Sim.{IsScript, Leaves, Plays, Simulates};
+ghost use Rattle.r10_command.specs.Sim.{IsScript, LeavesMedium, PlaysScript, Simulates};
 
 use crate::fault::Fault;
 use r10_body::Refusal;
@@ -45,8 +45,8 @@ pub fn run_script<W: Write>(
     events: Vec<Event>,
     writer: &mut W,
 ) -> Result<Memory, Fault>
-    ensures plays { OnOk result (Plays settings events.items (W.contents writer.old) (W.contents writer.new)) }
-    ensures leaves { IfOk result (λ medium. Leaves settings events.items (memory_disk medium).blocks) }
+    ensures plays { OnOk result (PlaysScript settings events.items (W.contents writer.old) (W.contents writer.new)) }
+    ensures leaves { IfOk result (λ medium. LeavesMedium settings events.items (memory_disk medium).blocks) }
 {
     let world = run_on_fresh(alloc, settings, events, writer)?;
     Ok(world.into_medium())
@@ -59,8 +59,8 @@ pub(crate) fn run_on_fresh<W: Write>(
     events: Vec<Event>,
     writer: &mut W,
 ) -> Result<World<Memory>, Fault>
-    ensures plays { OnOk result (Plays settings events.items (W.contents writer.old) (W.contents writer.new)) }
-    ensures leaves { IfOk result (λ world. Leaves settings events.items (memory_disk world.recorder.medium).blocks) }
+    ensures plays { OnOk result (PlaysScript settings events.items (W.contents writer.old) (W.contents writer.new)) }
+    ensures leaves { IfOk result (λ world. LeavesMedium settings events.items (memory_disk world.recorder.medium).blocks) }
 {
     let medium = Memory::new(alloc, settings.blocks())?;
     let mut world = fresh_world(alloc, settings, medium)?;
@@ -76,7 +76,7 @@ fn fresh_world<M: BlockMedium + Drop>(
 ) -> Result<World<M>, Fault>
     requires { length (M.disk medium).blocks ≡ settings.blocks }
     ensures config { IfOk result (λ w. w.recorder.kept.config ≡ settings) }
-    ensures stands { IfOk result (λ w. (failures : ℕ) × StandsFor M.disk w (fresh settings.channels [] failures)) }
+    ensures stands { IfOk result (λ w. (failures : ℕ) × WorldStandsFor M.disk w (fresh settings.channels [] failures)) }
 {
     match r10_volume::format(&mut medium, &settings) {
         Ok(()) => (),
@@ -96,7 +96,7 @@ fn run_steps<M: BlockMedium, W: Write>(
     events: &[Event],
     writer: &mut W,
 ) -> Result<(), Fault>
-    ensures runs { OnOk result ((m : Machine) → StandsFor M.disk world.old m
+    ensures runs { OnOk result ((m : Machine) → WorldStandsFor M.disk world.old m
         → RunsAndWrites M.disk world.old.recorder.kept.config m events.now world.new (W.contents writer.old) (W.contents writer.new)) }
     ensures config { OnOk result (world.new.recorder.kept.config ≡ world.old.recorder.kept.config) }
 {

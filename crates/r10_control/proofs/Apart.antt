@@ -6,7 +6,7 @@ use Rattle.r10_body.specs.declared.spec.ChannelSpec.{ChannelSpec}
 use Rattle.r10_machine.specs.Config.{Config}
 use Rattle.r10_machine.specs.Limits.{IsConfig, channel_ids}
 use Rattle.r10_machine.proofs.Ranges.{ids_distinct, parts_of}
-use Rattle.r10_pump.specs.Stopping.{AreApart}
+use Rattle.r10_pump.specs.Stopping.{ChannelsAreApart}
 
 others : (n : ℕ) (specs : List ChannelSpec) → AllByRecursion (λ (id : ℕ). (n == id) ≡ false) (channel_ids specs) → AllByRecursion (λ (other : ChannelSpec). other.id ≡ n → ⊥) specs
 others n [] all = tt
@@ -15,14 +15,14 @@ others n (spec ∷ specs) all = (λ same. differs (sym (eq-eqb n spec.id (sym sa
     differs : true ≡ false → ⊥
     differs e = cc
 
-distinct : (specs : List ChannelSpec) → IsDistinct (λ a b. a == b) (channel_ids specs) → AreApart specs
+distinct : (specs : List ChannelSpec) → IsDistinct (λ a b. a == b) (channel_ids specs) → ChannelsAreApart specs
 unfolding IsDistinct
 distinct [] all = tt
 distinct (spec ∷ specs) all = (others spec.id specs all.0, distinct specs all.1)
 
 -- the channels of settings
 pub record Apart (s : Config) : Type 0 where
-  pub lanes : AreApart s.channels
+  pub lanes : ChannelsAreApart s.channels
   pub times : AllByRecursion (λ (spec : ChannelSpec). spec.id ≡ s.time → ⊥) s.channels
   pub events : AllByRecursion (λ (spec : ChannelSpec). spec.id ≡ s.event → ⊥) s.channels
 

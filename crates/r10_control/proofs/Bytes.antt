@@ -1,11 +1,11 @@
 -- What a recorder's work says of the medium's files.
 use Rattle.std.proofs.Common.{◌≡◌, ℕ, List, [], ◌∷◌, ◌++◌, None, Some, sym, subst, ◌∙◌}
 use Rattle.r10_blockout.specs.Blocks.{bytes_from}
-use Rattle.r10_dirblock.specs.declared.entry.Entry.{Entry as Listed}
-use Rattle.r10_dirchain.specs.Chain.{files as listed_files}
+use Rattle.r10_dirblock.specs.declared.entry.Entry.{Entry as DirectoryEntry}
+use Rattle.r10_dirchain.specs.Chain.{listed_files}
 use Rattle.r10_dirchain.proofs.Unique.{one_directory}
 use Rattle.r10_dirchain.specs.declared.chain.ChainBlock.{ChainBlock}
-use Rattle.r10_volume.specs.Holding.{Holds, Open}
+use Rattle.r10_volume.specs.Holding.{HoldsFiles, Open}
 use Rattle.r10_machine.specs.Config.{Config}
 use Rattle.r10_body.specs.declared.entry.Entry.{Entry}
 use Rattle.r10_machine.specs.Machine.{File, with_entries}
@@ -13,7 +13,7 @@ use Rattle.r10_means.specs.Kept.{Kept, Work, unmounted, idle, recording}
 use Rattle.r10_means.specs.Means.{HasFiles}
 use Rattle.r10_medium.specs.Disk.{Image, IsWhole}
 use Rattle.r10_cursor.specs.Staying.{KeepListed}
-use Rattle.r10_control.specs.Leading.{KeepsShown}
+use Rattle.r10_control.specs.Leading.{MachinesKeepShown}
 use Rattle.r10_control.proofs.Recordings.{Last, last_held}
 use Rattle.r10_control.proofs.Staying.{listed_keep}
 use Rattle.r10_machine.specs.Bytes.{KeepBytes}
@@ -27,11 +27,11 @@ pub says_of : (s : Config) (w : Work) (image : Image) (files : List File) → w 
 says_of s w image files is has = (subst (λ (x : Work). HasFiles s x image files) is has).0
 
 -- a directory is in use
-pub holds_of : (s : Config) (w : Work) (chain : List ChainBlock) (image : Image) (files : List File) → w ≡ idle chain → HasFiles s w image files → Holds s image chain None files
+pub holds_of : (s : Config) (w : Work) (chain : List ChainBlock) (image : Image) (files : List File) → w ≡ idle chain → HasFiles s w image files → HoldsFiles s image chain None files
 holds_of s w chain image files is has = subst (λ (x : Work). HasFiles s x image files) is has
 
 -- the bytes of files are those of their entries
-each_keeps : (old new : Image) (entries : List Listed) (files : List File) → SaysEach old entries files → KeepListed old new entries → KeepBytes old new files
+each_keeps : (old new : Image) (entries : List DirectoryEntry) (files : List File) → SaysEach old entries files → KeepListed old new entries → KeepBytes old new files
 each_keeps old new [] [] each keeps = tt
 each_keeps old new [] (f ∷ files) each keeps = absurd each
 each_keeps old new (e ∷ entries) [] each keeps = absurd each
@@ -41,7 +41,7 @@ each_keeps old new (e ∷ entries) (f ∷ files) each keeps = (same e.first_bloc
     same n m size length at long is = subst (λ (k : ℕ). bytes_from new m k ≡ bytes_from old m k) long (subst (λ (k : ℕ). bytes_from new k size ≡ bytes_from old k size) at is)
 
 -- a file is put behind the others
-pub kept_behind : (s : Config) (old new : Image) (chain : List ChainBlock) (files : List File) → IsWhole old → IsUsable s.directory old chain → KeepsFront s.directory (block_behind s.directory (listed_files chain)) old new → Holds s old chain None files
+pub kept_behind : (s : Config) (old new : Image) (chain : List ChainBlock) (files : List File) → IsWhole old → IsUsable s.directory old chain → KeepsFront s.directory (block_behind s.directory (listed_files chain)) old new → HoldsFiles s old chain None files
     → KeepBytes old new files
 kept_behind s old new chain files whole usable same held =
     each_keeps old new (listed_files chain) files
@@ -50,11 +50,11 @@ kept_behind s old new chain files whole usable same held =
 
 -- a file is recorded, and its calls leave the bytes of all files
 pub kept_recorded : (k : Kept) (old new : Image) (before : ℕ) (chain : List ChainBlock) (o : Open) → k.work ≡ recording chain o
-    → ((files : List File) (f : File) → Holds k.config old chain (Some o) (files ++ f ∷ []) → KeepBytes old new (files ++ f ∷ [])) → KeepsShown k old before new
+    → ((files : List File) (f : File) → HoldsFiles k.config old chain (Some o) (files ++ f ∷ []) → KeepBytes old new (files ++ f ∷ [])) → MachinesKeepShown k old before new
 kept_recorded k old new before chain o at keeps m means =
-    let held : Holds k.config old chain (Some o) m.files = subst (λ (x : Work). HasFiles k.config x old m.files) at means.files in
+    let held : HoldsFiles k.config old chain (Some o) m.files = subst (λ (x : Work). HasFiles k.config x old m.files) at means.files in
     let last : Last m.files = last_held k.config old chain o m.files held in
-    subst (λ (l : List File). KeepBytes old new l) (sym last.is) (keeps last.front last.file (subst (λ (l : List File). Holds k.config old chain (Some o) l) last.is held))
+    subst (λ (l : List File). KeepBytes old new l) (sym last.is) (keeps last.front last.file (subst (λ (l : List File). HoldsFiles k.config old chain (Some o) l) last.is held))
 
 -- and entries that the last file took in change none of its bytes
 pub kept_through : (old mid new : Image) (files : List File) (f : File) (more : List Entry) → KeepBytes old mid (files ++ f ∷ []) → KeepBytes mid new (files ++ with_entries more f ∷ []) → KeepBytes old new (files ++ f ∷ [])

@@ -4,10 +4,10 @@ use Rattle.std.specs.Prelude.{◌≢◌, IsSomeAnd}
 use Rattle.std.proofs.lemmas.List.Elements.{All-cons, All-nil}
 use Rattle.r10_blockout.specs.Output.{first_of, size_of}
 use Rattle.r10_body.specs.declared.spec.ChannelSpec.{ChannelSpec}
-use Rattle.r10_dirblock.specs.Block.{begun as listing, sized}
-use Rattle.r10_dirchain.specs.Chain.{IsDirectory, files as listed_files}
+use Rattle.r10_dirblock.specs.Block.{begun_entry, sized}
+use Rattle.r10_dirchain.specs.Chain.{IsDirectory, listed_files}
 use Rattle.r10_dirchain.specs.OnMedium.{IsPublished, Turns}
-use Rattle.r10_dirchain.specs.Steps.{added, emptied, last_file, updated, with_shutdown}
+use Rattle.r10_dirchain.specs.Steps.{added, emptied, last_listed, updated, with_shutdown}
 use Rattle.r10_dirchain.specs.declared.chain.ChainBlock.{ChainBlock}
 use Rattle.r10_dirchain.proofs.Directories.{some_block}
 use Rattle.r10_dirchain.proofs.Usable.{place_rules_hold, placed}
@@ -18,7 +18,7 @@ use Rattle.r10_medium.specs.Disk.{Disk, Image, block_at}
 use Rattle.r10_control.specs.Closing.{IsListedClosed}
 use Rattle.r10_body.specs.declared.entry.Entry.{Entry}
 use Rattle.r10_openfile.specs.Carrying.{IsShown}
-use Rattle.r10_packetout.specs.Carries.{time_entry}
+use Rattle.r10_packetout.specs.Carries.{time_entry_at}
 use Rattle.r10_control.specs.Effects.{CommitEffect, DismountEffect, Effect, EraseEffect, EventEffect, HasDirectory, MountEffect, PumpEffect, StartEffect, StartEffectAt, StopEffect, StopEffectAt, TickEffect, WhereIdle, WhereRecording}
 use Rattle.r10_control.specs.Owns.{OwnsWork}
 use Rattle.r10_volume.specs.Front.{KeepsFront}
@@ -79,12 +79,12 @@ erase_effect k old new chain made result at usable turns is published erased cop
 
 pub start_effect : (k : Kept) (old new : Disk) (chain made : List ChainBlock) (o : Open) (tick : Tick) (name setup : List ℕ) → k.work ≡ idle chain → k.tick ≡ Some tick
     → first_of o.recording.out.blocks ≡ block_behind k.config.directory (listed_files chain)
-    → made ≡ added (sized (size_of o.recording.out.blocks) (listing name (first_of o.recording.out.blocks) tick.civil)) chain
-    → KeepsFront k.config.directory (block_behind k.config.directory (listed_files chain)) old.blocks new.blocks → IsPublished made new → IsShown new.blocks o setup (time_entry k.config.time tick.count tick.civil ∷ []) 1
+    → made ≡ added (sized (size_of o.recording.out.blocks) (begun_entry name (first_of o.recording.out.blocks) tick.civil)) chain
+    → KeepsFront k.config.directory (block_behind k.config.directory (listed_files chain)) old.blocks new.blocks → IsPublished made new → IsShown new.blocks o setup (time_entry_at k.config.time tick.count tick.civil ∷ []) 1
     → StartEffect name setup k old (record k { work = recording made o }) new
 start_effect k old new chain made o tick name setup at ticked first is front published shows =
-    let listed : made ≡ added (sized (size_of o.recording.out.blocks) (listing name (block_behind k.config.directory (listed_files chain)) tick.civil)) chain =
-    is ∙ ap (λ (n : ℕ). added (sized (size_of o.recording.out.blocks) (listing name n tick.civil)) chain) first in
+    let listed : made ≡ added (sized (size_of o.recording.out.blocks) (begun_entry name (block_behind k.config.directory (listed_files chain)) tick.civil)) chain =
+    is ∙ ap (λ (n : ℕ). added (sized (size_of o.recording.out.blocks) (begun_entry name n tick.civil)) chain) first in
     let does : Tick → Type 0 = λ t. StartEffectAt name setup t chain o k old (record k { work = recording made o }) new in
     let done : does tick = record {
       effect = record {
@@ -99,7 +99,7 @@ start_effect k old new chain made o tick name setup at ticked first is front pub
     (subst (λ (t : Option Tick). IsSomeAnd t does) (sym ticked) done)
 
 pub commit_effect : (k : Kept) (old new : Disk) (chain made : List ChainBlock) (o p : Open) → k.work ≡ recording chain o
-    → made ≡ updated (sized (size_of p.recording.out.blocks) (last_file chain)) chain → KeepsFront k.config.directory (first_of o.recording.out.blocks) old.blocks new.blocks → IsPublished made new
+    → made ≡ updated (sized (size_of p.recording.out.blocks) (last_listed chain)) chain → KeepsFront k.config.directory (first_of o.recording.out.blocks) old.blocks new.blocks → IsPublished made new
     → ((text : List ℕ) (entries : List Entry) (n : ℕ) → IsShown old.blocks o text entries n → IsShown new.blocks p text entries (length entries)) → CommitEffect k old (record k { work = recording made p }) new
 commit_effect k old new chain made o p at is front published shows = rw at (record {
   effect = record {

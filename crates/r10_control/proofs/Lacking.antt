@@ -6,21 +6,21 @@ use Rattle.r10_machine.specs.Config.{Config}
 use Rattle.r10_machine.specs.Limits.{IsConfig}
 use Rattle.r10_machine.specs.Machine.{Machine}
 use Rattle.r10_means.specs.Kept.{Kept}
-use Rattle.r10_means.specs.Means.{Means}
+use Rattle.r10_means.specs.Means.{KeptStandsFor}
 use Rattle.r10_means.proofs.Leading.{StepsStaySound, failing, no_fewer, same_refusal, still_means}
 use Rattle.r10_medium.specs.Disk.{Image}
 use Rattle.r10_cursor.proofs.Sizes.{none_shrinks}
-use Rattle.r10_control.specs.Leading.{Leads, none_taken}
+use Rattle.r10_control.specs.Leading.{KeptStepsTaking, none_taken}
 use Rattle.r10_control.proofs.Leading.{none_left}
 use Rattle.r10_machine.specs.EventChecks.{refusal}
 use Rattle.r10_machine.specs.Step.{GivesUp, MayLackIndex, Refuses, Step, has_room}
-use Rattle.r10_machine.specs.declared.event.Event.{Event as Asked}
+use Rattle.r10_machine.specs.declared.event.Event.{Event as EventValue}
 use Rattle.r10_machine.specs.declared.event.Event.TheVariants.{Mount, Dismount, Tick, Start, Offer, Pump, Event, Commit, Stop, Seal, Erase, Files, Status, Cursor, Advance, Next, Close, Find, CountAt}
 use Rattle.r10_machine.specs.declared.reply.Reply.TheVariants as replies
 
 -- ---- failures that are counted change no room
 
-same_room : (s : Config) (m : Machine) (n : ℕ) (event : Asked) → has_room s (failing n m) event ≡ has_room s m event
+same_room : (s : Config) (m : Machine) (n : ℕ) (event : EventValue) → has_room s (failing n m) event ≡ has_room s m event
 same_room s m n Mount = refl
 same_room s m n Dismount = refl
 same_room s m n (Tick count parts) = refl
@@ -41,7 +41,7 @@ same_room s m n (Close id) = refl
 same_room s m n (Find file channel count) = refl
 same_room s m n (CountAt file parts) = refl
 
-same_index : (s : Config) (m : Machine) (n : ℕ) (event : Asked) → MayLackIndex s m event → MayLackIndex s (failing n m) event
+same_index : (s : Config) (m : Machine) (n : ℕ) (event : EventValue) → MayLackIndex s m event → MayLackIndex s (failing n m) event
 same_index s m n Mount lacks = lacks
 same_index s m n Dismount lacks = lacks
 same_index s m n (Tick count parts) lacks = lacks
@@ -64,8 +64,8 @@ same_index s m n (CountAt file parts) lacks = lacks
 
 -- ---- the steps
 
-gives_up : StepsStaySound → (k : Kept) (old new : Image) (before now : ℕ) (m : Machine) (event : Asked) (r : Refusal) → IsConfig k.config → Means k old before m → new ≡ old → before ≤ now
-    → refusal k.config m event ≡ None → GivesUp k.config m.failures (failing now m) event r (failing now m) → Leads none_taken k m event (replies.Refused r) k new now
+gives_up : StepsStaySound → (k : Kept) (old new : Image) (before now : ℕ) (m : Machine) (event : EventValue) (r : Refusal) → IsConfig k.config → KeptStandsFor k old before m → new ≡ old → before ≤ now
+    → refusal k.config m event ≡ None → GivesUp k.config m.failures (failing now m) event r (failing now m) → KeptStepsTaking none_taken k m event (replies.Refused r) k new now
 gives_up law k old new before now m event r limits means same more fine gives =
     let step : Step k.config m event (replies.Refused r) (failing now m) = (
       no_fewer k old before now m means more,
@@ -80,13 +80,13 @@ gives_up law k old new before now m event r limits means same more fine gives =
     }
 
 -- the medium has no room for what the call puts there
-pub medium_full_leads : StepsStaySound → (k : Kept) (old new : Image) (before now : ℕ) (m : Machine) (event : Asked) → IsConfig k.config → Means k old before m → new ≡ old → before ≤ now
-    → refusal k.config m event ≡ None → has_room k.config m event ≡ false → Leads none_taken k m event (replies.Refused MediumFull) k new now
+pub medium_full_leads : StepsStaySound → (k : Kept) (old new : Image) (before now : ℕ) (m : Machine) (event : EventValue) → IsConfig k.config → KeptStandsFor k old before m → new ≡ old → before ≤ now
+    → refusal k.config m event ≡ None → has_room k.config m event ≡ false → KeptStepsTaking none_taken k m event (replies.Refused MediumFull) k new now
 medium_full_leads law k old new before now m event limits means same more fine lacks =
     gives_up law k old new before now m event MediumFull limits means same more fine (same_room k.config m now event ∙ lacks, refl)
 
 -- the index may be full
-pub index_full_leads : StepsStaySound → (k : Kept) (old new : Image) (before now : ℕ) (m : Machine) (event : Asked) → IsConfig k.config → Means k old before m → new ≡ old → before ≤ now
-    → refusal k.config m event ≡ None → MayLackIndex k.config m event → Leads none_taken k m event (replies.Refused IndexFull) k new now
+pub index_full_leads : StepsStaySound → (k : Kept) (old new : Image) (before now : ℕ) (m : Machine) (event : EventValue) → IsConfig k.config → KeptStandsFor k old before m → new ≡ old → before ≤ now
+    → refusal k.config m event ≡ None → MayLackIndex k.config m event → KeptStepsTaking none_taken k m event (replies.Refused IndexFull) k new now
 index_full_leads law k old new before now m event limits means same more fine lacks =
     gives_up law k old new before now m event IndexFull limits means same more fine (same_index k.config m now event lacks, refl)

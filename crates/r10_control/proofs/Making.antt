@@ -2,7 +2,7 @@
 use Rattle.std.proofs.Common.{◌≡◌, ◌⊎◌, ⊎_elim, inl, inr, ◌≤◌, ◌+◌, ℕ, List, [], ◌∷◌, ◌++◌, Option, Some, None, true, false, map, refl, sym, ap, ◌∙◌, subst, arith, is_some}
 use Rattle.std.specs.Prelude.{IsSomeAnd, Result}
 use Rattle.r10_count.specs.Checks.{first_broken}
-use Rattle.r10_dirchain.specs.Chain.{files as listed_files}
+use Rattle.r10_dirchain.specs.Chain.{listed_files}
 use Rattle.r10_dirchain.specs.declared.chain.ChainBlock.{ChainBlock}
 use Rattle.r10_machine.proofs.Growing.{append_last}
 use Rattle.r10_machine.specs.Calls.{Starts, empty_file, shown_whole, time_entry}
@@ -16,21 +16,21 @@ use Rattle.r10_machine.specs.declared.event.Event.TheVariants.{Commit, Erase, Se
 use Rattle.r10_machine.specs.declared.mode.Mode.TheVariants as modes
 use Rattle.r10_machine.specs.declared.reply.Reply.TheVariants as replies
 use Rattle.r10_means.specs.Kept.{Kept, Work, mode_of, idle, recording}
-use Rattle.r10_means.specs.Means.{HasFiles, Means}
+use Rattle.r10_means.specs.Means.{HasFiles, KeptStandsFor}
 use Rattle.r10_medium.proofs.Stops.{weakened}
 use Rattle.r10_medium.specs.Disk.{Disk, Image}
 use Rattle.r10_medium.specs.Stop.{Leaves, Settled}
-use Rattle.r10_openfile.specs.Keeping.{Becomes, IsKept, Keeps}
+use Rattle.r10_openfile.specs.Keeping.{Becomes, StopKeepsFiles, Keeps}
 use Rattle.r10_openfile.specs.Starting.{begun_file}
 use Rattle.r10_seal.specs.Leftover.{IsEither, IsLeftOpen, SealsLast, StaysOpen, shown_cost}
 use Rattle.r10_seal.specs.Sealing.{sealed}
 use Rattle.r10_stops.specs.Left.{Makes}
 use Rattle.r10_stops.specs.Left.{IsEither as MachineEither}
 use Rattle.r10_stops.specs.Safe.{IsSafe}
-use Rattle.r10_volume.specs.Holding.{Holds, Open}
+use Rattle.r10_volume.specs.Holding.{HoldsFiles, Open}
 use Rattle.r10_volume.specs.Listing.{is_last_closed}
 use Rattle.r10_volume.specs.Settling.{IsSettled}
-use Rattle.r10_control.specs.Started.{start_checks}
+use Rattle.r10_control.specs.Started.{recorder_start_checks}
 use Rattle.r10_control.proofs.Bytes.{holds_of}
 use Rattle.r10_control.proofs.Commits.{same_check as commit_check}
 use Rattle.r10_control.proofs.Erases.{checked as erase_checked, same_check as erase_check}
@@ -53,7 +53,7 @@ commit_makes k m front f size image fine is says =
     record { reply = replies.Done; made = made; step = (omega arith, (fine, does)); says = says }
 
 pub commit_left : (k : Kept) (old new : Disk) (chain : List ChainBlock) (o : Open) (size : ℕ) → k.work ≡ recording chain o → first_broken (recording_checks (mode_of k.work)) ≡ None
-    → ((front : List File) (f : File) → Holds k.config old.blocks chain (Some o) (front ++ f ∷ []) → Becomes k.config front f (front ++ shown_whole size f ∷ []) old new) → LeavesShown (λ m. Makes k.config m Commit) k old new
+    → ((front : List File) (f : File) → HoldsFiles k.config old.blocks chain (Some o) (front ++ f ∷ []) → Becomes k.config front f (front ++ shown_whole size f ∷ []) old new) → LeavesShown (λ m. Makes k.config m Commit) k old new
 commit_left k old new chain o size at fine becomes =
     recorded_becomes (λ m. Makes k.config m Commit) k old new chain o at (λ m front f means is held kept. weakened
     (λ image. Keeps k.config front f old.blocks image ⊎ MediumSays k.config image (front ++ shown_whole size f ∷ []))
@@ -64,7 +64,7 @@ commit_left k old new chain o size at fine becomes =
 -- ---- an erase
 
 pub erase_left : (k : Kept) (old new : Disk) (chain : List ChainBlock) → k.work ≡ idle chain → erase_checked k ≡ None
-    → ((files : List File) → Holds k.config old.blocks chain None files → Settled (λ image. MediumSays k.config image files) old → Leaves (λ image. MediumSays k.config image files ⊎ MediumSays k.config image []) old new)
+    → ((files : List File) → HoldsFiles k.config old.blocks chain None files → Settled (λ image. MediumSays k.config image files) old → Leaves (λ image. MediumSays k.config image files ⊎ MediumSays k.config image []) old new)
     → LeavesShown (λ m. Makes k.config m Erase) k old new
 erase_left k old new chain at fine leaves =
     idle_becomes (λ m. Makes k.config m Erase) k old new chain at (λ m means held settled. weakened
@@ -91,9 +91,9 @@ start_makes k m clock name setup image ticks fine room says =
     (room, ap (λ n. record m { mode = modes.Recording; files = m.files ++ shown_whole n (with_entries (time_entry k.config clock ∷ []) (empty_file k.config m.files name setup)) ∷ [] }) (sym size_is)) in
     record { reply = replies.Done; made = end; step = (omega arith, (fine, does)); says = says }
 
-pub start_left : (k : Kept) (old new : Disk) (chain : List ChainBlock) (clock : Tick) (name setup : List ℕ) → k.work ≡ idle chain → k.tick ≡ Some clock → first_broken (start_checks k.config k.work (is_some k.tick) name setup) ≡ None
-    → ((files : List File) → Holds k.config old.blocks chain None files → fits k.config (empty_file k.config files name setup) (time_entry k.config clock) ≡ true)
-    → ((files : List File) → Holds k.config old.blocks chain None files → Settled (λ image. MediumSays k.config image files) old
+pub start_left : (k : Kept) (old new : Disk) (chain : List ChainBlock) (clock : Tick) (name setup : List ℕ) → k.work ≡ idle chain → k.tick ≡ Some clock → first_broken (recorder_start_checks k.config k.work (is_some k.tick) name setup) ≡ None
+    → ((files : List File) → HoldsFiles k.config old.blocks chain None files → fits k.config (empty_file k.config files name setup) (time_entry k.config clock) ≡ true)
+    → ((files : List File) → HoldsFiles k.config old.blocks chain None files → Settled (λ image. MediumSays k.config image files) old
     → Leaves (λ image. MediumSays k.config image files ⊎ MediumSays k.config image (files ++ begun_file k.config files name setup clock.count clock.civil ∷ [])) old new)
     → LeavesShown (λ m. Makes k.config m (Start name setup)) k old new
 start_left k old new chain clock name setup at ticks fine room leaves =
@@ -117,7 +117,7 @@ seal_makes k old n m chain nodes l size image fine room says = record {
 pub seal_left : {T E : Type 0} (known : Machine → Type 0) (k : Kept) (old new : Disk) (chain made : List ChainBlock) (nodes : ℕ) (result : Result T E) → k.work ≡ idle chain → seal_checked k ≡ None → is_last_closed (listed_files chain) ≡ false → nodes ≡ k.config.nodes
     → ((files : List File) (f : File) → IsLeftOpen k.config old.blocks chain nodes files f → SealsLast k.config files f old new made result)
     → ((files : List File) (f : File) → IsLeftOpen k.config old.blocks chain nodes files f → StaysOpen k.config files f old new ⊎ (shown_cost f ≤ area k.config f))
-    → ((files : List File) (f : File) → Holds k.config old.blocks chain None (files ++ f ∷ []) → f.own ≡ false → shown_cost f ≡ cost_of f) → IsLeftEither known k Seal old new
+    → ((files : List File) (f : File) → HoldsFiles k.config old.blocks chain None (files ++ f ∷ []) → f.own ≡ false → shown_cost f ≡ cost_of f) → IsLeftEither known k Seal old new
 seal_left known k old new chain made nodes result at fine unsealed nodes_are sealing room costs m means is safe = by (room l.files l.f l.left)
   where
     l : Left k old.blocks chain nodes m

@@ -10,8 +10,8 @@ use Rattle.r10_body.specs.Files.{FileSays}
 use Rattle.r10_body.specs.Packets.{file_entries}
 use Rattle.r10_body.specs.declared.entry.Entry.{Entry}
 use Rattle.r10_dirblock.specs.Block.{is_closed}
-use Rattle.r10_dirblock.specs.declared.entry.Entry.{Entry as Listed}
-use Rattle.r10_dirchain.specs.Chain.{files as listed_files}
+use Rattle.r10_dirblock.specs.declared.entry.Entry.{Entry as DirectoryEntry}
+use Rattle.r10_dirchain.specs.Chain.{listed_files}
 use Rattle.r10_dirchain.specs.declared.chain.ChainBlock.{ChainBlock}
 use Rattle.r10_dirchain.proofs.Standing.{usable_of}
 use Rattle.r10_dirchain.proofs.Unique.{one_directory}
@@ -23,7 +23,7 @@ use Rattle.r10_machine.specs.Says.{Lists, MediumSays, SaysEach, SaysFile}
 use Rattle.r10_machine.specs.Sound.{IsOwnFile, IsSoundWork, SoundWork}
 use Rattle.r10_machine.specs.SoundParts.{is_open, own_files}
 use Rattle.r10_means.specs.Kept.{Kept, Work, unmounted, idle, recording, failed, mode_of}
-use Rattle.r10_means.specs.Means.{HasFiles, Means}
+use Rattle.r10_means.specs.Means.{HasFiles, KeptStandsFor}
 use Rattle.r10_medium.specs.Disk.{Image}
 use Rattle.r10_openfile.specs.Carrying.{IsEnded}
 use Rattle.r10_openfile.specs.Keeping.{ended_in}
@@ -40,12 +40,12 @@ IsWhole f = f.own ≡ true → (f.closed ≡ true) × (f.shown ≡ length f.entr
 abbrev IsShut : File → Type 0
 IsShut f = f.own ≡ true → f.closed ≡ true
 
-abbrev Closed : Listed → Type 0
+abbrev Closed : DirectoryEntry → Type 0
 Closed e = is_closed e ≡ true
 
 -- ---- what the medium says of own files that are closed
 
-ended : (image : Image) (e : Listed) (f : File) → Lists f e → SaysFile image f → (f.closed ≡ true) × (f.shown ≡ length f.entries) → IsEnded image e f.setup f.entries
+ended : (image : Image) (e : DirectoryEntry) (f : File) → Lists f e → SaysFile image f → (f.closed ≡ true) × (f.shown ≡ length f.entries) → IsEnded image e f.setup f.entries
 ended image e f lists says whole =
     let all : take f.shown f.entries ≡ f.entries = take_all f.shown f.entries (omega (arith, whole.1)) in
     record {
@@ -55,7 +55,7 @@ ended image e f lists says whole =
           (subst (λ (b : Bool). FileSays (bytes_from image f.first_block f.size) f.setup (shown_entries f) b) whole.0 says.says));
     }
 
-one_among : (image : Image) (e : Listed) (f : File) (listed : List Listed) (files : List File) → Lists f e → SaysFile image f → IsWhole f → AreAmong image listed (entries_in files) → AreAmong image (e ∷ listed) (entries_in (f ∷ files))
+one_among : (image : Image) (e : DirectoryEntry) (f : File) (listed : List DirectoryEntry) (files : List File) → Lists f e → SaysFile image f → IsWhole f → AreAmong image listed (entries_in files) → AreAmong image (e ∷ listed) (entries_in (f ∷ files))
 one_among image e f listed files lists says whole rest =
     by f.own refl
   where
@@ -63,7 +63,7 @@ one_among image e f listed files lists says whole rest =
     by true own = inr (f.setup, f.entries, entries_in files, refl, ended image e f lists says (whole own), rest)
     by false own = inl rest
 
-all_among : (image : Image) (listed : List Listed) (files : List File) → SaysEach image listed files → AllByRecursion IsWhole files → AreAmong image listed (entries_in files)
+all_among : (image : Image) (listed : List DirectoryEntry) (files : List File) → SaysEach image listed files → AllByRecursion IsWhole files → AreAmong image listed (entries_in files)
 all_among image [] [] each whole = refl
 all_among image [] (f ∷ files) each whole = absurd each
 all_among image (e ∷ listed) [] each whole = absurd each
@@ -73,7 +73,7 @@ none_left : (image : Image) (files : List File) (f : File) → SaysEach image []
 none_left image [] f each = each
 none_left image (g ∷ files) f each = each
 
-but_last : (e d : Listed) (listed : List Listed) → take (length (e ∷ d ∷ listed) - 1) (e ∷ d ∷ listed) ≡ e ∷ take (length (d ∷ listed) - 1) (d ∷ listed)
+but_last : (e d : DirectoryEntry) (listed : List DirectoryEntry) → take (length (e ∷ d ∷ listed) - 1) (e ∷ d ∷ listed) ≡ e ∷ take (length (d ∷ listed) - 1) (d ∷ listed)
 but_last e d listed =
     ap (λ (k : ℕ). take k (e ∷ d ∷ listed)) one_more
   where
@@ -81,13 +81,13 @@ but_last e d listed =
     one_more = omega arith
 
 -- of all files but the last
-front_among : (image : Image) (listed : List Listed) (files : List File) (f : File) → SaysEach image listed (files ++ f ∷ []) → AllByRecursion IsWhole files → AreAmong image (take (length listed - 1) listed) (entries_in files)
+front_among : (image : Image) (listed : List DirectoryEntry) (files : List File) (f : File) → SaysEach image listed (files ++ f ∷ []) → AllByRecursion IsWhole files → AreAmong image (take (length listed - 1) listed) (entries_in files)
 front_among image [] files f each whole = absurd (none_left image files f each)
 front_among image (e ∷ []) [] f each whole = refl
 front_among image (e ∷ d ∷ listed) [] f each whole = absurd each.2
 front_among image (e ∷ []) (g ∷ files) f each whole = absurd (none_left image files f each.2)
 front_among image (e ∷ d ∷ listed) (g ∷ files) f each whole =
-    subst (λ (l : List Listed). AreAmong image l (entries_in (g ∷ files))) (sym (but_last e d listed))
+    subst (λ (l : List DirectoryEntry). AreAmong image l (entries_in (g ∷ files))) (sym (but_last e d listed))
     (one_among image e g (take (length (d ∷ listed) - 1) (d ∷ listed)) files each.0 each.1 whole.0 (front_among image (d ∷ listed) files f each.2 whole.1))
 
 -- ---- own files are closed, but for one that is recorded
@@ -107,7 +107,7 @@ last_shut d [] is = tt
 last_shut d (f ∷ []) is = shut_of f.own f.closed is
 last_shut d (f ∷ g ∷ files) is = last_shut (Some f) (g ∷ files) is
 
-each_shut : (image : Image) (listed : List Listed) (files : List File) → SaysEach image listed files → All Closed (take (length listed - 1) listed) → LastShut files → AllByRecursion IsShut files
+each_shut : (image : Image) (listed : List DirectoryEntry) (files : List File) → SaysEach image listed files → All Closed (take (length listed - 1) listed) → LastShut files → AllByRecursion IsShut files
 each_shut image [] [] each front last = tt
 each_shut image [] (f ∷ files) each front last = absurd each
 each_shut image (e ∷ listed) [] each front last = absurd each
@@ -120,7 +120,7 @@ each_shut image (e ∷ d ∷ listed) (f ∷ g ∷ files) each front last =
       each_shut image (d ∷ listed) (g ∷ files) each.2 (All-tail Closed e (take (length (d ∷ listed) - 1) (d ∷ listed)) all) last,
     )
 
-front_shut : (image : Image) (listed : List Listed) (files : List File) (f : File) → SaysEach image listed (files ++ f ∷ []) → All Closed (take (length listed - 1) listed) → AllByRecursion IsShut files
+front_shut : (image : Image) (listed : List DirectoryEntry) (files : List File) (f : File) → SaysEach image listed (files ++ f ∷ []) → All Closed (take (length listed - 1) listed) → AllByRecursion IsShut files
 front_shut image listed [] f each front = tt
 front_shut image [] (g ∷ files) f each front = absurd each
 front_shut image (e ∷ []) (g ∷ files) f each front = absurd (none_left image files f each.2)
@@ -173,7 +173,7 @@ all_own s image m chain says same sound idle_so =
     let shut = each_shut image (listed_files says.chain) m.files says.each closed (last_shut None m.files (sym sound.recording ∙ idle_so)) in
     subst (λ (c : List ChainBlock). AreAmong image (listed_files c) (entries_in m.files)) same (all_among image (listed_files says.chain) m.files says.each (each_whole s m.files sound.own shut))
 
-pub meant_own : (k : Kept) (image : Image) (failures : ℕ) (m : Machine) → Means k image failures m → (k.work ≡ failed → ⊥) → AreOwn k.work image (flat_map (λ (f : File). f.entries) (own_files m.files))
+pub meant_own : (k : Kept) (image : Image) (failures : ℕ) (m : Machine) → KeptStandsFor k image failures m → (k.work ≡ failed → ⊥) → AreOwn k.work image (flat_map (λ (f : File). f.entries) (own_files m.files))
 meant_own k image failures m means works =
     by k.work refl means.files (subst (λ mode. SoundWork mode k.config m) means.mode means.sound.work) (ap is_recording means.mode)
   where

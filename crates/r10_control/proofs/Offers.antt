@@ -23,7 +23,7 @@ use Rattle.r10_machine.specs.Config.{Config}
 use Rattle.r10_machine.specs.Machine.{Lane, Machine, Tick, change_first, is_channel, lane_of, with_lane}
 use Rattle.r10_machine.proofs.Places.{changed_at, found_at, found_nowhere}
 use Rattle.r10_means.specs.Kept.{Kept, Work, unmounted, idle, recording, failed}
-use Rattle.r10_means.specs.Means.{LeadsTo, Means}
+use Rattle.r10_means.specs.Means.{KeptStepsTo, KeptStandsFor}
 use Rattle.r10_medium.specs.Disk.{Image}
 use Rattle.r10_pump.specs.Stopping.{AllEnd}
 use Rattle.r10_cursor.specs.declared.books.Books.{Books}
@@ -191,14 +191,14 @@ same_checks count message (Some l) = refl
 
 -- an offer that is accepted is a step, and so is one that is refused
 abbrev pub OffersAreSteps : Type 0
-OffersAreSteps = (k : Kept) (image : Image) (n : ℕ) (m : Machine) (channel count : ℕ) (message : Message) → IsConfig k.config → Means k image n m → refusal k.config m (Offer channel count message) ≡ None
-    → LeadsTo k m (Offer channel count message) replies.Done k image n (with_lane channel (accepted count message) m)
+OffersAreSteps = (k : Kept) (image : Image) (n : ℕ) (m : Machine) (channel count : ℕ) (message : Message) → IsConfig k.config → KeptStandsFor k image n m → refusal k.config m (Offer channel count message) ≡ None
+    → KeptStepsTo k m (Offer channel count message) replies.Done k image n (with_lane channel (accepted count message) m)
 
 abbrev pub RefusedOffersAreSteps : Type 0
-RefusedOffersAreSteps = (k : Kept) (image : Image) (n : ℕ) (m : Machine) (channel count : ℕ) (message : Message) (r : Refusal) → IsConfig k.config → Means k image n m → refusal k.config m (Offer channel count message) ≡ Some r
-    → LeadsTo k m (Offer channel count message) (replies.Refused r) k image n (after_refusal (Offer channel count message) m)
+RefusedOffersAreSteps = (k : Kept) (image : Image) (n : ℕ) (m : Machine) (channel count : ℕ) (message : Message) (r : Refusal) → IsConfig k.config → KeptStandsFor k image n m → refusal k.config m (Offer channel count message) ≡ Some r
+    → KeptStepsTo k m (Offer channel count message) (replies.Refused r) k image n (after_refusal (Offer channel count message) m)
 
-module _ (k : Kept) (image : Image) (n : ℕ) (m : Machine) (channel count : ℕ) (message : Message) (old new : List Lane) (limits : IsConfig k.config) (means : Means k image n m) (are : AreLanes old m) where
+module _ (k : Kept) (image : Image) (n : ℕ) (m : Machine) (channel count : ℕ) (message : Message) (old new : List Lane) (limits : IsConfig k.config) (means : KeptStandsFor k image n m) (are : AreLanes old m) where
   its_lane : find (is_channel channel) old ≡ option_map unerased (lane_of channel m)
   its_lane = ap (λ (ls : List Lane). find (is_channel channel) ls) are ∙ found_in channel m.lanes
 
@@ -226,7 +226,7 @@ module _ (k : Kept) (image : Image) (n : ℕ) (m : Machine) (channel count : ℕ
   refused_so law r first made = by (is_none (first_broken (offer_checks (lane_of channel m) count message))) (law k image n m channel count message r limits means (sym its_refusal ∙ first))
       (made ∙ ap (λ (o : Option Refusal). if is_none o then change_first (is_channel channel) overflowed old else old) its_checks)
     where
-      by : (b : Bool) → LeadsTo k m (Offer channel count message) (replies.Refused r) k image n (cond b (with_lane channel overflowed m) m) → new ≡ cond b (change_first (is_channel channel) overflowed old) old
+      by : (b : Bool) → KeptStepsTo k m (Offer channel count message) (replies.Refused r) k image n (cond b (with_lane channel overflowed m) m) → new ≡ cond b (change_first (is_channel channel) overflowed old) old
           → LeadsWith k m (Offer channel count message) (replies.Refused r) image n new
       by true led is = record { machine = with_lane channel overflowed m; led = led; lanes_are = is ∙ changed overflowed (λ l. refl); files = refl; cursors = refl }
       by false led is = record { machine = m; led = led; lanes_are = is ∙ are; files = refl; cursors = refl }

@@ -12,8 +12,8 @@ use Rattle.r10_body.specs.Sequence.{last_count}
 use Rattle.r10_body.specs.declared.entry.Entry.{Entry}
 use Rattle.r10_body.specs.declared.spec.ChannelSpec.{ChannelSpec}
 use Rattle.r10_dirblock.specs.Block.{is_closed}
-use Rattle.r10_dirblock.specs.declared.entry.Entry.{Entry as Listed}
-use Rattle.r10_dirchain.specs.Chain.{IsDirectory, at as at_place, files as listed_files}
+use Rattle.r10_dirblock.specs.declared.entry.Entry.{Entry as DirectoryEntry}
+use Rattle.r10_dirchain.specs.Chain.{IsDirectory, at as at_place, listed_files}
 use Rattle.r10_dirchain.specs.Mount.{blocks_in}
 use Rattle.r10_dirchain.specs.Steps.{with_shutdown, last_listing}
 use Rattle.r10_dirchain.specs.declared.chain.ChainBlock.{ChainBlock}
@@ -36,7 +36,7 @@ use Rattle.std.proofs.lemmas.List.Elements.{All-cons, All-nil}
 use Rattle.r10_body.specs.Packets.{Packet}
 use Rattle.r10_dirchain.proofs.Usable.{place_rules_hold, placed}
 use Rattle.r10_medium.proofs.Stops.{below_puts}
-use Rattle.r10_seal.specs.Sealing.{IsClosed, Seals, sealed_entry}
+use Rattle.r10_seal.specs.Sealing.{ListsSealed, SealsFile, sealed_entry}
 use Rattle.r10_control.proofs.Seals.{sealed_some}
 use Rattle.r10_control.specs.Own.{AreAmong, AreOwn, EndOpen, OwnGrow, OwnStay}
 use Rattle.r10_control.specs.Recording.{IsAskedFor}
@@ -44,33 +44,33 @@ use Rattle.r10_control.proofs.Staying.{front_keeps, last_first, listed_keep}
 
 -- ---- listed files
 
-pub none_among : (image : Image) (listed : List Listed) → AreAmong image listed []
+pub none_among : (image : Image) (listed : List DirectoryEntry) → AreAmong image listed []
 none_among image [] = refl
 none_among image (e ∷ listed) = inl (none_among image listed)
 
-still_ended : (old new : Image) (e : Listed) (text : List ℕ) (entries : List Entry) → bytes_from new e.first_block e.size ≡ bytes_from old e.first_block e.size → IsEnded old e text entries → IsEnded new e text entries
+still_ended : (old new : Image) (e : DirectoryEntry) (text : List ℕ) (entries : List Entry) → bytes_from new e.first_block e.size ≡ bytes_from old e.first_block e.size → IsEnded old e text entries → IsEnded new e text entries
 still_ended old new e text entries same ended = record { closed = ended.closed; says = subst (λ (b : List ℕ). FileSays b text entries true) (sym same) ended.says }
 
-pub among_keeps : (old new : Image) (listed : List Listed) (own : List Entry) → KeepListed old new listed → AreAmong old listed own → AreAmong new listed own
+pub among_keeps : (old new : Image) (listed : List DirectoryEntry) (own : List Entry) → KeepListed old new listed → AreAmong old listed own → AreAmong new listed own
 among_keeps old new [] own keeps is = is
 among_keeps old new (e ∷ listed) own keeps (inl rest) = inl (among_keeps old new listed own keeps.1 rest)
 among_keeps old new (e ∷ listed) own keeps (inr it) = inr (it.0, it.1, it.2, it.3, still_ended old new e it.0 it.1 keeps.0 it.4, among_keeps old new listed it.2 keeps.1 it.5)
 
 -- with one more behind them, of which nothing is said
-pub among_more : (image : Image) (listed : List Listed) (e : Listed) (own : List Entry) → AreAmong image listed own → AreAmong image (listed ++ e ∷ []) own
+pub among_more : (image : Image) (listed : List DirectoryEntry) (e : DirectoryEntry) (own : List Entry) → AreAmong image listed own → AreAmong image (listed ++ e ∷ []) own
 among_more image [] e own is = inl is
 among_more image (d ∷ listed) e own (inl rest) = inl (among_more image listed e own rest)
 among_more image (d ∷ listed) e own (inr it) = inr (it.0, it.1, it.2, it.3, it.4, among_more image listed e it.2 it.5)
 
 -- or which is ended and says these entries
-pub among_with : (image : Image) (listed : List Listed) (e : Listed) (own : List Entry) (text : List ℕ) (here : List Entry) → IsEnded image e text here → AreAmong image listed own → AreAmong image (listed ++ e ∷ []) (own ++ here)
+pub among_with : (image : Image) (listed : List DirectoryEntry) (e : DirectoryEntry) (own : List Entry) (text : List ℕ) (here : List Entry) → IsEnded image e text here → AreAmong image listed own → AreAmong image (listed ++ e ∷ []) (own ++ here)
 among_with image [] e own text here ended is = inr (text, here, [], ap (λ (l : List Entry). l ++ here) is ∙ sym (append-nil here), ended, refl)
 among_with image (d ∷ listed) e own text here ended (inl rest) = inl (among_with image listed e own text here ended rest)
 among_with image (d ∷ listed) e own text here ended (inr it) =
     inr (it.0, it.1, it.2 ++ here, ap (λ (l : List Entry). l ++ here) it.3 ∙ append_assoc it.1 it.2 here, it.4, among_with image listed e it.2 text here ended it.5)
 
 -- they are in front of a last one that is not closed
-pub among_front : (image : Image) (listed : List Listed) (e : Listed) (own : List Entry) → is_closed e ≡ false → AreAmong image (listed ++ e ∷ []) own → AreAmong image listed own
+pub among_front : (image : Image) (listed : List DirectoryEntry) (e : DirectoryEntry) (own : List Entry) → is_closed e ≡ false → AreAmong image (listed ++ e ∷ []) own → AreAmong image listed own
 among_front image [] e own left (inl is) = is
 among_front image [] e own left (inr it) = absurd (false≢true (sym left ∙ it.4.closed))
 among_front image (d ∷ listed) e own left (inl rest) = inl (among_front image listed e own left rest)
@@ -78,14 +78,14 @@ among_front image (d ∷ listed) e own left (inr it) = inr (it.0, it.1, it.2, it
 
 -- ---- the bytes of listed files
 
-room : (blocks n : ℕ) (listed : List Listed) → n ≤ blocks → Stand blocks n listed → n + blocks_in listed ≤ blocks
+room : (blocks n : ℕ) (listed : List DirectoryEntry) → n ≤ blocks → Stand blocks n listed → n + blocks_in listed ≤ blocks
 room blocks n [] less stand = omega (arith, less)
 room blocks n (e ∷ listed) less stand =
     let at = placed_at blocks n e stand.0 in
-    omega (arith, room blocks (n + e.block_count) listed at.within stand.1, sum_by-cons (λ (x : Listed). x.block_count) e listed)
+    omega (arith, room blocks (n + e.block_count) listed at.within stand.1, sum_by-cons (λ (x : DirectoryEntry). x.block_count) e listed)
 
 -- where all blocks behind the reserved ones stay
-keep_from : (reserved : ℕ) (old new : Image) (listed : List Listed) → IsWhole old → Stand (length old) (reserved + 1) listed → KeepsFront reserved (length old) old new → KeepListed old new listed
+keep_from : (reserved : ℕ) (old new : Image) (listed : List DirectoryEntry) → IsWhole old → Stand (length old) (reserved + 1) listed → KeepsFront reserved (length old) old new → KeepListed old new listed
 keep_from reserved old new [] whole stand same = tt
 keep_from reserved old new (e ∷ listed) whole stand same =
     let at = placed_at (length old) (reserved + 1) e stand.0 in
@@ -103,14 +103,14 @@ ended_keep reserved first old new chain whole usable last same =
 
 -- ---- the last of them
 
-pub last_split : (P : Listed → Type 0) (listed : List Listed) → IsSomeAnd (last_or None listed) P → (e : Listed) × (listed ≡ take (length listed - 1) listed ++ e ∷ []) × P e
+pub last_split : (P : DirectoryEntry → Type 0) (listed : List DirectoryEntry) → IsSomeAnd (last_or None listed) P → (e : DirectoryEntry) × (listed ≡ take (length listed - 1) listed ++ e ∷ []) × P e
 last_split P [] last = absurd last
 last_split P (e ∷ []) last = (e, refl, last)
 last_split P (e ∷ d ∷ listed) last =
     let rest = last_split P (d ∷ listed) last in
-    (rest.0, ap (λ (l : List Listed). e ∷ l) rest.1 ∙ ap (λ (k : ℕ). take k (e ∷ d ∷ listed) ++ rest.0 ∷ []) (sym (one_more e d listed)), rest.2)
+    (rest.0, ap (λ (l : List DirectoryEntry). e ∷ l) rest.1 ∙ ap (λ (k : ℕ). take k (e ∷ d ∷ listed) ++ rest.0 ∷ []) (sym (one_more e d listed)), rest.2)
   where
-    one_more : (e d : Listed) (listed : List Listed) → length (e ∷ d ∷ listed) - 1 ≡ suc (length (d ∷ listed) - 1)
+    one_more : (e d : DirectoryEntry) (listed : List DirectoryEntry) → length (e ∷ d ∷ listed) - 1 ≡ suc (length (d ∷ listed) - 1)
     one_more e d listed = omega arith
 
 -- ---- where nothing changes, or the recorder failed
@@ -149,7 +149,7 @@ module _ (k : Kept) (image : Image) (chain : List ChainBlock) (o : Open) (at : k
       (front : KeepsFront k.config.directory (first_of o.recording.out.blocks) image new) (ended : ended_in made ≡ ended_in chain) where
     before_stays : (own : List Entry) → AreAmong image (ended_in chain) own → AreAmong new (ended_in made) own
     before_stays own is =
-        subst (λ (l : List Listed). AreAmong new l own) (sym ended)
+        subst (λ (l : List DirectoryEntry). AreAmong new l own) (sym ended)
         (among_keeps image new (ended_in chain) own (ended_keep k.config.directory (first_of o.recording.out.blocks) image new chain whole usable last front) is)
 
     -- the file that is recorded took these in
@@ -174,11 +174,11 @@ module _ (k : Kept) (image : Image) (chain : List ChainBlock) (o : Open) (at : k
         → ((text : List ℕ) (entries : List Entry) (n : ℕ) → IsShown image o text entries n → EndsLast new made first text (entries ++ more)) → OwnGrow k image later new more
     stopped_own first later more is ends = inr (λ own has.
         let it = end_open own has in
-        let split = last_split (λ (e : Listed). (e.first_block ≡ first) × IsEnded new e it.text (it.now ++ more)) (listed_files made) (ends it.text it.now it.shown it.shows) in
+        let split = last_split (λ (e : DirectoryEntry). (e.first_block ≡ first) × IsEnded new e it.text (it.now ++ more)) (listed_files made) (ends it.text it.now it.shown it.shows) in
         let own_is : own ++ more ≡ it.ended ++ (it.now ++ more) = ap (λ (l : List Entry). l ++ more) it.own_is ∙ append_assoc it.ended it.now more in
         subst (λ (w : Work). AreOwn w new (own ++ more)) (sym is)
         (subst (λ (l : List Entry). AreAmong new (listed_files made) l) (sym own_is)
-        (subst (λ (l : List Listed). AreAmong new l (it.ended ++ (it.now ++ more))) (sym split.1)
+        (subst (λ (l : List DirectoryEntry). AreAmong new l (it.ended ++ (it.now ++ more))) (sym split.1)
         (among_with new (ended_in made) split.0 it.ended it.text (it.now ++ more) split.2.1 (before_stays it.ended it.before)))))
 
 -- ---- what lanes give goes behind whatever the file carries
@@ -201,7 +201,7 @@ pub mounted_own : (k later : Kept) (old new : Image) (chain : List ChainBlock) �
 mounted_own k later old new chain at whole usable front is = inr (λ own has.
     subst (λ (w : Work). AreOwn w new (own ++ [])) (sym is)
     (subst (λ (l : List Entry). AreAmong new (listed_files (with_shutdown 0x00 chain)) l) (sym (append-nil own))
-    (subst (λ (l : List Listed). AreAmong new l own) (sym (files-with_shutdown 0x00 chain)) (by own (subst (λ (w : Work). AreOwn w old own) at has)))))
+    (subst (λ (l : List DirectoryEntry). AreAmong new l own) (sym (files-with_shutdown 0x00 chain)) (by own (subst (λ (w : Work). AreOwn w old own) at has)))))
   where
     by : (own : List Entry) → (own ≡ []) ⊎ ((c : List ChainBlock) × IsDirectory old c × AreAmong old (listed_files c) own) → AreAmong new (listed_files chain) own
     by own (inl none) = subst (λ (l : List Entry). AreAmong new (listed_files chain) l) (sym none) (none_among new (listed_files chain))
@@ -216,7 +216,7 @@ dismounted_own k later old new chain at whole usable front there is = inr (λ ow
     let now = among_keeps old new (listed_files chain) own (all_keep k.config.directory old new chain whole usable front) was in
     subst (λ (w : Work). AreOwn w new (own ++ [])) (sym is)
     (subst (λ (l : List Entry). AreOwn unmounted new l) (sym (append-nil own))
-    (inr (with_shutdown 0xFF chain, there, subst (λ (l : List Listed). AreAmong new l own) (sym (files-with_shutdown 0xFF chain)) now))))
+    (inr (with_shutdown 0xFF chain, there, subst (λ (l : List DirectoryEntry). AreAmong new l own) (sym (files-with_shutdown 0xFF chain)) now))))
 
 -- a file is begun behind all others
 pub started_own : (k later : Kept) (old new : Image) (chain made : List ChainBlock) (o : Open) (text : List ℕ) (more : List Entry) (n : ℕ) → k.work ≡ idle chain → IsWhole old → IsUsable k.config.directory old chain
@@ -225,7 +225,7 @@ started_own k later old new chain made o text more n at whole usable front ended
     let was : AreAmong old (listed_files chain) own = subst (λ (w : Work). AreOwn w old own) at has in
     let now = among_keeps old new (listed_files chain) own (listed_keep k.config.directory old new chain whole usable front) was in
     subst (λ (w : Work). AreOwn w new (own ++ more)) (sym is)
-    (record { ended = own; now = more; own_is = refl; before = subst (λ (l : List Listed). AreAmong new l own) (sym ended) now; text = text; shown = n; shows = shows }))
+    (record { ended = own; now = more; own_is = refl; before = subst (λ (l : List DirectoryEntry). AreAmong new l own) (sym ended) now; text = text; shown = n; shows = shows }))
 
 -- the last file is closed, which was left open
 
@@ -235,7 +235,7 @@ number_reserved reserved image chain usable some =
     let place = placed reserved 1 chain (place_rules_hold reserved (length image) chain usable.rules) found.0 found.1.within in
     subst (λ (i : ℕ). (at_place chain i).number ≤ reserved) (sym (last_listing_is chain found.0 found.1)) (omega (arith, place.0, place.1))
 
-sealed_front : (reserved : ℕ) (old new : Image) (chain made : List ChainBlock) (e : Listed) (packets : List Packet) → IsUsable reserved old chain → 0 < length (listed_files chain) → IsClosed e packets chain made old new → KeepsFront reserved e.first_block old new
+sealed_front : (reserved : ℕ) (old new : Image) (chain made : List ChainBlock) (e : DirectoryEntry) (packets : List Packet) → IsUsable reserved old chain → 0 < length (listed_files chain) → ListsSealed e packets chain made old new → KeepsFront reserved e.first_block old new
 sealed_front reserved old new chain made e packets usable some closed =
     let number = (at_place chain (last_listing chain)).number in
     let low : number ≤ reserved = number_reserved reserved old chain usable some in
@@ -246,27 +246,27 @@ sealed_front reserved old new chain made e packets usable some closed =
           ∙ (below_puts e.first_block _ old closed.between closed.puts).blocks n less;
     }
 
-abbrev IsLeft : List Listed → Listed → Type 0
+abbrev IsLeft : List DirectoryEntry → DirectoryEntry → Type 0
 IsLeft listed e = (last_or None listed ≡ Some e) × (is_closed e ≡ false)
 
-left : (listed : List Listed) → is_last_closed listed ≡ false → (e : Listed) → last_or None listed ≡ Some e → is_closed e ≡ false
-left listed unsealed e found = subst (λ (o : Option Listed). elim o as (λ (x : Option Listed). Bool) [ None ↦ true | Some d ↦ is_closed d ] ≡ false) found unsealed
+left : (listed : List DirectoryEntry) → is_last_closed listed ≡ false → (e : DirectoryEntry) → last_or None listed ≡ Some e → is_closed e ≡ false
+left listed unsealed e found = subst (λ (o : Option DirectoryEntry). elim o as (λ (x : Option DirectoryEntry). Bool) [ None ↦ true | Some d ↦ is_closed d ] ≡ false) found unsealed
 
 pub sealed_own : (k later : Kept) (old new : Image) (chain made : List ChainBlock) (nodes : ℕ) → k.work ≡ idle chain → IsWhole old → IsUsable k.config.directory old chain → is_last_closed (listed_files chain) ≡ false
-    → ((e : Listed) → last_or None (listed_files chain) ≡ Some e → Seals old chain e nodes (512 * (length old - e.first_block)) new made) → later.work ≡ idle made → OwnGrow k old later new []
+    → ((e : DirectoryEntry) → last_or None (listed_files chain) ≡ Some e → SealsFile old chain e nodes (512 * (length old - e.first_block)) new made) → later.work ≡ idle made → OwnGrow k old later new []
 sealed_own k later old new chain made nodes at whole usable unsealed done is = inr (λ own has.
     let was : AreAmong old (listed_files chain) own = subst (λ (w : Work). AreOwn w old own) at has in
     let it = last_split (IsLeft (listed_files chain)) (listed_files chain) (sealed_some (IsLeft (listed_files chain)) (last_or None (listed_files chain)) unsealed (λ e found. (found, left (listed_files chain) unsealed e found))) in
     let e = it.0 in
     let seals = done e it.2.0 in
-    let some : 0 < length (listed_files chain) = omega (arith, ap (λ (l : List Listed). length l) it.1, length-append (ended_in chain) (e ∷ [])) in
-    let last : ListsLast e.first_block chain = subst (λ (o : Option Listed). IsSomeAnd o (λ (x : Listed). x.first_block ≡ e.first_block)) (sym it.2.0) refl in
+    let some : 0 < length (listed_files chain) = omega (arith, ap (λ (l : List DirectoryEntry). length l) it.1, length-append (ended_in chain) (e ∷ [])) in
+    let last : ListsLast e.first_block chain = subst (λ (o : Option DirectoryEntry). IsSomeAnd o (λ (x : DirectoryEntry). x.first_block ≡ e.first_block)) (sym it.2.0) refl in
     let front = sealed_front k.config.directory old new chain made e seals.packets usable some seals.closed in
     let entry = sealed_entry seals.packets seals.closed.time.civil e in
     let listed : listed_files made ≡ ended_in chain ++ entry ∷ [] = ap (λ (c : List ChainBlock). listed_files c) seals.closed.made_is ∙ files-updated entry chain some in
-    let before = among_front old (ended_in chain) e own it.2.1 (subst (λ (l : List Listed). AreAmong old l own) it.1 was) in
+    let before = among_front old (ended_in chain) e own it.2.1 (subst (λ (l : List DirectoryEntry). AreAmong old l own) it.1 was) in
     let kept = among_keeps old new (ended_in chain) own (ended_keep k.config.directory e.first_block old new chain whole usable last front) before in
-    let then : AreAmong new (listed_files made) own = subst (λ (l : List Listed). AreAmong new l own) (sym listed) (among_more new (ended_in chain) entry own kept) in
+    let then : AreAmong new (listed_files made) own = subst (λ (l : List DirectoryEntry). AreAmong new l own) (sym listed) (among_more new (ended_in chain) entry own kept) in
     subst (λ (w : Work). AreOwn w new (own ++ [])) (sym is) (subst (λ (l : List Entry). AreAmong new (listed_files made) l) (sym (append-nil own)) then))
 
 -- ---- where a call on the directory is refused

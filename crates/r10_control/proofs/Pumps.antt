@@ -14,8 +14,8 @@ use Rattle.r10_body.specs.declared.spec.ChannelSpec.{ChannelSpec}
 use Rattle.r10_builder.specs.Packing.{entry_on}
 use Rattle.r10_count.specs.Checks.{first_broken}
 use Rattle.r10_dirchain.specs.declared.chain.ChainBlock.{ChainBlock}
-use Rattle.r10_volume.specs.Holding.{Holds, IsWritten, Open}
-use Rattle.r10_machine.specs.Calls.{Pumps as PumpsIn, without}
+use Rattle.r10_volume.specs.Holding.{HoldsFiles, IsWritten, Open}
+use Rattle.r10_machine.specs.Calls.{Pumps, without}
 use Rattle.r10_machine.specs.Checks.{recording_checks}
 use Rattle.r10_machine.specs.Config.{Config}
 use Rattle.r10_machine.specs.Limits.{IsConfig}
@@ -24,40 +24,40 @@ use Rattle.r10_machine.specs.Room.{area as area_of, area_from, cost_of}
 use Rattle.r10_machine.specs.declared.mode.Mode.TheVariants as modes
 use Rattle.r10_means.specs.Grown.{AreGrown}
 use Rattle.r10_means.specs.Kept.{Kept, Work, mode_of, recording, failed}
-use Rattle.r10_means.specs.Means.{HasFiles, LeadsTo, Means, NumbersAre}
+use Rattle.r10_means.specs.Means.{HasFiles, KeptStepsTo, KeptStandsFor, NumbersAre}
 use Rattle.r10_means.proofs.Leading.{StepsStaySound, failed_before, failed_so}
 use Rattle.r10_medium.specs.Disk.{Image, Rose}
 use Rattle.r10_mux.specs.declared.fault.Full.{Full}
-use Rattle.r10_mux.specs.declared.fault.Full.TheVariants as full
+use Rattle.r10_mux.specs.declared.fault.Full.TheVariants as lacking
 use Rattle.r10_openfile.proofs.Ends.{last_is}
 use Rattle.r10_openfile.proofs.Written.{written_of}
-use Rattle.r10_pump.specs.Machines.{HasWaiting, IsMoved, refusal_of}
+use Rattle.r10_pump.specs.Machines.{HasWaiting, IsPumpedInto, refusal_of_full}
 use Rattle.r10_pump.specs.Pumping.{entries_on}
-use Rattle.r10_pump.specs.Stopping.{AreApart, Part, samples_on}
+use Rattle.r10_pump.specs.Stopping.{ChannelsAreApart, Part, samples_on}
 use Rattle.r10_pump.proofs.Fitting.{lacks_first, pump_fails, pumps_in}
 use Rattle.r10_cursor.proofs.Sizes.{last_grows, none_shrinks}
 use Rattle.r10_cursor.specs.Staying.{NoneShrinks}
-use Rattle.r10_control.specs.Checks.{refusal}
-use Rattle.r10_control.specs.Leading.{AreLeft, Leads, none_taken}
-use Rattle.r10_control.specs.Taking.{Moved, MovesAny, one_part, taken_of}
+use Rattle.r10_control.specs.Checks.{recorder_refusal}
+use Rattle.r10_control.specs.Leading.{AreLeft, KeptStepsTaking, none_taken}
+use Rattle.r10_control.specs.Taking.{MovedSamples, MovesAny, one_part, taken_of}
 use Rattle.r10_control.proofs.Apart.{apart_of}
 use Rattle.r10_control.proofs.Lacking.{index_full_leads, medium_full_leads}
 use Rattle.r10_control.proofs.Leading.{memory_leads}
-use Rattle.r10_machine.specs.EventChecks.{refusal as machine_refusal}
+use Rattle.r10_machine.specs.EventChecks.{refusal}
 use Rattle.r10_machine.specs.Says.{MediumSays}
 use Rattle.r10_machine.specs.Step.{Lacks, LanesAfter, MayLackIndex, entry_has_room, has_room, needed}
-use Rattle.r10_machine.specs.declared.event.Event.{Event as Asked}
+use Rattle.r10_machine.specs.declared.event.Event.{Event as EventValue}
 use Rattle.r10_machine.specs.declared.event.Event.TheVariants.{Pump}
-use Rattle.r10_machine.specs.declared.reply.Reply.{Reply as Answered}
+use Rattle.r10_machine.specs.declared.reply.Reply.{Reply as ReplyValue}
 use Rattle.r10_machine.specs.declared.reply.Reply.TheVariants as replies
 
 -- the law of pumps
 abbrev pub PumpsAreLed : Type 0
-PumpsAreLed = (k : Kept) (old new : Image) (n later : ℕ) (m : Machine) (chain : List ChainBlock) (file after : Open) (files : List File) (f : File) (channel most moved : ℕ) (more : List Entry) (grown : List ℕ) → IsConfig k.config → Means k old n m
-    → k.work ≡ recording chain file → m.files ≡ files ++ f ∷ [] → f.own ≡ true → machine_refusal k.config m (Pump channel most) ≡ None
-    → PumpsIn k.config (record m { failures = later }) channel most moved (record m { lanes = change_first (is_channel channel) (without moved) m.lanes; files = files ++ with_entries more f ∷ []; failures = later })
-    → AreGrown more k.config.channels k.taken grown → Holds k.config new chain (Some after) (files ++ with_entries more f ∷ []) → n ≤ later
-    → LeadsTo k m (Pump channel most) (replies.Moved moved) (record k { work = recording chain after; taken = grown }) new later (record m { lanes = change_first (is_channel channel) (without moved) m.lanes; files = files ++ with_entries more f ∷ []; failures = later })
+PumpsAreLed = (k : Kept) (old new : Image) (n later : ℕ) (m : Machine) (chain : List ChainBlock) (file after : Open) (files : List File) (f : File) (channel most moved : ℕ) (more : List Entry) (grown : List ℕ) → IsConfig k.config → KeptStandsFor k old n m
+    → k.work ≡ recording chain file → m.files ≡ files ++ f ∷ [] → f.own ≡ true → refusal k.config m (Pump channel most) ≡ None
+    → Pumps k.config (record m { failures = later }) channel most moved (record m { lanes = change_first (is_channel channel) (without moved) m.lanes; files = files ++ with_entries more f ∷ []; failures = later })
+    → AreGrown more k.config.channels k.taken grown → HoldsFiles k.config new chain (Some after) (files ++ with_entries more f ∷ []) → n ≤ later
+    → KeptStepsTo k m (Pump channel most) (replies.Moved moved) (record k { work = recording chain after; taken = grown }) new later (record m { lanes = change_first (is_channel channel) (without moved) m.lanes; files = files ++ with_entries more f ∷ []; failures = later })
 
 pub last_changes : (change : File → File) (files : List File) (f : File) → change_last change (files ++ f ∷ []) ≡ files ++ change f ∷ []
 last_changes change [] f = refl
@@ -99,7 +99,7 @@ others_left : (taken : ℕ → ℕ) (channel : ℕ) (lanes : List Lane) → ((c 
 others_left taken channel [] none differ = tt
 others_left taken channel (l ∷ lanes) none differ = (left_less taken l 0 (none l.spec.id differ.0), others_left taken channel lanes none differ.1)
 
-first_left : (taken : ℕ → ℕ) (channel n : ℕ) (lanes : List Lane) → taken channel ≡ n → ((c : ℕ) → (c ≡ channel → ⊥) → taken c ≡ 0) → AreApart (map (λ (l : Lane). l.spec) lanes) → AreLeft taken lanes (change_first (is_channel channel) (without n) lanes)
+first_left : (taken : ℕ → ℕ) (channel n : ℕ) (lanes : List Lane) → taken channel ≡ n → ((c : ℕ) → (c ≡ channel → ⊥) → taken c ≡ 0) → ChannelsAreApart (map (λ (l : Lane). l.spec) lanes) → AreLeft taken lanes (change_first (is_channel channel) (without n) lanes)
 first_left taken channel n [] some none apart = tt
 first_left taken channel n (l ∷ lanes) some none apart = by (l.spec.id == channel) refl (first_left taken channel n lanes some none apart.1)
   where
@@ -161,7 +161,7 @@ room_at s m f channel (suc most) lane (x ∷ waiting) there last waits fits = rw
 
 -- ---- memory that was asked for
 
-pub means_readied : (k : Kept) (image : Image) (n : ℕ) (m : Machine) (chain : List ChainBlock) (o r : Open) → k.work ≡ recording chain o → IsAskedFor o r → Means k image n m → Means (record k { work = recording chain r }) image n m
+pub means_readied : (k : Kept) (image : Image) (n : ℕ) (m : Machine) (chain : List ChainBlock) (o r : Open) → k.work ≡ recording chain o → IsAskedFor o r → KeptStandsFor k image n m → KeptStandsFor (record k { work = recording chain r }) image n m
 means_readied k image n m chain o r at readied means = record {
   mode = means.mode ∙ ap mode_of at;
   tick = means.tick;
@@ -171,8 +171,8 @@ means_readied k image n m chain o r at readied means = record {
   sound = means.sound;
 }
 
-pub leads_readied : (a b : ℕ → ℕ) (k : Kept) (m : Machine) (event : Asked) (reply : Answered) (image : Image) (n : ℕ) (chain : List ChainBlock) (o r : Open) → k.work ≡ recording chain o → IsAskedFor o r → ((c : ℕ) → a c ≡ b c)
-    → Leads a k m event reply k image n → Leads b k m event reply (record k { work = recording chain r }) image n
+pub leads_readied : (a b : ℕ → ℕ) (k : Kept) (m : Machine) (event : EventValue) (reply : ReplyValue) (image : Image) (n : ℕ) (chain : List ChainBlock) (o r : Open) → k.work ≡ recording chain o → IsAskedFor o r → ((c : ℕ) → a c ≡ b c)
+    → KeptStepsTaking a k m event reply k image n → KeptStepsTaking b k m event reply (record k { work = recording chain r }) image n
 leads_readied a b k m event reply image n chain o r at readied alike leads = record {
   machine = leads.machine;
   led = record { step = leads.led.step; means = means_readied k image n leads.machine chain o r at readied leads.led.means };
@@ -183,29 +183,29 @@ leads_readied a b k m event reply image n chain o r at readied alike leads = rec
 
 -- ---- the steps
 
-pub same_check : (k : Kept) (image : Image) (n : ℕ) (m : Machine) (channel most : ℕ) → Means k image n m → machine_refusal k.config m (Pump channel most) ≡ refusal k (Pump channel most)
+pub same_check : (k : Kept) (image : Image) (n : ℕ) (m : Machine) (channel most : ℕ) → KeptStandsFor k image n m → refusal k.config m (Pump channel most) ≡ recorder_refusal k (Pump channel most)
 same_check k image n m channel most means =
     ap (λ mode. first_broken (recording_checks mode ++ (is_some (lane_of channel m), NoSuchChannel) ∷ [])) means.mode
     ∙ ap (λ (b : Bool). first_broken (recording_checks (mode_of k.work) ++ (b, NoSuchChannel) ∷ []))
     (found_alike channel m.lanes ∙ ap (λ (specs : List ChannelSpec). is_some (find (λ (spec : ChannelSpec). spec.id == channel) specs)) means.sound.channels)
 
-module _ (law : StepsStaySound) (led : PumpsAreLed) (k : Kept) (old new : Image) (before now : ℕ) (m : Machine) (chain : List ChainBlock) (o after : Open) (channel most nodes area : ℕ) (samples rest : List Sample) (limits : IsConfig k.config) (means : Means k old before m)
-    (at : k.work ≡ recording chain o) (fine : refusal k (Pump channel most) ≡ None) (there : is_some (find (λ (spec : ChannelSpec). spec.id == channel) k.config.channels) ≡ true)
-    (ends ends' : List Entry → Type 0) (end : (files : List File) (f : File) → Holds k.config old chain (Some o) (files ++ f ∷ []) → ends f.entries)
-    (nodes_are : nodes ≡ k.config.nodes) (area_is : (files : List File) (f : File) → Holds k.config old chain (Some o) (files ++ f ∷ []) → area ≡ area_of k.config f)
-    (cost_is : (files : List File) (f : File) → Holds k.config old chain (Some o) (files ++ f ∷ []) → o.recording.cost ≡ cost_of f)
+module _ (law : StepsStaySound) (led : PumpsAreLed) (k : Kept) (old new : Image) (before now : ℕ) (m : Machine) (chain : List ChainBlock) (o after : Open) (channel most nodes area : ℕ) (samples rest : List Sample) (limits : IsConfig k.config) (means : KeptStandsFor k old before m)
+    (at : k.work ≡ recording chain o) (fine : recorder_refusal k (Pump channel most) ≡ None) (there : is_some (find (λ (spec : ChannelSpec). spec.id == channel) k.config.channels) ≡ true)
+    (ends ends' : List Entry → Type 0) (end : (files : List File) (f : File) → HoldsFiles k.config old chain (Some o) (files ++ f ∷ []) → ends f.entries)
+    (nodes_are : nodes ≡ k.config.nodes) (area_is : (files : List File) (f : File) → HoldsFiles k.config old chain (Some o) (files ++ f ∷ []) → area ≡ area_of k.config f)
+    (cost_is : (files : List File) (f : File) → HoldsFiles k.config old chain (Some o) (files ++ f ∷ []) → o.recording.cost ≡ cost_of f)
     (waits : HasWaiting m.lanes (one_part channel samples rest)) (more : before ≤ now) where
   abbrev Had : File → Type 0
   Had f = IsWritten k.config old o f
 
-  held : Holds k.config old chain (Some o) m.files
+  held : HoldsFiles k.config old chain (Some o) m.files
   held = subst (λ (w : Work). HasFiles k.config w old m.files) at means.files
 
   its : Last Had m.files
   its = last_of Had m.files held.last
 
-  split : Holds k.config old chain (Some o) (its.front ++ its.file ∷ [])
-  split = subst (λ (fs : List File). Holds k.config old chain (Some o) fs) its.is held
+  split : HoldsFiles k.config old chain (Some o) (its.front ++ its.file ∷ [])
+  split = subst (λ (fs : List File). HoldsFiles k.config old chain (Some o) fs) its.is held
 
   is_last : last_or None m.files ≡ Some its.file
   is_last = ap (λ (fs : List File). last_or None fs) its.is ∙ last_is None its.front its.file
@@ -213,18 +213,18 @@ module _ (law : StepsStaySound) (led : PumpsAreLed) (k : Kept) (old new : Image)
   lane : Found channel (samples ++ rest) m.lanes
   lane = found channel (samples ++ rest) m.lanes (found_alike channel m.lanes ∙ ap (λ (specs : List ChannelSpec). is_some (find (λ (spec : ChannelSpec). spec.id == channel) specs)) means.sound.channels ∙ there) waits
 
-  checked : machine_refusal k.config m (Pump channel most) ≡ None
+  checked : refusal k.config m (Pump channel most) ≡ None
   checked = same_check k old before m channel most means ∙ fine
 
-  lanes_apart : AreApart (map (λ (l : Lane). l.spec) m.lanes)
-  lanes_apart = subst AreApart (sym means.sound.channels) (apart_of k.config limits).lanes
+  lanes_apart : ChannelsAreApart (map (λ (l : Lane). l.spec) m.lanes)
+  lanes_apart = subst ChannelsAreApart (sym means.sound.channels) (apart_of k.config limits).lanes
 
   abbrev taken : ℕ → ℕ
   taken = taken_of (one_part channel samples rest ∷ [])
 
   -- so many were moved
-  pub pump_done : (n : ℕ) (grown : List ℕ) → Moved ends ends' channel most nodes area samples rest o old after new n → AreGrown (entries_on channel samples) k.config.channels k.taken grown
-      → Leads (taken_of (one_part channel samples rest ∷ [])) k m (Pump channel most) (replies.Moved n) (record k { work = recording chain after; taken = grown }) new now
+  pub pump_done : (n : ℕ) (grown : List ℕ) → MovedSamples ends ends' channel most nodes area samples rest o old after new n → AreGrown (entries_on channel samples) k.config.channels k.taken grown
+      → KeptStepsTaking (taken_of (one_part channel samples rest ∷ [])) k m (Pump channel most) (replies.Moved n) (record k { work = recording chain after; taken = grown }) new now
   pump_done n grown moved grows =
       let f : File = its.file in
       let files : List File = its.front in
@@ -238,7 +238,7 @@ module _ (law : StepsStaySound) (led : PumpsAreLed) (k : Kept) (old new : Image)
       record {
         machine = record m { lanes = lost; files = files ++ with_entries es f ∷ []; failures = now };
         led = led k old new before now m chain o after files f channel most n es grown limits means at its.is its.has.own checked
-            (subst (λ (x : Machine). PumpsIn k.config (record m { failures = now }) channel most n x) made does)
+            (subst (λ (x : Machine). Pumps k.config (record m { failures = now }) channel most n x) made does)
             grows (moved.on.holds k.config chain files f split (end files f split)) more;
         lanes = first_left taken channel n m.lanes (own_taken channel samples rest ∙ sym moved.number) (others_taken channel samples rest) lanes_apart;
         cursors = refl;
@@ -246,16 +246,16 @@ module _ (law : StepsStaySound) (led : PumpsAreLed) (k : Kept) (old new : Image)
       }
 
   -- the first has no room
-  full_leads : (f : Full) → Lacks k.config m (Pump channel most) (refusal_of f) → new ≡ old → Leads none_taken k m (Pump channel most) (replies.Refused (refusal_of f)) k new now
-  full_leads full.Index lacks same = index_full_leads law k old new before now m (Pump channel most) limits means same more checked lacks
-  full_leads full.Medium lacks same = medium_full_leads law k old new before now m (Pump channel most) limits means same more checked lacks
+  full_leads : (f : Full) → Lacks k.config m (Pump channel most) (refusal_of_full f) → new ≡ old → KeptStepsTaking none_taken k m (Pump channel most) (replies.Refused (refusal_of_full f)) k new now
+  full_leads lacking.Index lacks same = index_full_leads law k old new before now m (Pump channel most) limits means same more checked lacks
+  full_leads lacking.Medium lacks same = medium_full_leads law k old new before now m (Pump channel most) limits means same more checked lacks
 
   pub pump_full : (f : Full) → samples ≡ [] → IsAskedFor o after → new ≡ old → MovesAny ends channel most nodes area 0 [] rest (Some f) o old after
-      → Leads (taken_of (one_part channel samples rest ∷ [])) k m (Pump channel most) (replies.Refused (refusal_of f)) (record k { work = recording chain after }) new now
+      → KeptStepsTaking (taken_of (one_part channel samples rest ∷ [])) k m (Pump channel most) (replies.Refused (refusal_of_full f)) (record k { work = recording chain after }) new now
   pump_full f none readied same moves =
       let waits : lane.lane.waiting ≡ [] ++ rest = lane.waits ∙ ap (λ (xs : List Sample). xs ++ rest) none in
       let said = moves k.config chain its.front its.file split (end its.front its.file split) nodes_are (area_is its.front its.file split) lane.lane lane.id waits in
-      leads_readied none_taken (taken_of (one_part channel samples rest ∷ [])) k m (Pump channel most) (replies.Refused (refusal_of f)) new now chain o after at readied (none_of channel samples rest none)
+      leads_readied none_taken (taken_of (one_part channel samples rest ∷ [])) k m (Pump channel most) (replies.Refused (refusal_of_full f)) new now chain o after at readied (none_of channel samples rest none)
       (full_leads f (lacks_first k.config m its.file channel lane.lane most [] rest f after.recording lane.is is_last said) same)
 
   has_room_first : IfSome (slice_get (take most (samples ++ rest)) 0) (λ x. o.recording.cost + entry_cost (entry_on channel x) ≤ area) → entry_has_room k.config m (Pump channel most) ≡ true
@@ -266,7 +266,7 @@ module _ (law : StepsStaySound) (led : PumpsAreLed) (k : Kept) (old new : Image)
 
   -- memory is refused
   pub pump_lacks : samples ≡ [] → IsAskedFor o after → new ≡ old → IfSome (slice_get (take most rest) 0) (λ x. o.recording.cost + entry_cost (entry_on channel x) ≤ area)
-      → Leads (taken_of (one_part channel samples rest ∷ [])) k m (Pump channel most) (replies.Refused OutOfMemory) (record k { work = recording chain after }) new now
+      → KeptStepsTaking (taken_of (one_part channel samples rest ∷ [])) k m (Pump channel most) (replies.Refused OutOfMemory) (record k { work = recording chain after }) new now
   pump_lacks none readied same fits =
       leads_readied none_taken (taken_of (one_part channel samples rest ∷ [])) k m (Pump channel most) (replies.Refused OutOfMemory) new now chain o after at readied (none_of channel samples rest none)
       (memory_leads law k old new before now m (Pump channel most) limits means same more checked refl
@@ -279,8 +279,8 @@ module _ (law : StepsStaySound) (led : PumpsAreLed) (k : Kept) (old new : Image)
   first_room (suc most) (x ∷ xs) ys P has = has
 
   pub pump_failed : length samples ≤ most → Rose before now → IsSomeAnd (slice_get samples 0) (λ x. o.recording.cost + entry_cost (entry_on channel x) ≤ area)
-      → ((files : List File) (f : File) → Holds k.config old chain (Some o) (files ++ f ∷ []) → ends f.entries → MediumSays k.config new (files ++ f ∷ []))
-      → Leads (taken_of (one_part channel samples rest ∷ [])) k m (Pump channel most) (replies.Refused Medium) (record k { work = failed }) new now
+      → ((files : List File) (f : File) → HoldsFiles k.config old chain (Some o) (files ++ f ∷ []) → ends f.entries → MediumSays k.config new (files ++ f ∷ []))
+      → KeptStepsTaking (taken_of (one_part channel samples rest ∷ [])) k m (Pump channel most) (replies.Refused Medium) (record k { work = failed }) new now
   pump_failed few rose room says =
       let lost : List Lane = change_first (is_channel channel) (without (length samples)) m.lanes in
       let later : Machine = record m { mode = modes.Failed; lanes = lost; failures = now } in

@@ -2,7 +2,7 @@
 use Rattle.std.proofs.Common.{◌≡◌, ℕ, List, [], ◌∷◌, length, map, drop, refl, sym, ap, ◌∙◌}
 use Rattle.std.proofs.lemmas.List.{drop_at}
 use Rattle.r10_body.specs.declared.entry.Sample.{Sample}
-use Rattle.r10_lane.specs.Lanes.{Took}
+use Rattle.r10_lane.specs.Lanes.{TookWaiting}
 use Rattle.r10_machine.specs.Calls.{without}
 use Rattle.r10_machine.specs.Machine.{Lane, Machine}
 use Rattle.r10_control.specs.Lanes.{AreLanes, AreTaken, unerased}
@@ -26,6 +26,6 @@ none_of (l ∷ lanes) = ap (λ (ls : List Lane). l ∷ ls) (none_of lanes)
 pub lanes_kept : (lanes : List Lane) (m later : Machine) → AreLanes lanes m → AreLeft none_taken m.lanes later.lanes → AreLanes lanes later
 lanes_kept lanes m later are left = lanes_taken none_taken lanes lanes m later are left (none_of lanes)
 
-pub took_without : (old new : Lane) (samples : List Sample) → Took old samples new → new ≡ without (length samples) old
+pub took_without : (old new : Lane) (samples : List Sample) → TookWaiting old samples new → new ≡ without (length samples) old
 took_without old new samples took =
     took.others ∙ ap (λ (xs : List Sample). record old { waiting = xs }) (sym (ap (drop (length samples)) took.front ∙ drop_at samples new.waiting (length samples) refl))

@@ -5,11 +5,11 @@ use Rattle.std.specs.List.{last_or}
 use Rattle.std.proofs.lemmas.List.{length-map}
 use Rattle.r10_body.specs.declared.refusal.Refusal.TheVariants.{OutOfMemory}
 use Rattle.r10_body.specs.declared.spec.ChannelSpec.{ChannelSpec}
-use Rattle.r10_dirblock.specs.declared.entry.Entry.{Entry as Listed}
-use Rattle.r10_dirchain.specs.Chain.{files as listed_files}
+use Rattle.r10_dirblock.specs.declared.entry.Entry.{Entry as DirectoryEntry}
+use Rattle.r10_dirchain.specs.Chain.{listed_files}
 use Rattle.r10_dirchain.specs.declared.chain.ChainBlock.{ChainBlock}
 use Rattle.r10_dirchain.proofs.Standing.{usable_of}
-use Rattle.r10_volume.specs.Holding.{Holds, IsWritten, Open}
+use Rattle.r10_volume.specs.Holding.{HoldsFiles, IsWritten, Open}
 use Rattle.r10_volume.proofs.Relisting.{last_file_listed}
 use Rattle.r10_machine.specs.Checks.{is_mounted, last_tick}
 use Rattle.r10_machine.specs.Config.{Config}
@@ -20,7 +20,7 @@ use Rattle.r10_machine.specs.declared.mode.Mode.{Mode}
 use Rattle.r10_machine.specs.declared.mode.Mode.TheVariants as modes
 use Rattle.r10_machine.proofs.Growing.{append_last}
 use Rattle.r10_means.specs.Kept.{Kept, Work, mode_of, unmounted, idle, recording, failed}
-use Rattle.r10_means.specs.Means.{AreCounted, HasFiles, LeadsTo, Means, NumbersAre}
+use Rattle.r10_means.specs.Means.{LanesAreCounted, HasFiles, KeptStepsTo, KeptStandsFor, NumbersAre}
 use Rattle.r10_means.proofs.Leading.{StepsStaySound, lacks_memory}
 use Rattle.r10_medium.specs.Disk.{Image}
 use Rattle.r10_cursor.specs.declared.books.Books.{Books}
@@ -45,17 +45,17 @@ area_min s n behind is few = omega (arith, is, few)
 
 -- ---- bytes that are free
 
-module _ (s : Config) (image : Image) (chain : List ChainBlock) (o : Open) (files : List File) (f : File) (holds : Holds s image chain (Some o) (files ++ f ∷ [])) where
+module _ (s : Config) (image : Image) (chain : List ChainBlock) (o : Open) (files : List File) (f : File) (holds : HoldsFiles s image chain (Some o) (files ++ f ∷ [])) where
   listed : IsSomeAnd (last_or None (listed_files chain)) (Lists f)
   listed = last_file_listed image None (listed_files chain) files f (held_lists s image chain (Some o) (files ++ f ∷ []) holds).each
 
-  pub left_held : (cost : ℕ) (e : Listed) → last_or None (listed_files chain) ≡ Some e → cost ≡ cost_of f → area_from s e.first_block - cost ≡ area s f - cost_of f
+  pub left_held : (cost : ℕ) (e : DirectoryEntry) → last_or None (listed_files chain) ≡ Some e → cost ≡ cost_of f → area_from s e.first_block - cost ≡ area s f - cost_of f
   left_held cost e last costs =
-      let lists : Lists f e = subst (λ (d : Option Listed). IsSomeAnd d (Lists f)) last listed in
+      let lists : Lists f e = subst (λ (d : Option DirectoryEntry). IsSomeAnd d (Lists f)) last listed in
       ap (λ (n : ℕ). area_from s n - cost) lists.first_block ∙ ap (λ (n : ℕ). area s f - n) costs
 
   pub none_held : last_or None (listed_files chain) ≡ None → ⊥
-  none_held last = subst (λ (d : Option Listed). IsSomeAnd d (Lists f)) last listed
+  none_held last = subst (λ (d : Option DirectoryEntry). IsSomeAnd d (Lists f)) last listed
 
 -- a list that has a last one
 last_front : (P : File → Type 0) (files : List File) → IsSomeAnd (last_or None files) P → (front : List File) × (f : File) × (files ≡ front ++ f ∷ [])
@@ -66,14 +66,14 @@ last_front P (f ∷ g ∷ files) is = let rest = last_front P (g ∷ files) is i
 abbrev free_by : Config → Machine → Mode → ℕ
 free_by s m mode = elim mode [ modes.Recording ↦ elim (last_or None m.files) [ None ↦ 0 | Some f ↦ area s f - cost_of f ] | modes.Idle ↦ area_from s (next_block s m.files) | _ ↦ 0 ]
 
-pub free_idle : (s : Config) (image : Image) (chain : List ChainBlock) (m : Machine) → m.mode ≡ modes.Idle → Holds s image chain None m.files → area_from s (block_behind s.directory (listed_files chain)) ≡ free_bytes s m
+pub free_idle : (s : Config) (image : Image) (chain : List ChainBlock) (m : Machine) → m.mode ≡ modes.Idle → HoldsFiles s image chain None m.files → area_from s (block_behind s.directory (listed_files chain)) ≡ free_bytes s m
 free_idle s image chain m mode holds = ap (area_from s) (behind_told s image chain None m.files holds) ∙ sym (ap (free_by s m) mode)
 
-pub free_recording : (s : Config) (image : Image) (chain : List ChainBlock) (o : Open) (m : Machine) (left : ℕ) → m.mode ≡ modes.Recording → Holds s image chain (Some o) m.files
-    → ((files : List File) (f : File) → Holds s image chain (Some o) (files ++ f ∷ []) → left ≡ area s f - cost_of f) → left ≡ free_bytes s m
+pub free_recording : (s : Config) (image : Image) (chain : List ChainBlock) (o : Open) (m : Machine) (left : ℕ) → m.mode ≡ modes.Recording → HoldsFiles s image chain (Some o) m.files
+    → ((files : List File) (f : File) → HoldsFiles s image chain (Some o) (files ++ f ∷ []) → left ≡ area s f - cost_of f) → left ≡ free_bytes s m
 free_recording s image chain o m left mode holds told =
     let split = last_front (IsWritten s image o) m.files holds.last in
-    told split.0 split.1 (subst (λ (l : List File). Holds s image chain (Some o) l) split.2 holds)
+    told split.0 split.1 (subst (λ (l : List File). HoldsFiles s image chain (Some o) l) split.2 holds)
     ∙ sym (ap (λ (d : Option File). elim d [ None ↦ 0 | Some f ↦ area s f - cost_of f ]) (append_last None split.0 split.1))
     ∙ sym (ap (λ (l : List File). elim (last_or None l) [ None ↦ 0 | Some f ↦ area s f - cost_of f ]) split.2)
     ∙ sym (ap (free_by s m) mode)
@@ -99,7 +99,7 @@ one_channel mode lanes erased i lane here within same =
     next_channel mode lanes erased i lane here within same ∙ ap (λ (j : ℕ). channels_in mode (take j lanes) (take j erased)) more
 
 -- erases took of each of the machine's lanes what is kept of it
-channels_counted : (mode : Mode) (files : List File) (specs : List ChannelSpec) (taken erased : List ℕ) (lanes : List Lane) → AreCounted files specs taken erased lanes → channels_in mode (map unerased lanes) erased ≡ map (channel_status mode) lanes
+channels_counted : (mode : Mode) (files : List File) (specs : List ChannelSpec) (taken erased : List ℕ) (lanes : List Lane) → LanesAreCounted files specs taken erased lanes → channels_in mode (map unerased lanes) erased ≡ map (channel_status mode) lanes
 channels_counted mode files [] [] [] [] are = refl
 channels_counted mode files (x ∷ specs) (t ∷ taken) (e ∷ erased) (l ∷ lanes) are =
     ap (λ (n : ℕ). channel_status mode (record l { erased = n }) ∷ channels_in mode (map unerased lanes) erased) (sym are.0.erased_is)
@@ -161,10 +161,10 @@ made mode mode' tick tick' files files' free free' channels channels' a b c d e 
 
 -- telling the status is a step that changes nothing
 abbrev pub StatusIsTold : Type 0
-StatusIsTold = (k : Kept) (old new : Image) (n later : ℕ) (m : Machine) → IsConfig k.config → Means k old n m → new ≡ old → n ≤ later → LeadsTo k m events.Status (replies.Status (status_of k.config m)) k new later (record m { failures = later })
+StatusIsTold = (k : Kept) (old new : Image) (n later : ℕ) (m : Machine) → IsConfig k.config → KeptStandsFor k old n m → new ≡ old → n ≤ later → KeptStepsTo k m events.Status (replies.Status (status_of k.config m)) k new later (record m { failures = later })
 
 -- the status that is told is the machine's
-status_told : (k : Kept) (image : Image) (n : ℕ) (m : Machine) (lanes : List Lane) → Means k image n m → AreLanes lanes m → length k.erased ≡ length lanes → ((i : Image) (x : Machine) → x.mode ≡ mode_of k.work → HasFiles k.config k.work i x.files → free_in k.config k.work ≡ free_bytes k.config x)
+status_told : (k : Kept) (image : Image) (n : ℕ) (m : Machine) (lanes : List Lane) → KeptStandsFor k image n m → AreLanes lanes m → length k.erased ≡ length lanes → ((i : Image) (x : Machine) → x.mode ≡ mode_of k.work → HasFiles k.config k.work i x.files → free_in k.config k.work ≡ free_bytes k.config x)
     → status_in k lanes ≡ status_of k.config m
 status_told k image n m lanes means are same free =
     let more : length (map unerased m.lanes) ≡ length m.lanes = simp length-map in
@@ -177,19 +177,19 @@ status_told k image n m lanes means are same free =
     (free image m means.mode means.files)
     (ap (λ (ls : List Lane). channels_in (mode_of k.work) ls k.erased) are ∙ channels_told k k.work m means.numbers long ∙ ap (λ (x : Mode). map (channel_status x) m.lanes) (sym means.mode))
 
-pub status_leads : StatusIsTold → (k : Kept) (image : Image) (n : ℕ) (m : Machine) (lanes : List Lane) (status : Status) → IsConfig k.config → Means k image n m → AreLanes lanes m → length k.erased ≡ length lanes
+pub status_leads : StatusIsTold → (k : Kept) (image : Image) (n : ℕ) (m : Machine) (lanes : List Lane) (status : Status) → IsConfig k.config → KeptStandsFor k image n m → AreLanes lanes m → length k.erased ≡ length lanes
     → ((i : Image) (x : Machine) → x.mode ≡ mode_of k.work → HasFiles k.config k.work i x.files → free_in k.config k.work ≡ free_bytes k.config x) → status ≡ status_in k lanes
     → LeadsWith k m events.Status (replies.Status status) image n lanes
 status_leads law k image n m lanes status limits means are same free is = record {
   machine = record m { failures = n };
-  led = subst (λ (x : Status). LeadsTo k m events.Status (replies.Status x) k image n (record m { failures = n })) (sym (is ∙ status_told k image n m lanes means are same free)) (law k image image n n m limits means refl (omega arith));
+  led = subst (λ (x : Status). KeptStepsTo k m events.Status (replies.Status x) k image n (record m { failures = n })) (sym (is ∙ status_told k image n m lanes means are same free)) (law k image image n n m limits means refl (omega arith));
   lanes_are = are;
   files = refl;
   cursors = refl;
 }
 
 -- memory that is lacking refuses, and all stays
-pub status_lacks : StepsStaySound → (k : Kept) (image : Image) (n : ℕ) (m : Machine) (lanes : List Lane) → IsConfig k.config → Means k image n m → AreLanes lanes m → LeadsWith k m events.Status (replies.Refused OutOfMemory) image n lanes
+pub status_lacks : StepsStaySound → (k : Kept) (image : Image) (n : ℕ) (m : Machine) (lanes : List Lane) → IsConfig k.config → KeptStandsFor k image n m → AreLanes lanes m → LeadsWith k m events.Status (replies.Refused OutOfMemory) image n lanes
 status_lacks law k image n m lanes limits means are = record {
   machine = record m { failures = n };
   led = lacks_memory law k image image n n m events.Status limits means refl (omega arith) refl refl refl;

@@ -4,21 +4,21 @@ use Rattle.std.specs.Prelude.{IfSome}
 use Rattle.std.specs.List.{last_or}
 use Rattle.r10_blockout.specs.Blocks.{bytes_from}
 use Rattle.r10_dirchain.specs.declared.chain.ChainBlock.{ChainBlock}
-use Rattle.r10_volume.specs.Holding.{Holds, Open}
+use Rattle.r10_volume.specs.Holding.{HoldsFiles, Open}
 use Rattle.r10_machine.proofs.Growing.{append_last}
 use Rattle.r10_machine.specs.Config.{Config}
 use Rattle.r10_machine.specs.Bytes.{KeepBytes}
 use Rattle.r10_machine.specs.Machine.{File, Machine}
-use Rattle.r10_machine.specs.declared.event.Event.{Event as Asked}
-use Rattle.r10_machine.specs.declared.reply.Reply.{Reply as Answered}
+use Rattle.r10_machine.specs.declared.event.Event.{Event as EventValue}
+use Rattle.r10_machine.specs.declared.reply.Reply.{Reply as ReplyValue}
 use Rattle.r10_machine.specs.declared.reply.Reply.TheVariants.{Refused}
 use Rattle.r10_body.specs.declared.refusal.Refusal.{Refusal}
 use Rattle.r10_means.specs.Kept.{Kept, Work, unmounted, idle, recording, failed}
-use Rattle.r10_means.specs.Means.{HasFiles, Means}
+use Rattle.r10_means.specs.Means.{HasFiles, KeptStandsFor}
 use Rattle.r10_medium.proofs.Stops.{one_image, unchanged, weakened}
 use Rattle.r10_medium.specs.Disk.{Disk, Image, Unchanged}
 use Rattle.r10_medium.specs.Stop.{Leaves, Settled}
-use Rattle.r10_openfile.specs.Keeping.{IsKept, Keeps, StaysKept}
+use Rattle.r10_openfile.specs.Keeping.{StopKeepsFiles, Keeps, StaysKept}
 use Rattle.r10_control.proofs.Bytes.{holds_of}
 use Rattle.r10_control.proofs.Recordings.{Last, last_held}
 use Rattle.r10_machine.specs.Says.{MediumSays}
@@ -45,7 +45,7 @@ pub record IsAsShown (s : Config) (work : Work) (files : List File) (shown image
 
 -- of each machine that is meant, and whose files are safe: at every moment a stop leaves these files, or those that the call makes of them
 abbrev pub LeavesShown : (Machine → Image → Type 0) → Kept → Disk → Disk → Type 0
-LeavesShown makes k old new = (m : Machine) → Means k old.blocks old.failures m → IsSafe k.config k.work m.files old → Leaves (λ image. IsAsShown k.config k.work m.files old.blocks image ⊎ makes m image) old new
+LeavesShown makes k old new = (m : Machine) → KeptStandsFor k old.blocks old.failures m → IsSafe k.config k.work m.files old → Leaves (λ image. IsAsShown k.config k.work m.files old.blocks image ⊎ makes m image) old new
 
 -- a call makes no other files
 abbrev pub none_made : Machine → Image → Type 0
@@ -72,11 +72,11 @@ shown_last s chain o front f shown image keeps = record {
 
 -- a file is recorded, and its call makes these files of it
 pub recorded_becomes : (makes : Machine → Image → Type 0) (k : Kept) (old new : Disk) (chain : List ChainBlock) (o : Open) → k.work ≡ recording chain o
-    → ((m : Machine) (front : List File) (f : File) → Means k old.blocks old.failures m → m.files ≡ front ++ f ∷ [] → Holds k.config old.blocks chain (Some o) (front ++ f ∷ []) → IsKept k.config front f old
+    → ((m : Machine) (front : List File) (f : File) → KeptStandsFor k old.blocks old.failures m → m.files ≡ front ++ f ∷ [] → HoldsFiles k.config old.blocks chain (Some o) (front ++ f ∷ []) → StopKeepsFiles k.config front f old
     → Leaves (λ image. Keeps k.config front f old.blocks image ⊎ makes m image) old new)
     → LeavesShown makes k old new
 recorded_becomes makes k old new chain o at leaves m means safe =
-    let held : Holds k.config old.blocks chain (Some o) m.files = subst (λ (x : Work). HasFiles k.config x old.blocks m.files) at means.files in
+    let held : HoldsFiles k.config old.blocks chain (Some o) m.files = subst (λ (x : Work). HasFiles k.config x old.blocks m.files) at means.files in
     let last : Last m.files = last_held k.config old.blocks chain o m.files held in
     let safe_so : Settled (IsAsShown k.config (recording chain o) (last.front ++ last.file ∷ []) old.blocks) old =
     subst (λ (l : List File). Settled (IsAsShown k.config (recording chain o) l old.blocks) old) last.is (as_shown k.config (recording chain o) m.files old (subst (λ (x : Work). IsSafe k.config x m.files old) at safe)) in
@@ -85,17 +85,17 @@ recorded_becomes makes k old new chain o at leaves m means safe =
     (weakened (λ image. Keeps k.config last.front last.file old.blocks image ⊎ makes m image)
     (λ image. IsAsShown k.config (recording chain o) (last.front ++ last.file ∷ []) old.blocks image ⊎ makes m image) old new
     (λ image. ⊎_elim (λ keeps. inl (shown_last k.config chain o last.front last.file old.blocks image keeps)) (λ made. inr made))
-    (leaves m last.front last.file means last.is (subst (λ (l : List File). Holds k.config old.blocks chain (Some o) l) last.is held) (λ image may. kept_last k.config chain o last.front last.file old.blocks image (safe_so image may)))))
+    (leaves m last.front last.file means last.is (subst (λ (l : List File). HoldsFiles k.config old.blocks chain (Some o) l) last.is held) (λ image may. kept_last k.config chain o last.front last.file old.blocks image (safe_so image may)))))
 
 -- and its call makes no others
 pub recorded_leaves : (k : Kept) (old new : Disk) (chain : List ChainBlock) (o : Open) → k.work ≡ recording chain o
-    → ((front : List File) (f : File) → Holds k.config old.blocks chain (Some o) (front ++ f ∷ []) → StaysKept k.config front f old new) → LeavesShown none_made k old new
+    → ((front : List File) (f : File) → HoldsFiles k.config old.blocks chain (Some o) (front ++ f ∷ []) → StaysKept k.config front f old new) → LeavesShown none_made k old new
 recorded_leaves k old new chain o at stays =
     recorded_becomes none_made k old new chain o at (λ m front f means is held kept. weakened (Keeps k.config front f old.blocks) (λ image. Keeps k.config front f old.blocks image ⊎ none_made m image) old new (λ image keeps. inl keeps) (stays front f held kept))
 
 -- a directory is in use, and a call on it makes these files
 pub idle_becomes : (makes : Machine → Image → Type 0) (k : Kept) (old new : Disk) (chain : List ChainBlock) → k.work ≡ idle chain
-    → ((m : Machine) → Means k old.blocks old.failures m → Holds k.config old.blocks chain None m.files → Settled (λ image. MediumSays k.config image m.files) old → Leaves (λ image. MediumSays k.config image m.files ⊎ makes m image) old new)
+    → ((m : Machine) → KeptStandsFor k old.blocks old.failures m → HoldsFiles k.config old.blocks chain None m.files → Settled (λ image. MediumSays k.config image m.files) old → Leaves (λ image. MediumSays k.config image m.files ⊎ makes m image) old new)
     → LeavesShown makes k old new
 idle_becomes makes k old new chain at leaves m means safe =
     subst (λ (x : Work). Leaves (λ image. IsAsShown k.config x m.files old.blocks image ⊎ makes m image) old new) (sym at)
@@ -105,7 +105,7 @@ idle_becomes makes k old new chain at leaves m means safe =
 
 -- and makes no others
 pub idle_leaves : (k : Kept) (old new : Disk) (chain : List ChainBlock) → k.work ≡ idle chain
-    → ((files : List File) → Holds k.config old.blocks chain None files → Settled (λ image. MediumSays k.config image files) old → Leaves (λ image. MediumSays k.config image files) old new) → LeavesShown none_made k old new
+    → ((files : List File) → HoldsFiles k.config old.blocks chain None files → Settled (λ image. MediumSays k.config image files) old → Leaves (λ image. MediumSays k.config image files) old new) → LeavesShown none_made k old new
 idle_leaves k old new chain at leaves =
     idle_becomes none_made k old new chain at (λ m means held settled. weakened (λ image. MediumSays k.config image m.files) (λ image. MediumSays k.config image m.files ⊎ none_made m image) old new (λ image says. inl says) (leaves m.files held settled))
 
@@ -119,24 +119,24 @@ unmounted_leaves k old new at leaves m means safe =
 
 -- ---- by the machine's steps
 
-abbrev pub IsLeftEither : (Machine → Type 0) → Kept → Asked → Disk → Disk → Type 0
-IsLeftEither known k event old new = (m : Machine) → Means k old.blocks old.failures m → known m → IsSafe k.config k.work m.files old → Leaves (IsEither k.config m event) old new
+abbrev pub IsLeftEither : (Machine → Type 0) → Kept → EventValue → Disk → Disk → Type 0
+IsLeftEither known k event old new = (m : Machine) → KeptStandsFor k old.blocks old.failures m → known m → IsSafe k.config k.work m.files old → Leaves (IsEither k.config m event) old new
 
-pub either_of : (known : Machine → Type 0) (makes : Machine → Image → Type 0) (k : Kept) (event : Asked) (old new : Disk) → LeavesShown makes k old new
-    → ((m : Machine) (image : Image) → Means k old.blocks old.failures m → known m → makes m image → Makes k.config m event image) → IsLeftEither known k event old new
+pub either_of : (known : Machine → Type 0) (makes : Machine → Image → Type 0) (k : Kept) (event : EventValue) (old new : Disk) → LeavesShown makes k old new
+    → ((m : Machine) (image : Image) → KeptStandsFor k old.blocks old.failures m → known m → makes m image → Makes k.config m event image) → IsLeftEither known k event old new
 either_of known makes k event old new leaves gives m means is safe =
     weakened (λ image. IsAsShown k.config k.work m.files old.blocks image ⊎ makes m image) (IsEither k.config m event) old new
     (λ image. ⊎_elim (λ shown. inl shown.says) (λ made. inr (gives m image means is made))) (leaves m means safe)
 
-pub makes_none : (known : Machine → Type 0) (k : Kept) (event : Asked) (old new : Disk) → LeavesShown none_made k old new → IsLeftEither known k event old new
+pub makes_none : (known : Machine → Type 0) (k : Kept) (event : EventValue) (old new : Disk) → LeavesShown none_made k old new → IsLeftEither known k event old new
 makes_none known k event old new leaves = either_of known none_made k event old new leaves (λ m image means is none. absurd none)
 
 -- what a step makes
-pub made_of : (known : Machine → Type 0) (k : Kept) (event : Asked) (old new : Disk) → LeavesShown (λ m. Makes k.config m event) k old new → IsLeftEither known k event old new
+pub made_of : (known : Machine → Type 0) (k : Kept) (event : EventValue) (old new : Disk) → LeavesShown (λ m. Makes k.config m event) k old new → IsLeftEither known k event old new
 made_of known k event old new leaves = either_of known (λ m. Makes k.config m event) k event old new leaves (λ m image means is made. made)
 
 -- a call is refused, and the medium is the same
-pub refused_same : {M : Type 0} (disk : M → Disk) (known : Machine → Type 0) (k later : Kept) (event : Asked) (r : Refusal) (medium medium' : M) → later.config ≡ k.config → medium' ≡ medium → StaysSafe known k event (Refused r) (disk medium) later (disk medium')
+pub refused_same : {M : Type 0} (disk : M → Disk) (known : Machine → Type 0) (k later : Kept) (event : EventValue) (r : Refusal) (medium medium' : M) → later.config ≡ k.config → medium' ≡ medium → StaysSafe known k event (Refused r) (disk medium) later (disk medium')
 refused_same disk known k later event r medium medium' config same =
     refused_safely known k later event r (disk medium) (disk medium') config (subst (λ (x : _). Unchanged (disk medium) (disk x)) (sym same) (unchanged (disk medium)))
 
@@ -145,7 +145,7 @@ refused_same disk known k later event r medium medium' config same =
 last_says : (s : Config) (chain : List ChainBlock) (o : Open) (files : List File) (shown image : Image) → IsAsShown s (recording chain o) files shown image → SaysLast s files shown image
 last_says s chain o files shown image is = record { says = is.says; bytes = is.bytes }
 
-pub goes_on_safely : (known : Machine → Type 0) (k later : Kept) (event : Asked) (reply : Answered) (old new : Disk) (chain made : List ChainBlock) (o p : Open) → k.work ≡ recording chain o → later.work ≡ recording made p
+pub goes_on_safely : (known : Machine → Type 0) (k later : Kept) (event : EventValue) (reply : ReplyValue) (old new : Disk) (chain made : List ChainBlock) (o p : Open) → k.work ≡ recording chain o → later.work ≡ recording made p
     → later.config ≡ k.config → may_make event ≡ false → IsNoFailure reply → LeavesShown none_made k old new → StaysSafe known k event reply old later new
 goes_on_safely known k later event reply old new chain made o p at then config plain fine leaves =
     shown_safely known k later event reply old new chain made o p at then config plain fine (λ m means settled.

@@ -9,7 +9,7 @@ use Rattle.r10_packetout.specs.Carries.{Recording}
 use Rattle.r10_count.specs.declared.civil.Parts.{Parts}
 use Rattle.r10_dirchain.specs.OnMedium.{IsPublished}
 use Rattle.r10_dirchain.specs.declared.chain.ChainBlock.{ChainBlock}
-use Rattle.r10_volume.specs.Holding.{Holds, Open}
+use Rattle.r10_volume.specs.Holding.{HoldsFiles, Open}
 use Rattle.r10_machine.specs.Calls.{closed_whole}
 use Rattle.r10_machine.specs.Config.{Config}
 use Rattle.r10_machine.specs.Machine.{File, with_entries}
@@ -20,7 +20,7 @@ use Rattle.r10_control.specs.Effects.{closed_listing}
 use Rattle.r10_openfile.specs.Carrying.{EndsLast, IsShown}
 use Rattle.r10_openfile.specs.Keeping.{ListsLast, ended_in}
 use Rattle.r10_openfile.specs.Intake.{AreMovedIn}
-use Rattle.r10_pump.specs.Stopping.{AllEnd, FailsAll, Part, Tells, TookAll, entries_of, most_of}
+use Rattle.r10_pump.specs.Stopping.{AllEnd, FailsAll, Part, TellsWaiting, TookAll, entries_of, most_of}
 use Rattle.r10_machine.specs.Says.{MediumSays}
 
 -- Channel by channel in this order, these parts were taken from the lanes; of a lane that is quiet, a part and its rest are all that waited. Into whatever file of the machine, they are what its stop takes in.
@@ -31,11 +31,11 @@ pub record TakenAll {L : Type 0} (took : L → List Sample → L → Type 0) (qu
   pub shares_are : map (λ (p : Part). length p.samples) parts ≡ shares
   pub within : AllByRecursion (λ (p : Part). length p.samples ≤ most_of (map spec_of lanes) p.channel) parts
   pub taken : TookAll took spec_of parts lanes lanes'
-  pub tells : AllByRecursion (Tells quiet spec_of lanes) parts
+  pub tells : AllByRecursion (TellsWaiting quiet spec_of lanes) parts
   pub number : said.taken ≡ length (entries_of parts)
   pub left : said.left ≡ min (sum_by (λ (p : Part). length p.rest) parts) (2 ^ 64 - 1)
   pub recording : Recording
-  pub moves : (s : Config) (files : List File) (f : File) → Holds s before chain (Some old) (files ++ f ∷ []) → AllEnd spec_of reached lanes f.entries → nodes ≡ s.nodes → area ≡ area_of s f
+  pub moves : (s : Config) (files : List File) (f : File) → HoldsFiles s before chain (Some old) (files ++ f ∷ []) → AllEnd spec_of reached lanes f.entries → nodes ≡ s.nodes → area ≡ area_of s f
       → AreMovedIn s f (map spec_of lanes) order parts said.taken recording
 
 -- the file with these entries, closed in so many bytes
@@ -53,7 +53,7 @@ pub record SaysStopped {L : Type 0} (took : L → List Sample → L → Type 0) 
 -- the directory holds it so, no shorter than it was shown
 abbrev pub ClosesSo : {L : Type 0} → (L → ℕ) → (L → ChannelSpec) → List L → Open → Image → List ChainBlock → List ChainBlock → Image → ℕ → List Part → Type 0
 ClosesSo reached spec_of lanes old before chain made after size parts =
-    (s : Config) (files : List File) (f : File) → Holds s before chain (Some old) (files ++ f ∷ []) → AllEnd spec_of reached lanes f.entries → Holds s after made None (files ++ closed_with size parts f ∷ []) × (f.size ≤ size)
+    (s : Config) (files : List File) (f : File) → HoldsFiles s before chain (Some old) (files ++ f ∷ []) → AllEnd spec_of reached lanes f.entries → HoldsFiles s after made None (files ++ closed_with size parts f ∷ []) × (f.size ≤ size)
 
 -- whatever files the medium has, the last of the directory is ended with what the file carried, and with what was taken
 abbrev pub EndsSo : {L : Type 0} → (L → ℕ) → (L → ChannelSpec) → List L → Open → Image → List ChainBlock → List ChainBlock → Image → List Part → Type 0
@@ -62,18 +62,18 @@ EndsSo reached spec_of lanes old before chain made after parts =
     → EndsLast after made (first_of old.recording.out.blocks) text (entries ++ entries_of parts)
 
 -- the medium failed before the file was listed, and says it as it was; or while it was, and may say it closed
-abbrev pub MaySay : {L : Type 0} → (L → ℕ) → (L → ChannelSpec) → List L → Open → Image → List ChainBlock → Image → ℕ → List Part → Type 0
-MaySay reached spec_of lanes old before chain after size parts =
-    (s : Config) (files : List File) (f : File) → Holds s before chain (Some old) (files ++ f ∷ []) → AllEnd spec_of reached lanes f.entries
+abbrev pub MaySayClosed : {L : Type 0} → (L → ℕ) → (L → ChannelSpec) → List L → Open → Image → List ChainBlock → Image → ℕ → List Part → Type 0
+MaySayClosed reached spec_of lanes old before chain after size parts =
+    (s : Config) (files : List File) (f : File) → HoldsFiles s before chain (Some old) (files ++ f ∷ []) → AllEnd spec_of reached lanes f.entries
     → MediumSays s after (files ++ with_entries (entries_of parts) f ∷ []) ⊎ (MediumSays s after (files ++ closed_with size parts f ∷ []) × (f.size ≤ size))
 
 -- the medium failed while samples were taken, or while the file was closed
 pub data StopFails {L : Type 0} (took : L → List Sample → L → Type 0) (quiet : L → Option (List Sample)) (reached : L → ℕ) (spec_of : L → ChannelSpec) (order shares : List ℕ) (nodes area : ℕ) (lanes lanes' : List L)
     (old : Open) (before after : Disk) (chain : List ChainBlock) : Type 0 where
   in_taking : FailsAll took reached spec_of order lanes lanes' old.recording before after
-      → ((s : Config) (files : List File) (f : File) → Holds s before.blocks chain (Some old) (files ++ f ∷ []) → AllEnd spec_of reached lanes f.entries → MediumSays s after.blocks (files ++ f ∷ []))
+      → ((s : Config) (files : List File) (f : File) → HoldsFiles s before.blocks chain (Some old) (files ++ f ∷ []) → AllEnd spec_of reached lanes f.entries → MediumSays s after.blocks (files ++ f ∷ []))
       → StopFails took quiet reached spec_of order shares nodes area lanes lanes' old before after chain
-  in_closing : (said : Stopped) (taken : TakenAll took quiet reached spec_of order shares nodes area lanes lanes' old before.blocks chain said) (size : ℕ) → MaySay reached spec_of lanes old before.blocks chain after.blocks size taken.parts
+  in_closing : (said : Stopped) (taken : TakenAll took quiet reached spec_of order shares nodes area lanes lanes' old before.blocks chain said) (size : ℕ) → MaySayClosed reached spec_of lanes old before.blocks chain after.blocks size taken.parts
       → Rose before.failures after.failures → StopFails took quiet reached spec_of order shares nodes area lanes lanes' old before after chain
 
 pub record StopCloses {L : Type 0} (took : L → List Sample → L → Type 0) (quiet : L → Option (List Sample)) (reached : L → ℕ) (spec_of : L → ChannelSpec) (order shares : List ℕ) (nodes area : ℕ) (lanes lanes' : List L)

@@ -2,14 +2,14 @@
 use Rattle.std.specs.Prelude.{◌≡◌, ℕ, ◌+◌, List, [], ◌∷◌, length, Option, Some, IsSomeAnd}
 use Rattle.r10_blockout.specs.Output.{first_of, size_of}
 use Rattle.r10_count.specs.declared.civil.Parts.{Parts}
-use Rattle.r10_dirblock.specs.Block.{begun as listing, sized}
+use Rattle.r10_dirblock.specs.Block.{begun_entry, sized}
 use Rattle.r10_dirblock.specs.Texts.{time_text}
-use Rattle.r10_dirchain.specs.Chain.{IsDirectory, files as listed_files}
+use Rattle.r10_dirchain.specs.Chain.{IsDirectory, listed_files}
 use Rattle.r10_dirchain.specs.OnMedium.{IsPublished}
-use Rattle.r10_dirchain.specs.Steps.{added, emptied, last_file, updated, with_shutdown}
+use Rattle.r10_dirchain.specs.Steps.{added, emptied, last_listed, updated, with_shutdown}
 use Rattle.r10_dirchain.specs.declared.chain.ChainBlock.{ChainBlock}
 use Rattle.r10_openfile.specs.Carrying.{IsShown}
-use Rattle.r10_packetout.specs.Carries.{time_entry}
+use Rattle.r10_packetout.specs.Carries.{time_entry_at}
 use Rattle.r10_body.specs.declared.entry.Entry.{Entry}
 use Rattle.r10_volume.specs.Holding.{Open}
 use Rattle.r10_machine.specs.Machine.{Tick}
@@ -59,12 +59,12 @@ EraseEffect k old later new =
 
 -- the directory with one file more, of this name, from the block behind the others on, begun at this time, with as many blocks as its bytes need
 abbrev pub longer_listing : ℕ → List ℕ → Parts → Open → List ChainBlock → List ChainBlock
-longer_listing reserved name civil o chain = added (sized (size_of o.recording.out.blocks) (listing name (block_behind reserved (listed_files chain)) civil)) chain
+longer_listing reserved name civil o chain = added (sized (size_of o.recording.out.blocks) (begun_entry name (block_behind reserved (listed_files chain)) civil)) chain
 
 -- a start: one file more is listed, begun at the last tick's civil time; it carries its setup text and that tick's time, and shows both
 pub record StartEffectAt (name setup : List ℕ) (tick : Tick) (chain : List ChainBlock) (o : Open) (k : Kept) (old : Disk) (later : Kept) (new : Disk) : Type 0 where
   pub effect : Effect (block_behind k.config.directory (listed_files chain)) (record k { work = recording (longer_listing k.config.directory name tick.civil o chain) o }) (IsPublished (longer_listing k.config.directory name tick.civil o chain)) old.blocks later new
-  pub shows : IsShown new.blocks o setup (time_entry k.config.time tick.count tick.civil ∷ []) 1
+  pub shows : IsShown new.blocks o setup (time_entry_at k.config.time tick.count tick.civil ∷ []) 1
 
 abbrev pub StartEffect : List ℕ → List ℕ → Kept → Disk → Kept → Disk → Type 0
 StartEffect name setup k old later new =
@@ -72,8 +72,8 @@ StartEffect name setup k old later new =
 
 -- a commit: the last file is listed with its bytes, and as many blocks as they need; whatever it carried, it shows all of that
 pub record CommitEffectAt (chain : List ChainBlock) (o p : Open) (k : Kept) (old : Disk) (later : Kept) (new : Disk) : Type 0 where
-  pub effect : Effect (first_of o.recording.out.blocks) (record k { work = recording (updated (sized (size_of p.recording.out.blocks) (last_file chain)) chain) p })
-      (IsPublished (updated (sized (size_of p.recording.out.blocks) (last_file chain)) chain)) old.blocks later new
+  pub effect : Effect (first_of o.recording.out.blocks) (record k { work = recording (updated (sized (size_of p.recording.out.blocks) (last_listed chain)) chain) p })
+      (IsPublished (updated (sized (size_of p.recording.out.blocks) (last_listed chain)) chain)) old.blocks later new
   pub shows : (text : List ℕ) (entries : List Entry) (n : ℕ) → IsShown old.blocks o text entries n → IsShown new.blocks p text entries (length entries)
 
 abbrev pub CommitEffect : Kept → Disk → Kept → Disk → Type 0
@@ -81,7 +81,7 @@ CommitEffect k old later new = WhereRecording k.work (λ chain o. WhereRecording
 
 -- the directory with the last file closed at this time, in so many bytes
 abbrev pub closed_listing : Parts → ℕ → List ChainBlock → List ChainBlock
-closed_listing civil size chain = updated (record (sized size (last_file chain)) { close_time = time_text civil }) chain
+closed_listing civil size chain = updated (record (sized size (last_listed chain)) { close_time = time_text civil }) chain
 
 -- a stop: the last file is listed with its bytes, closed at the last tick's civil time; of the channels' numbers those of what was taken in rise
 pub record StopEffectAt (civil : Parts) (chain : List ChainBlock) (o : Open) (k : Kept) (old : Disk) (later : Kept) (new : Disk) : Type 0 where

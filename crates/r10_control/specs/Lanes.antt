@@ -8,10 +8,10 @@ use Rattle.r10_machine.specs.Calls.{accepted, overflowed, without}
 use Rattle.r10_machine.specs.Checks.{offer_checks, offer_refusal}
 use Rattle.r10_machine.specs.Machine.{Lane, Machine, change_first, is_channel}
 use Rattle.r10_means.specs.Kept.{Kept}
-use Rattle.r10_means.specs.Means.{LeadsTo, Means}
+use Rattle.r10_means.specs.Means.{KeptStepsTo, KeptStandsFor}
 use Rattle.r10_medium.specs.Disk.{Image}
-use Rattle.r10_machine.specs.declared.event.Event.{Event as Asked}
-use Rattle.r10_machine.specs.declared.reply.Reply.{Reply as Answered}
+use Rattle.r10_machine.specs.declared.event.Event.{Event as EventValue}
+use Rattle.r10_machine.specs.declared.reply.Reply.{Reply as ReplyValue}
 use Rattle.r10_machine.specs.declared.reply.Reply.TheVariants.{Refused}
 
 -- ---- the machine's lanes
@@ -28,17 +28,17 @@ abbrev pub AreTaken : (ℕ → ℕ) → List Lane → List Lane → Type 0
 AreTaken taken old new = new ≡ map (λ (lane : Lane). without (taken lane.spec.id) lane) old
 
 -- a step leads to a machine that is meant then and has these lanes, and the same files and cursors
-pub record LeadsWith (k : Kept) (m : Machine) (event : Asked) (reply : Answered) (image : Image) (failures : ℕ) (lanes : List Lane) : Type 0 where
+pub record LeadsWith (k : Kept) (m : Machine) (event : EventValue) (reply : ReplyValue) (image : Image) (failures : ℕ) (lanes : List Lane) : Type 0 where
   pub machine : Machine
-  pub led : LeadsTo k m event reply k image failures machine
+  pub led : KeptStepsTo k m event reply k image failures machine
   pub lanes_are : AreLanes lanes machine
   pub files : machine.files ≡ m.files
   pub cursors : machine.cursors ≡ m.cursors
 
 -- from each machine that is meant and has these lanes, what a call answers leads to one that has those
-abbrev pub AnswersWith : {T : Type 0} → List Lane → Kept → Image → ℕ → Asked → (T → Answered) → Result T Refusal → List Lane → Type 0
+abbrev pub AnswersWith : {T : Type 0} → List Lane → Kept → Image → ℕ → EventValue → (T → ReplyValue) → Result T Refusal → List Lane → Type 0
 AnswersWith old k image failures event reply result new =
-    (m : Machine) → Means k image failures m → AreLanes old m → MatchResult result (λ v. LeadsWith k m event (reply v) image failures new) (λ r. LeadsWith k m event (Refused r) image failures new)
+    (m : Machine) → KeptStandsFor k image failures m → AreLanes old m → MatchResult result (λ v. LeadsWith k m event (reply v) image failures new) (λ r. LeadsWith k m event (Refused r) image failures new)
 
 -- ---- offers
 

@@ -4,13 +4,13 @@ use Rattle.r10_body.specs.declared.refusal.Refusal.{Refusal}
 use Rattle.r10_machine.specs.Calls.{without}
 use Rattle.r10_machine.specs.Machine.{Lane, Machine}
 use Rattle.r10_means.specs.Kept.{Kept}
-use Rattle.r10_means.specs.Means.{LeadsTo, Means}
+use Rattle.r10_means.specs.Means.{KeptStepsTo, KeptStandsFor}
 use Rattle.r10_medium.specs.Disk.{Disk, Image}
 use Rattle.r10_cursor.specs.Staying.{NoneShrinks}
-use Rattle.r10_control.specs.State.{State}
+use Rattle.r10_control.specs.State.{RecorderState}
 use Rattle.r10_machine.specs.Bytes.{KeepBytes}
-use Rattle.r10_machine.specs.declared.event.Event.{Event as Asked}
-use Rattle.r10_machine.specs.declared.reply.Reply.{Reply as Answered}
+use Rattle.r10_machine.specs.declared.event.Event.{Event as EventValue}
+use Rattle.r10_machine.specs.declared.reply.Reply.{Reply as ReplyValue}
 use Rattle.r10_machine.specs.declared.reply.Reply.TheVariants.{Refused}
 
 -- ---- lanes
@@ -28,18 +28,18 @@ none_taken channel = 0
 
 -- a step leads to a machine that is meant then, whose lanes gave so many, which has the same cursors, and of whose files none of the same
 -- generation has fewer bytes
-pub record Leads (taken : ℕ → ℕ) (k : Kept) (m : Machine) (event : Asked) (reply : Answered) (later : Kept) (image : Image) (failures : ℕ) : Type 0 where
+pub record KeptStepsTaking (taken : ℕ → ℕ) (k : Kept) (m : Machine) (event : EventValue) (reply : ReplyValue) (later : Kept) (image : Image) (failures : ℕ) : Type 0 where
   pub machine : Machine
-  pub led : LeadsTo k m event reply later image failures machine
+  pub led : KeptStepsTo k m event reply later image failures machine
   pub lanes : AreLeft taken m.lanes machine.lanes
   pub cursors : machine.cursors ≡ m.cursors
   pub sizes : machine.generation ≡ m.generation → NoneShrinks m.files machine.files
 
 -- from each machine that is meant, what a call answers leads to one that is meant then
-abbrev pub Answers : {T : Type 0} → (ℕ → ℕ) → Kept → Image → ℕ → Asked → (T → Answered) → Result T Refusal → Kept → Image → ℕ → Type 0
-Answers taken k old before event reply result later new now =
-    (m : Machine) → Means k old before m → MatchResult result (λ v. Leads taken k m event (reply v) later new now) (λ r. Leads taken k m event (Refused r) later new now)
+abbrev pub CallStepsTaking : {T : Type 0} → (ℕ → ℕ) → Kept → Image → ℕ → EventValue → (T → ReplyValue) → Result T Refusal → Kept → Image → ℕ → Type 0
+CallStepsTaking taken k old before event reply result later new now =
+    (m : Machine) → KeptStandsFor k old before m → MatchResult result (λ v. KeptStepsTaking taken k m event (reply v) later new now) (λ r. KeptStepsTaking taken k m event (Refused r) later new now)
 
 -- of each machine that is meant, the files keep the bytes that the medium shows of them
-abbrev pub KeepsShown : Kept → Image → ℕ → Image → Type 0
-KeepsShown k old before new = (m : Machine) → Means k old before m → KeepBytes old new m.files
+abbrev pub MachinesKeepShown : Kept → Image → ℕ → Image → Type 0
+MachinesKeepShown k old before new = (m : Machine) → KeptStandsFor k old before m → KeepBytes old new m.files

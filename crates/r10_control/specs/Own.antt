@@ -4,8 +4,8 @@ use Rattle.std.specs.List.{AllByRecursion}
 use Rattle.r10_body.specs.Files.{on_channel}
 use Rattle.r10_body.specs.declared.entry.Entry.{Entry}
 use Rattle.r10_body.specs.declared.spec.ChannelSpec.{ChannelSpec}
-use Rattle.r10_dirblock.specs.declared.entry.Entry.{Entry as Listed}
-use Rattle.r10_dirchain.specs.Chain.{IsDirectory, files as listed_files}
+use Rattle.r10_dirblock.specs.declared.entry.Entry.{Entry as DirectoryEntry}
+use Rattle.r10_dirchain.specs.Chain.{IsDirectory, listed_files}
 use Rattle.r10_dirchain.specs.declared.chain.ChainBlock.{ChainBlock}
 use Rattle.r10_means.specs.Kept.{Kept, Work, unmounted, idle, recording, failed}
 use Rattle.r10_medium.specs.Disk.{Image}
@@ -16,7 +16,7 @@ use Rattle.r10_volume.specs.Holding.{Open}
 -- ---- which they are
 
 -- some of these listed files are closed files that say these entries, file after file; of the others nothing is said
-abbrev pub AreAmong : Image → List Listed → List Entry → Type 0
+abbrev pub AreAmong : Image → List DirectoryEntry → List Entry → Type 0
 AreAmong image [] own = own ≡ []
 AreAmong image (e ∷ listed) own =
     AreAmong image listed own ⊎ ((text : List ℕ) × (here : List Entry) × (rest : List Entry) × (own ≡ here ++ rest) × IsEnded image e text here × AreAmong image listed rest)

@@ -4,10 +4,10 @@ use Rattle.std.specs.List.{AllByRecursion, last_or}
 use Rattle.r10_blockout.specs.Output.{first_of}
 use Rattle.r10_body.specs.declared.entry.Entry.{Entry}
 use Rattle.r10_body.specs.declared.spec.ChannelSpec.{ChannelSpec}
-use Rattle.r10_builder.specs.State.{IsReady as HasRoomForTwo}
+use Rattle.r10_builder.specs.State.{HasRoomForTwo}
 use Rattle.r10_packetout.specs.Carries.{packets_of}
-use Rattle.r10_dirblock.specs.declared.entry.Entry.{Entry as Listed}
-use Rattle.r10_dirchain.specs.Chain.{files as listed_files}
+use Rattle.r10_dirblock.specs.declared.entry.Entry.{Entry as DirectoryEntry}
+use Rattle.r10_dirchain.specs.Chain.{listed_files}
 use Rattle.r10_dirchain.specs.declared.chain.ChainBlock.{ChainBlock}
 use Rattle.r10_volume.specs.Holding.{Open}
 use Rattle.r10_machine.specs.Config.{Config}
@@ -22,7 +22,7 @@ use Rattle.r10_pump.specs.Pumping.{EndsBy, HasBuilder}
 use Rattle.r10_pump.specs.Stopping.{AllEnd}
 use Rattle.r10_cursor.specs.Knowing.{IsUnder}
 use Rattle.r10_cursor.specs.declared.books.Books.{Books}
-use Rattle.r10_cursor.specs.declared.kept.Kept.{Kept as Judged}
+use Rattle.r10_cursor.specs.declared.kept.Kept.{Kept as CursorKept}
 use Rattle.r10_volume.specs.Mounting.{IsUsable}
 
 -- the count of the last tick
@@ -49,7 +49,7 @@ pub record IsRecorded {L : Type 0} (spec_of : L → ChannelSpec) (reached : L �
   pub few : packets_of o.recording ≤ 100 * s.nodes
   pub cost : 512 * first_of o.recording.out.blocks + o.recording.cost ≤ 512 * s.blocks
   pub on : MayGoOn o image chain
-  pub listed : IsSomeAnd (last_or None (listed_files chain)) (λ (e : Listed). e.first_block ≡ first_of o.recording.out.blocks)
+  pub listed : IsSomeAnd (last_or None (listed_files chain)) (λ (e : DirectoryEntry). e.first_block ≡ first_of o.recording.out.blocks)
 
 -- a directory in use is one that a recorder can use
 abbrev pub OwnsWork : {L : Type 0} → (L → ChannelSpec) → (L → ℕ) → Kept → Work → Image → List L → Type 0
@@ -59,15 +59,15 @@ OwnsWork spec_of reached k (recording chain o) image lanes = IsUsable k.config.d
 OwnsWork spec_of reached k failed image lanes = Unit {0}
 
 -- the files of a directory in use, but for the one that is recorded
-abbrev pub ended_files : Work → List Listed
+abbrev pub ended_files : Work → List DirectoryEntry
 ended_files unmounted = listed_files []
 ended_files (idle chain) = listed_files chain
 ended_files (recording chain o) = take (length (listed_files chain) - 1) (listed_files chain)
 ended_files failed = listed_files []
 
 -- what is kept of a file that was judged is kept of the file of its number
-abbrev pub AreJudged : List Listed → Image → List Judged → Type 0
-AreJudged entries image judged = AllByRecursion (λ (k : Judged). IsSomeAnd (slice_get entries k.file) (λ e. IsUnder image e k)) judged
+abbrev pub AreJudged : List DirectoryEntry → Image → List CursorKept → Type 0
+AreJudged entries image judged = AllByRecursion (λ (k : CursorKept). IsSomeAnd (slice_get entries k.file) (λ e. IsUnder image e k)) judged
 
 -- what is known of files is known of those that are there, while a directory is in use
 abbrev pub OwnsBooks : Work → Image → Books → Type 0

@@ -7,7 +7,7 @@ use Rattle.r10_body.specs.Packets.{Packet}
 use Rattle.r10_body.specs.declared.refusal.Refusal.{Refusal}
 use Rattle.r10_body.specs.declared.refusal.Refusal.TheVariants as refusals
 use Rattle.r10_dirblock.specs.Block.{is_closed}
-use Rattle.r10_dirblock.specs.declared.entry.Entry.{Entry as Listed}
+use Rattle.r10_dirblock.specs.declared.entry.Entry.{Entry as DirectoryEntry}
 use Rattle.r10_dirchain.specs.declared.chain.ChainBlock.{ChainBlock}
 use Rattle.r10_volume.specs.Holding.{Open}
 use Rattle.r10_index.specs.Book.{Book}
@@ -15,10 +15,10 @@ use Rattle.r10_judge.specs.Judged.{SaysClosed}
 use Rattle.r10_machine.specs.Machine.{Machine}
 use Rattle.r10_means.specs.Kept.{Kept, Work, unmounted, idle, recording, failed}
 use Rattle.r10_medium.specs.Disk.{Image}
-use Rattle.r10_cursor.specs.Files.{HasPackets, IsShownWith, bytes_in}
+use Rattle.r10_cursor.specs.Files.{HasDataPackets, IsShownWith, bytes_in}
 use Rattle.r10_cursor.specs.Held.{IsToldOf}
 use Rattle.r10_cursor.specs.declared.refusal.ReadRefusal.{ReadRefusal}
-use Rattle.r10_cursor.specs.declared.refusal.ReadRefusal.TheVariants as reads
+use Rattle.r10_cursor.specs.declared.refusal.ReadRefusal.TheVariants as read_refusals
 use Rattle.r10_cursor.specs.declared.written.Written.{Written}
 use Rattle.r10_control.specs.Checks.{files_of}
 use Rattle.r10_control.specs.Owns.{ended_files}
@@ -43,22 +43,22 @@ open_of (recording chain o) = Some o
 open_of failed = None
 
 -- a directory lists fewer than 2^64 files, and last the one that is recorded
-pub record IsListed (work : Work) : Type 0 where
+pub record ListsRecordedLast (work : Work) : Type 0 where
   pub few : length (files_of work) < 2 ^ 64
-  pub last : IfSome (open_of work) (λ o. IsSomeAnd (last_or None (files_of work)) (λ (e : Listed). e.first_block ≡ first_of o.recording.out.blocks))
+  pub last : IfSome (open_of work) (λ o. IsSomeAnd (last_or None (files_of work)) (λ (e : DirectoryEntry). e.first_block ≡ first_of o.recording.out.blocks))
 
 -- this is told of the file that is recorded, where one is: it is the last of so many
-abbrev pub Tells : ℕ → Option Open → Option Written → Type 0
-Tells files None None = Unit {0}
-Tells files None (Some w) = ⊥
-Tells files (Some o) None = ⊥
-Tells files (Some o) (Some w) = (files ≡ w.file + 1) × IsToldOf o w
+abbrev pub TellsWritten : ℕ → Option Open → Option Written → Type 0
+TellsWritten files None None = Unit {0}
+TellsWritten files None (Some w) = ⊥
+TellsWritten files (Some o) None = ⊥
+TellsWritten files (Some o) (Some w) = (files ≡ w.file + 1) × IsToldOf o w
 
 -- the directory in use, how many files it lists, and what is told of the one that is recorded
 pub record IsInUse (work : Work) (chain : List ChainBlock) (files : ℕ) (written : Option Written) : Type 0 where
   pub chain_is : chain ≡ directory_of work
   pub files_are : files ≡ length (files_of work)
-  pub tells : Tells (length (files_of work)) (open_of work) written
+  pub tells : TellsWritten (length (files_of work)) (open_of work) written
 
 -- ---- what is shown
 
@@ -67,39 +67,39 @@ abbrev pub book_of : Open → Book
 book_of o = record { entries = o.recording.out.entries; room = o.recording.out.room; counted = o.recording.out.counted }
 
 -- of the file that is recorded the medium shows these packets, these are what an index would say of them, and its book has them first
-abbrev pub ShowsOpen : Image → Open → List Packet → Type 0
-ShowsOpen image o packets = IsShownWith image (first_of o.recording.out.blocks) (take o.shown o.recording.out.entries) (book_of o) packets
+abbrev pub ShowsOpenPackets : Image → Open → List Packet → Type 0
+ShowsOpenPackets image o packets = IsShownWith image (first_of o.recording.out.blocks) (take o.shown o.recording.out.entries) (book_of o) packets
 
 -- the medium shows these packets of the file of a number, without those of its index
 pub data ShowsAt (work : Work) (image : Image) (file : ℕ) (packets : List Packet) : Type 0 where
-  of_ended : (e : Listed) → slice_get (ended_files work) file ≡ Some e → HasPackets (bytes_in image e) packets → ShowsAt work image file packets
-  of_recorded : (o : Open) → open_of work ≡ Some o → length (files_of work) ≡ file + 1 → ShowsOpen image o packets → ShowsAt work image file packets
+  of_ended : (e : DirectoryEntry) → slice_get (ended_files work) file ≡ Some e → HasDataPackets (bytes_in image e) packets → ShowsAt work image file packets
+  of_recorded : (o : Open) → open_of work ≡ Some o → length (files_of work) ≡ file + 1 → ShowsOpenPackets image o packets → ShowsAt work image file packets
 
 -- the file of a number is there: it is strict with the closing of its directory entry, or the one that is recorded, of which the medium shows packets
 pub data IsReadAt (work : Work) (image : Image) (file : ℕ) : Type 0 where
-  is_ended : (e : Listed) → slice_get (ended_files work) file ≡ Some e → SaysClosed (bytes_in image e) (is_closed e) → IsReadAt work image file
-  is_recorded : (o : Open) (packets : List Packet) → open_of work ≡ Some o → length (files_of work) ≡ file + 1 → ShowsOpen image o packets → IsReadAt work image file
+  is_ended : (e : DirectoryEntry) → slice_get (ended_files work) file ≡ Some e → SaysClosed (bytes_in image e) (is_closed e) → IsReadAt work image file
+  is_recorded : (o : Open) (packets : List Packet) → open_of work ≡ Some o → length (files_of work) ≡ file + 1 → ShowsOpenPackets image o packets → IsReadAt work image file
 
 -- ---- what is refused
 
 -- no file has this number; or it ended, and is at fault, first so
-abbrev pub IsFileRefusal : Work → Image → ℕ → Refusal → Type 0
-IsFileRefusal work image file refusals.NoSuchFile = length (files_of work) ≤ file
-IsFileRefusal work image file (refusals.BadFile offset fault) = IsSomeAnd (slice_get (ended_files work) file) (λ e. IsAtFault (bytes_in image e) (is_closed e) offset fault)
-IsFileRefusal work image file r = ⊥
+abbrev pub IsReadFileRefusal : Work → Image → ℕ → Refusal → Type 0
+IsReadFileRefusal work image file refusals.NoSuchFile = length (files_of work) ≤ file
+IsReadFileRefusal work image file (refusals.BadFile offset fault) = IsSomeAnd (slice_get (ended_files work) file) (λ e. IsAtFault (bytes_in image e) (is_closed e) offset fault)
+IsReadFileRefusal work image file r = ⊥
 
 -- the refusal of a file that isn't read, and what the recorder does then
-abbrev pub refusal_of : ReadRefusal → Refusal
-refusal_of reads.NoSuchFile = refusals.NoSuchFile
-refusal_of (reads.BadFile at) = refusals.BadFile at.offset at.fault
-refusal_of reads.Medium = refusals.Medium
-refusal_of reads.OutOfMemory = refusals.OutOfMemory
+abbrev pub refusal_of_read : ReadRefusal → Refusal
+refusal_of_read read_refusals.NoSuchFile = refusals.NoSuchFile
+refusal_of_read (read_refusals.BadFile at) = refusals.BadFile at.offset at.fault
+refusal_of_read read_refusals.Medium = refusals.Medium
+refusal_of_read read_refusals.OutOfMemory = refusals.OutOfMemory
 
-abbrev pub left_by : ReadRefusal → Work → Work
-left_by reads.NoSuchFile work = work
-left_by (reads.BadFile at) work = work
-left_by reads.Medium work = failed
-left_by reads.OutOfMemory work = work
+abbrev pub work_left_by : ReadRefusal → Work → Work
+work_left_by read_refusals.NoSuchFile work = work
+work_left_by (read_refusals.BadFile at) work = work
+work_left_by read_refusals.Medium work = failed
+work_left_by read_refusals.OutOfMemory work = work
 
 -- ---- what a table of cursors asks
 

@@ -9,15 +9,15 @@ use Rattle.r10_volume.specs.Mounting.{IsUnusable}
 
 -- the first check that doesn't hold, which leaves all; else what is lacking, which leaves what is kept, and of the medium what is read
 -- and what a stop leaves; or the medium failed, and the recorder with it
-abbrev pub Refuses : {M : Type 0} → (M → Disk) → Option Refusal → (Refusal → Type 0) → Kept → Kept → M → M → Refusal → Type 0
-Refuses disk (Some first) lacks old new medium medium' r = (r ≡ first) × (new ≡ old) × (medium' ≡ medium)
-Refuses disk None lacks old new medium medium' Medium = Rose (disk medium).failures (disk medium').failures × (new ≡ record old { work = failed })
-Refuses disk None lacks old new medium medium' OutOfMemory = Unchanged (disk medium) (disk medium') × (new ≡ old)
-Refuses disk None lacks old new medium medium' r = lacks r × Unchanged (disk medium) (disk medium') × (new ≡ old)
+abbrev pub RefusesCall : {M : Type 0} → (M → Disk) → Option Refusal → (Refusal → Type 0) → Kept → Kept → M → M → Refusal → Type 0
+RefusesCall disk (Some first) lacks old new medium medium' r = (r ≡ first) × (new ≡ old) × (medium' ≡ medium)
+RefusesCall disk None lacks old new medium medium' Medium = Rose (disk medium).failures (disk medium').failures × (new ≡ record old { work = failed })
+RefusesCall disk None lacks old new medium medium' OutOfMemory = Unchanged (disk medium) (disk medium') × (new ≡ old)
+RefusesCall disk None lacks old new medium medium' r = lacks r × Unchanged (disk medium) (disk medium') × (new ≡ old)
 
 -- nothing is lacking
-abbrev pub nothing : Refusal → Type 0
-nothing r = ⊥
+abbrev pub nothing_lacks : Refusal → Type 0
+nothing_lacks r = ⊥
 
 -- a mount is refused because of the first block of the directory that can't be used
 abbrev pub IsMountRefusal : ℕ → Disk → Refusal → Type 0

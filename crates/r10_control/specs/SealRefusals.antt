@@ -5,12 +5,12 @@ use Rattle.r10_blockout.specs.Blocks.{bytes_from}
 use Rattle.r10_body.specs.Faults.{IsAtFault}
 use Rattle.r10_body.specs.declared.refusal.Refusal.{Refusal}
 use Rattle.r10_body.specs.declared.refusal.Refusal.TheVariants.{BadFile, IndexFull, MediumFull}
-use Rattle.r10_dirchain.specs.Chain.{files as listed_files}
+use Rattle.r10_dirchain.specs.Chain.{listed_files}
 use Rattle.r10_machine.specs.Config.{Config}
 use Rattle.r10_means.specs.Kept.{Kept, Work, idle}
 use Rattle.r10_medium.specs.Disk.{Disk, Image}
 use Rattle.r10_seal.specs.Judging.{CostsTooMuch, HasTooMany}
-use Rattle.r10_seal.specs.Sealing.{Seals}
+use Rattle.r10_seal.specs.Sealing.{SealsFile}
 use Rattle.r10_control.specs.Checks.{files_of}
 
 -- the bytes of a file aren't strict, first at this fault, or are packets that are too many for so many nodes, or cost more than there is of the medium
@@ -27,5 +27,5 @@ IsSealRefusal k disk r =
 
 -- the last file of the directory in use is closed with its index, which has room
 abbrev pub IsSealed : Config → Image → Work → Image → Work → Type 0
-IsSealed s old (idle chain) new (idle made) = IsSomeAnd (last_or None (listed_files chain)) (λ e. Seals old chain e s.nodes (512 * (length old - e.first_block)) new made)
+IsSealed s old (idle chain) new (idle made) = IsSomeAnd (last_or None (listed_files chain)) (λ e. SealsFile old chain e s.nodes (512 * (length old - e.first_block)) new made)
 IsSealed s old work new later = ⊥

@@ -10,34 +10,34 @@ use Rattle.r10_body.specs.declared.entry.Sample.{Sample}
 use Rattle.r10_body.specs.declared.refusal.Refusal.{Refusal}
 use Rattle.r10_body.specs.declared.refusal.Refusal.TheVariants.{IndexFull, Medium, MediumFull, OutOfMemory}
 use Rattle.r10_body.specs.declared.spec.ChannelSpec.{ChannelSpec}
-use Rattle.r10_builder.specs.State.{IsReady as HasRoomForTwo}
+use Rattle.r10_builder.specs.State.{HasRoomForTwo}
 use Rattle.r10_packetout.specs.Carries.{packets_of}
-use Rattle.r10_dirblock.specs.declared.entry.Entry.{Entry as Listed}
+use Rattle.r10_dirblock.specs.declared.entry.Entry.{Entry as DirectoryEntry}
 use Rattle.r10_dirchain.specs.declared.chain.ChainBlock.{ChainBlock}
-use Rattle.r10_volume.specs.Holding.{Holds, Open}
+use Rattle.r10_volume.specs.Holding.{HoldsFiles, Open}
 use Rattle.r10_machine.specs.Config.{Config}
 use Rattle.r10_machine.specs.Machine.{File, Machine, with_entries}
 use Rattle.r10_machine.specs.Room.{area as area_of, area_from}
 use Rattle.r10_machine.specs.declared.mode.Stopped.{Stopped}
 use Rattle.r10_means.specs.Grown.{AreGrown}
 use Rattle.r10_means.specs.Kept.{Kept, Work, recording, failed}
-use Rattle.r10_means.specs.Means.{Means}
+use Rattle.r10_means.specs.Means.{KeptStandsFor}
 use Rattle.r10_medium.specs.Disk.{Disk, Image, Rose}
 use Rattle.r10_mux.specs.Writes.{IsSame, IsSameFile}
 use Rattle.r10_mux.specs.declared.fault.Full.{Full}
-use Rattle.r10_mux.specs.declared.fault.Full.TheVariants as full
+use Rattle.r10_mux.specs.declared.fault.Full.TheVariants as lacking
 use Rattle.r10_openfile.specs.Carrying.{IsShown}
 use Rattle.r10_openfile.specs.Intake.{IsMovedIn}
 use Rattle.r10_openfile.specs.Keeping.{MayGoOn}
 use Rattle.r10_pump.specs.Machines.{HasWaiting}
-use Rattle.r10_pump.specs.Pumping.{Begins, HasRoom, KeepsRoom, entries_on}
-use Rattle.r10_pump.specs.Stopping.{Part, Tells, TookAll, entries_of, samples_on}
-use Rattle.r10_control.specs.Leading.{Leads}
+use Rattle.r10_pump.specs.Pumping.{Begins, SampleHasRoom, KeepsRoom, entries_on}
+use Rattle.r10_pump.specs.Stopping.{Part, TellsWaiting, TookAll, entries_of, samples_on}
+use Rattle.r10_control.specs.Leading.{KeptStepsTaking}
 use Rattle.r10_control.specs.declared.pumping.PumpFault.{PumpFault}
-use Rattle.r10_control.specs.declared.pumping.PumpFault.TheVariants as fault
+use Rattle.r10_control.specs.declared.pumping.PumpFault.TheVariants as pump_faults
 use Rattle.r10_machine.specs.Says.{MediumSays}
-use Rattle.r10_machine.specs.declared.event.Event.{Event as Asked}
-use Rattle.r10_machine.specs.declared.reply.Reply.{Reply as Answered}
+use Rattle.r10_machine.specs.declared.event.Event.{Event as EventValue}
+use Rattle.r10_machine.specs.declared.reply.Reply.{Reply as ReplyValue}
 use Rattle.r10_machine.specs.declared.reply.Reply.TheVariants.{Refused}
 
 -- ---- steps
@@ -51,8 +51,8 @@ one_part channel samples rest = record { channel = channel; samples = samples; r
 
 -- Channel by channel in this order, up to some, a call took these parts from the lanes, no more of a channel than may be; of a lane that is quiet, a part and its rest are all that waited. Where the medium failed while they were taken, nothing is told of the rests.
 -- They are counted where the call succeeds, and whatever entries the recorder's own files had, these are behind them then. From each machine that is meant, and in whose lanes the parts and their rests wait, what the call answers leads to one that is meant then.
-pub record Takes {L T : Type 0} (took : L → List Sample → L → Type 0) (quiet : L → Option (List Sample)) (spec_of : L → ChannelSpec) (order : List ℕ) (most : ℕ → ℕ) (says : T → List Part → Type 0)
-    (k : Kept) (old : Image) (before : ℕ) (event : Asked) (reply : T → Answered) (result : Result T Refusal) (later : Kept) (new : Image) (now : ℕ) (lanes lanes' : List L) : Type 0 where
+pub record StepsByTaking {L T : Type 0} (took : L → List Sample → L → Type 0) (quiet : L → Option (List Sample)) (spec_of : L → ChannelSpec) (order : List ℕ) (most : ℕ → ℕ) (says : T → List Part → Type 0)
+    (k : Kept) (old : Image) (before : ℕ) (event : EventValue) (reply : T → ReplyValue) (result : Result T Refusal) (later : Kept) (new : Image) (now : ℕ) (lanes lanes' : List L) : Type 0 where
   pub parts : List Part
   pub known : List Part
   pub told : (known ≡ parts) ⊎ ((known ≡ []) × (result ≡ Err Medium))
@@ -60,18 +60,18 @@ pub record Takes {L T : Type 0} (took : L → List Sample → L → Type 0) (qui
   pub order_is : map (λ (p : Part). p.channel) parts ++ passed ≡ order
   pub within : AllByRecursion (λ (p : Part). length p.samples ≤ most p.channel) parts
   pub taken : TookAll took spec_of parts lanes lanes'
-  pub waits : AllByRecursion (Tells quiet spec_of lanes) known
+  pub waits : AllByRecursion (TellsWaiting quiet spec_of lanes) known
   pub tells : IfOk result (λ v. says v parts)
   pub counts : OnOk result (AreGrown (entries_of parts) k.config.channels k.taken later.taken)
   pub none : IfErr result (λ r. (r ≡ Medium) ⊎ AllByRecursion (λ (p : Part). p.samples ≡ []) parts)
   pub numbers : OnOk result (later ≡ record k { work = later.work; taken = later.taken })
   pub own : OwnGrow k old later new (entries_of parts)
-  pub steps : (m : Machine) → Means k old before m → AllByRecursion (HasWaiting m.lanes) known
-      → MatchResult result (λ v. Leads (taken_of parts) k m event (reply v) later new now) (λ r. Leads (taken_of parts) k m event (Refused r) later new now)
+  pub steps : (m : Machine) → KeptStandsFor k old before m → AllByRecursion (HasWaiting m.lanes) known
+      → MatchResult result (λ v. KeptStepsTaking (taken_of parts) k m event (reply v) later new now) (λ r. KeptStepsTaking (taken_of parts) k m event (Refused r) later new now)
 
 -- so many were moved
-abbrev pub IsMoved : ℕ → List Part → Type 0
-IsMoved n parts = n ≡ length (entries_of parts)
+abbrev pub CountsMoved : ℕ → List Part → Type 0
+CountsMoved n parts = n ≡ length (entries_of parts)
 
 -- so many were taken, and so many are left, up to 2^64 - 1
 abbrev pub IsStopped : Stopped → List Part → Type 0
@@ -96,10 +96,10 @@ pub record WentOn (nodes area : ℕ) (ends ends' : List Entry → Type 0) (more 
   pub packets : KeepsRoom nodes old.recording new.recording
   pub cost : old.recording.cost ≤ area → new.recording.cost ≤ area
   pub on : (chain : List ChainBlock) → MayGoOn old before chain → MayGoOn new after chain
-  pub holds : (s : Config) (chain : List ChainBlock) (files : List File) (f : File) → Holds s before chain (Some old) (files ++ f ∷ []) → ends f.entries → Holds s after chain (Some new) (files ++ with_entries more f ∷ [])
+  pub holds : (s : Config) (chain : List ChainBlock) (files : List File) (f : File) → HoldsFiles s before chain (Some old) (files ++ f ∷ []) → ends f.entries → HoldsFiles s after chain (Some new) (files ++ with_entries more f ∷ [])
 
 -- the bytes from a listed file's first block to the medium's end
-abbrev pub area_behind : Config → Option Listed → ℕ
+abbrev pub area_behind : Config → Option DirectoryEntry → ℕ
 area_behind s None = 0
 area_behind s (Some e) = area_from s e.first_block
 
@@ -108,11 +108,11 @@ area_behind s (Some e) = area_from s e.first_block
 -- the first that waits in the channel's lane has no room in the file, where one may be moved; of a lane that is quiet all of this waits
 abbrev pub HasNoPlace : {L : Type 0} → (L → Option (List Sample)) → (L → ChannelSpec) → List L → Config → Open → ℕ → ℕ → Full → Type 0
 HasNoPlace quiet spec_of lanes s o channel most lacks =
-    (waiting : List Sample) × Tells quiet spec_of lanes (one_part channel [] waiting) × Begins o.recording channel s.nodes (area_from s (first_of o.recording.out.blocks)) most waiting (Some lacks)
+    (waiting : List Sample) × TellsWaiting quiet spec_of lanes (one_part channel [] waiting) × Begins o.recording channel s.nodes (area_from s (first_of o.recording.out.blocks)) most waiting (Some lacks)
 
 abbrev pub IsForFirst : {L : Type 0} → (L → Option (List Sample)) → (L → ChannelSpec) → List L → Config → Open → ℕ → ℕ → Refusal → Type 0
-IsForFirst quiet spec_of lanes s o channel most IndexFull = HasNoPlace quiet spec_of lanes s o channel most full.Index
-IsForFirst quiet spec_of lanes s o channel most MediumFull = HasNoPlace quiet spec_of lanes s o channel most full.Medium
+IsForFirst quiet spec_of lanes s o channel most IndexFull = HasNoPlace quiet spec_of lanes s o channel most lacking.Index
+IsForFirst quiet spec_of lanes s o channel most MediumFull = HasNoPlace quiet spec_of lanes s o channel most lacking.Medium
 IsForFirst quiet spec_of lanes s o channel most r = ⊥
 
 -- so it is refused for want of room, in the file that is recorded
@@ -123,10 +123,10 @@ FirstLacks quiet spec_of lanes s work channel most r = ⊥
 -- these samples are moved into the machine's file, whichever it is
 abbrev pub MovesAny : (List Entry → Type 0) → ℕ → ℕ → ℕ → ℕ → ℕ → List Sample → List Sample → Option Full → Open → Image → Open → Type 0
 MovesAny ends channel most nodes area n samples rest full old before new =
-    (s : Config) (chain : List ChainBlock) (files : List File) (f : File) → Holds s before chain (Some old) (files ++ f ∷ []) → ends f.entries → nodes ≡ s.nodes → area ≡ area_of s f → IsMovedIn s f channel most n samples rest full new.recording
+    (s : Config) (chain : List ChainBlock) (files : List File) (f : File) → HoldsFiles s before chain (Some old) (files ++ f ∷ []) → ends f.entries → nodes ≡ s.nodes → area ≡ area_of s f → IsMovedIn s f channel most n samples rest full new.recording
 
 -- so many were moved, and where none was, none was asked for or nothing waits
-pub record Moved (ends ends' : List Entry → Type 0) (channel most nodes area : ℕ) (samples rest : List Sample) (old : Open) (before : Image) (new : Open) (after : Image) (n : ℕ) : Type 0 where
+pub record MovedSamples (ends ends' : List Entry → Type 0) (channel most nodes area : ℕ) (samples rest : List Sample) (old : Open) (before : Image) (new : Open) (after : Image) (n : ℕ) : Type 0 where
   pub number : n ≡ length samples
   pub on : WentOn nodes area ends ends' (entries_on channel samples) old before new after
   pub full : Option Full
@@ -142,19 +142,19 @@ pub record Stayed {M : Type 0} (ends ends' : List Entry → Type 0) (samples : L
 
 -- the first that waits has no room; or memory was refused where it has; or the medium failed, behind a first one that had room
 abbrev pub MovedNone : {M : Type 0} → (M → Disk) → (List Entry → Type 0) → (List Entry → Type 0) → ℕ → ℕ → ℕ → ℕ → List Sample → List Sample → Open → M → Open → M → PumpFault → Type 0
-MovedNone disk ends ends' channel most nodes area samples rest old medium new medium' (fault.Full full) =
+MovedNone disk ends ends' channel most nodes area samples rest old medium new medium' (pump_faults.Full full) =
     Stayed ends ends' samples old medium new medium' × MovesAny ends channel most nodes area 0 [] rest (Some full) old (disk medium).blocks new × Begins new.recording channel nodes area most rest (Some full)
-MovedNone disk ends ends' channel most nodes area samples rest old medium new medium' fault.Memory = Stayed ends ends' samples old medium new medium' × Begins old.recording channel nodes area most rest None
-MovedNone disk ends ends' channel most nodes area samples rest old medium new medium' fault.Medium =
-    Rose (disk medium).failures (disk medium').failures × IsSomeAnd (slice_get samples 0) (HasRoom old.recording channel area)
-    × ((s : Config) (chain : List ChainBlock) (files : List File) (f : File) → Holds s (disk medium).blocks chain (Some old) (files ++ f ∷ []) → ends f.entries → MediumSays s (disk medium').blocks (files ++ f ∷ []))
+MovedNone disk ends ends' channel most nodes area samples rest old medium new medium' pump_faults.Memory = Stayed ends ends' samples old medium new medium' × Begins old.recording channel nodes area most rest None
+MovedNone disk ends ends' channel most nodes area samples rest old medium new medium' pump_faults.Medium =
+    Rose (disk medium).failures (disk medium').failures × IsSomeAnd (slice_get samples 0) (SampleHasRoom old.recording channel area)
+    × ((s : Config) (chain : List ChainBlock) (files : List File) (f : File) → HoldsFiles s (disk medium).blocks chain (Some old) (files ++ f ∷ []) → ends f.entries → MediumSays s (disk medium').blocks (files ++ f ∷ []))
 
 -- From the lane of a channel these samples were taken, at most so many, and the rest waits behind them.
-pub record Pumped {M : Type 0} (took : List Sample → Type 0) (left : List Sample → List Sample → Type 0) (ends ends' : List Entry → Type 0) (disk : M → Disk) (channel most nodes area : ℕ)
+pub record PumpedLane {M : Type 0} (took : List Sample → Type 0) (left : List Sample → List Sample → Type 0) (ends ends' : List Entry → Type 0) (disk : M → Disk) (channel most nodes area : ℕ)
     (old : Open) (medium : M) (new : Open) (medium' : M) (result : Result ℕ PumpFault) : Type 0 where
   pub samples : List Sample
   pub rest : List Sample
   pub gave : took samples
   pub waits : left samples rest
   pub within : length samples ≤ most
-  pub moved : MatchResult result (Moved ends ends' channel most nodes area samples rest old (disk medium).blocks new (disk medium').blocks) (MovedNone disk ends ends' channel most nodes area samples rest old medium new medium')
+  pub moved : MatchResult result (MovedSamples ends ends' channel most nodes area samples rest old (disk medium).blocks new (disk medium').blocks) (MovedNone disk ends ends' channel most nodes area samples rest old medium new medium')

@@ -1,7 +1,7 @@
 -- What a recorder tells of itself.
 use Rattle.std.specs.Prelude.{ℕ, ◌-◌, List, [], ◌∷◌, length, None, Some}
 use Rattle.std.specs.List.{last_or}
-use Rattle.r10_dirchain.specs.Chain.{files as listed_files}
+use Rattle.r10_dirchain.specs.Chain.{listed_files}
 use Rattle.r10_dirchain.specs.declared.chain.ChainBlock.{ChainBlock}
 use Rattle.r10_volume.specs.Holding.{Open}
 use Rattle.r10_machine.specs.Config.{Config}

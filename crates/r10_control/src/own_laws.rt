@@ -6,7 +6,7 @@ ghost use Rattle.r10_control.specs.Own.{AreOwn, OwnGrow, OwnStay};
 ghost use Rattle.r10_machine.specs.Machine.{Machine};
 ghost use Rattle.r10_machine.specs.SoundParts.{own_files};
 ghost use Rattle.r10_means.specs.Kept.{Kept, failed};
-ghost use Rattle.r10_means.specs.Means.{Means};
+ghost use Rattle.r10_means.specs.Means.{KeptStandsFor};
 ghost use Rattle.r10_medium.specs.Disk.{Image};
 
 /// Where what is kept and the medium stay, the own files have the entries that they had; and of a recorder that failed
@@ -20,5 +20,5 @@ pub fn own_entries_stay()
 /// Of each machine that a recorder stands for, and that has not failed, the entries of the files that it began are the
 /// recorder's own.
 pub fn own_entries_are_meant()
-    ensures { (k : Kept) (image : Image) (failures : ℕ) (m : Machine) → Means k image failures m → (k.work ≡ failed → ⊥) → AreOwn k.work image (flat_map (λ f. f.entries) (own_files m.files)) }
+    ensures { (k : Kept) (image : Image) (failures : ℕ) (m : Machine) → KeptStandsFor k image failures m → (k.work ≡ failed → ⊥) → AreOwn k.work image (flat_map (λ f. f.entries) (own_files m.files)) }
 {}

@@ -38,10 +38,10 @@ pub struct Recorder<M: BlockMedium, L: LaneOut> {
 
 impl<M: BlockMedium, L: LaneOut> Model for Recorder<M, L> {
     ghost use Rattle.r10_control.specs.Owns.{Owns};
-    ghost use Rattle.r10_control.specs.State.{State};
+    ghost use Rattle.r10_control.specs.State.{RecorderState};
     ghost use Rattle.r10_control.specs.Work.{work_of};
 
-    ghost Value = { State M L };
+    ghost Value = { RecorderState M L };
 
     ghost view = { λ r. record {
       kept = record { config = r.settings; work = work_of r.work; tick = r.tick; last_event = r.last_event; generation = r.generation; taken = r.taken.items; erased = r.erased.items };

@@ -2,7 +2,7 @@
 
 ghost use Rattle.std.specs.Prelude.{◌≡◌, ◌-◌, ◌^◌, ◌++◌, ◌∷◌, [], List, Some, length, min, IfErr, IfOk};
 ghost use Rattle.r10_body.specs.declared.refusal.Refusal.TheVariants as refusals;
-ghost use Rattle.r10_volume.specs.Holding.{Holds};
+ghost use Rattle.r10_volume.specs.Holding.{HoldsFiles};
 ghost use Rattle.r10_machine.specs.Machine.{File, Machine};
 ghost use Rattle.r10_machine.specs.Room.{area, area_from, cost_of};
 ghost use Rattle.r10_means.specs.Kept.{mode_of};
@@ -101,7 +101,7 @@ fn free_in(settings: &Settings, work: &Doing) -> u64
 /// The bytes that the file that is recorded has left: from its first block on, without what it costs.
 fn left_in(settings: &Settings, directory: &Directory, file: &OpenFile) -> u64
     ensures value { result ≡ left_in settings.now directory.now file.now }
-    ensures held { (image : Image) (files : List File) (f : File) → Holds settings.now image directory.now (Some file.now) (files ++ f ∷ []) → result ≡ area settings.now f - cost_of f }
+    ensures held { (image : Image) (files : List File) (f : File) → HoldsFiles settings.now image directory.now (Some file.now) (files ++ f ∷ []) → result ≡ area settings.now f - cost_of f }
 {
     match last_file(directory) {
         Some(entry) => area_from(settings, entry.first_block as usize).saturating_sub(file.cost()),

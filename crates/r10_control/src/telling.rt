@@ -1,9 +1,9 @@
 //! The calls that only tell.
 
 ghost use Rattle.std.specs.Prelude.{◌≡◌, map, None, IfErr, IfOk, OnOk};
-ghost use Rattle.r10_control.specs.Checks.{files_of, refusal};
-ghost use Rattle.r10_control.specs.Leading.{Answers, none_taken};
-ghost use Rattle.r10_control.specs.Refused.{Refuses, nothing};
+ghost use Rattle.r10_control.specs.Checks.{files_of, recorder_refusal};
+ghost use Rattle.r10_control.specs.Leading.{CallStepsTaking, none_taken};
+ghost use Rattle.r10_control.specs.Refused.{RefusesCall, nothing_lacks};
 ghost use Rattle.r10_control.specs.Work.{work_of};
 ghost use Rattle.r10_machine.specs.declared.event.Event.TheVariants as events;
 ghost use Rattle.r10_machine.specs.declared.reply.Reply.TheVariants as replies;
@@ -24,9 +24,9 @@ impl<M: BlockMedium, L: LaneOut> Recorder<M, L> {
     /// medium shows it. Refused: Failed, NotMounted, OutOfMemory.
     pub fn files(&self) -> Result<Vec<FileInfo>, Refusal>
         ensures told { IfOk result (λ infos. infos.items ≡ map info_in (files_of self.now.kept.work)) }
-        ensures passed { OnOk result (refusal self.now.kept events.Files ≡ None) }
-        ensures refused { IfErr result (Refuses M.disk (refusal self.now.kept events.Files) nothing self.now.kept self.now.kept self.now.medium self.now.medium) }
-        ensures steps { Answers none_taken self.now.kept (M.disk self.now.medium).blocks (M.disk self.now.medium).failures events.Files (λ infos. replies.Files infos.items) result self.now.kept (M.disk self.now.medium).blocks (M.disk self.now.medium).failures }
+        ensures passed { OnOk result (recorder_refusal self.now.kept events.Files ≡ None) }
+        ensures refused { IfErr result (RefusesCall M.disk (recorder_refusal self.now.kept events.Files) nothing_lacks self.now.kept self.now.kept self.now.medium self.now.medium) }
+        ensures steps { CallStepsTaking none_taken self.now.kept (M.disk self.now.medium).blocks (M.disk self.now.medium).failures events.Files (λ infos. replies.Files infos.items) result self.now.kept (M.disk self.now.medium).blocks (M.disk self.now.medium).failures }
     {
         a_step_stays_sound();
         tellings_are_steps();

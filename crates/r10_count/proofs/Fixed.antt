@@ -3,9 +3,9 @@ use Rattle.std.proofs.Common.{◌≡◌, ℕ, zero, suc, ◌*◌, Some, List, []
 use Rattle.std.proofs.lemmas.List.{length-drop, length-take-le, take-append-drop}
 use Rattle.std.proofs.Math.Nat.{suc-mul, zero-mul}
 use Rattle.std.specs.List.{concat, AllByRecursion}
-use Rattle.r10_count.specs.Form.{IsEntry}
+use Rattle.r10_count.specs.Form.{IsEntryBytes}
 
-pub fixed_length : (size : ℕ) (parts : List (List ℕ)) → AllByRecursion (IsEntry size (λ front. Some size)) parts → length (concat parts) ≡ length parts * size
+pub fixed_length : (size : ℕ) (parts : List (List ℕ)) → AllByRecursion (IsEntryBytes size (λ front. Some size)) parts → length (concat parts) ≡ length parts * size
 fixed_length size [] h = sym (zero-mul size)
 fixed_length size (part ∷ parts) h =
     let is : Some size ≡ Some (length part) = h.0.1 in
@@ -13,7 +13,7 @@ fixed_length size (part ∷ parts) h =
     length-append part (concat parts) ∙ omega (arith, n, fixed_length size parts h.1, suc-mul (length parts) size)
 
 -- bytes of the length of so many entries are so many
-pub fixed_parts : (size n : ℕ) (bytes : List ℕ) → length bytes ≡ n * size → (parts : List (List ℕ)) × AllByRecursion (IsEntry size (λ front. Some size)) parts × (length parts ≡ n) × (bytes ≡ concat parts)
+pub fixed_parts : (size n : ℕ) (bytes : List ℕ) → length bytes ≡ n * size → (parts : List (List ℕ)) × AllByRecursion (IsEntryBytes size (λ front. Some size)) parts × (length parts ≡ n) × (bytes ≡ concat parts)
 fixed_parts size zero [] e = ([], tt, refl, refl)
 fixed_parts size zero (b ∷ bytes) e = absurd (omega (arith, e, zero-mul size))
 fixed_parts size (suc n) bytes e =

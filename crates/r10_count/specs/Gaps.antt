@@ -2,7 +2,7 @@
 use Rattle.std.specs.Prelude.{◌≡◌, ◌+◌, ◌-◌, ◌*◌, ◌%◌, ◌^◌, ◌<◌, ◌≤◌, ◌==◌, ℕ, Bool, true, false, cond, Option, Some, None, List, [], ◌∷◌, slice_index, nat_lt, refl}
 use Rattle.std.proofs.Common.{arith, lit<}
 use Rattle.std.proofs.lemmas.Bool.{eq-eqb, lt-ltb}
-use Rattle.r10_count.specs.Form.{Form, IsEntry}
+use Rattle.r10_count.specs.Form.{Form, IsEntryBytes}
 
 -- a byte of 128 or more begins no entry
 abbrev pub told_gap : List ℕ → Option ℕ
@@ -20,7 +20,7 @@ told_one false n e = absurd cc
 pub gap-covers : (front : List ℕ) (n : ℕ) → told_gap front ≡ Some n → 1 ≤ n
 gap-covers front n e = told_one (nat_lt (slice_index front 0) 128) n e
 
-pub gap-tells : (before count : ℕ) → FitsGap before count → IsEntry 1 told_gap ((count - before) ∷ [])
+pub gap-tells : (before count : ℕ) → FitsGap before count → IsEntryBytes 1 told_gap ((count - before) ∷ [])
 gap-tells before count fits = (lit< tt, rw (lt-ltb (count - before) 128 (omega arith)) refl)
 
 pub gap-one : (before count other : ℕ) → FitsGap before count → FitsGap before other → (count - before) ∷ [] ≡ (other - before) ∷ [] → count ≡ other

@@ -16,8 +16,8 @@ stamp-last = refl
 abbrev bytes : List ℕ
 bytes = 0x25 ∷ 0xEB ∷ 0x05 ∷ 0x00 ∷ 0x38 ∷ 0x00 ∷ 0x00 ∷ 0x80 ∷ 0x09 ∷ []
 
-pub numbers : le_bytes 2 0xEB25 ∷ le_bytes 4 0x0005_EB25 ∷ [] ≡ (0x25 ∷ 0xEB ∷ []) ∷ (0x25 ∷ 0xEB ∷ 0x05 ∷ 0x00 ∷ []) ∷ []
-numbers = refl
+pub some_numbers : le_bytes 2 0xEB25 ∷ le_bytes 4 0x0005_EB25 ∷ [] ≡ (0x25 ∷ 0xEB ∷ []) ∷ (0x25 ∷ 0xEB ∷ 0x05 ∷ 0x00 ∷ []) ∷ []
+some_numbers = refl
 
 pub numbers_at : u16_at bytes 1 ∷ u32_at bytes 4 ∷ u64_at bytes 0 ∷ [] ≡ 0x05EB ∷ 0x8000_0038 ∷ 0x8000_0038_0005_EB25 ∷ []
 numbers_at = refl
@@ -81,12 +81,12 @@ over_midnight = refl
 pub name_bytes : map is_name_byte (0x2F ∷ 0x30 ∷ 0x39 ∷ 0x3A ∷ 0x40 ∷ 0x41 ∷ 0x5A ∷ 0x5B ∷ 0x60 ∷ 0x61 ∷ 0x7A ∷ 0x7B ∷ []) ≡ false ∷ true ∷ true ∷ false ∷ false ∷ true ∷ true ∷ false ∷ false ∷ true ∷ true ∷ false ∷ []
 name_bytes = refl
 
-pub marks : map is_name_byte (0x20 ∷ 0x2D ∷ 0x2E ∷ 0x5F ∷ 0 ∷ 0xFF ∷ []) ≡ false ∷ true ∷ true ∷ true ∷ false ∷ false ∷ []
-marks = refl
+pub name_marks : map is_name_byte (0x20 ∷ 0x2D ∷ 0x2E ∷ 0x5F ∷ 0 ∷ 0xFF ∷ []) ≡ false ∷ true ∷ true ∷ true ∷ false ∷ false ∷ []
+name_marks = refl
 
 -- FLT1, the empty name, and FLT 1
-pub names : map is_name ((0x46 ∷ 0x4C ∷ 0x54 ∷ 0x31 ∷ []) ∷ [] ∷ (0x46 ∷ 0x4C ∷ 0x54 ∷ 0x20 ∷ 0x31 ∷ []) ∷ []) ≡ true ∷ false ∷ false ∷ []
-names = refl
+pub some_names : map is_name ((0x46 ∷ 0x4C ∷ 0x54 ∷ 0x31 ∷ []) ∷ [] ∷ (0x46 ∷ 0x4C ∷ 0x54 ∷ 0x20 ∷ 0x31 ∷ []) ∷ []) ≡ true ∷ false ∷ false ∷ []
+some_names = refl
 
 pub lengths_of_names : map is_name (replicate 56 0x41 ∷ replicate 57 0x41 ∷ []) ≡ true ∷ false ∷ []
 lengths_of_names = refl

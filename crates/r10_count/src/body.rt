@@ -3,7 +3,7 @@
 ghost use Rattle.std.specs.Prelude.{◌≡◌, ◌↔◌, IsTrue, List, IfOk};
 ghost use Rattle.r10_count.specs.Append.{Appends};
 ghost use Rattle.r10_count.specs.Form.{IsBody, IsForeign, FitsAll, OpensAll, SuitsAll, body_bytes};
-ghost use Rattle.r10_count.specs.Reading.{Reads};
+ghost use Rattle.r10_count.specs.Reading.{ReadsBody};
 ghost use Rattle.r10_count.specs.declared.reading.Reading.TheVariants.{Strict};
 
 use crate::entry::BodyEntry;
@@ -51,7 +51,7 @@ pub fn read_body<E: BodyEntry + Drop>(
     counter: u64,
     body: &[u8],
 ) -> Result<Reading<Items<E>>, AllocError>
-    ensures found { IfOk result (Reads (λ entries. IsBody E.form setting counter entries body.now) (IsForeign E.form body.now)) }
+    ensures found { IfOk result (ReadsBody (λ entries. IsBody E.form setting counter entries body.now) (IsForeign E.form body.now)) }
     ensures only { (entries : List E) → IsBody E.form setting counter entries body.now → IfOk result (λ reading. reading ≡ Strict entries) }
 {
     let Some((word, rest)) = split_u32(body) else {

@@ -15,7 +15,7 @@ use Rattle.r10_body.proofs.Lists.{same_behind}
 use Rattle.r10_body.proofs.Rules.{follows_fit}
 use Rattle.r10_packetout.proofs.Closing.{named_length}
 use Rattle.r10_cursor.specs.Shown.{IsShown}
-use Rattle.r10_cursor.specs.Files.{HasPackets}
+use Rattle.r10_cursor.specs.Files.{HasDataPackets}
 
 -- where the bytes of packets begin with those of others, the packets do
 pub packets_front : (ps qs : List Packet) (rest : List ℕ) → AllByRecursion FitsPacket ps → AllByRecursion FitsPacket qs → file_bytes ps ++ rest ≡ file_bytes qs → (more : List Packet) × (qs ≡ ps ++ more)
@@ -39,7 +39,7 @@ shown_front image first short long ps qs within front whole each follow =
 
 -- ---- a file has one list of packets
 
-pub one_had : (bytes : List ℕ) (ps qs : List Packet) → HasPackets bytes ps → HasPackets bytes qs → ps ≡ qs
+pub one_had : (bytes : List ℕ) (ps qs : List Packet) → HasDataPackets bytes ps → HasDataPackets bytes qs → ps ≡ qs
 one_had bytes ps qs p q =
     let all : p.all ≡ q.all = one_file p.all q.all (follows_fit [] p.all p.each) (follows_fit [] q.all q.each) (sym p.bytes_are ∙ q.bytes_are) in
     p.packets_are ∙ ap (filter is_data) all ∙ sym q.packets_are

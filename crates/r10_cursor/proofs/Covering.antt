@@ -8,8 +8,8 @@ use Rattle.r10_machine.specs.Cuts.{Agree}
 use Rattle.r10_machine.proofs.Agreeing.{agree-is, agree-rest}
 use Rattle.r10_machine.proofs.Replays.{replay_by_channels}
 use Rattle.r10_machine.specs.Machine.{File, shown_entries}
-use Rattle.r10_cursor.specs.Replays.{Reading, Advances}
-use Rattle.r10_cursor.specs.Held.{IsCovered, GoesOn}
+use Rattle.r10_cursor.specs.Replays.{Reading, AdvancesReading}
+use Rattle.r10_cursor.specs.Held.{IsCovered, ReadingGoesOn}
 
 -- what a file's later packets say are the entries behind those that are covered
 rest_agrees : (packets : List Packet) (f : File) (k n : ℕ) → Agree (file_entries packets) (shown_entries f) → IsCovered packets f k n → Agree (file_entries (drop k packets)) (drop n (shown_entries f))
@@ -23,8 +23,8 @@ rest_agrees packets f k n agree covered =
     (subst (Agree (file_entries (take k packets))) (sym front) covered.agree)
     (subst (λ (l : List Entry). Agree l (take n shown ++ drop n shown)) split (subst (Agree (file_entries packets)) parts agree))
 
-pub goes_on : (packets : List Packet) (f : File) (n : ℕ) (old new : Reading) → f.shown ≤ length f.entries → Agree (file_entries packets) (shown_entries f) → IsCovered packets f old.covered n → Advances old new packets
-    → GoesOn packets f n old new
+pub goes_on : (packets : List Packet) (f : File) (n : ℕ) (old new : Reading) → f.shown ≤ length f.entries → Agree (file_entries packets) (shown_entries f) → IsCovered packets f old.covered n → AdvancesReading old new packets
+    → ReadingGoesOn packets f n old new
 goes_on packets f n old new inside agree covered advances =
     let all : new.covered ≡ length packets = ap (λ (r : Reading). r.covered) advances.covers in
     let whole : take (length packets) packets ≡ packets = take_all (length packets) packets (omega arith) in

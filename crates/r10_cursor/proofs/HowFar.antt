@@ -8,16 +8,16 @@ use Rattle.r10_blockout.specs.Blocks.{bytes_from}
 use Rattle.r10_body.specs.Packets.{Packet, file_bytes, file_entries}
 use Rattle.r10_body.specs.Rules.{EachFollows, is_data}
 use Rattle.r10_machine.specs.Cuts.{Agree}
-use Rattle.r10_dirblock.specs.declared.entry.Entry.{Entry as Listed}
-use Rattle.r10_dirchain.specs.Chain.{IsDirectory, files as listed_files}
+use Rattle.r10_dirblock.specs.declared.entry.Entry.{Entry as DirectoryEntry}
+use Rattle.r10_dirchain.specs.Chain.{IsDirectory, listed_files}
 use Rattle.r10_dirchain.specs.declared.chain.ChainBlock.{ChainBlock}
 use Rattle.r10_volume.specs.Holding.{IsWritten, Open}
 use Rattle.r10_volume.proofs.Carried.{carried_of}
 use Rattle.r10_machine.specs.Config.{Config}
-use Rattle.r10_machine.specs.Machine.{File, Cursor as Reader, cursor_at, shown_entries}
+use Rattle.r10_machine.specs.Machine.{File, Cursor as MachineCursor, cursor_at, shown_entries}
 use Rattle.r10_cursor.specs.Shown.{IsShown}
 use Rattle.r10_machine.specs.Says.{MediumSays}
-use Rattle.r10_cursor.specs.Files.{HasPackets, ShowsFile, in_writing, in_directory, bytes_in, finished_file}
+use Rattle.r10_cursor.specs.Files.{HasDataPackets, ShowsFile, in_writing, in_directory, bytes_in, finished_file}
 use Rattle.r10_cursor.specs.Held.{IsCovered, IsHeld, IsToldOf}
 use Rattle.r10_cursor.specs.declared.cursor.Cursor.{Cursor}
 use Rattle.r10_cursor.specs.declared.written.Written.{Written}
@@ -25,7 +25,7 @@ use Rattle.r10_cursor.proofs.Said.{listed_by, says_each, same_bytes, found_entry
 use Rattle.r10_cursor.proofs.Writing.{shown}
 use Rattle.r10_cursor.specs.Read.{IsReadTo, HasRead, HaveRead, ShowsMore, ShowMore, KeepsShown, KeepsBytes, GrowsShown, bytes_shown}
 use Rattle.r10_cursor.specs.Staying.{NoneShrinks}
-use Rattle.r10_cursor.specs.Standing.{Matches, Stand, slot_at}
+use Rattle.r10_cursor.specs.Standing.{SlotStandsFor, SlotsStandFor, slot_at}
 use Rattle.r10_cursor.proofs.AlikeFronts.{shown_front, one_had, one_shown, plain}
 
 -- ---- a file that goes on
@@ -89,13 +89,13 @@ file_still s old new files later k count n grown says read = by (slice_get files
         let told = said_packets s new later k next.file says next.at in
         subst (λ (o : Option File). IsSomeAnd o (λ g. IsReadTo new g count n)) (sym next.at) (read_still old new f next.file count n told.0 next.keeps told.1 told.2 one)
 
-cursor_still : (s : Config) (old new : Image) (files later : List File) (generation : ℕ) (slot : Option Cursor) (cursor : Option Reader) → GrowsShown old new files later → MediumSays s new later
+cursor_still : (s : Config) (old new : Image) (files later : List File) (generation : ℕ) (slot : Option Cursor) (cursor : Option MachineCursor) → GrowsShown old new files later → MediumSays s new later
     → HasRead old files generation slot cursor → HasRead new later generation slot cursor
 cursor_still s old new files later generation (Some c) (Some m) grown says read = λ now. file_still s old new files later c.file c.reading.covered m.covered grown says (read now)
 cursor_still s old new files later generation (Some c) None grown says read = tt
 cursor_still s old new files later generation None cursor grown says read = tt
 
-pub grown : (s : Config) (old new : Image) (files later : List File) (generation : ℕ) (slots : List (Option Cursor)) (cursors : List (Option Reader)) → HaveRead old files generation slots cursors
+pub grown : (s : Config) (old new : Image) (files later : List File) (generation : ℕ) (slots : List (Option Cursor)) (cursors : List (Option MachineCursor)) → HaveRead old files generation slots cursors
     → GrowsShown old new files later → MediumSays s new later → HaveRead new later generation slots cursors
 grown s old new files later generation slots cursors read grows says = record {
   each = λ id. cursor_still s old new files later generation (slot_at slots id) (cursor_at cursors id) grows says (read.each id);
@@ -103,13 +103,13 @@ grown s old new files later generation slots cursors read grows says = record {
 
 -- ---- a new generation
 
-past : (image : Image) (files : List File) (before generation : ℕ) (slot : Option Cursor) (cursor : Option Reader) → Matches slot cursor → IfSome cursor (λ m. m.generation ≤ before) → before < generation
+past : (image : Image) (files : List File) (before generation : ℕ) (slot : Option Cursor) (cursor : Option MachineCursor) → SlotStandsFor slot cursor → IfSome cursor (λ m. m.generation ≤ before) → before < generation
     → HasRead image files generation slot cursor
 past image files before generation (Some c) (Some m) stands earlier later = λ now. absurd (omega (arith, now, stands.generation, earlier, later))
 past image files before generation (Some c) None stands earlier later = tt
 past image files before generation None cursor stands earlier later = tt
 
-pub begun_anew : (image : Image) (files : List File) (before generation : ℕ) (slots : List (Option Cursor)) (cursors : List (Option Reader)) → Stand slots cursors
+pub begun_anew : (image : Image) (files : List File) (before generation : ℕ) (slots : List (Option Cursor)) (cursors : List (Option MachineCursor)) → SlotsStandFor slots cursors
     → ((id : ℕ) → IfSome (cursor_at cursors id) (λ m. m.generation ≤ before)) → before < generation → HaveRead image files generation slots cursors
 begun_anew image files before generation slots cursors stand earlier later = record {
   each = λ id. past image files before generation (slot_at slots id) (cursor_at cursors id) (stand.each id) (earlier id) later;
@@ -118,7 +118,7 @@ begun_anew image files before generation slots cursors stand earlier later = rec
 pub nothing : (image : Image) (files : List File) (generation : ℕ) → HaveRead image files generation [] []
 nothing image files generation = record { each = λ id. tt }
 
-pub none_stand : Stand [] []
+pub none_stand : SlotsStandFor [] []
 none_stand = record { each = λ id. tt }
 
 -- ---- what is shown stays
@@ -158,30 +158,30 @@ grows old new (f ∷ files) (g ∷ later) more none bytes = (record { more = mor
 
 -- ---- the packets by which a file is read
 
-covered_so : (image : Image) (f : File) (count n : ℕ) (packets : List Packet) → HasPackets (bytes_shown image f) packets → IsReadTo image f count n → HasPackets (bytes_shown image f) packets × IsCovered packets f count n
+covered_so : (image : Image) (f : File) (count n : ℕ) (packets : List Packet) → HasDataPackets (bytes_shown image f) packets → IsReadTo image f count n → HasDataPackets (bytes_shown image f) packets × IsCovered packets f count n
 covered_so image f count n packets has read =
     (has, subst (λ (l : List Packet). IsCovered l f count n) (one_had (bytes_shown image f) read.packets packets read.has has) read.covered)
 
 pub listed : (s : Config) (image : Image) (machine : List File) (chain : List ChainBlock) (written : Option Written) (file : ℕ) (f : File) (count n : ℕ) → MediumSays s image machine → IsDirectory image chain
     → IfSome written (λ w. file < w.file) → slice_get machine file ≡ Some f → (held : IsHeld image chain written file f) → IsReadTo image f count n
-    → HasPackets (bytes_shown image f) held.packets × IsCovered held.packets f count n
+    → HasDataPackets (bytes_shown image f) held.packets × IsCovered held.packets f count n
 listed s image machine chain written file f count n says directory before at held read = covered_so image f count n held.packets (by held.shows) read
   where
-    one : (e d : Listed) → finished_file written chain file ≡ Some e → finished_file written chain file ≡ Some d → e ≡ d
+    one : (e d : DirectoryEntry) → finished_file written chain file ≡ Some e → finished_file written chain file ≡ Some d → e ≡ d
     one e d first second = let both : Some e ≡ Some d = sym first ∙ second in cc
 
-    by : ShowsFile image chain written file held.packets → HasPackets (bytes_shown image f) held.packets
+    by : ShowsFile image chain written file held.packets → HasDataPackets (bytes_shown image f) held.packets
     by (in_writing w is number shows) = absurd (omega (arith, number, (let less : IfSome (Some w) (λ (w : Written). file < w.file) = subst (λ (o : Option Written). IfSome o (λ w. file < w.file)) is before in less)))
     by (in_directory e found has) =
         let entry = listed_by image (listed_files chain) machine file f (says_each s image machine chain says directory) at in
         let here : e ≡ entry.0 = one e entry.0 found (found_entry written chain file entry.0 before entry.1) in
-        subst (λ (l : List ℕ). HasPackets l held.packets) (ap (bytes_in image) here ∙ sym (same_bytes image entry.0 f entry.2.lists)) has
+        subst (λ (l : List ℕ). HasDataPackets l held.packets) (ap (bytes_in image) here ∙ sym (same_bytes image entry.0 f entry.2.lists)) has
 
 pub written : (s : Config) (image : Image) (chain : List ChainBlock) (o : Open) (f : File) (w : Written) (count n : ℕ) → IsWritten s image o f → IsToldOf o w → (held : IsHeld image chain (Some w) w.file f)
-    → IsReadTo image f count n → HasPackets (bytes_shown image f) held.packets × IsCovered held.packets f count n
+    → IsReadTo image f count n → HasDataPackets (bytes_shown image f) held.packets × IsCovered held.packets f count n
 written s image chain o f w count n is told held read = covered_so image f count n held.packets (by held.shows) read
   where
-    had : HasPackets (bytes_shown image f) (take o.shown is.carries.packets)
+    had : HasDataPackets (bytes_shown image f) (take o.shown is.carries.packets)
     had =
         let packets = is.carries.packets in
         let long : length (file_bytes (take o.shown packets)) ≡ f.size = sym (is.cut.size_is ∙ ap (λ (k : ℕ). length (file_bytes (take k packets))) is.shown) in
@@ -193,14 +193,14 @@ written s image chain o f w count n is told held read = covered_so image f count
           packets_are = sym (plain o.shown packets is.carries.says.packed.growing.unindexed);
         }
 
-    by : ShowsFile image chain (Some w) w.file held.packets → HasPackets (bytes_shown image f) held.packets
+    by : ShowsFile image chain (Some w) w.file held.packets → HasDataPackets (bytes_shown image f) held.packets
     by (in_writing v same number shows) =
         let here : v ≡ w = cc (same) in
         let known : IsShown image w.first w.named.now held.packets = subst (λ (x : Written). IsShown image x.first x.named.now held.packets) here shows.shown in
-        subst (HasPackets (bytes_shown image f)) (one_shown image w.first w.named.now (take o.shown is.carries.packets) held.packets (shown image o f.setup f.entries w (carried_of s image o f is) told).shown known) had
+        subst (HasDataPackets (bytes_shown image f)) (one_shown image w.first w.named.now (take o.shown is.carries.packets) held.packets (shown image o f.setup f.entries w (carried_of s image o f is) told).shown known) had
     by (in_directory e found has) = absurd (beyond w.file (listed_files chain) e found)
       where
-        beyond : (k : ℕ) (entries : List Listed) (e : Listed) → slice_get (take k entries) k ≡ Some e → ⊥
+        beyond : (k : ℕ) (entries : List DirectoryEntry) (e : DirectoryEntry) → slice_get (take k entries) k ≡ Some e → ⊥
         beyond zero entries e found = absurd (cc (found))
         beyond (suc k) [] e found = absurd (cc (found))
         beyond (suc k) (x ∷ entries) e found = beyond k entries e found

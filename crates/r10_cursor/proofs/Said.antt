@@ -6,8 +6,8 @@ use Rattle.std.proofs.lemmas.List.{take_all}
 use Rattle.r10_medium.specs.Disk.{Image}
 use Rattle.r10_blockout.specs.Blocks.{bytes_from}
 use Rattle.r10_dirblock.specs.Block.{is_closed}
-use Rattle.r10_dirblock.specs.declared.entry.Entry.{Entry as Listed}
-use Rattle.r10_dirchain.specs.Chain.{IsDirectory, files}
+use Rattle.r10_dirblock.specs.declared.entry.Entry.{Entry as DirectoryEntry}
+use Rattle.r10_dirchain.specs.Chain.{IsDirectory, listed_files}
 use Rattle.r10_dirchain.specs.declared.chain.ChainBlock.{ChainBlock}
 use Rattle.r10_dirchain.proofs.Unique.{one_directory}
 use Rattle.r10_body.specs.Content.{Content, setup, time, event, uart, bus, arinc, discrete, message, node, root}
@@ -35,19 +35,19 @@ use Rattle.r10_cursor.proofs.Times.{same_ticks}
 
 -- ---- the file of an entry, and the entry of a file
 
-pub record IsSaid (image : Image) (e : Listed) (f : File) : Type 0 where
+pub record IsSaid (image : Image) (e : DirectoryEntry) (f : File) : Type 0 where
   pub lists : Lists f e
   pub says : SaysFile image f
 
-said_by : (image : Image) (entries : List Listed) (fs : List File) (k : ℕ) (e : Listed) → SaysEach image entries fs → slice_get entries k ≡ Some e → (f : File) × IsSaid image e f
+said_by : (image : Image) (entries : List DirectoryEntry) (fs : List File) (k : ℕ) (e : DirectoryEntry) → SaysEach image entries fs → slice_get entries k ≡ Some e → (f : File) × IsSaid image e f
 said_by image [] fs k e each at = absurd (cc (at))
 said_by image (d ∷ entries) [] k e each at = absurd each
 said_by image (d ∷ entries) (f ∷ fs) zero e each at =
     let same : d ≡ e = cc (at) in
-    (f, subst (λ (x : Listed). IsSaid image x f) same (record { lists = each.0; says = each.1 }))
+    (f, subst (λ (x : DirectoryEntry). IsSaid image x f) same (record { lists = each.0; says = each.1 }))
 said_by image (d ∷ entries) (f ∷ fs) (suc k) e each at = said_by image entries fs k e each.2 at
 
-pub listed_by : (image : Image) (entries : List Listed) (fs : List File) (k : ℕ) (f : File) → SaysEach image entries fs → slice_get fs k ≡ Some f → (e : Listed) × (slice_get entries k ≡ Some e) × IsSaid image e f
+pub listed_by : (image : Image) (entries : List DirectoryEntry) (fs : List File) (k : ℕ) (f : File) → SaysEach image entries fs → slice_get fs k ≡ Some f → (e : DirectoryEntry) × (slice_get entries k ≡ Some e) × IsSaid image e f
 listed_by image entries [] k f each at = absurd (cc (at))
 listed_by image [] (g ∷ fs) k f each at = absurd each
 listed_by image (e ∷ entries) (g ∷ fs) zero f each at =
@@ -56,17 +56,17 @@ listed_by image (e ∷ entries) (g ∷ fs) zero f each at =
 listed_by image (e ∷ entries) (g ∷ fs) (suc k) f each at = listed_by image entries fs k f each.2 at
 
 -- the medium's directory is the one that is known
-pub says_each : (s : Config) (image : Image) (fs : List File) (chain : List ChainBlock) → MediumSays s image fs → IsDirectory image chain → SaysEach image (files chain) fs
-says_each s image fs chain says directory = subst (λ (c : List ChainBlock). SaysEach image (files c) fs) (one_directory image says.chain chain says.directory directory) says.each
+pub says_each : (s : Config) (image : Image) (fs : List File) (chain : List ChainBlock) → MediumSays s image fs → IsDirectory image chain → SaysEach image (listed_files chain) fs
+says_each s image fs chain says directory = subst (λ (c : List ChainBlock). SaysEach image (listed_files c) fs) (one_directory image says.chain chain says.directory directory) says.each
 
 -- the bytes by the entry are those by the file
-pub same_bytes : (image : Image) (e : Listed) (f : File) → Lists f e → bytes_from image f.first_block f.size ≡ bytes_in image e
+pub same_bytes : (image : Image) (e : DirectoryEntry) (f : File) → Lists f e → bytes_from image f.first_block f.size ≡ bytes_in image e
 same_bytes image e f lists = ap (λ (n : ℕ). bytes_from image n f.size) (sym lists.first_block) ∙ ap (bytes_from image e.first_block) (sym lists.size)
 
-pub not_at_fault : (s : Config) (image : Image) (fs : List File) (chain : List ChainBlock) (file : ℕ) (e : Listed) (offset : ℕ) (fault : FileFault) → MediumSays s image fs → IsDirectory image chain
-    → slice_get (files chain) file ≡ Some e → IsAtFault (bytes_in image e) (is_closed e) offset fault → ⊥
+pub not_at_fault : (s : Config) (image : Image) (fs : List File) (chain : List ChainBlock) (file : ℕ) (e : DirectoryEntry) (offset : ℕ) (fault : FileFault) → MediumSays s image fs → IsDirectory image chain
+    → slice_get (listed_files chain) file ≡ Some e → IsAtFault (bytes_in image e) (is_closed e) offset fault → ⊥
 not_at_fault s image fs chain file e offset fault says directory at wrong =
-    let said = said_by image (files chain) fs file e (says_each s image fs chain says directory) at in
+    let said = said_by image (listed_files chain) fs file e (says_each s image fs chain says directory) at in
     let f = said.0 in
     let is = said.1 in
     let strict : SaysClosed (bytes_in image e) f.closed = subst (λ (l : List ℕ). SaysClosed l f.closed) (same_bytes image e f is.lists) (f.setup, shown_entries f, is.says.says) in
@@ -103,12 +103,12 @@ data_entries (p ∷ ps) = by (is_index p) refl (data_entries ps)
 -- ---- what is held
 
 -- the file of a number, and its directory entry, where it isn't being written
-pub found_entry : (written : Option Written) (chain : List ChainBlock) (file : ℕ) (e : Listed) → IfSome written (λ w. file < w.file) → slice_get (files chain) file ≡ Some e → finished_file written chain file ≡ Some e
+pub found_entry : (written : Option Written) (chain : List ChainBlock) (file : ℕ) (e : DirectoryEntry) → IfSome written (λ w. file < w.file) → slice_get (listed_files chain) file ≡ Some e → finished_file written chain file ≡ Some e
 found_entry None chain file e before at = at
-found_entry (Some w) chain file e before at = among_first (files chain) w.file file before ∙ at
+found_entry (Some w) chain file e before at = among_first (listed_files chain) w.file file before ∙ at
 
 -- a file that is said is held, where its packets have its times
-held_by : (image : Image) (chain : List ChainBlock) (written : Option Written) (file : ℕ) (e : Listed) (f : File) → finished_file written chain file ≡ Some e → (is : IsSaid image e f) → f.shown ≤ length f.entries
+held_by : (image : Image) (chain : List ChainBlock) (written : Option Written) (file : ℕ) (e : DirectoryEntry) (f : File) → finished_file written chain file ≡ Some e → (is : IsSaid image e f) → f.shown ≤ length f.entries
     → ticks_of (file_entries is.says.says.0) ≡ ticks_of (shown_entries f) → IsHeld image chain written file f
 held_by image chain written file e f found is inside ticks =
     let packets = is.says.says.0 in
@@ -125,7 +125,7 @@ held_by image chain written file e f found is inside ticks =
 pub found_held : (s : Config) (image : Image) (fs : List File) (chain : List ChainBlock) (written : Option Written) (file : ℕ) (f : File) → MediumSays s image fs → IsDirectory image chain
     → IfSome written (λ w. file < w.file) → slice_get fs file ≡ Some f → IsFound image f → IsHeld image chain written file f
 found_held s image fs chain written file f says directory before at is =
-    let listed = listed_by image (files chain) fs file f (says_each s image fs chain says directory) at in
+    let listed = listed_by image (listed_files chain) fs file f (says_each s image fs chain says directory) at in
     let e = listed.0 in
     let said = listed.2 in
     let all = said.says.says.0 in
@@ -136,7 +136,7 @@ found_held s image fs chain written file f says directory before at is =
 pub own_held : (s : Config) (image : Image) (fs : List File) (chain : List ChainBlock) (written : Option Written) (file : ℕ) (f : File) → MediumSays s image fs → IsDirectory image chain
     → IfSome written (λ w. file < w.file) → slice_get fs file ≡ Some f → f.shown ≤ length f.entries → AllByRecursion (IsEntry s) f.entries → IsHeld image chain written file f
 own_held s image fs chain written file f says directory before at inside entries =
-    let listed = listed_by image (files chain) fs file f (says_each s image fs chain says directory) at in
+    let listed = listed_by image (listed_files chain) fs file f (says_each s image fs chain says directory) at in
     let e = listed.0 in
     let said = listed.2 in
     held_by image chain written file e f (found_entry written chain file e before listed.1) said inside (same_ticks s (file_entries said.says.says.0) f.shown f.entries (record { on = said.says.says.2.entries_are }) entries)

@@ -9,16 +9,16 @@ use Rattle.r10_body.specs.declared.entry.Entry.{Entry}
 use Rattle.r10_body.specs.declared.refusal.Refusal.{Refusal}
 use Rattle.r10_body.specs.declared.refusal.Refusal.TheVariants.{Medium, OutOfMemory}
 use Rattle.r10_machine.specs.Config.{Config}
-use Rattle.r10_machine.specs.Machine.{Machine, File, Cursor as Reader, SetsCursor, cursor_at, cursor_of, lane_of, with_lane, with_entries, change_last, last_size, waiting_entries, shown_entries}
+use Rattle.r10_machine.specs.Machine.{Machine, File, Cursor as MachineCursor, SetsCursor, cursor_at, cursor_of, lane_of, with_lane, with_entries, change_last, last_size, waiting_entries, shown_entries}
 use Rattle.r10_machine.specs.Room.{fits}
 use Rattle.r10_machine.specs.Checks.{is_recording, offer_checks}
 use Rattle.r10_machine.specs.Calls.{TicksIn, closed_whole, overflowed, shown_whole, all_waiting, time_entry}
 use Rattle.r10_machine.specs.SoundParts.{IsSoundCursor}
 use Rattle.r10_machine.specs.Needs.{shown_part}
 use Rattle.r10_medium.specs.Disk.{Image}
-use Rattle.r10_machine.specs.declared.event.Event.{Event as Asked}
+use Rattle.r10_machine.specs.declared.event.Event.{Event as EventValue}
 use Rattle.r10_machine.specs.declared.event.Event.TheVariants.{Mount, Dismount, Tick, Start, Offer, Pump, Event, Commit, Stop, Seal, Erase, Files, Status, Cursor, Advance, Next, Close, Find, CountAt}
-use Rattle.r10_machine.specs.declared.reply.Reply.{Reply as Answered}
+use Rattle.r10_machine.specs.declared.reply.Reply.{Reply as ReplyValue}
 use Rattle.r10_machine.specs.declared.reply.Reply.TheVariants as replies
 use Rattle.r10_machine.specs.ControlCalls.{closed_in, event_entry}
 use Rattle.r10_machine.specs.EventChecks.{refusal}
@@ -26,10 +26,10 @@ use Rattle.r10_machine.specs.Says.{MediumSays}
 use Rattle.r10_machine.specs.Sound.{IsSound}
 use Rattle.r10_machine.specs.Step.{Does, FailsIn, GivesUp, Refuses, Replies, Step, after_refusal}
 use Rattle.r10_machine.proofs.Grown.{last_of}
-use Rattle.r10_cursor.specs.declared.cursor.Cursor.{Cursor as Slot}
+use Rattle.r10_cursor.specs.declared.cursor.Cursor.{Cursor as CursorValue}
 use Rattle.r10_cursor.specs.Read.{HaveRead, KeepsBytes, ShowsMore, ShowMore}
 use Rattle.r10_cursor.specs.Staying.{NoneShrinks}
-use Rattle.r10_cursor.specs.Standing.{Stand}
+use Rattle.r10_cursor.specs.Standing.{SlotsStandFor}
 use Rattle.r10_cursor.proofs.HowFar.{begun_anew, grown, grows, still}
 
 all_still : (files : List File) → ShowMore files files
@@ -42,7 +42,7 @@ same_files old new same = subst (ShowMore old.files) (sym same) (all_still old.f
 same_all : (old new : Machine) → new ≡ old → ShowMore old.files new.files
 same_all old new is = same_files old new (ap (λ (m : Machine). m.files) is)
 
-same_but_cursor : (old new : Machine) (id : ℕ) (cursor : Option Reader) → SetsCursor old new id cursor → ShowMore old.files new.files
+same_but_cursor : (old new : Machine) (id : ℕ) (cursor : Option MachineCursor) → SetsCursor old new id cursor → ShowMore old.files new.files
 same_but_cursor old new id cursor (sets, is) = same_files old new (ap (λ (m : Machine). m.files) is)
 
 one_behind : (files : List File) (g : File) → ShowMore files (files ++ g ∷ [])
@@ -87,7 +87,7 @@ commits_more old new size inside same = by (last_or None old.files) refl
     by None last = same_files old new (same ∙ none old.files last)
     by (Some f) last = last_file_changed old new (shown_whole size) f last same (now_shown f size (inside_last old.files f inside last))
 
-does_more : (s : Config) (old : Machine) (event : Asked) (reply : Answered) (new : Machine) → AllByRecursion (λ f. f.shown ≤ length f.entries) old.files → Does s old event reply new → new.generation ≡ old.generation
+does_more : (s : Config) (old : Machine) (event : EventValue) (reply : ReplyValue) (new : Machine) → AllByRecursion (λ f. f.shown ≤ length f.entries) old.files → Does s old event reply new → new.generation ≡ old.generation
     → ShowMore old.files new.files
 does_more s old Mount replies.Done new inside is again = same_files old new (ap (λ (m : Machine). m.files) is)
 does_more s old Dismount replies.Done new inside is again = same_files old new (ap (λ (m : Machine). m.files) is)
@@ -152,7 +152,7 @@ parts_more (f ∷ olds) (e ∷ ends) (n ∷ news) more same =
     let rest : map shown_part news ≡ map shown_part ends = cc in
     (part_more f e n more.0 here, parts_more olds ends news more.1 rest)
 
-fails_more : (s : Config) (old : Machine) (event : Asked) (new : Machine) → AllByRecursion (λ f. f.shown ≤ length f.entries) old.files → FailsIn s old event new → new.generation ≡ old.generation → ShowMore old.files new.files
+fails_more : (s : Config) (old : Machine) (event : EventValue) (new : Machine) → AllByRecursion (λ f. f.shown ≤ length f.entries) old.files → FailsIn s old event new → new.generation ≡ old.generation → ShowMore old.files new.files
 fails_more s old event new inside fails again =
     let end = fails.end in
     let same : end.generation ≡ old.generation = sym (ap (λ (m : Machine). m.generation) fails.rest) ∙ again in
@@ -161,7 +161,7 @@ fails_more s old event new inside fails again =
 
 -- ---- steps
 
-refused_same : (event : Asked) (m : Machine) → (after_refusal event m).files ≡ m.files
+refused_same : (event : EventValue) (m : Machine) → (after_refusal event m).files ≡ m.files
 refused_same Mount m = refl
 refused_same Dismount m = refl
 refused_same (Tick count parts) m = refl
@@ -186,13 +186,13 @@ refused_same (Close id) m = refl
 refused_same (Find file channel count) m = refl
 refused_same (CountAt file parts) m = refl
 
-gives_up_more : (s : Config) (before : ℕ) (old : Machine) (event : Asked) (r : Refusal) (new : Machine) → AllByRecursion (λ f. f.shown ≤ length f.entries) old.files → GivesUp s before old event r new
+gives_up_more : (s : Config) (before : ℕ) (old : Machine) (event : EventValue) (r : Refusal) (new : Machine) → AllByRecursion (λ f. f.shown ≤ length f.entries) old.files → GivesUp s before old event r new
     → new.generation ≡ old.generation → ShowMore old.files new.files
 gives_up_more s before old event Medium new inside (uses, room, rose, fails) again = fails_more s old event new inside fails again
 gives_up_more s before old event OutOfMemory new inside (asks, room, is) again = same_all old new is
 gives_up_more s before old event r new inside given again = same_all old new given.1
 
-replies_more : (s : Config) (before : ℕ) (old : Machine) (event : Asked) (reply : Answered) (new : Machine) → AllByRecursion (λ f. f.shown ≤ length f.entries) old.files → Replies s before old event reply new
+replies_more : (s : Config) (before : ℕ) (old : Machine) (event : EventValue) (reply : ReplyValue) (new : Machine) → AllByRecursion (λ f. f.shown ≤ length f.entries) old.files → Replies s before old event reply new
     → new.generation ≡ old.generation → ShowMore old.files new.files
 replies_more s before old event (replies.Refused r) new inside refuses again = by (refusal s old event) refuses
   where
@@ -201,13 +201,13 @@ replies_more s before old event (replies.Refused r) new inside refuses again = b
     by (Some first) (same, after) = same_files old new (ap (λ (m : Machine). m.files) after ∙ refused_same event old)
 replies_more s before old event reply new inside (fine, does) again = does_more s old event reply new inside does again
 
-pub step_more : (s : Config) (old : Machine) (event : Asked) (reply : Answered) (new : Machine) → AllByRecursion (λ f. f.shown ≤ length f.entries) old.files → Step s old event reply new
+pub step_more : (s : Config) (old : Machine) (event : EventValue) (reply : ReplyValue) (new : Machine) → AllByRecursion (λ f. f.shown ≤ length f.entries) old.files → Step s old event reply new
     → new.generation ≡ old.generation → ShowMore old.files new.files
 step_more s old event reply new inside (more, replied) again = replies_more s old.failures (record old { failures = new.failures }) event reply new inside replied again
 
 -- ---- generations
 
-does_later : (s : Config) (old : Machine) (event : Asked) (reply : Answered) (new : Machine) → Does s old event reply new → old.generation ≤ new.generation
+does_later : (s : Config) (old : Machine) (event : EventValue) (reply : ReplyValue) (new : Machine) → Does s old event reply new → old.generation ≤ new.generation
 does_later s old Mount replies.Done new is = omega (arith, ap (λ (m : Machine). m.generation) is)
 does_later s old Dismount replies.Done new is = omega (arith, ap (λ (m : Machine). m.generation) is)
 does_later s old (Tick count parts) replies.Done new does = by (is_recording old.mode) does
@@ -237,13 +237,13 @@ does_later s old (Find file channel count) (replies.Found answer) new (told, is)
 does_later s old (CountAt file parts) (replies.CountAt answer) new (told, is) = omega (arith, ap (λ (m : Machine). m.generation) is)
 does_later s old event reply new does = absurd does
 
-fails_later : (s : Config) (old : Machine) (event : Asked) (new : Machine) → FailsIn s old event new → old.generation ≤ new.generation
+fails_later : (s : Config) (old : Machine) (event : EventValue) (new : Machine) → FailsIn s old event new → old.generation ≤ new.generation
 fails_later s old event new fails =
     let end = fails.end in
     let first : old.generation ≤ end.generation = elim fails.either [ inl is ↦ omega (arith, ap (λ (m : Machine). m.generation) is) | inr done ↦ does_later s old event done.0 end done.1 ] in
     omega (arith, first, ap (λ (m : Machine). m.generation) fails.rest)
 
-refused_generation : (event : Asked) (m : Machine) → (after_refusal event m).generation ≡ m.generation
+refused_generation : (event : EventValue) (m : Machine) → (after_refusal event m).generation ≡ m.generation
 refused_generation Mount m = refl
 refused_generation Dismount m = refl
 refused_generation (Tick count parts) m = refl
@@ -268,12 +268,12 @@ refused_generation (Close id) m = refl
 refused_generation (Find file channel count) m = refl
 refused_generation (CountAt file parts) m = refl
 
-gives_up_later : (s : Config) (before : ℕ) (old : Machine) (event : Asked) (r : Refusal) (new : Machine) → GivesUp s before old event r new → old.generation ≤ new.generation
+gives_up_later : (s : Config) (before : ℕ) (old : Machine) (event : EventValue) (r : Refusal) (new : Machine) → GivesUp s before old event r new → old.generation ≤ new.generation
 gives_up_later s before old event Medium new (uses, room, rose, fails) = fails_later s old event new fails
 gives_up_later s before old event OutOfMemory new (asks, room, is) = omega (arith, ap (λ (m : Machine). m.generation) is)
 gives_up_later s before old event r new given = omega (arith, ap (λ (m : Machine). m.generation) given.1)
 
-replies_later : (s : Config) (before : ℕ) (old : Machine) (event : Asked) (reply : Answered) (new : Machine) → Replies s before old event reply new → old.generation ≤ new.generation
+replies_later : (s : Config) (before : ℕ) (old : Machine) (event : EventValue) (reply : ReplyValue) (new : Machine) → Replies s before old event reply new → old.generation ≤ new.generation
 replies_later s before old event (replies.Refused r) new refuses = by (refusal s old event) refuses
   where
     by : (o : Option Refusal) → Refuses o s before old event r new → old.generation ≤ new.generation
@@ -281,7 +281,7 @@ replies_later s before old event (replies.Refused r) new refuses = by (refusal s
     by (Some first) (same, after) = omega (arith, ap (λ (m : Machine). m.generation) after, refused_generation event old)
 replies_later s before old event reply new (fine, does) = does_later s old event reply new does
 
-pub step_later : (s : Config) (old : Machine) (event : Asked) (reply : Answered) (new : Machine) → Step s old event reply new → old.generation ≤ new.generation
+pub step_later : (s : Config) (old : Machine) (event : EventValue) (reply : ReplyValue) (new : Machine) → Step s old event reply new → old.generation ≤ new.generation
 step_later s old event reply new (more, replied) = replies_later s old.failures (record old { failures = new.failures }) event reply new replied
 
 -- ---- the cursors of a machine that takes a step of another kind
@@ -289,15 +289,15 @@ step_later s old event reply new (more, replied) = replies_later s old.failures 
 generations_before : (s : Config) (m : Machine) → IsSound s m → (id : ℕ) → IfSome (cursor_at m.cursors id) (λ c. c.generation ≤ m.generation)
 generations_before s m sound id = by (cursor_at m.cursors id) (sound.cursors id)
   where
-    by : (o : Option Reader) → IfSome o (IsSoundCursor m) → IfSome o (λ c. c.generation ≤ m.generation)
+    by : (o : Option MachineCursor) → IfSome o (IsSoundCursor m) → IfSome o (λ c. c.generation ≤ m.generation)
     by None sound = tt
     by (Some c) sound = sound.0
 
-pub stays : (s : Config) (old new : Image) (m later : Machine) (event : Asked) (reply : Answered) (slots : List (Option Slot)) → IsSound s m → Step s m event reply later → later.cursors ≡ m.cursors → MediumSays s new later.files
-    → (later.generation ≡ m.generation → NoneShrinks m.files later.files × KeepsBytes old new m.files) → Stand slots m.cursors → HaveRead old m.files m.generation slots m.cursors
-    → Stand slots later.cursors × HaveRead new later.files later.generation slots later.cursors
+pub stays : (s : Config) (old new : Image) (m later : Machine) (event : EventValue) (reply : ReplyValue) (slots : List (Option CursorValue)) → IsSound s m → Step s m event reply later → later.cursors ≡ m.cursors → MediumSays s new later.files
+    → (later.generation ≡ m.generation → NoneShrinks m.files later.files × KeepsBytes old new m.files) → SlotsStandFor slots m.cursors → HaveRead old m.files m.generation slots m.cursors
+    → SlotsStandFor slots later.cursors × HaveRead new later.files later.generation slots later.cursors
 stays s old new m later event reply slots sound step same says keeps stand read =
-    (subst (Stand slots) (sym same) stand, subst (HaveRead new later.files later.generation slots) (sym same) (by (eqb_tells later.generation m.generation)))
+    (subst (SlotsStandFor slots) (sym same) stand, subst (HaveRead new later.files later.generation slots) (sym same) (by (eqb_tells later.generation m.generation)))
   where
     by : ((eqb later.generation m.generation ≡ true) × (later.generation ≡ m.generation)) ⊎ ((eqb later.generation m.generation ≡ false) × (later.generation ≢ m.generation)) → HaveRead new later.files later.generation slots m.cursors
     by (inl (met, again)) =

@@ -5,7 +5,7 @@ use Rattle.std.proofs.lemmas.Bool.{eq-eqb}
 use Rattle.std.proofs.lemmas.List.Elements.{All-from_recursion, recursion_from_All}
 use Rattle.std.proofs.lemmas.List.Sorted.{All-permutation}
 use Rattle.r10_body.specs.Files.{on_channel}
-use Rattle.r10_body.specs.Rules.{entry_on}
+use Rattle.r10_body.specs.Rules.{is_entry_on}
 use Rattle.r10_body.specs.declared.entry.Entry.{Entry}
 use Rattle.r10_body.specs.declared.message.Message.{Message}
 use Rattle.r10_body.specs.declared.message.Message.TheVariants as messages
@@ -37,9 +37,9 @@ unlike e = cc
 
 ticks_on : (t : ℕ) (es : List Entry) → AllByRecursion (IsTimeOn t) es → ticks_of es ≡ ticks_of (on_channel t es)
 ticks_on t [] all = refl
-ticks_on t (e ∷ es) all = by e.message refl (entry_on t e) refl (ticks_on t es all.1)
+ticks_on t (e ∷ es) all = by e.message refl (is_entry_on t e) refl (ticks_on t es all.1)
   where
-    by : (m : Message) → e.message ≡ m → (b : Bool) → entry_on t e ≡ b → ticks_of es ≡ ticks_of (on_channel t es) → ticks_of (e ∷ es) ≡ ticks_of (on_channel t (e ∷ es))
+    by : (m : Message) → e.message ≡ m → (b : Bool) → is_entry_on t e ≡ b → ticks_of es ≡ ticks_of (on_channel t es) → ticks_of (e ∷ es) ≡ ticks_of (on_channel t (e ∷ es))
     by (messages.Uart a b c) at true on rest = rw (on, at) rest
     by (messages.Uart a b c) at false on rest = rw (on, at) rest
     by (messages.Bus1553 a b c) at true on rest = rw (on, at) rest

@@ -8,7 +8,7 @@ use Rattle.r10_blockout.specs.Output.{first_of}
 use Rattle.r10_blockout.proofs.Showing.{shown_length}
 use Rattle.r10_indexbody.specs.declared.entry.NodeEntry.{NodeEntry}
 use Rattle.r10_body.specs.Packets.{Packet, packet_bytes, file_bytes, file_entries}
-use Rattle.r10_body.specs.Rules.{EachFollows, node_entry, node_entries}
+use Rattle.r10_body.specs.Rules.{EachFollows, node_entry_of, node_entries}
 use Rattle.r10_body.specs.declared.entry.Entry.{Entry}
 use Rattle.r10_machine.specs.Cuts.{Agree}
 use Rattle.r10_dirchain.specs.declared.chain.ChainBlock.{ChainBlock}
@@ -17,7 +17,7 @@ use Rattle.r10_volume.proofs.Carried.{carried_of}
 use Rattle.r10_machine.specs.Config.{Config}
 use Rattle.r10_machine.specs.Machine.{File, shown_entries}
 use Rattle.r10_machine.specs.Sound.{IsEntry}
-use Rattle.r10_index.specs.Counted.{IsBookOf, IsCounted}
+use Rattle.r10_index.specs.Counted.{IsBookOf, CountsEntriesUpTo}
 use Rattle.r10_cursor.specs.Files.{IsShownWith}
 use Rattle.r10_cursor.specs.Held.{IsHeld, IsToldOf}
 use Rattle.r10_cursor.specs.Knowing.{IsWriting}
@@ -28,14 +28,14 @@ use Rattle.r10_cursor.proofs.Said.{written_held}
 named_first : (n offset : ℕ) (packets : List Packet) → take n (node_entries offset packets) ≡ node_entries offset (take n packets)
 named_first zero offset packets = refl
 named_first (suc n) offset [] = refl
-named_first (suc n) offset (p ∷ packets) = ap (λ (es : List NodeEntry). node_entry offset p ∷ es) (named_first n (offset + length (packet_bytes p)) packets)
+named_first (suc n) offset (p ∷ packets) = ap (λ (es : List NodeEntry). node_entry_of offset p ∷ es) (named_first n (offset + length (packet_bytes p)) packets)
 
 pub shown : (image : Image) (o : Open) (text : List ℕ) (entries : List Entry) (w : Written) (is : IsCarried image o text entries) → IsToldOf o w → IsShownWith image w.first w.named.now w.book.now (take o.shown is.carries.packets)
 shown image o text entries w is told =
     let packets = is.carries.packets in
     let front = take o.shown packets in
     let has = is.carries.has in
-    let book : IsBookOf w.book.now packets = record { named = told.entries ∙ has.named; counted = subst (λ (numbers : List ℕ). IsCounted numbers packets) (sym told.counted) has.counted } in
+    let book : IsBookOf w.book.now packets = record { named = told.entries ∙ has.named; counted = subst (λ (numbers : List ℕ). CountsEntriesUpTo numbers packets) (sym told.counted) has.counted } in
     record {
       shown = record {
         shows = subst (λ (n : ℕ). Shows image n (file_bytes front)) (sym told.first) is.stands;

@@ -2,8 +2,8 @@
 use Rattle.std.specs.Prelude.{◌≡◌, ℕ, List, [], take, filter, slice_get, Option, Some, None}
 use Rattle.r10_medium.specs.Disk.{Image}
 use Rattle.r10_blockout.specs.Blocks.{bytes_from}
-use Rattle.r10_dirblock.specs.declared.entry.Entry.{Entry as Listed}
-use Rattle.r10_dirchain.specs.Chain.{files}
+use Rattle.r10_dirblock.specs.declared.entry.Entry.{Entry as DirectoryEntry}
+use Rattle.r10_dirchain.specs.Chain.{listed_files}
 use Rattle.r10_dirchain.specs.declared.chain.ChainBlock.{ChainBlock}
 use Rattle.r10_indexbody.specs.declared.entry.NodeEntry.{NodeEntry}
 use Rattle.r10_body.specs.Packets.{Packet, file_bytes}
@@ -14,20 +14,20 @@ use Rattle.r10_cursor.specs.Shown.{IsShown}
 use Rattle.r10_cursor.specs.declared.written.Written.{Written}
 
 -- a file's bytes, by its directory entry
-abbrev pub bytes_in : Image → Listed → List ℕ
+abbrev pub bytes_in : Image → DirectoryEntry → List ℕ
 bytes_in image e = bytes_from image e.first_block e.size
 
 -- all but the file that is written, and those behind it
-abbrev pub finished : Option Written → List Listed → List Listed
+abbrev pub finished : Option Written → List DirectoryEntry → List DirectoryEntry
 finished None entries = entries
 finished (Some w) entries = take w.file entries
 
 -- the directory's entry of a file that isn't being written, by the file's number
-abbrev pub finished_file : Option Written → List ChainBlock → ℕ → Option Listed
-finished_file written chain file = slice_get (finished written (files chain)) file
+abbrev pub finished_file : Option Written → List ChainBlock → ℕ → Option DirectoryEntry
+finished_file written chain file = slice_get (finished written (listed_files chain)) file
 
 -- a file's packets but for those of its index, as its bytes have them
-pub record HasPackets (bytes : List ℕ) (packets : List Packet) : Type 0 where
+pub record HasDataPackets (bytes : List ℕ) (packets : List Packet) : Type 0 where
   pub all : List Packet
   pub bytes_are : bytes ≡ file_bytes all
   pub each : EachFollows [] all
@@ -41,4 +41,4 @@ pub record IsShownWith (image : Image) (first : ℕ) (named : List NodeEntry) (b
 -- the medium shows these packets of a file
 pub data ShowsFile (image : Image) (chain : List ChainBlock) (written : Option Written) (file : ℕ) (packets : List Packet) : Type 0 where
   in_writing : (w : Written) → written ≡ Some w → w.file ≡ file → IsShownWith image w.first w.named.now w.book.now packets → ShowsFile image chain written file packets
-  in_directory : (e : Listed) → finished_file written chain file ≡ Some e → HasPackets (bytes_in image e) packets → ShowsFile image chain written file packets
+  in_directory : (e : DirectoryEntry) → finished_file written chain file ≡ Some e → HasDataPackets (bytes_in image e) packets → ShowsFile image chain written file packets

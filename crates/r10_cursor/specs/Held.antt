@@ -28,7 +28,7 @@ pub record IsCovered (packets : List Packet) (f : File) (count n : ℕ) : Type 0
   pub agree : Agree (file_entries (take count packets)) (take n f.entries)
 
 -- a cursor that had covered the first n entries has the next instalment in its queue, and has covered all that the file shows
-pub record GoesOn (packets : List Packet) (f : File) (n : ℕ) (old new : Reading) : Type 0 where
+pub record ReadingGoesOn (packets : List Packet) (f : File) (n : ℕ) (old new : Reading) : Type 0 where
   pub rest : new ≡ record old { covered = length packets; queue = new.queue }
   pub queue : Ordered (wanted old.channels old.from old.to (drop n (shown_entries f))) new.queue
   pub covered : IsCovered packets f new.covered f.shown

@@ -3,12 +3,12 @@ use Rattle.std.specs.Prelude.{◌≡◌, ◌≢◌, ℕ, ◌^◌, ◌<◌, List,
 use Rattle.std.specs.List.{AllByRecursion}
 use Rattle.r10_medium.specs.Disk.{Image}
 use Rattle.r10_dirblock.specs.Block.{is_closed}
-use Rattle.r10_dirblock.specs.declared.entry.Entry.{Entry as Listed}
+use Rattle.r10_dirblock.specs.declared.entry.Entry.{Entry as DirectoryEntry}
 use Rattle.r10_dirchain.specs.declared.chain.ChainBlock.{ChainBlock}
 use Rattle.r10_body.specs.Packets.{Packet, file_bytes}
 use Rattle.r10_body.specs.Rules.{is_data}
 use Rattle.r10_index.specs.Counted.{IsBookOf}
-use Rattle.r10_judge.specs.Judged.{IsKept, SaysClosed}
+use Rattle.r10_judge.specs.Judged.{TracksStrictFile, SaysClosed}
 use Rattle.r10_tracks.specs.Tracks.{IsTracked}
 use Rattle.r10_cursor.specs.Files.{IsShownWith, bytes_in, finished_file}
 use Rattle.r10_cursor.specs.declared.books.Books.{Books}
@@ -17,9 +17,9 @@ use Rattle.r10_cursor.specs.declared.written.Written.{Written}
 use Rattle.r10_cursor.specs.declared.written.Shown.{Shown}
 
 -- it is kept of the packets of a strict file, which the medium shows with the first block and the closing of this directory entry
-pub record IsUnder (image : Image) (e : Listed) (k : Kept) : Type 0 where
+pub record IsUnder (image : Image) (e : DirectoryEntry) (k : Kept) : Type 0 where
   pub first : k.first ≡ e.first_block
-  pub is_kept : IsKept (is_closed e) k.tracks (bytes_in image e)
+  pub is_kept : TracksStrictFile (is_closed e) k.tracks (bytes_in image e)
 
 -- and of the entry of the file's number
 abbrev pub IsOf : Image → List ChainBlock → Option Written → Kept → Type 0
@@ -43,7 +43,7 @@ pub record Knows (image : Image) (chain : List ChainBlock) (written : Option Wri
   pub writing : IsWriting image written
 
 -- a file was judged, whose number and directory entry these are, and what is kept of it stands behind the others
-pub record IsAdded (image : Image) (file : ℕ) (e : Listed) (old new : List Kept) : Type 0 where
+pub record IsAdded (image : Image) (file : ℕ) (e : DirectoryEntry) (old new : List Kept) : Type 0 where
   pub kept : Kept
   pub behind : new ≡ old ++ kept ∷ []
   pub number : kept.file ≡ file
@@ -52,12 +52,12 @@ pub record IsAdded (image : Image) (file : ℕ) (e : Listed) (old new : List Kep
 -- the file is there: the one that is written, or a strict one with the closing of its directory entry
 pub data IsRead (image : Image) (chain : List ChainBlock) (written : Option Written) (file : ℕ) : Type 0 where
   is_written : (w : Written) → written ≡ Some w → w.file ≡ file → IsRead image chain written file
-  is_strict : (e : Listed) → finished_file written chain file ≡ Some e → SaysClosed (bytes_in image e) (is_closed e) → IsRead image chain written file
+  is_strict : (e : DirectoryEntry) → finished_file written chain file ≡ Some e → SaysClosed (bytes_in image e) (is_closed e) → IsRead image chain written file
 
 -- the file is the one that is written, or what is kept at a place is kept of it
 pub data IsLearned (image : Image) (chain : List ChainBlock) (written : Option Written) (file : ℕ) (books : List Kept) (place : ℕ) : Type 0 where
   by_telling : (w : Written) → written ≡ Some w → w.file ≡ file → IsLearned image chain written file books place
-  by_judging : (e : Listed) (k : Kept) → IfSome written (λ w. w.file ≢ file) → finished_file written chain file ≡ Some e → slice_get books place ≡ Some k → IsUnder image e k
+  by_judging : (e : DirectoryEntry) (k : Kept) → IfSome written (λ w. w.file ≢ file) → finished_file written chain file ≡ Some e → slice_get books place ≡ Some k → IsUnder image e k
       → IsLearned image chain written file books place
 
 -- where the packets stand of a file that was judged, and what nodes say of them

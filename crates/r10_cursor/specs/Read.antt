@@ -4,9 +4,9 @@ use Rattle.std.specs.List.{AllByRecursion}
 use Rattle.r10_medium.specs.Disk.{Image}
 use Rattle.r10_blockout.specs.Blocks.{bytes_from}
 use Rattle.r10_body.specs.Packets.{Packet}
-use Rattle.r10_machine.specs.Machine.{File, Cursor as Reader, cursor_at, shown_entries}
-use Rattle.r10_cursor.specs.Files.{HasPackets}
-use Rattle.r10_cursor.specs.Held.{GoesOn, IsCovered}
+use Rattle.r10_machine.specs.Machine.{File, Cursor as MachineCursor, cursor_at, shown_entries}
+use Rattle.r10_cursor.specs.Files.{HasDataPackets}
+use Rattle.r10_cursor.specs.Held.{ReadingGoesOn, IsCovered}
 use Rattle.r10_cursor.specs.declared.cursor.Cursor.{Cursor}
 use Rattle.r10_cursor.specs.Standing.{slot_at}
 
@@ -18,23 +18,23 @@ bytes_shown image f = bytes_from image f.first_block f.size
 -- entries
 pub record IsReadTo (image : Image) (f : File) (count n : ℕ) : Type 0 where
   pub packets : List Packet
-  pub has : HasPackets (bytes_shown image f) packets
+  pub has : HasDataPackets (bytes_shown image f) packets
   pub covered : IsCovered packets f count n
 
 -- a cursor of this generation has come as far in its file's packets as the machine's in its entries; one of an earlier generation is
 -- not read again
-abbrev pub HasRead : Image → List File → ℕ → Option Cursor → Option Reader → Type 0
+abbrev pub HasRead : Image → List File → ℕ → Option Cursor → Option MachineCursor → Type 0
 HasRead image files generation (Some c) (Some m) = c.generation ≡ generation → IsSomeAnd (slice_get files c.file) (λ f. IsReadTo image f c.reading.covered m.covered)
 HasRead image files generation slot cursor = Unit {0}
 
-pub record HaveRead (image : Image) (files : List File) (generation : ℕ) (slots : List (Option Cursor)) (cursors : List (Option Reader)) : Type 0 where
+pub record HaveRead (image : Image) (files : List File) (generation : ℕ) (slots : List (Option Cursor)) (cursors : List (Option MachineCursor)) : Type 0 where
   pub each : (id : ℕ) → HasRead image files generation (slot_at slots id) (cursor_at cursors id)
 
 -- of a file whose first n entries it had covered, a cursor took its next instalment
 pub record TakesNext (image : Image) (f : File) (n : ℕ) (old new : Cursor) : Type 0 where
   pub packets : List Packet
-  pub has : HasPackets (bytes_shown image f) packets
-  pub goes_on : GoesOn packets f n old.reading new.reading
+  pub has : HasDataPackets (bytes_shown image f) packets
+  pub goes_on : ReadingGoesOn packets f n old.reading new.reading
   pub file : new.file ≡ old.file
   pub generation : new.generation ≡ old.generation
 

@@ -3,12 +3,12 @@ use Rattle.std.specs.Prelude.{◌≡◌, ◌≢◌, ℕ, List, [], ◌∷◌, le
 use Rattle.r10_body.specs.declared.entry.Entry.{Entry}
 use Rattle.r10_body.specs.declared.refusal.Refusal.TheVariants.{NoCursor, Stale, Unread}
 use Rattle.r10_machine.specs.Checks.{Check}
-use Rattle.r10_machine.specs.Machine.{Cursor as Reader, cursor_at}
-use Rattle.r10_cursor.specs.Replays.{begun}
+use Rattle.r10_machine.specs.Machine.{Cursor as MachineCursor, cursor_at}
+use Rattle.r10_cursor.specs.Replays.{begun_reading}
 use Rattle.r10_cursor.specs.declared.cursor.Cursor.{Cursor}
 
 -- a cursor stands for one of the machine; how far each has come is told apart, since one counts packets and the other entries
-pub record StandsFor (c : Cursor) (m : Reader) : Type 0 where
+pub record CursorStandsFor (c : Cursor) (m : MachineCursor) : Type 0 where
   pub file : m.file ≡ c.file
   pub generation : m.generation ≡ c.generation
   pub channels : m.channels ≡ c.reading.channels
@@ -17,27 +17,27 @@ pub record StandsFor (c : Cursor) (m : Reader) : Type 0 where
   pub queue : m.queue ≡ c.reading.queue
 
 -- both are open, or neither is
-abbrev pub Matches : Option Cursor → Option Reader → Type 0
-Matches None None = Unit {0}
-Matches (Some c) (Some m) = StandsFor c m
-Matches slot cursor = ⊥
+abbrev pub SlotStandsFor : Option Cursor → Option MachineCursor → Type 0
+SlotStandsFor None None = Unit {0}
+SlotStandsFor (Some c) (Some m) = CursorStandsFor c m
+SlotStandsFor slot cursor = ⊥
 
 -- what a number has
 abbrev pub slot_at : List (Option Cursor) → ℕ → Option Cursor
 slot_at slots id = slice_index_or slots id None
 
 -- number by number
-pub record Stand (slots : List (Option Cursor)) (cursors : List (Option Reader)) : Type 0 where
-  pub each : (id : ℕ) → Matches (slot_at slots id) (cursor_at cursors id)
+pub record SlotsStandFor (slots : List (Option Cursor)) (cursors : List (Option MachineCursor)) : Type 0 where
+  pub each : (id : ℕ) → SlotStandsFor (slot_at slots id) (cursor_at cursors id)
 
 -- a number has this cursor or none from now on, and every other number what it had
-pub record Puts (old new : List (Option Cursor)) (id : ℕ) (slot : Option Cursor) : Type 0 where
+pub record PutsSlot (old new : List (Option Cursor)) (id : ℕ) (slot : Option Cursor) : Type 0 where
   pub changed : slot_at new id ≡ slot
   pub others : (other : ℕ) → other ≢ id → slot_at new other ≡ slot_at old other
 
 -- a cursor that has covered nothing
 abbrev pub fresh_slot : ℕ → List ℕ → ℕ → ℕ → ℕ → Cursor
-fresh_slot generation channels file from to = record { file = file; generation = generation; reading = begun channels from to }
+fresh_slot generation channels file from to = record { file = file; generation = generation; reading = begun_reading channels from to }
 
 -- a cursor that gave the first of its queue
 abbrev pub with_queue : List Entry → Cursor → Cursor

@@ -4,14 +4,14 @@ ghost use Rattle.std.specs.Prelude.{◌≡◌, ◌≢◌, ◌+◌, ◌*◌, ◌^
 ghost use Rattle.std.specs.Bool.{OnTrue, OnFalse};
 ghost use Rattle.std.specs.List.{AllByRecursion};
 ghost use Rattle.r10_medium.specs.Disk.{Image, IsWhole, Unchanged};
-ghost use Rattle.r10_dirblock.specs.Block.{is_closed as closing};
+ghost use Rattle.r10_dirblock.specs.Block.{is_closed as is_closed_entry};
 ghost use Rattle.r10_dirchain.specs.declared.chain.ChainBlock.{ChainBlock};
 ghost use Rattle.r10_body.specs.Packets.{Packet as StrictPacket};
 ghost use Rattle.r10_judge.specs.Files.{file_at};
-ghost use Rattle.r10_judge.specs.Judged.{IsKept};
+ghost use Rattle.r10_judge.specs.Judged.{TracksStrictFile};
 ghost use Rattle.r10_cursor.specs.Files.{IsShownWith, ShowsFile, bytes_in, finished_file};
 ghost use Rattle.r10_cursor.specs.Knowing.{HasJudged, IsAdded, IsBook, IsLearned, IsOf, IsTold, IsToldRight, IsUnder};
-ghost use Rattle.r10_cursor.specs.Refusals.{IsUnread, Refuses, RefusesToRead};
+ghost use Rattle.r10_cursor.specs.Refusals.{IsUnread, RefusesRead, RefusesToRead};
 
 use crate::kept::Kept;
 use crate::listing::finished_entry;
@@ -62,7 +62,7 @@ impl Books {
         ensures learned { HasJudged (M.disk medium.old).blocks directory.now written.entry self.old
             → IfOk result (λ place. IsLearned (M.disk medium.old).blocks directory.now written.entry file self.new.kept.items place) }
         ensures judged { HasJudged (M.disk medium.old).blocks directory.now written.entry self.old → HasJudged (M.disk medium.old).blocks directory.now written.entry self.new }
-        ensures refused { IfErr result (Refuses (M.disk medium.old) (M.disk medium.new) directory.now written.entry file) }
+        ensures refused { IfErr result (RefusesRead (M.disk medium.old) (M.disk medium.new) directory.now written.entry file) }
         ensures unread { IfErr result (RefusesToRead (M.disk medium.old) (M.disk medium.new) directory.now written.entry file) }
         ensures same { Unchanged (M.disk medium.old) (M.disk medium.new) }
         ensures no_fewer { (M.disk medium.old).failures ≤ (M.disk medium.new).failures }
@@ -208,7 +208,7 @@ fn tracks_of<M: BlockMedium>(
     buffer: &mut Vec<u8>,
 ) -> Result<Tracks, ReadRefusal>
     requires { length (M.disk medium.old).blocks ≤ 2 ^ 53 }
-    ensures kept { IfOk result (λ tracks. IsKept (closing entry.now) tracks (bytes_in (M.disk medium.old).blocks entry.now)) }
+    ensures kept { IfOk result (λ tracks. TracksStrictFile (is_closed_entry entry.now) tracks (bytes_in (M.disk medium.old).blocks entry.now)) }
     ensures refused { IfErr result (IsUnread (M.disk medium.old) (M.disk medium.new) entry.now) }
     ensures same { Unchanged (M.disk medium.old) (M.disk medium.new) }
     ensures no_fewer { (M.disk medium.old).failures ≤ (M.disk medium.new).failures }

@@ -6,8 +6,8 @@ ghost use Rattle.r10_count.specs.Checks.{first_broken};
 ghost use Rattle.r10_medium.specs.Disk.{Image, IsWhole};
 ghost use Rattle.r10_medium.specs.Stop.{SameBelow};
 ghost use Rattle.r10_dirblock.specs.Block.{is_closed};
-ghost use Rattle.r10_dirblock.specs.declared.entry.Entry.{Entry as Listed};
-ghost use Rattle.r10_dirchain.specs.Chain.{IsDirectory, files};
+ghost use Rattle.r10_dirblock.specs.declared.entry.Entry.{Entry as DirectoryEntry};
+ghost use Rattle.r10_dirchain.specs.Chain.{IsDirectory, listed_files};
 ghost use Rattle.r10_dirchain.specs.Mount.{blocks_in, mount_rules};
 ghost use Rattle.r10_dirchain.specs.OnMedium.{SameButIn};
 ghost use Rattle.r10_dirchain.specs.declared.chain.ChainBlock.{ChainBlock};
@@ -33,16 +33,16 @@ ghost use Rattle.r10_cursor.specs.declared.written.Written.{Written};
 pub fn what_is_known_stays()
     ensures none { (image : Image) (chain : List ChainBlock) (written : Option Written) (books : Books) → books.kept.items ≡ [] → IsWriting image written → Knows image chain written books }
     ensures stays { (old : Image) (new : Image) (chain : List ChainBlock) (made : List ChainBlock) (written : Option Written) (now : Option Written) (books : Books)
-        → Knows old chain written books → Stay old new (finished written (files chain)) (finished now (files made)) → IsWriting new now → Knows new made now books }
+        → Knows old chain written books → Stay old new (finished written (listed_files chain)) (finished now (listed_files made)) → IsWriting new now → Knows new made now books }
 {}
 
 /// The files of a directory that a recorder takes into use keep their bytes, where no block below the one behind them changes, or none
 /// but the reserved ones.
 pub fn listed_files_keep_their_bytes()
     ensures below { (reserved : ℕ) (old : Image) (new : Image) (chain : List ChainBlock) (written : Option Written) (n : ℕ) (kept : ℕ) → IsWhole old → first_broken (mount_rules reserved (length old) chain) ≡ None
-        → SameBelow n kept old new → reserved + 1 + blocks_in (finished written (files chain)) ≤ n → KeepListed old new (finished written (files chain)) }
+        → SameBelow n kept old new → reserved + 1 + blocks_in (finished written (listed_files chain)) ≤ n → KeepListed old new (finished written (listed_files chain)) }
     ensures directory { (reserved : ℕ) (old : Image) (new : Image) (chain : List ChainBlock) (written : Option Written) (numbers : List ℕ) → IsWhole old → first_broken (mount_rules reserved (length old) chain) ≡ None
-        → SameButIn numbers old new → All (λ k. k ≤ reserved) numbers → KeepListed old new (finished written (files chain)) }
+        → SameButIn numbers old new → All (λ k. k ≤ reserved) numbers → KeepListed old new (finished written (listed_files chain)) }
 {}
 
 /// Of the file that a recorder holds as the one that is written, the packets are shown of which it tells, whatever files the medium has; and
@@ -64,8 +64,8 @@ pub fn what_is_covered_stays()
 /// shows, and the times in their order, where another recorder began it as where this one did. So do packets that are shown of the
 /// file that is written.
 pub fn files_that_are_said()
-    ensures sound { (s : Config) (image : Image) (machine : List File) (chain : List ChainBlock) (file : ℕ) (e : Listed) (offset : ℕ) (fault : FileFault) → MediumSays s image machine → IsDirectory image chain
-        → slice_get (files chain) file ≡ Some e → IsAtFault (bytes_in image e) (is_closed e) offset fault → ⊥ }
+    ensures sound { (s : Config) (image : Image) (machine : List File) (chain : List ChainBlock) (file : ℕ) (e : DirectoryEntry) (offset : ℕ) (fault : FileFault) → MediumSays s image machine → IsDirectory image chain
+        → slice_get (listed_files chain) file ≡ Some e → IsAtFault (bytes_in image e) (is_closed e) offset fault → ⊥ }
     ensures found { (s : Config) (image : Image) (machine : List File) (chain : List ChainBlock) (written : Option Written) (file : ℕ) (f : File) → MediumSays s image machine → IsDirectory image chain
         → IfSome written (λ w. file < w.file) → slice_get machine file ≡ Some f → IsFound image f → IsHeld image chain written file f }
     ensures own { (s : Config) (image : Image) (machine : List File) (chain : List ChainBlock) (written : Option Written) (file : ℕ) (f : File) → MediumSays s image machine → IsDirectory image chain

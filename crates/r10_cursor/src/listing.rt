@@ -1,7 +1,7 @@
 //! Files by number.
 
 ghost use Rattle.std.specs.Prelude.{◌≡◌, slice_get};
-ghost use Rattle.r10_dirchain.specs.Chain.{files};
+ghost use Rattle.r10_dirchain.specs.Chain.{listed_files};
 ghost use Rattle.r10_cursor.specs.Files.{finished_file};
 
 use crate::written::Written;
@@ -10,7 +10,7 @@ use r10_dirchain::Directory;
 
 /// The directory's entry of a file, by the file's number; `None` where there are not so many files.
 pub fn entry_at(directory: &Directory, file: usize) -> Option<Entry>
-    ensures { result ≡ slice_get (files directory.now) file }
+    ensures { result ≡ slice_get (listed_files directory.now) file }
 {
     let mut left = file;
     for link in directory.blocks() {

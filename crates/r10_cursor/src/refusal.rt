@@ -1,8 +1,8 @@
 //! Why a file isn't read.
 
 ghost use Rattle.std.specs.Prelude.{◌≡◌};
-ghost use Rattle.r10_blockout.specs.declared.fault.ReadFault.TheVariants as read;
-ghost use Rattle.r10_cursor.specs.declared.fault.ReplayFault.TheVariants as replay;
+ghost use Rattle.r10_blockout.specs.declared.fault.ReadFault.TheVariants as read_faults;
+ghost use Rattle.r10_cursor.specs.declared.fault.ReplayFault.TheVariants as replay_faults;
 ghost use Rattle.r10_cursor.specs.Refusals.{of_read, of_replay};
 
 use crate::ReplayFault;

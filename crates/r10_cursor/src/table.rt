@@ -9,7 +9,7 @@ ghost use Rattle.r10_machine.specs.Checks.{advance_checks, open_checks};
 ghost use Rattle.r10_machine.specs.Config.{Config};
 ghost use Rattle.r10_machine.specs.Machine.{Machine, SetsCursor, cursor_of};
 ghost use Rattle.r10_machine.specs.Says.{MediumSays};
-ghost use Rattle.r10_cursor.specs.Standing.{Stand, fresh_slot, read_checks, with_queue};
+ghost use Rattle.r10_cursor.specs.Standing.{SlotsStandFor, fresh_slot, read_checks, with_queue};
 ghost use Rattle.r10_cursor.specs.Steps.{StepsTo};
 
 use crate::Cursor;
@@ -32,7 +32,7 @@ pub fn open_cursor(
     ensures was_free { IfOk result (λ id. get cursors.old id ≡ None) }
     ensures opened { IfOk result (λ id. Updates cursors.old cursors.new id (Some (fresh_slot generation channels.now file from to))) }
     ensures kept { OnErr result (cursors.new.slots ≡ cursors.old.slots) }
-    ensures opens { (s : Config) (image : Image) (m : Machine) → Stand cursors.old.slots m.cursors → m.generation ≡ generation → file < length m.files → MediumSays s image m.files
+    ensures opens { (s : Config) (image : Image) (m : Machine) → SlotsStandFor cursors.old.slots m.cursors → m.generation ≡ generation → file < length m.files → MediumSays s image m.files
         → IfOk result (λ id. StepsTo (Opens m file channels.now from to id) m image cursors.old.slots cursors.new.slots) }
 {
     let channels = channels.copied(alloc)?;
@@ -48,8 +48,8 @@ pub fn next_entry(cursors: &mut Slab<Cursor>, id: usize) -> Result<Option<Entry>
     ensures given { IfOk result (λ given. IsSomeAnd (get cursors.old id) (λ c. (given ≡ slice_get c.reading.queue 0) × Updates cursors.old cursors.new id (Some (with_queue (drop 1 c.reading.queue) c)))) }
     ensures refused { IfErr result (λ r. (get cursors.old id ≡ None) × (r ≡ Refusal.NoCursor)) }
     ensures kept { OnErr result (cursors.new.slots ≡ cursors.old.slots) }
-    ensures gives { (image : Image) (m : Machine) → Stand cursors.old.slots m.cursors → IfOk result (λ given. StepsTo (Gives m id given) m image cursors.old.slots cursors.new.slots) }
-    ensures passed { (m : Machine) → Stand cursors.old.slots m.cursors → MatchResult result (λ given. first_broken (open_checks (cursor_of id m)) ≡ None) (λ r. first_broken (open_checks (cursor_of id m)) ≡ Some r) }
+    ensures gives { (image : Image) (m : Machine) → SlotsStandFor cursors.old.slots m.cursors → IfOk result (λ given. StepsTo (Gives m id given) m image cursors.old.slots cursors.new.slots) }
+    ensures passed { (m : Machine) → SlotsStandFor cursors.old.slots m.cursors → MatchResult result (λ given. first_broken (open_checks (cursor_of id m)) ≡ None) (λ r. first_broken (open_checks (cursor_of id m)) ≡ Some r) }
 {
     match cursors.get_mut(id) {
         Some(cursor) => Ok(cursor.next()),
@@ -62,8 +62,8 @@ pub fn close_cursor(cursors: &mut Slab<Cursor>, id: usize) -> Result<(), Refusal
     ensures closed { OnOk result (Updates cursors.old cursors.new id None) }
     ensures refused { IfErr result (λ r. (get cursors.old id ≡ None) × (r ≡ Refusal.NoCursor)) }
     ensures kept { OnErr result (cursors.new.slots ≡ cursors.old.slots) }
-    ensures closes { (image : Image) (m : Machine) → Stand cursors.old.slots m.cursors → OnOk result (StepsTo (λ new. SetsCursor m new id None) m image cursors.old.slots cursors.new.slots) }
-    ensures passed { (m : Machine) → Stand cursors.old.slots m.cursors → MatchResult result (λ u. first_broken (open_checks (cursor_of id m)) ≡ None) (λ r. first_broken (open_checks (cursor_of id m)) ≡ Some r) }
+    ensures closes { (image : Image) (m : Machine) → SlotsStandFor cursors.old.slots m.cursors → OnOk result (StepsTo (λ new. SetsCursor m new id None) m image cursors.old.slots cursors.new.slots) }
+    ensures passed { (m : Machine) → SlotsStandFor cursors.old.slots m.cursors → MatchResult result (λ u. first_broken (open_checks (cursor_of id m)) ≡ None) (λ r. first_broken (open_checks (cursor_of id m)) ≡ Some r) }
 {
     let Some(_) = cursors.try_remove(id) else {
         return Err(Refusal::NoCursor);
@@ -76,7 +76,7 @@ pub fn close_cursor(cursors: &mut Slab<Cursor>, id: usize) -> Result<(), Refusal
 pub fn check_read(cursors: &Slab<Cursor>, generation: u64, id: usize) -> Result<usize, Refusal>
     ensures tested { MatchResult result (λ file. first_broken (read_checks generation (get cursors.now id)) ≡ None) (λ r. first_broken (read_checks generation (get cursors.now id)) ≡ Some r) }
     ensures file { IfOk result (λ file. IsSomeAnd (get cursors.now id) (λ c. (c.file ≡ file) × (c.generation ≡ generation) × (c.reading.queue ≡ []))) }
-    ensures passed { (m : Machine) → Stand cursors.now.slots m.cursors
+    ensures passed { (m : Machine) → SlotsStandFor cursors.now.slots m.cursors
         → MatchResult result (λ file. first_broken (advance_checks generation (cursor_of id m)) ≡ None) (λ r. first_broken (advance_checks generation (cursor_of id m)) ≡ Some r) }
 {
     let Some(cursor) = cursors.get(id) else {

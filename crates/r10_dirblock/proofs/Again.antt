@@ -13,8 +13,8 @@ use Rattle.r10_count.specs.Checks.{first_broken}
 use Rattle.r10_dirblock.specs.declared.entry.Entry.{Entry}
 use Rattle.r10_dirblock.specs.declared.block.DirBlock.{DirBlock}
 use Rattle.r10_dirblock.specs.declared.read.DirFault.{DirFault}
-use Rattle.r10_dirblock.specs.declared.read.DirFault.TheVariants as faults
-use Rattle.r10_dirblock.specs.Block.{magic, head_bytes, used_bytes, entry_bytes, entry_of, entry_at, entry_count, entry_rules, block_rules, block_of, read_block, unless_broken, has_room, HasRooms, blank, u64_at, part, FitsEntry, FitsHead}
+use Rattle.r10_dirblock.specs.declared.read.DirFault.TheVariants as directory_faults
+use Rattle.r10_dirblock.specs.Block.{magic, head_bytes, used_bytes, entry_bytes, directory_entry_of, directory_entry_at, entry_count, entry_rules, block_rules, block_of, read_block, unless_broken, has_room_for_size, HasRooms, blank, big_endian_u64_at, part, FitsEntry, FitsHead}
 use Rattle.r10_dirblock.proofs.Rules.{at_rule, entries_left}
 
 -- what stands behind p
@@ -41,8 +41,8 @@ same_entry : (e : Entry) (name date time reserved close : List ℕ) (first count
     → record { name = name; first_block = first; block_count = count; size = size; create_date = date; create_time = time; time_type = kind; reserved = reserved; close_time = close } ≡ e
 same_entry e name date time reserved close first count size kind a b c d f g h i j = rw (a, b, c, d, f, g, h, i, j)
 
-nested_again : (e : Entry) (more : List ℕ) → FitsEntry e → entry_of (nested e more) ≡ e
-unfolding entry_of
+nested_again : (e : Entry) (more : List ℕ) → FitsEntry e → directory_entry_of (nested e more) ≡ e
+unfolding directory_entry_of
 nested_again e more fits =
     let all = nested e more in
     let close = e.close_time ++ more in
@@ -59,11 +59,11 @@ nested_again e more fits =
     let at97 : drop 97 all ≡ kept = sym (drop-drop 1 96 all) ∙ ap (drop 1) at96 in
     let at104 : drop 104 all ≡ close = sym (drop-drop 7 97 all) ∙ ap (drop 7) at97 ∙ drop_at e.reserved close 7 fits.reserved in
     let name : part 0 56 all ≡ e.name = take_at e.name placed 56 fits.name in
-    let first_block : u64_at 56 all ≡ e.first_block =
+    let first_block : big_endian_u64_at 56 all ≡ e.first_block =
     ap (λ (l : List ℕ). from_be_bytes w64 (take 8 l)) (drop_at e.name placed 56 fits.name) ∙ from_be_bytes-to_be_bytes_8 e.first_block fits.first_block in
-    let block_count : u64_at 64 all ≡ e.block_count =
+    let block_count : big_endian_u64_at 64 all ≡ e.block_count =
     ap (λ (l : List ℕ). from_be_bytes w64 (take 8 l)) (past e.name placed 56 8 fits.name) ∙ from_be_bytes-to_be_bytes_8 e.block_count fits.block_count in
-    let size : u64_at 72 all ≡ e.size =
+    let size : big_endian_u64_at 72 all ≡ e.size =
     ap (λ (l : List ℕ). from_be_bytes w64 (take 8 l)) (past e.name placed 56 16 fits.name) ∙ from_be_bytes-to_be_bytes_8 e.size fits.size in
     let create_date : part 80 8 all ≡ e.create_date = ap (take 8) at80 ∙ take_at e.create_date timed 8 fits.create_date in
     let create_time : part 88 8 all ≡ e.create_time = ap (take 8) at88 ∙ take_at e.create_time typed 8 fits.create_time in
@@ -72,27 +72,27 @@ nested_again e more fits =
     let close_time : part 104 8 all ≡ e.close_time = ap (take 8) at104 ∙ take_at e.close_time more 8 fits.close_time in
     same_entry e _ _ _ _ _ _ _ _ _ name first_block block_count size create_date create_time time_type reserved close_time
 
-entry_again : (e : Entry) (more : List ℕ) → FitsEntry e → entry_of (entry_bytes e ++ more) ≡ e
-entry_again e more fits = ap entry_of (is_nested e more) ∙ nested_again e more fits
+entry_again : (e : Entry) (more : List ℕ) → FitsEntry e → directory_entry_of (entry_bytes e ++ more) ≡ e
+entry_again e more fits = ap directory_entry_of (is_nested e more) ∙ nested_again e more fits
 
 -- entry k of those that were written
 entry_found : (entries : List Entry) (more : List ℕ) → All FitsEntry entries → (k : ℕ) → k < length entries
-    → entry_of (drop (112 * k) (flat_map entry_bytes entries ++ more)) ≡ get_or entries k blank
+    → directory_entry_of (drop (112 * k) (flat_map entry_bytes entries ++ more)) ≡ get_or entries k blank
 entry_found [] more fits k lt = absurd (omega arith)
 entry_found (e ∷ entries) more fits zero lt =
-    ap entry_of (append_assoc (entry_bytes e) (flat_map entry_bytes entries) more)
+    ap directory_entry_of (append_assoc (entry_bytes e) (flat_map entry_bytes entries) more)
     ∙ entry_again e (flat_map entry_bytes entries ++ more) (All-head FitsEntry e entries fits)
 entry_found (e ∷ entries) more fits (suc k) lt =
     let rest = flat_map entry_bytes entries ++ more in
     let far : 112 * suc k ≡ 112 + 112 * k = omega arith in
-    ap (λ (n : ℕ). entry_of (drop n ((entry_bytes e ++ flat_map entry_bytes entries) ++ more))) far
-    ∙ ap (λ (l : List ℕ). entry_of (drop (112 + 112 * k) l)) (append_assoc (entry_bytes e) (flat_map entry_bytes entries) more)
-    ∙ ap entry_of (past (entry_bytes e) rest 112 (112 * k) (length-entry_bytes e (All-head FitsEntry e entries fits)))
+    ap (λ (n : ℕ). directory_entry_of (drop n ((entry_bytes e ++ flat_map entry_bytes entries) ++ more))) far
+    ∙ ap (λ (l : List ℕ). directory_entry_of (drop (112 + 112 * k) l)) (append_assoc (entry_bytes e) (flat_map entry_bytes entries) more)
+    ∙ ap directory_entry_of (past (entry_bytes e) rest 112 (112 * k) (length-entry_bytes e (All-head FitsEntry e entries fits)))
     ∙ entry_found entries more (All-tail FitsEntry e entries fits) k (omega arith)
 
 -- ---- the rules of all entries
 
-all_hold : (bytes : List ℕ) (n first : ℕ) → ((k : ℕ) → first ≤ k → k < first + n → has_room (entry_at bytes k) ≡ true)
+all_hold : (bytes : List ℕ) (n first : ℕ) → ((k : ℕ) → first ≤ k → k < first + n → has_room_for_size (directory_entry_at bytes k) ≡ true)
     → first_broken (entry_rules bytes (range_with_len first n)) ≡ None
 all_hold bytes zero first rooms = refl
 all_hold bytes (suc n) first rooms =
@@ -105,11 +105,11 @@ none_broken true fault rest none = (refl, none)
 none_broken false fault rest none = absurd (cc)
 
 all_held : (bytes : List ℕ) (n first : ℕ) → first_broken (entry_rules bytes (range_with_len first n)) ≡ None
-    → All (λ e. has_room e ≡ true) (map (entry_at bytes) (range_with_len first n))
-all_held bytes zero first none = All-nil (λ (e : Entry). has_room e ≡ true)
+    → All (λ e. has_room_for_size e ≡ true) (map (directory_entry_at bytes) (range_with_len first n))
+all_held bytes zero first none = All-nil (λ (e : Entry). has_room_for_size e ≡ true)
 all_held bytes (suc n) first none =
-    let here = none_broken (has_room (entry_at bytes first)) (faults.Entry first) (entry_rules bytes (range_with_len (first + 1) n)) none in
-    All-cons (λ (e : Entry). has_room e ≡ true) (entry_at bytes first) (map (entry_at bytes) (range_with_len (first + 1) n)) here.0 (all_held bytes n (first + 1) here.1)
+    let here = none_broken (has_room_for_size (directory_entry_at bytes first)) (directory_faults.Entry first) (entry_rules bytes (range_with_len (first + 1) n)) none in
+    All-cons (λ (e : Entry). has_room_for_size e ≡ true) (directory_entry_at bytes first) (map (directory_entry_at bytes) (range_with_len (first + 1) n)) here.0 (all_held bytes n (first + 1) here.1)
 
 -- ---- a block
 
@@ -139,24 +139,24 @@ behind_head : (r : ℕ) (d : DirBlock) (rest : List ℕ) → FitsHead d → drop
 behind_head r d rest head = past d.volume (to_be_bytes w64 d.forward ++ (to_be_bytes w64 d.reverse ++ rest)) 32 16 head.volume
 
 entry_again_at : (r : ℕ) (d : DirBlock) (more : List ℕ) → FitsHead d → All FitsEntry d.entries → (k : ℕ) → k < length d.entries
-    → get_or d.entries k blank ≡ entry_at (all_of r d more) k
+    → get_or d.entries k blank ≡ directory_entry_at (all_of r d more) k
 entry_again_at r d more head fits k lt = sym (
-    ap entry_of (sym (drop-drop (112 * k) 64 (all_of r d more)) ∙ ap (drop (112 * k)) (behind_head r d (flat_map entry_bytes d.entries ++ more) head))
+    ap directory_entry_of (sym (drop-drop (112 * k) 64 (all_of r d more)) ∙ ap (drop (112 * k)) (behind_head r d (flat_map entry_bytes d.entries ++ more) head))
     ∙ entry_found d.entries more fits k lt)
 
 entries_again : (r : ℕ) (d : DirBlock) (more : List ℕ) → FitsHead d → All FitsEntry d.entries
-    → map (entry_at (all_of r d more)) (range_with_len 0 (entry_count (all_of r d more))) ≡ d.entries
+    → map (directory_entry_at (all_of r d more)) (range_with_len 0 (entry_count (all_of r d more))) ≡ d.entries
 entries_again r d more head fits =
-    ap (λ (n : ℕ). map (entry_at (all_of r d more)) (range_with_len 0 n)) (count_again r d more head)
-    ∙ sym (fill_by_all (entry_at (all_of r d more)) d.entries (length d.entries) blank refl (entry_again_at r d more head fits))
+    ap (λ (n : ℕ). map (directory_entry_at (all_of r d more)) (range_with_len 0 n)) (count_again r d more head)
+    ∙ sym (fill_by_all (directory_entry_at (all_of r d more)) d.entries (length d.entries) blank refl (entry_again_at r d more head fits))
 
 block_again : (r : ℕ) (d : DirBlock) (more : List ℕ) → FitsHead d → All FitsEntry d.entries → block_of (all_of r d more) ≡ d
 block_again r d more head fits =
     let links = to_be_bytes w64 d.forward ++ (to_be_bytes w64 d.reverse ++ (flat_map entry_bytes d.entries ++ more)) in
     let volume : part 16 32 (all_of r d more) ≡ d.volume = take_at d.volume links 32 head.volume in
-    let forward : u64_at 48 (all_of r d more) ≡ d.forward =
+    let forward : big_endian_u64_at 48 (all_of r d more) ≡ d.forward =
     ap (λ (l : List ℕ). from_be_bytes w64 (take 8 l)) (drop_at d.volume links 32 head.volume) ∙ from_be_bytes-to_be_bytes_8 d.forward head.forward in
-    let back : u64_at 56 (all_of r d more) ≡ d.reverse =
+    let back : big_endian_u64_at 56 (all_of r d more) ≡ d.reverse =
     ap (λ (l : List ℕ). from_be_bytes w64 (take 8 l)) (past d.volume links 32 8 head.volume) ∙ from_be_bytes-to_be_bytes_8 d.reverse head.reverse_link in
     same_block d _ _ _ _ _ refl volume forward back (entries_again r d more head fits)
 
@@ -168,7 +168,7 @@ no_fault r d more head fits rooms =
     ∙ ap (λ (n : ℕ). first_broken (entry_rules all (range_with_len 0 n))) (count_again r d more head)
     ∙ all_hold all (length d.entries) 0 (λ k low high.
     let lt : k < length d.entries = omega (arith, high) in
-    ap has_room (sym (entry_again_at r d more head fits k lt)) ∙ All-get_or (λ (e : Entry). has_room e ≡ true) d.entries k blank lt rooms)
+    ap has_room_for_size (sym (entry_again_at r d more head fits k lt)) ∙ All-get_or (λ (e : Entry). has_room_for_size e ≡ true) d.entries k blank lt rooms)
 
 -- what is written is read again
 pub again : (r : ℕ) (d : DirBlock) (more : List ℕ) → FitsHead d → All FitsEntry d.entries → HasRooms d
@@ -193,10 +193,10 @@ pub record KeepsRules (bytes : List ℕ) : Type 0 where
 pub keeps_rules : (bytes : List ℕ) → first_broken (block_rules bytes) ≡ None → KeepsRules bytes
 keeps_rules bytes none =
     let entries = entry_rules bytes (range_with_len 0 (entry_count bytes)) in
-    let third = (from_be_bytes w32 (part 12 4 bytes) == 512, faults.BlockSize) ∷ entries in
-    let a = none_broken (bytes_eq (part 0 8 bytes) magic) faults.Magic ((nat_le (entry_count bytes) 4, faults.Count) ∷ third) none in
-    let b = none_broken (nat_le (entry_count bytes) 4) faults.Count third a.1 in
-    let c = none_broken (from_be_bytes w32 (part 12 4 bytes) == 512) faults.BlockSize entries b.1 in
+    let third = (from_be_bytes w32 (part 12 4 bytes) == 512, directory_faults.BlockSize) ∷ entries in
+    let a = none_broken (bytes_eq (part 0 8 bytes) magic) directory_faults.Magic ((nat_le (entry_count bytes) 4, directory_faults.Count) ∷ third) none in
+    let b = none_broken (nat_le (entry_count bytes) 4) directory_faults.Count third a.1 in
+    let c = none_broken (from_be_bytes w32 (part 12 4 bytes) == 512) directory_faults.BlockSize entries b.1 in
     record {
       name = (bytes_eq-Decides (part 0 8 bytes) magic).0 a.0;
       few = leb-true (entry_count bytes) 4 b.0;

@@ -8,7 +8,7 @@ use Rattle.std.proofs.lemmas.Nat.{be_bytes_2, be_bytes_4}
 use Rattle.r10_dirblock.specs.declared.block.DirBlock.{DirBlock}
 use Rattle.r10_dirblock.specs.declared.read.DirFault.{DirFault}
 use Rattle.r10_count.specs.Checks.{first_broken}
-use Rattle.r10_dirblock.specs.Block.{magic, IsBlock, FitsHead, FitsEntry, block_rules, read_block, unless_broken, head_bytes, used_bytes, entry_bytes, entry_at, entry_count, block_of, part, u64_at}
+use Rattle.r10_dirblock.specs.Block.{magic, IsBlock, FitsHead, FitsEntry, block_rules, read_block, unless_broken, head_bytes, used_bytes, entry_bytes, directory_entry_at, entry_count, block_of, part, big_endian_u64_at}
 use Rattle.r10_dirblock.proofs.Again.{again, keeps_rules}
 use Rattle.r10_dirblock.proofs.Kept.{joined, AreBytes, part_bytes, length-part, number_again, kept}
 
@@ -28,10 +28,10 @@ head_found bytes long fits name size =
     let n = to_be_bytes w16 (length d.entries) in
     let s = to_be_bytes w32 512 in
     let v = part 16 32 bytes in
-    let f = to_be_bytes w64 (u64_at 48 bytes) in
-    let r = to_be_bytes w64 (u64_at 56 bytes) in
+    let f = to_be_bytes w64 (big_endian_u64_at 48 bytes) in
+    let r = to_be_bytes w64 (big_endian_u64_at 56 bytes) in
     let e1 : m ++ two ≡ take 10 bytes = ap (λ (l : List ℕ). l ++ two) (sym name) ∙ ap (λ (l : List ℕ). take 8 bytes ++ l) (two_bytes bytes 8 (omega (arith, long))) ∙ joined bytes 8 2 in
-    let counted : n ≡ part 10 2 bytes = be_bytes_2 (part 10 2 bytes) (length d.entries) (length-part bytes 10 2 (omega (arith, long))) (part_bytes bytes 10 2 fits) (length-map-range_with_len (entry_at bytes) 0 (entry_count bytes)) in
+    let counted : n ≡ part 10 2 bytes = be_bytes_2 (part 10 2 bytes) (length d.entries) (length-part bytes 10 2 (omega (arith, long))) (part_bytes bytes 10 2 fits) (length-map-range_with_len (directory_entry_at bytes) 0 (entry_count bytes)) in
     let e2 : (m ++ two) ++ n ≡ take 12 bytes = ap (λ (l : List ℕ). (m ++ two) ++ l) counted ∙ ap (λ (l : List ℕ). l ++ part 10 2 bytes) e1 ∙ joined bytes 10 2 in
     let sized : s ≡ part 12 4 bytes = be_bytes_4 (part 12 4 bytes) 512 (length-part bytes 12 4 (omega (arith, long))) (part_bytes bytes 12 4 fits) (sym size) in
     let e3 : ((m ++ two) ++ n) ++ s ≡ take 16 bytes = ap (λ (l : List ℕ). ((m ++ two) ++ n) ++ l) sized ∙ ap (λ (l : List ℕ). l ++ part 12 4 bytes) e2 ∙ joined bytes 12 4 in
@@ -41,13 +41,13 @@ head_found bytes long fits name size =
 
 -- the entries that were read
 entries_found : (bytes : List ℕ) (first count : ℕ) → AreBytes bytes → 64 + 112 * (first + count) ≤ length bytes
-    → flat_map entry_bytes (map (entry_at bytes) (range_with_len first count)) ≡ part (64 + 112 * first) (112 * count) bytes
+    → flat_map entry_bytes (map (directory_entry_at bytes) (range_with_len first count)) ≡ part (64 + 112 * first) (112 * count) bytes
 entries_found bytes first zero fits room = refl
 entries_found bytes first (suc count) fits room =
     let at = 64 + 112 * first in
     let here = drop at bytes in
     let next : 64 + 112 * (first + 1) ≡ at + 112 = omega arith in
-    ap (λ (l : List ℕ). l ++ flat_map entry_bytes (map (entry_at bytes) (range_with_len (first + 1) count)))
+    ap (λ (l : List ℕ). l ++ flat_map entry_bytes (map (directory_entry_at bytes) (range_with_len (first + 1) count)))
     (kept here (omega (arith, room, length-drop at bytes)) (λ i. subst (λ (b : ℕ). b < 256) (sym (get_or-drop at bytes i 0)) (fits (at + i))))
     ∙ ap (λ (l : List ℕ). take 112 here ++ l) (entries_found bytes (first + 1) count fits (omega (arith, room)))
     ∙ ap (λ (l : List ℕ). take 112 here ++ take (112 * count) l) (ap (λ (k : ℕ). drop k bytes) next ∙ sym (drop-drop 112 at bytes))

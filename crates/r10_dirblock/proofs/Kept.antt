@@ -4,7 +4,7 @@ use Rattle.std.proofs.lemmas.Bool.{cases_lt}
 use Rattle.std.proofs.lemmas.List.{take-append-drop, take-take, drop-take, drop_more, length-take-le, get_or_past}
 use Rattle.std.proofs.lemmas.Nat.{be_bytes_8}
 use Rattle.std.specs.Int.{w64, to_be_bytes}
-use Rattle.r10_dirblock.specs.Block.{entry_bytes, entry_of, part, u64_at}
+use Rattle.r10_dirblock.specs.Block.{entry_bytes, directory_entry_of, part, big_endian_u64_at}
 
 -- two neighbouring parts are one
 pub joined : (bytes : List ℕ) (at n : ℕ) → take at bytes ++ part at n bytes ≡ take (at + n) bytes
@@ -25,17 +25,17 @@ pub length-part : (bytes : List ℕ) (at n : ℕ) → at + n ≤ length bytes �
 length-part bytes at n room = length-take-le n (drop at bytes) (omega (arith, room, length-drop at bytes))
 
 -- a number that was read is written with the same bytes
-pub number_again : (bytes : List ℕ) (at : ℕ) → AreBytes bytes → at + 8 ≤ length bytes → to_be_bytes w64 (u64_at at bytes) ≡ part at 8 bytes
-number_again bytes at fits room = be_bytes_8 (part at 8 bytes) (u64_at at bytes) (length-part bytes at 8 room) (part_bytes bytes at 8 fits) refl
+pub number_again : (bytes : List ℕ) (at : ℕ) → AreBytes bytes → at + 8 ≤ length bytes → to_be_bytes w64 (big_endian_u64_at at bytes) ≡ part at 8 bytes
+number_again bytes at fits room = be_bytes_8 (part at 8 bytes) (big_endian_u64_at at bytes) (length-part bytes at 8 room) (part_bytes bytes at 8 fits) refl
 
-pub kept : (bytes : List ℕ) → 112 ≤ length bytes → AreBytes bytes → entry_bytes (entry_of bytes) ≡ take 112 bytes
-unfolding entry_bytes entry_of
+pub kept : (bytes : List ℕ) → 112 ≤ length bytes → AreBytes bytes → entry_bytes (directory_entry_of bytes) ≡ take 112 bytes
+unfolding entry_bytes directory_entry_of
 kept bytes long fits =
     let time_type : get_or bytes 96 0 ∷ [] ≡ part 96 1 bytes = ap (take 1) (sym (drop_more bytes 96 0 (omega (arith, long)))) in
     let f0 = part 0 56 bytes in
-    let n1 = to_be_bytes w64 (u64_at 56 bytes) in
-    let n2 = to_be_bytes w64 (u64_at 64 bytes) in
-    let n3 = to_be_bytes w64 (u64_at 72 bytes) in
+    let n1 = to_be_bytes w64 (big_endian_u64_at 56 bytes) in
+    let n2 = to_be_bytes w64 (big_endian_u64_at 64 bytes) in
+    let n3 = to_be_bytes w64 (big_endian_u64_at 72 bytes) in
     let e1 : f0 ++ n1 ≡ take 64 bytes = ap (λ (l : List ℕ). f0 ++ l) (number_again bytes 56 fits (omega (arith, long))) ∙ joined bytes 56 8 in
     let e2 : (f0 ++ n1) ++ n2 ≡ take 72 bytes = ap (λ (l : List ℕ). (f0 ++ n1) ++ l) (number_again bytes 64 fits (omega (arith, long))) ∙ ap (λ (l : List ℕ). l ++ part 64 8 bytes) e1 ∙ joined bytes 64 8 in
     let e3 : ((f0 ++ n1) ++ n2) ++ n3 ≡ take 80 bytes = ap (λ (l : List ℕ). ((f0 ++ n1) ++ n2) ++ l) (number_again bytes 72 fits (omega (arith, long))) ∙ ap (λ (l : List ℕ). l ++ part 72 8 bytes) e2 ∙ joined bytes 72 8 in

@@ -5,25 +5,25 @@ use Rattle.std.specs.Int.{w32, from_be_bytes}
 use Rattle.std.specs.Str.{bytes_eq}
 use Rattle.r10_count.specs.Checks.{first_broken}
 use Rattle.r10_dirblock.specs.declared.read.DirFault.{DirFault}
-use Rattle.r10_dirblock.specs.declared.read.DirFault.TheVariants as faults
-use Rattle.r10_dirblock.specs.Block.{magic, part, entry_count, entry_at, entry_rules, block_rules, has_room}
+use Rattle.r10_dirblock.specs.declared.read.DirFault.TheVariants as directory_faults
+use Rattle.r10_dirblock.specs.Block.{magic, part, entry_count, directory_entry_at, entry_rules, block_rules, has_room_for_size}
 
 pub range_more : (i count : ℕ) → i < count → range_with_len i (count - i) ≡ i ∷ range_with_len (i + 1) (count - (i + 1))
 range_more i count lt = let e : count - i ≡ suc (count - (i + 1)) = omega arith in ap (range_with_len i) e
 
-pub at_rule : (bytes : List ℕ) (i : ℕ) (places : List ℕ) (answer : Bool) → has_room (entry_at bytes i) ≡ answer
-    → first_broken (entry_rules bytes (i ∷ places)) ≡ first_broken ((answer, faults.Entry i) ∷ entry_rules bytes places)
-at_rule bytes i places answer is = ap (λ (b : Bool). first_broken ((b, faults.Entry i) ∷ entry_rules bytes places)) is
+pub at_rule : (bytes : List ℕ) (i : ℕ) (places : List ℕ) (answer : Bool) → has_room_for_size (directory_entry_at bytes i) ≡ answer
+    → first_broken (entry_rules bytes (i ∷ places)) ≡ first_broken ((answer, directory_faults.Entry i) ∷ entry_rules bytes places)
+at_rule bytes i places answer is = ap (λ (b : Bool). first_broken ((b, directory_faults.Entry i) ∷ entry_rules bytes places)) is
 
 -- the rule of entry i holds
-pub rule_holds : (bytes : List ℕ) (i count : ℕ) → i < count → has_room (entry_at bytes i) ≡ true
+pub rule_holds : (bytes : List ℕ) (i count : ℕ) → i < count → has_room_for_size (directory_entry_at bytes i) ≡ true
     → first_broken (entry_rules bytes (range_with_len i (count - i))) ≡ first_broken (entry_rules bytes (range_with_len (i + 1) (count - (i + 1))))
 rule_holds bytes i count lt holds =
     ap (λ (places : List ℕ). first_broken (entry_rules bytes places)) (range_more i count lt) ∙ at_rule bytes i _ true holds
 
 -- the rule of entry i is the first that doesn't hold
-pub rule_breaks : (bytes : List ℕ) (i count : ℕ) → i < count → has_room (entry_at bytes i) ≡ false
-    → first_broken (entry_rules bytes (range_with_len i (count - i))) ≡ Some (faults.Entry i)
+pub rule_breaks : (bytes : List ℕ) (i count : ℕ) → i < count → has_room_for_size (directory_entry_at bytes i) ≡ false
+    → first_broken (entry_rules bytes (range_with_len i (count - i))) ≡ Some (directory_faults.Entry i)
 rule_breaks bytes i count lt breaks =
     ap (λ (places : List ℕ). first_broken (entry_rules bytes places)) (range_more i count lt) ∙ at_rule bytes i _ false breaks
 

@@ -3,7 +3,7 @@ use Rattle.std.proofs.Common.{◌≡◌, ℕ, ◌+◌, ◌-◌, ◌<◌, Bool, t
 use Rattle.std.proofs.lemmas.List.{length-append, length-replicate, get_or_append_left, get_or-append_right, get_or-replicate, take_all, take_at}
 use Rattle.std.specs.List.{suffix_len}
 use Rattle.std.proofs.lemmas.List.Sums.{suffix_len_is, suffix_len-take_yes, suffix_len-le-length}
-use Rattle.r10_dirblock.specs.Texts.{padded, is_padding, stripped, IsStripped}
+use Rattle.r10_dirblock.specs.Texts.{padded_text, is_padding, stripped, IsStripped}
 
 none_behind : (text : List ℕ) → IsStripped text → 0 < length text → suffix_len is_padding text ≡ 0
 none_behind text plain some =
@@ -18,7 +18,7 @@ last_stays text plain some true is = absurd (omega (
   ap (suffix_len is_padding) (take_all (length text) text (omega arith)),
 ))
 
-pub stripped_padded : (n : ℕ) (text : List ℕ) → IsStripped text → stripped (padded n text) ≡ text
+pub stripped_padded : (n : ℕ) (text : List ℕ) → IsStripped text → stripped (padded_text n text) ≡ text
 stripped_padded n text plain =
     ap (λ (k : ℕ). take k field) (omega (arith, behind, long)) ∙ take_at text zeros (length text) refl
   where

@@ -5,11 +5,11 @@ use Rattle.std.specs.Int.{w16, w32, w64, to_be_bytes, from_be_bytes}
 use Rattle.std.specs.Str.{bytes_eq}
 use Rattle.r10_count.specs.Checks.{first_broken}
 use Rattle.r10_count.specs.declared.civil.Parts.{Parts}
-use Rattle.r10_dirblock.specs.Texts.{padded, date_text, time_text, dashes}
+use Rattle.r10_dirblock.specs.Texts.{padded_text, day_month_year, time_text, dashes}
 use Rattle.r10_dirblock.specs.declared.entry.Entry.{Entry}
 use Rattle.r10_dirblock.specs.declared.block.DirBlock.{DirBlock}
 use Rattle.r10_dirblock.specs.declared.read.DirFault.{DirFault}
-use Rattle.r10_dirblock.specs.declared.read.DirFault.TheVariants as faults
+use Rattle.r10_dirblock.specs.declared.read.DirFault.TheVariants as directory_faults
 
 -- ---- writing
 
@@ -43,19 +43,19 @@ block_bytes d = used_bytes 0x0F d ++ replicate (512 - length (used_bytes 0x0F d)
 abbrev pub part : ℕ → ℕ → List ℕ → List ℕ
 part at n bytes = take n (drop at bytes)
 
-abbrev pub u64_at : ℕ → List ℕ → ℕ
-u64_at at bytes = from_be_bytes w64 (part at 8 bytes)
+abbrev pub big_endian_u64_at : ℕ → List ℕ → ℕ
+big_endian_u64_at at bytes = from_be_bytes w64 (part at 8 bytes)
 
 abbrev pub entry_count : List ℕ → ℕ
 entry_count bytes = from_be_bytes w16 (part 10 2 bytes)
 
 -- the entry whose bytes begin here
-unfoldable pub entry_of : List ℕ → Entry
-entry_of here = record {
+unfoldable pub directory_entry_of : List ℕ → Entry
+directory_entry_of here = record {
   name = part 0 56 here;
-  first_block = u64_at 56 here;
-  block_count = u64_at 64 here;
-  size = u64_at 72 here;
+  first_block = big_endian_u64_at 56 here;
+  block_count = big_endian_u64_at 64 here;
+  size = big_endian_u64_at 72 here;
   create_date = part 80 8 here;
   create_time = part 88 8 here;
   time_type = slice_index here 96;
@@ -63,31 +63,31 @@ entry_of here = record {
   close_time = part 104 8 here;
 }
 
-abbrev pub entry_at : List ℕ → ℕ → Entry
-entry_at bytes i = entry_of (drop (64 + 112 * i) bytes)
+abbrev pub directory_entry_at : List ℕ → ℕ → Entry
+directory_entry_at bytes i = directory_entry_of (drop (64 + 112 * i) bytes)
 
 abbrev pub block_of : List ℕ → DirBlock
 block_of bytes = record {
   shutdown = slice_index bytes 9;
   volume = part 16 32 bytes;
-  forward = u64_at 48 bytes;
-  reverse = u64_at 56 bytes;
-  entries = map (entry_at bytes) (range_with_len 0 (entry_count bytes));
+  forward = big_endian_u64_at 48 bytes;
+  reverse = big_endian_u64_at 56 bytes;
+  entries = map (directory_entry_at bytes) (range_with_len 0 (entry_count bytes));
 }
 
 -- the file's blocks have room for its size
-abbrev pub has_room : Entry → Bool
-has_room e = nat_le e.size (512 * e.block_count)
+abbrev pub has_room_for_size : Entry → Bool
+has_room_for_size e = nat_le e.size (512 * e.block_count)
 
 -- what must hold, in order, and the fault where it doesn't
 abbrev pub entry_rules : List ℕ → List ℕ → List (Bool × DirFault)
-entry_rules bytes places = map (λ (i : ℕ). (has_room (entry_at bytes i), faults.Entry i)) places
+entry_rules bytes places = map (λ (i : ℕ). (has_room_for_size (directory_entry_at bytes i), directory_faults.Entry i)) places
 
 abbrev pub block_rules : List ℕ → List (Bool × DirFault)
 block_rules bytes =
-    (bytes_eq (part 0 8 bytes) magic, faults.Magic)
-    ∷ (nat_le (entry_count bytes) 4, faults.Count)
-    ∷ (from_be_bytes w32 (part 12 4 bytes) == 512, faults.BlockSize)
+    (bytes_eq (part 0 8 bytes) magic, directory_faults.Magic)
+    ∷ (nat_le (entry_count bytes) 4, directory_faults.Count)
+    ∷ (from_be_bytes w32 (part 12 4 bytes) == 512, directory_faults.BlockSize)
     ∷ entry_rules bytes (range_with_len 0 (entry_count bytes))
 
 abbrev pub unless_broken : {F T : Type 0} → Option F → T → Result T F
@@ -100,7 +100,7 @@ read_block bytes = unless_broken (first_broken (block_rules bytes)) (block_of by
 
 -- each entry may be read again
 abbrev pub HasRooms : DirBlock → Type 0
-HasRooms d = All (λ e. has_room e ≡ true) d.entries
+HasRooms d = All (λ e. has_room_for_size e ≡ true) d.entries
 
 -- what the types of the fields promise
 pub record FitsEntry (e : Entry) : Type 0 where
@@ -145,13 +145,13 @@ blank = record {
 }
 
 -- the entry of a file that has just been begun: without blocks, and not closed
-abbrev pub begun : List ℕ → ℕ → Parts → Entry
-begun name first_block created = record {
-  name = padded 56 name;
+abbrev pub begun_entry : List ℕ → ℕ → Parts → Entry
+begun_entry name first_block created = record {
+  name = padded_text 56 name;
   first_block = first_block;
   block_count = 0;
   size = 0;
-  create_date = date_text created;
+  create_date = day_month_year created;
   create_time = time_text created;
   time_type = 0;
   reserved = replicate 7 0;

@@ -4,8 +4,8 @@ use Rattle.std.specs.List.{suffix_len}
 use Rattle.r10_count.specs.declared.civil.Parts.{Parts}
 
 -- a text in a field of n bytes, with zero bytes behind it
-abbrev pub padded : ℕ → List ℕ → List ℕ
-padded n text = text ++ replicate (n - length text) 0
+abbrev pub padded_text : ℕ → List ℕ → List ℕ
+padded_text n text = text ++ replicate (n - length text) 0
 
 -- a zero byte or a space
 abbrev pub is_padding : ℕ → Bool
@@ -24,8 +24,8 @@ abbrev pub digits : ℕ → List ℕ
 digits n = (48 + n / 10 % 10) ∷ (48 + n % 10) ∷ []
 
 -- DDMMYYYY
-abbrev pub date_text : Parts → List ℕ
-date_text p = digits p.day ++ digits p.month ++ digits (p.year / 100) ++ digits p.year
+abbrev pub day_month_year : Parts → List ℕ
+day_month_year p = digits p.day ++ digits p.month ++ digits (p.year / 100) ++ digits p.year
 
 -- HHMMSSss
 abbrev pub time_text : Parts → List ℕ

@@ -1,7 +1,7 @@
 // The entry of a file.
 ghost use Rattle.std.specs.Prelude.{◌≡◌, ◌≤◌, length, true};
 ghost use Rattle.r10_dirblock.specs.Texts.{stripped, time_text};
-ghost use Rattle.r10_dirblock.specs.Block.{begun, blank, has_room, is_closed, sized};
+ghost use Rattle.r10_dirblock.specs.Block.{begun_entry, blank, has_room_for_size, is_closed, sized};
 
 use crate::text::{DASHES, date_digits, pad, strip, time_digits};
 use r10_count::Civil;
@@ -31,7 +31,7 @@ impl Entry {
     /// The entry of a file that has just been begun: without blocks, and not closed.
     pub fn begun(name: &[u8], first_block: u64, created: Civil) -> Entry
         requires { length name.now ≤ 56 }
-        ensures { result ≡ begun name.now first_block created }
+        ensures { result ≡ begun_entry name.now first_block created }
     {
         Entry {
             name: pad(name),
@@ -49,7 +49,7 @@ impl Entry {
     /// The entry at another size in bytes, with as many blocks as the size needs.
     pub fn sized(self, size: u64) -> Entry
         ensures fields { result ≡ sized size self }
-        ensures room { has_room result ≡ true }
+        ensures room { has_room_for_size result ≡ true }
     {
         Entry {
             block_count: size.div_ceil(512),
@@ -85,7 +85,7 @@ impl Entry {
 
     /// Whether the file's blocks have room for its size.
     pub fn has_room(&self) -> bool
-        ensures { result ≡ has_room self.now }
+        ensures { result ≡ has_room_for_size self.now }
     {
         u128::from(self.size) <= 512 * u128::from(self.block_count)
     }

@@ -2,7 +2,7 @@
 ghost use Rattle.std.specs.Prelude.{◌≡◌, ◌+◌, ◌≤◌, length, map, All, IfOk, IfErr};
 ghost use Rattle.std.specs.List.{range_with_len};
 ghost use Rattle.r10_count.specs.Checks.{first_broken};
-ghost use Rattle.r10_dirblock.specs.Block.{part, u64_at, entry_count, entry_of, entry_at, block_of, block_rules, read_block, IsBlock, FitsEntry, FitsHead};
+ghost use Rattle.r10_dirblock.specs.Block.{part, big_endian_u64_at, entry_count, directory_entry_of, directory_entry_at, block_of, block_rules, read_block, IsBlock, FitsEntry, FitsHead};
 ghost use Rattle.r10_dirblock.specs.declared.block.DirBlock.{DirBlock};
 
 use crate::{DirBlock, Entries, Entry};
@@ -74,7 +74,7 @@ fn fields(bytes: &[u8; 512]) -> DirBlock
 
 fn entries(bytes: &[u8; 512]) -> Entries
     requires { entry_count bytes.now ≤ 4 }
-    ensures entries { result ≡ map (entry_at bytes.now) (range_with_len 0 (entry_count bytes.now)) }
+    ensures entries { result ≡ map (directory_entry_at bytes.now) (range_with_len 0 (entry_count bytes.now)) }
     ensures fits { All FitsEntry result }
     ensures few { length result ≤ 4 }
 {
@@ -85,10 +85,10 @@ fn entries(bytes: &[u8; 512]) -> Entries
     entries
 }
 
-#[tactic(auto, unfolding(crate::specs::Block::entry_of))]
+#[tactic(auto, unfolding(crate::specs::Block::directory_entry_of))]
 fn entry(bytes: &[u8]) -> Entry
     requires { 112 ≤ length bytes.now }
-    ensures fields { result ≡ entry_of bytes.now }
+    ensures fields { result ≡ directory_entry_of bytes.now }
     ensures fits { FitsEntry result }
 {
     Entry {
@@ -112,7 +112,7 @@ fn count(bytes: &[u8; 512]) -> usize
 
 fn number(bytes: &[u8], at: usize) -> u64
     requires { at + 8 ≤ length bytes.now }
-    ensures { result ≡ u64_at at bytes.now }
+    ensures { result ≡ big_endian_u64_at at bytes.now }
 {
     u64::from_be_bytes(field(bytes, at))
 }

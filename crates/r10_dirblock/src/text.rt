@@ -1,6 +1,6 @@
 // Texts in a directory block: names, dates and times.
 ghost use Rattle.std.specs.Prelude.{◌≡◌, ◌<◌, ◌≤◌, length};
-ghost use Rattle.r10_dirblock.specs.Texts.{is_padding, padded, stripped, IsStripped, digits, date_text, time_text};
+ghost use Rattle.r10_dirblock.specs.Texts.{is_padding, padded_text, stripped, IsStripped, digits, day_month_year, time_text};
 
 use r10_count::Civil;
 
@@ -10,7 +10,7 @@ pub(crate) const DASHES: [u8; 8] = *b"--------";
 /// The text in a field of `N` bytes, with zero bytes behind it.
 pub fn pad<const N: usize>(text: &[u8]) -> [u8; N]
     requires { length text.now ≤ N }
-    ensures bytes { result ≡ padded N text.now }
+    ensures bytes { result ≡ padded_text N text.now }
     // A text that ends in no zero byte and no space is read again.
     ensures again { IsStripped text.now → stripped result ≡ text.now }
 {
@@ -38,7 +38,7 @@ fn is_pad(byte: u8) -> bool
 
 /// The date as DDMMYYYY.
 pub(crate) fn date_digits(time: Civil) -> [u8; 8]
-    ensures { result ≡ date_text time }
+    ensures { result ≡ day_month_year time }
 {
     let parts = time.parts();
     let [day, days] = two_digits(parts.day);

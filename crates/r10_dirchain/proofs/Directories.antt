@@ -8,11 +8,11 @@ use Rattle.r10_medium.specs.Disk.{Image, block_at}
 use Rattle.r10_dirblock.specs.declared.entry.Entry.{Entry}
 use Rattle.r10_dirblock.specs.declared.block.DirBlock.{DirBlock}
 use Rattle.r10_dirblock.specs.declared.read.DirFault.{DirFault}
-use Rattle.r10_dirblock.specs.Block.{read_block, has_room, HasRooms, IsBlock}
+use Rattle.r10_dirblock.specs.Block.{read_block, has_room_for_size, HasRooms, IsBlock}
 use Rattle.r10_dirblock.proofs.Found.{only}
 use Rattle.r10_dirchain.specs.declared.chain.ChainBlock.{ChainBlock}
-use Rattle.r10_dirchain.specs.Chain.{Link, link, Linked, Holds, IsDirectory, blank_block, at}
-use Rattle.r10_dirchain.specs.OnMedium.{SameButIn, Put, PutTwo, IsWritten, Turned}
+use Rattle.r10_dirchain.specs.Chain.{Link, link, Linked, HoldsBlock, IsDirectory, blank_block, at}
+use Rattle.r10_dirchain.specs.OnMedium.{SameButIn, Put, PutTwo, IsWrittenByteForByte, Turned}
 use Rattle.r10_dirchain.specs.Steps.{last_place, last_block}
 
 same_ok : (x y : DirBlock) (r : Result DirBlock DirFault) → r ≡ Ok x → r ≡ Ok y → x ≡ y
@@ -22,24 +22,24 @@ same_ok x y r a b = cc
 pub one_block : (bytes : List ℕ) (x y : DirBlock) → IsBlock bytes x → IsBlock bytes y → x ≡ y
 one_block bytes x y a b = same_ok x y (read_block bytes) (only bytes x a) (only bytes y b)
 
-pub same_block : (image : Image) (a b : ChainBlock) → Holds image a → Holds image b → a.number ≡ b.number → a.block ≡ b.block
+pub same_block : (image : Image) (a b : ChainBlock) → HoldsBlock image a → HoldsBlock image b → a.number ≡ b.number → a.block ≡ b.block
 same_block image a b ha hb e = one_block (block_at image b.number) a.block b.block (subst (λ (n : ℕ). IsBlock (block_at image n) a.block) e ha.is) hb.is
 
 -- two chains from one block on have one length
-same_length : (image : Image) (a b : List ChainBlock) (back p other q : ℕ) → All (Holds image) a → All (Holds image) b
+same_length : (image : Image) (a b : List ChainBlock) (back p other q : ℕ) → All (HoldsBlock image) a → All (HoldsBlock image) b
     → Linked back p (map link a) → Linked other q (map link b) → p ≡ q → length a ≡ length b
 same_length image [] b back p other q ha hb la lb e = absurd la
 same_length image (x ∷ a) [] back p other q ha hb la lb e = absurd lb
 same_length image (x ∷ []) (u ∷ []) back p other q ha hb la lb e = refl
 same_length image (x ∷ []) (u ∷ v ∷ b) back p other q ha hb la lb e =
-    let same = same_block image x u (All-head (Holds image) x [] ha) (All-head (Holds image) u (v ∷ b) hb) (la.0 ∙ e ∙ sym lb.0) in
+    let same = same_block image x u (All-head (HoldsBlock image) x [] ha) (All-head (HoldsBlock image) u (v ∷ b) hb) (la.0 ∙ e ∙ sym lb.0) in
     absurd (lb.2 (ap (λ (d : DirBlock). d.forward) (sym same) ∙ la.2 ∙ e))
 same_length image (x ∷ y ∷ a) (u ∷ []) back p other q ha hb la lb e =
-    let same = same_block image x u (All-head (Holds image) x (y ∷ a) ha) (All-head (Holds image) u [] hb) (la.0 ∙ e ∙ sym lb.0) in
+    let same = same_block image x u (All-head (HoldsBlock image) x (y ∷ a) ha) (All-head (HoldsBlock image) u [] hb) (la.0 ∙ e ∙ sym lb.0) in
     absurd (la.2 (ap (λ (d : DirBlock). d.forward) same ∙ lb.2 ∙ sym e))
 same_length image (x ∷ y ∷ a) (u ∷ v ∷ b) back p other q ha hb la lb e =
-    let same = same_block image x u (All-head (Holds image) x (y ∷ a) ha) (All-head (Holds image) u (v ∷ b) hb) (la.0 ∙ e ∙ sym lb.0) in
-    ap suc (same_length image (y ∷ a) (v ∷ b) p x.block.forward q u.block.forward (All-tail (Holds image) x (y ∷ a) ha) (All-tail (Holds image) u (v ∷ b) hb) la.3 lb.3
+    let same = same_block image x u (All-head (HoldsBlock image) x (y ∷ a) ha) (All-head (HoldsBlock image) u (v ∷ b) hb) (la.0 ∙ e ∙ sym lb.0) in
+    ap suc (same_length image (y ∷ a) (v ∷ b) p x.block.forward q u.block.forward (All-tail (HoldsBlock image) x (y ∷ a) ha) (All-tail (HoldsBlock image) u (v ∷ b) hb) la.3 lb.3
     (ap (λ (d : DirBlock). d.forward) same))
 
 linked_from : (chain : List ChainBlock) (back p i : ℕ) → Linked back p (map link chain) → i < length chain
@@ -56,7 +56,7 @@ apart image chain is i k lt within e =
     let a = linked_from chain 1 1 i is.linked (omega (arith, lt, within)) in
     let b = linked_from chain 1 1 k is.linked within in
     let same = same_length image (drop i chain) (drop k chain) a.0 (at chain i).number b.0 (at chain k).number
-    (All-drop (Holds image) i chain is.holds) (All-drop (Holds image) k chain is.holds) a.1 b.1 e in
+    (All-drop (HoldsBlock image) i chain is.holds) (All-drop (HoldsBlock image) k chain is.holds) a.1 b.1 e in
     absurd (omega (arith, same, lt, within, length-drop i chain, length-drop k chain))
 
 pub other_number : (image : Image) (chain : List ChainBlock) → IsDirectory image chain → (i k : ℕ) → i < length chain → k < length chain → k ≢ i → (at chain k).number ≢ (at chain i).number
@@ -69,7 +69,7 @@ same_link : (number f b g c : ℕ) → f ≡ g → b ≡ c → ◌≡◌ {A = Li
 same_link number f b g c x y = rw (x, y)
 
 -- a block stays where its bytes do
-pub still_holds : (old new : Image) (b : ChainBlock) → Holds old b → length new ≡ length old → block_at new b.number ≡ block_at old b.number → Holds new b
+pub still_holds : (old new : Image) (b : ChainBlock) → HoldsBlock old b → length new ≡ length old → block_at new b.number ≡ block_at old b.number → HoldsBlock new b
 still_holds old new b was size same = record {
   within = omega (arith, was.within, size);
   is = subst (λ (bytes : List ℕ). IsBlock bytes b.block) (sym same) was.is;
@@ -80,7 +80,7 @@ pub still_directory : (old new : Image) (chain : List ChainBlock) (numbers : Lis
     → ((i : ℕ) → i < length chain → All (λ (n : ℕ). (at chain i).number ≢ n) numbers) → IsDirectory new chain
 still_directory old new chain numbers is same none = record {
   linked = is.linked;
-  holds = All-from_get_or (Holds new) chain blank_block (λ i lt. still_holds old new (at chain i) (is.holds i blank_block lt) same.size (same.others (at chain i).number (none i lt)));
+  holds = All-from_get_or (HoldsBlock new) chain blank_block (λ i lt. still_holds old new (at chain i) (is.holds i blank_block lt) same.size (same.others (at chain i).number (none i lt)));
 }
 
 -- a new block with the same links
@@ -90,16 +90,16 @@ pub put_in : (old new : Image) (chain : List ChainBlock) (i : ℕ) (b : ChainBlo
 put_in old new chain i b is within here on behind put = record {
   linked = subst (Linked 1 1) (sym (map-set link chain i b ∙ ap (set (map link chain) i) (ap (λ (n : ℕ). record { number = n; forward = b.block.forward; back = b.block.reverse }) here ∙ same_link (at chain i).number _ _ _ _ on behind ∙ sym (get_or-map link chain i blank_block (link blank_block) within))
       ∙ set-get_or (map link chain) i (link blank_block))) is.linked;
-  holds = All-from_get_or (Holds new) (set chain i b) blank_block each;
+  holds = All-from_get_or (HoldsBlock new) (set chain i b) blank_block each;
 }
   where
-    each : (k : ℕ) → k < length (set chain i b) → Holds new (get_or (set chain i b) k blank_block)
+    each : (k : ℕ) → k < length (set chain i b) → HoldsBlock new (get_or (set chain i b) k blank_block)
     each k lt = elim (cases_eq k i) [
-      | inl same ↦ subst (λ (j : ℕ). Holds new (get_or (set chain i b) j blank_block)) (sym same)
-          (subst (Holds new) (sym (get_or-set_same chain i b blank_block within)) put.holds)
+      | inl same ↦ subst (λ (j : ℕ). HoldsBlock new (get_or (set chain i b) j blank_block)) (sym same)
+          (subst (HoldsBlock new) (sym (get_or-set_same chain i b blank_block within)) put.holds)
       | inr differs ↦
           let there : k < length chain = omega (arith, lt, length-set chain i b) in
-          subst (Holds new) (sym (get_or-set_other chain i k b blank_block differs))
+          subst (HoldsBlock new) (sym (get_or-set_other chain i k b blank_block differs))
           (still_holds old new (at chain k) (is.holds k blank_block there) put.others.size
           (put.others.others (at chain k).number (λ e. other_number old chain is i k within there differs (e ∙ here))))
     ]
@@ -109,7 +109,7 @@ pub put_alone : (old new : Image) (b : ChainBlock) → b.number ≡ 1 → b.bloc
     → IsDirectory new (b ∷ [])
 put_alone old new b here on behind put = record {
   linked = (here, behind, on);
-  holds = All-cons (Holds new) b [] put.holds (All-nil (Holds new));
+  holds = All-cons (HoldsBlock new) b [] put.holds (All-nil (HoldsBlock new));
 }
 
 but_one : (n m : ℕ) (old new : Image) (b : ChainBlock) → b.number ≡ n → Put old b new → SameButIn (n ∷ []) old new
@@ -120,15 +120,15 @@ but_one n m old new b here put = record {
 
 -- the new block alone is written
 written_in : (old new : Image) (chain : List ChainBlock) (i : ℕ) (b : ChainBlock) → IsDirectory old chain → i < length chain → Put old b new
-    → All (IsWritten ((at chain i).number ∷ []) new) (set chain i b)
-written_in old new chain i b is within put = All-from_get_or (IsWritten ((at chain i).number ∷ []) new) (set chain i b) blank_block each
+    → All (IsWrittenByteForByte ((at chain i).number ∷ []) new) (set chain i b)
+written_in old new chain i b is within put = All-from_get_or (IsWrittenByteForByte ((at chain i).number ∷ []) new) (set chain i b) blank_block each
   where
-    each : (k : ℕ) → k < length (set chain i b) → IsWritten ((at chain i).number ∷ []) new (get_or (set chain i b) k blank_block)
+    each : (k : ℕ) → k < length (set chain i b) → IsWrittenByteForByte ((at chain i).number ∷ []) new (get_or (set chain i b) k blank_block)
     each k lt = elim (cases_eq k i) [
-      | inl same ↦ subst (λ (j : ℕ). IsWritten ((at chain i).number ∷ []) new (get_or (set chain i b) j blank_block)) (sym same)
-          (subst (IsWritten ((at chain i).number ∷ []) new) (sym (get_or-set_same chain i b blank_block within)) (inr put.bytes))
+      | inl same ↦ subst (λ (j : ℕ). IsWrittenByteForByte ((at chain i).number ∷ []) new (get_or (set chain i b) j blank_block)) (sym same)
+          (subst (IsWrittenByteForByte ((at chain i).number ∷ []) new) (sym (get_or-set_same chain i b blank_block within)) (inr put.bytes))
       | inr differs ↦
-          subst (IsWritten ((at chain i).number ∷ []) new) (sym (get_or-set_other chain i k b blank_block differs))
+          subst (IsWrittenByteForByte ((at chain i).number ∷ []) new) (sym (get_or-set_other chain i k b blank_block differs))
           (inl (All-cons (λ (n : ℕ). (at chain k).number ≢ n) (at chain i).number []
           (other_number old chain is i k within (omega (arith, lt, length-set chain i b)) differs) (All-nil (λ (n : ℕ). (at chain k).number ≢ n))))
     ]
@@ -147,7 +147,7 @@ pub turned_alone : (old new : Image) (b : ChainBlock) → b.number ≡ 1 → b.b
     → Turned (b ∷ []) (1 ∷ []) old new
 turned_alone old new b here on behind put = record {
   directory = put_alone old new b here on behind put;
-  written = All-cons (IsWritten (1 ∷ []) new) b [] (inr put.bytes) (All-nil (IsWritten (1 ∷ []) new));
+  written = All-cons (IsWrittenByteForByte (1 ∷ []) new) b [] (inr put.bytes) (All-nil (IsWrittenByteForByte (1 ∷ []) new));
   others = but_one 1 0 old new b here put;
 }
 
@@ -162,20 +162,20 @@ rooms_held image chain i is within = (is.holds i blank_block within).is.rooms
 
 -- so has each where one with room is put behind them
 pub rooms_more : (image : Image) (chain : List ChainBlock) (i : ℕ) (block : DirBlock) (entries : List Entry) (entry : Entry) → IsDirectory image chain → i < length chain
-    → block ≡ (at chain i).block → entries ≡ block.entries ++ entry ∷ [] → has_room entry ≡ true → All (λ (e : Entry). has_room e ≡ true) entries
+    → block ≡ (at chain i).block → entries ≡ block.entries ++ entry ∷ [] → has_room_for_size entry ≡ true → All (λ (e : Entry). has_room_for_size e ≡ true) entries
 rooms_more image chain i block entries entry is within same pushed room =
-    All-same (λ (e : Entry). has_room e ≡ true) entries (block.entries ++ entry ∷ []) pushed
-    (All-push (λ (e : Entry). has_room e ≡ true) block.entries entry (subst HasRooms (sym same) (rooms_held image chain i is within)) room)
+    All-same (λ (e : Entry). has_room_for_size e ≡ true) entries (block.entries ++ entry ∷ []) pushed
+    (All-push (λ (e : Entry). has_room_for_size e ≡ true) block.entries entry (subst HasRooms (sym same) (rooms_held image chain i is within)) room)
 
 -- or in place of the last
 pub rooms_last : (image : Image) (chain : List ChainBlock) (i : ℕ) (block : DirBlock) (popped entries : List Entry) (entry : Entry) → IsDirectory image chain → i < length chain
-    → block ≡ (at chain i).block → popped ≡ take (length block.entries - 1) block.entries → entries ≡ popped ++ entry ∷ [] → has_room entry ≡ true
-    → All (λ (e : Entry). has_room e ≡ true) entries
+    → block ≡ (at chain i).block → popped ≡ take (length block.entries - 1) block.entries → entries ≡ popped ++ entry ∷ [] → has_room_for_size entry ≡ true
+    → All (λ (e : Entry). has_room_for_size e ≡ true) entries
 rooms_last image chain i block popped entries entry is within same taken pushed room =
-    All-same (λ (e : Entry). has_room e ≡ true) entries (popped ++ entry ∷ []) pushed
-    (All-push (λ (e : Entry). has_room e ≡ true) popped entry
-    (All-same (λ (e : Entry). has_room e ≡ true) popped (take (length block.entries - 1) block.entries) taken
-    (All-take (λ (e : Entry). has_room e ≡ true) (length block.entries - 1) block.entries (subst HasRooms (sym same) (rooms_held image chain i is within)))) room)
+    All-same (λ (e : Entry). has_room_for_size e ≡ true) entries (popped ++ entry ∷ []) pushed
+    (All-push (λ (e : Entry). has_room_for_size e ≡ true) popped entry
+    (All-same (λ (e : Entry). has_room_for_size e ≡ true) popped (take (length block.entries - 1) block.entries) taken
+    (All-take (λ (e : Entry). has_room_for_size e ≡ true) (length block.entries - 1) block.entries (subst HasRooms (sym same) (rooms_held image chain i is within)))) room)
 
 -- ---- one block more
 
@@ -212,7 +212,7 @@ put_behind old new chain i next is long place free on behind put = record {
       (linked_on (map link chain) 1 1 i next.number (link (last_block chain)) (link next) (link blank_block) is.linked (omega (arith, long, length_map))
       (ap (λ (j : ℕ). link (at chain j)) (sym place) ∙ sym (get_or-map link chain i blank_block (link blank_block) within))
       (λ e. free (last_place chain) last_within (sym e)) refl behind on));
-  holds = All-push (Holds new) (set chain (last_place chain) b) next (All-from_get_or (Holds new) (set chain (last_place chain) b) blank_block each) put.next_holds;
+  holds = All-push (HoldsBlock new) (set chain (last_place chain) b) next (All-from_get_or (HoldsBlock new) (set chain (last_place chain) b) blank_block each) put.next_holds;
 }
   where
     b : ChainBlock
@@ -227,13 +227,13 @@ put_behind old new chain i next is long place free on behind put = record {
     length_map : length (map link chain) ≡ length chain
     length_map = length-map chain link
 
-    each : (k : ℕ) → k < length (set chain (last_place chain) b) → Holds new (get_or (set chain (last_place chain) b) k blank_block)
+    each : (k : ℕ) → k < length (set chain (last_place chain) b) → HoldsBlock new (get_or (set chain (last_place chain) b) k blank_block)
     each k lt = elim (cases_eq k (last_place chain)) [
-      | inl same ↦ subst (λ (j : ℕ). Holds new (get_or (set chain (last_place chain) b) j blank_block)) (sym same)
-          (subst (Holds new) (sym (get_or-set_same chain (last_place chain) b blank_block last_within)) put.linking_holds)
+      | inl same ↦ subst (λ (j : ℕ). HoldsBlock new (get_or (set chain (last_place chain) b) j blank_block)) (sym same)
+          (subst (HoldsBlock new) (sym (get_or-set_same chain (last_place chain) b blank_block last_within)) put.linking_holds)
       | inr differs ↦
           let there : k < length chain = omega (arith, lt, length-set chain (last_place chain) b) in
-          subst (Holds new) (sym (get_or-set_other chain (last_place chain) k b blank_block differs))
+          subst (HoldsBlock new) (sym (get_or-set_other chain (last_place chain) k b blank_block differs))
           (still_holds old new (at chain k) (is.holds k blank_block there) put.others.size
           (put.others.others (at chain k).number
           (All-cons (λ (n : ℕ). (at chain k).number ≢ n) b.number (next.number ∷ []) (other_number old chain is (last_place chain) k last_within there differs)
@@ -244,21 +244,21 @@ put_behind old new chain i next is long place free on behind put = record {
 pub written_behind : (old new : Image) (chain : List ChainBlock) (next : ChainBlock) → IsDirectory old chain → last_place chain < length chain
     → ((k : ℕ) → k < length chain → (at chain k).number ≢ next.number)
     → PutTwo old next (leading_to next.number chain) new
-    → All (IsWritten ((last_block chain).number ∷ next.number ∷ []) new) (set chain (last_place chain) (leading_to next.number chain) ++ next ∷ [])
+    → All (IsWrittenByteForByte ((last_block chain).number ∷ next.number ∷ []) new) (set chain (last_place chain) (leading_to next.number chain) ++ next ∷ [])
 written_behind old new chain next is last_within free put =
-    All-push (IsWritten (b.number ∷ next.number ∷ []) new) (set chain (last_place chain) b) next
-    (All-from_get_or (IsWritten (b.number ∷ next.number ∷ []) new) (set chain (last_place chain) b) blank_block each) (inr put.next_bytes)
+    All-push (IsWrittenByteForByte (b.number ∷ next.number ∷ []) new) (set chain (last_place chain) b) next
+    (All-from_get_or (IsWrittenByteForByte (b.number ∷ next.number ∷ []) new) (set chain (last_place chain) b) blank_block each) (inr put.next_bytes)
   where
     b : ChainBlock
     b = leading_to next.number chain
 
-    each : (k : ℕ) → k < length (set chain (last_place chain) b) → IsWritten (b.number ∷ next.number ∷ []) new (get_or (set chain (last_place chain) b) k blank_block)
+    each : (k : ℕ) → k < length (set chain (last_place chain) b) → IsWrittenByteForByte (b.number ∷ next.number ∷ []) new (get_or (set chain (last_place chain) b) k blank_block)
     each k lt = elim (cases_eq k (last_place chain)) [
-      | inl same ↦ subst (λ (j : ℕ). IsWritten (b.number ∷ next.number ∷ []) new (get_or (set chain (last_place chain) b) j blank_block)) (sym same)
-          (subst (IsWritten (b.number ∷ next.number ∷ []) new) (sym (get_or-set_same chain (last_place chain) b blank_block last_within)) (inr put.linking_bytes))
+      | inl same ↦ subst (λ (j : ℕ). IsWrittenByteForByte (b.number ∷ next.number ∷ []) new (get_or (set chain (last_place chain) b) j blank_block)) (sym same)
+          (subst (IsWrittenByteForByte (b.number ∷ next.number ∷ []) new) (sym (get_or-set_same chain (last_place chain) b blank_block last_within)) (inr put.linking_bytes))
       | inr differs ↦
           let there : k < length chain = omega (arith, lt, length-set chain (last_place chain) b) in
-          subst (IsWritten (b.number ∷ next.number ∷ []) new) (sym (get_or-set_other chain (last_place chain) k b blank_block differs))
+          subst (IsWrittenByteForByte (b.number ∷ next.number ∷ []) new) (sym (get_or-set_other chain (last_place chain) k b blank_block differs))
           (inl
           (All-cons (λ (n : ℕ). (at chain k).number ≢ n) b.number (next.number ∷ []) (other_number old chain is (last_place chain) k last_within there differs)
           (All-cons (λ (n : ℕ). (at chain k).number ≢ n) next.number [] (free k there) (All-nil (λ (n : ℕ). (at chain k).number ≢ n)))))

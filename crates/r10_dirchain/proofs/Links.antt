@@ -14,17 +14,17 @@ use Rattle.r10_dirblock.specs.declared.block.DirBlock.{DirBlock}
 use Rattle.r10_dirchain.specs.declared.chain.ChainBlock.{ChainBlock}
 use Rattle.r10_dirchain.specs.declared.read.ChainError.{ChainError}
 use Rattle.r10_dirchain.specs.declared.read.ChainError.TheVariants.{BadDirectory, Medium, OutOfMemory}
-use Rattle.r10_dirchain.specs.Chain.{Link, link, Linked, Holds, IsDirectory}
-use Rattle.r10_dirchain.specs.Bad.{Leads, IsTaken, IsTakeError, IsBad, IsChainError, AreApart, numbers}
+use Rattle.r10_dirchain.specs.Chain.{Link, link, Linked, HoldsBlock, IsDirectory}
+use Rattle.r10_dirchain.specs.Bad.{LinksLead, LinksBack, IsTakeError, IsBad, IsChainError, BlocksAreApart, numbers}
 use Rattle.r10_dirchain.proofs.Directories.{same_block}
 
-leads_more : (back n : ℕ) (ls : List Link) (last next : ℕ) (l : Link) → Leads back n ls last next
-    → l.number ≡ next → l.back ≡ last → l.forward ≢ next → Leads back n (ls ++ l ∷ []) next l.forward
+leads_more : (back n : ℕ) (ls : List Link) (last next : ℕ) (l : Link) → LinksLead back n ls last next
+    → l.number ≡ next → l.back ≡ last → l.forward ≢ next → LinksLead back n (ls ++ l ∷ []) next l.forward
 leads_more back n [] last next l leads at behind on = (at ∙ sym leads.1, behind ∙ sym leads.0, λ e. on (e ∙ leads.1), (leads.1, refl))
 leads_more back n (m ∷ ls) last next l leads at behind on =
     (leads.0, leads.1, leads.2, leads_more n m.forward ls last next l leads.3 at behind on)
 
-leads_to_last : (back n : ℕ) (ls : List Link) (last next : ℕ) (l : Link) → Leads back n ls last next
+leads_to_last : (back n : ℕ) (ls : List Link) (last next : ℕ) (l : Link) → LinksLead back n ls last next
     → l.number ≡ next → l.back ≡ last → l.forward ≡ next → Linked back n (ls ++ l ∷ [])
 leads_to_last back n [] last next l leads at behind ends = (at ∙ sym leads.1, behind ∙ sym leads.0, ends ∙ sym leads.1)
 leads_to_last back n (m ∷ []) last next l leads at behind ends =
@@ -34,19 +34,19 @@ leads_to_last back n (m ∷ k ∷ ls) last next l leads at behind ends =
 
 -- ---- no block is passed twice
 
-leads_first : (back n : ℕ) (ls : List Link) (last next : ℕ) (none : Link) → Leads back n ls last next → 0 < length ls
+leads_first : (back n : ℕ) (ls : List Link) (last next : ℕ) (none : Link) → LinksLead back n ls last next → 0 < length ls
     → ((get_or ls 0 none).number ≡ n) × ((get_or ls 0 none).back ≡ back)
 leads_first back n [] last next none leads some = absurd (omega (arith, some))
 leads_first back n (x ∷ ls) last next none leads some = (leads.0, leads.1)
 
-leads_back : (back n : ℕ) (ls : List Link) (last next : ℕ) (none : Link) → Leads back n ls last next → (i : ℕ) → suc i < length ls
+leads_back : (back n : ℕ) (ls : List Link) (last next : ℕ) (none : Link) → LinksLead back n ls last next → (i : ℕ) → suc i < length ls
     → (get_or ls (suc i) none).back ≡ (get_or ls i none).number
 leads_back back n [] last next none leads i lt = absurd (omega (arith, lt))
 leads_back back n (x ∷ []) last next none leads i lt = absurd (omega (arith, lt))
 leads_back back n (x ∷ y ∷ ls) last next none leads zero lt = leads.3.1 ∙ sym leads.0
 leads_back back n (x ∷ y ∷ ls) last next none leads (suc i) lt = leads_back n x.forward (y ∷ ls) last next none leads.3 i (omega (arith, lt))
 
-leads_last : (back n : ℕ) (ls : List Link) (last next : ℕ) (none : Link) → Leads back n ls last next → (i : ℕ) → i + 1 ≡ length ls
+leads_last : (back n : ℕ) (ls : List Link) (last next : ℕ) (none : Link) → LinksLead back n ls last next → (i : ℕ) → i + 1 ≡ length ls
     → (last ≡ (get_or ls i none).number) × (next ≢ (get_or ls i none).number)
 leads_last back n [] last next none leads i e = absurd (omega (arith, e))
 leads_last back n (x ∷ []) last next none leads zero e = (sym leads.3.0 ∙ sym leads.0, λ same. leads.2 (leads.3.1 ∙ same ∙ leads.0))
@@ -55,8 +55,8 @@ leads_last back n (x ∷ y ∷ ls) last next none leads zero e = absurd (omega (
 leads_last back n (x ∷ y ∷ ls) last next none leads (suc i) e = leads_last n x.forward (y ∷ ls) last next none leads.3 i (omega (arith, e))
 
 -- A block that links back to the last one passed is none of those, since each of them links back to another one.
-pub fresh : (image : Image) (passed : List ChainBlock) (back n : ℕ) (block : DirBlock) (d : ChainBlock) → All (Holds image) passed → Leads 1 1 (map link passed) back n → AreApart passed
-    → IsTaken image back n block → (i : ℕ) → i < length passed → (get_or passed i d).number ≢ n
+pub fresh : (image : Image) (passed : List ChainBlock) (back n : ℕ) (block : DirBlock) (d : ChainBlock) → All (HoldsBlock image) passed → LinksLead 1 1 (map link passed) back n → BlocksAreApart passed
+    → LinksBack image back n block → (i : ℕ) → i < length passed → (get_or passed i d).number ≢ n
 fresh image passed back n block d holds leads apart taken i lt e =
     known i lt (ap (λ (b : DirBlock). b.reverse) (same_block image (get_or passed i d) (record { number = n; block = block }) (holds i d lt) (record { within = taken.within; is = taken.is }) e) ∙ taken.links_back) e
   where
@@ -114,7 +114,7 @@ unfolding IsDistinct
 distinct_cons n ns none others = (none, others)
 
 -- as many blocks as the medium has are all of them
-pub all_passed : (image : Image) (passed : List ChainBlock) (d : ChainBlock) (n : ℕ) → All (Holds image) passed → AreApart passed → length passed ≡ length image → n < length image
+pub all_passed : (image : Image) (passed : List ChainBlock) (d : ChainBlock) (n : ℕ) → All (HoldsBlock image) passed → BlocksAreApart passed → length passed ≡ length image → n < length image
     → Contains (numbers passed) n
 all_passed image passed d n holds apart all within = elim (missing n (numbers passed)) [
   | inl there ↦ there
@@ -135,19 +135,19 @@ all_passed image passed d n holds apart all within = elim (missing n (numbers pa
 
     under : All (λ (m : ℕ). m < length image) (n ∷ numbers passed)
     under = All-cons (λ (m : ℕ). m < length image) n (numbers passed) within
-        (All-map (λ (m : ℕ). m < length image) (λ (b : ChainBlock). b.number) passed (All-weaker (Holds image) (λ (b : ChainBlock). b.number < length image) (λ b is. is.within) passed holds))
+        (All-map (λ (m : ℕ). m < length image) (λ (b : ChainBlock). b.number) passed (All-weaker (HoldsBlock image) (λ (b : ChainBlock). b.number < length image) (λ b is. is.within) passed holds))
 
     below : (q : ℕ) → list_any (eqb q) (n ∷ numbers passed) ≡ true → q < length image
     below q is = All-contains (λ (m : ℕ). m < length image) (n ∷ numbers passed) q under (Contains-from_any (λ x y e. eqb-true x y e) q (n ∷ numbers passed) is)
 
 -- ---- a block was looked at behind these
-module _ (image : Image) (chain : List ChainBlock) (back n : ℕ) (holds : All (Holds image) chain) (leads : Leads 1 1 (map link chain) back n) where
-  pub bad_of : AreApart chain → (e : ChainError) → IsTakeError image back n e → IsChainError image e
+module _ (image : Image) (chain : List ChainBlock) (back n : ℕ) (holds : All (HoldsBlock image) chain) (leads : LinksLead 1 1 (map link chain) back n) where
+  pub bad_of : BlocksAreApart chain → (e : ChainError) → IsTakeError image back n e → IsChainError image e
   bad_of apart (BadDirectory m) bad = subst (IsBad image) (sym bad.0) (record { passed = chain; last = back; holds = holds; apart = apart; leads = leads; cannot = inl bad.1 })
   bad_of apart Medium bad = tt
   bad_of apart OutOfMemory bad = tt
 
-  pub bad_at_end : (d : ChainBlock) → AreApart chain → length chain ≡ length image → IsBad image n
+  pub bad_at_end : (d : ChainBlock) → BlocksAreApart chain → length chain ≡ length image → IsBad image n
   bad_at_end d apart all = record {
     passed = chain;
     last = back;
@@ -160,16 +160,16 @@ module _ (image : Image) (chain : List ChainBlock) (back n : ℕ) (holds : All (
     ];
   }
 
-  module _ (block : DirBlock) (taken : IsTaken image back n block) where
-    pub holds_more : All (Holds image) (chain ++ record { number = n; block = block } ∷ [])
-    holds_more = All-push (Holds image) chain (record { number = n; block = block }) holds (record { within = taken.within; is = taken.is })
+  module _ (block : DirBlock) (taken : LinksBack image back n block) where
+    pub holds_more : All (HoldsBlock image) (chain ++ record { number = n; block = block } ∷ [])
+    holds_more = All-push (HoldsBlock image) chain (record { number = n; block = block }) holds (record { within = taken.within; is = taken.is })
 
-    pub apart_more : AreApart chain → AreApart (chain ++ record { number = n; block = block } ∷ [])
+    pub apart_more : BlocksAreApart chain → BlocksAreApart (chain ++ record { number = n; block = block } ∷ [])
     apart_more apart = all_pairs_push (λ (a b : ChainBlock). a.number ≢ b.number) chain (record { number = n; block = block }) apart
         (λ k d lt. fresh image chain back n block d holds leads apart taken k lt)
 
-    pub goes_on : block.forward ≢ n → Leads 1 1 (map link (chain ++ record { number = n; block = block } ∷ [])) n block.forward
-    goes_on on = subst (λ (ls : List Link). Leads 1 1 ls n block.forward) (sym (map_push link chain (record { number = n; block = block })))
+    pub goes_on : block.forward ≢ n → LinksLead 1 1 (map link (chain ++ record { number = n; block = block } ∷ [])) n block.forward
+    goes_on on = subst (λ (ls : List Link). LinksLead 1 1 ls n block.forward) (sym (map_push link chain (record { number = n; block = block })))
         (leads_more 1 1 (map link chain) back n (link (record { number = n; block = block })) leads refl taken.links_back on)
 
     pub ends_here : block.forward ≡ n → IsDirectory image (chain ++ record { number = n; block = block } ∷ [])

@@ -9,7 +9,7 @@ use Rattle.r10_dirblock.specs.Block.{is_closed}
 use Rattle.r10_dirblock.specs.declared.entry.Entry.{Entry}
 use Rattle.r10_dirchain.specs.declared.chain.ChainBlock.{ChainBlock}
 use Rattle.r10_dirchain.specs.declared.chain.Listed.{Listed}
-use Rattle.r10_dirchain.specs.Chain.{files}
+use Rattle.r10_dirchain.specs.Chain.{listed_files}
 use Rattle.r10_dirchain.specs.Mount.{blocks_in, stands, stand_rules, closed_rule, closed_rules, listed, listed_in, place_rules, full_rule, full_rules, mount_rules}
 use Rattle.r10_dirchain.proofs.Rules.{ends_with}
 use Rattle.r10_dirchain.proofs.Usable.{none_broken, front_holds}
@@ -57,7 +57,7 @@ entries_listed_in : (number : ℕ) (entries : List Entry) → map entry_in (map 
 entries_listed_in number [] = refl
 entries_listed_in number (e ∷ entries) = ap (λ (l : List Entry). e ∷ l) (entries_listed_in number entries)
 
-pub entries_listed : (chain : List ChainBlock) → map entry_in (listed chain) ≡ files chain
+pub entries_listed : (chain : List ChainBlock) → map entry_in (listed chain) ≡ listed_files chain
 entries_listed [] = refl
 entries_listed (b ∷ chain) =
     map-append entry_in (map (listed_in b.number) b.block.entries) (listed chain)
@@ -101,8 +101,8 @@ closed_from fs all =
 pub record IsUsable (reserved blocks : ℕ) (chain : List ChainBlock) : Type 0 where
   pub placed : first_broken (place_rules reserved 1 chain) ≡ None
   pub full : All (λ (b : ChainBlock). (full_rule b).0 ≡ true) (take (length chain - 1) chain)
-  pub stand : Stand blocks (reserved + 1) (files chain)
-  pub closed : ButLastClosed (files chain)
+  pub stand : Stand blocks (reserved + 1) (listed_files chain)
+  pub closed : ButLastClosed (listed_files chain)
 
 pub usable_of : (reserved blocks : ℕ) (chain : List ChainBlock) → first_broken (mount_rules reserved blocks chain) ≡ None → IsUsable reserved blocks chain
 usable_of reserved blocks chain none =

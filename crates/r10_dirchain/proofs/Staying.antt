@@ -9,9 +9,9 @@ use Rattle.r10_medium.specs.Disk.{Image}
 use Rattle.r10_dirblock.specs.Block.{is_closed}
 use Rattle.r10_dirblock.specs.declared.entry.Entry.{Entry}
 use Rattle.r10_dirchain.specs.declared.chain.ChainBlock.{ChainBlock}
-use Rattle.r10_dirchain.specs.Chain.{IsDirectory, files, at, blank_block}
+use Rattle.r10_dirchain.specs.Chain.{IsDirectory, listed_files, at, blank_block}
 use Rattle.r10_dirchain.specs.Mount.{blocks_in, stands, place_rules, full_rule, mount_rules}
-use Rattle.r10_dirchain.specs.Steps.{with_shutdown, emptied, with_last, updated, last_listing, filled, extended, added, last_place, last_block, last_is_full, next_number, next_block}
+use Rattle.r10_dirchain.specs.Steps.{with_shutdown, emptied, with_last_entry, updated, last_listing, with_entry_more, extended, added, last_place, last_block, last_is_full, next_number, next_directory_block}
 use Rattle.r10_dirchain.proofs.Directories.{some_block}
 use Rattle.r10_dirchain.proofs.FileLists.{files-with_shutdown, files-updated, files-filled, files-extended, last_of, last_listing_is}
 use Rattle.r10_dirchain.proofs.Usable.{none_broken}
@@ -51,10 +51,10 @@ same_full (x ∷ chain) zero (suc k) b same all =
 same_full (x ∷ chain) (suc i) (suc k) b same all =
     All-cons Full x (take k (set chain i b)) (All-head Full x (take k chain) all) (same_full chain i k b same (All-tail Full x (take k chain) all))
 
-full_count : (chain : List ChainBlock) → All Full chain → length (files chain) ≡ 4 * length chain
+full_count : (chain : List ChainBlock) → All Full chain → length (listed_files chain) ≡ 4 * length chain
 full_count [] all = refl
 full_count (x ∷ chain) all =
-    omega (arith, length-append x.block.entries (files chain), full_count chain (All-tail Full x chain all), eqb-true (length x.block.entries) 4 (All-head Full x chain all))
+    omega (arith, length-append x.block.entries (listed_files chain), full_count chain (All-tail Full x chain all), eqb-true (length x.block.entries) 4 (All-head Full x chain all))
 
 all_full : (chain : List ChainBlock) → 0 < length chain → All Full (take (length chain - 1) chain) → Full (last_block chain) → All Full chain
 all_full chain some all here =
@@ -70,7 +70,7 @@ front-push entries e = take_at entries (e ∷ []) (length (entries ++ e ∷ []) 
 
 -- the block at place i has another content, with as many entries
 in_place : (reserved blocks : ℕ) (chain : List ChainBlock) (i : ℕ) (b : ChainBlock) → IsUsable reserved blocks chain → b.number ≡ (at chain i).number
-    → length b.block.entries ≡ length (at chain i).block.entries → Stand blocks (reserved + 1) (files (set chain i b)) → ButLastClosed (files (set chain i b))
+    → length b.block.entries ≡ length (at chain i).block.entries → Stand blocks (reserved + 1) (listed_files (set chain i b)) → ButLastClosed (listed_files (set chain i b))
     → IsUsable reserved blocks (set chain i b)
 in_place reserved blocks chain i b is number entries stand closed = record {
   placed = ap first_broken (same_places reserved 1 chain i b number) ∙ is.placed;
@@ -96,50 +96,50 @@ usable-emptied reserved blocks chain some = usable_from reserved blocks (emptied
   closed = All-nil (λ (e : Entry). is_closed e ≡ true);
 })
 
-pub usable-updated : (reserved blocks : ℕ) (entry : Entry) (chain : List ChainBlock) → first_broken (mount_rules reserved blocks chain) ≡ None → 0 < length (files chain)
-    → stands blocks (reserved + 1 + blocks_in (take (length (files chain) - 1) (files chain))) entry ≡ true
+pub usable-updated : (reserved blocks : ℕ) (entry : Entry) (chain : List ChainBlock) → first_broken (mount_rules reserved blocks chain) ≡ None → 0 < length (listed_files chain)
+    → stands blocks (reserved + 1 + blocks_in (take (length (listed_files chain) - 1) (listed_files chain))) entry ≡ true
     → first_broken (mount_rules reserved blocks (updated entry chain)) ≡ None
 usable-updated reserved blocks entry chain none some here =
     let is = usable_of reserved blocks chain none in
     let found = last_of chain some in
     let i = found.0 in
-    let front = take (length (files chain) - 1) (files chain) in
-    let b : ChainBlock = record { number = (at chain i).number; block = record (at chain i).block { entries = with_last entry (at chain i).block.entries } } in
+    let front = take (length (listed_files chain) - 1) (listed_files chain) in
+    let b : ChainBlock = record { number = (at chain i).number; block = record (at chain i).block { entries = with_last_entry entry (at chain i).block.entries } } in
     let place : last_listing chain ≡ i = last_listing_is chain i found.1 in
-    let same : files (set chain i b) ≡ front ++ entry ∷ [] =
-    ap (λ (j : ℕ). files (set chain j (record { number = (at chain j).number; block = record (at chain j).block { entries = with_last entry (at chain j).block.entries } }))) (sym place)
+    let same : listed_files (set chain i b) ≡ front ++ entry ∷ [] =
+    ap (λ (j : ℕ). listed_files (set chain j (record { number = (at chain j).number; block = record (at chain j).block { entries = with_last_entry entry (at chain j).block.entries } }))) (sym place)
     ∙ files-updated entry chain some in
-    subst (λ (j : ℕ). first_broken (mount_rules reserved blocks (set chain j (record { number = (at chain j).number; block = record (at chain j).block { entries = with_last entry (at chain j).block.entries } }))) ≡ None) (sym place)
+    subst (λ (j : ℕ). first_broken (mount_rules reserved blocks (set chain j (record { number = (at chain j).number; block = record (at chain j).block { entries = with_last_entry entry (at chain j).block.entries } }))) ≡ None) (sym place)
     (usable_from reserved blocks (set chain i b)
     (in_place reserved blocks chain i b is refl
     (omega (arith, found.1.lists, length-append (take (length (at chain i).block.entries - 1) (at chain i).block.entries) (entry ∷ []), length-take-le (length (at chain i).block.entries - 1) (at chain i).block.entries (omega arith)))
-    (subst (Stand blocks (reserved + 1)) (sym same) (Stand-push blocks (reserved + 1) front entry (Stand-take blocks (reserved + 1) (length (files chain) - 1) (files chain) is.stand) here))
+    (subst (Stand blocks (reserved + 1)) (sym same) (Stand-push blocks (reserved + 1) front entry (Stand-take blocks (reserved + 1) (length (listed_files chain) - 1) (listed_files chain) is.stand) here))
     (subst ButLastClosed (sym same) (subst (All (λ (e : Entry). is_closed e ≡ true)) (sym (front-push front entry)) is.closed))))
 
 -- one file more
 module _ (reserved blocks : ℕ) (entry : Entry) (image : Image) (chain : List ChainBlock) (there : IsDirectory image chain) (is : IsUsable reserved blocks chain)
-    (closed : All (λ (e : Entry). is_closed e ≡ true) (files chain)) (here : stands blocks (reserved + 1 + blocks_in (files chain)) entry ≡ true) where
+    (closed : All (λ (e : Entry). is_closed e ≡ true) (listed_files chain)) (here : stands blocks (reserved + 1 + blocks_in (listed_files chain)) entry ≡ true) where
   some : 0 < length chain
   some = some_block image chain there
 
-  stand_more : (l : List Entry) → l ≡ files chain ++ entry ∷ [] → Stand blocks (reserved + 1) l
-  stand_more l same = subst (Stand blocks (reserved + 1)) (sym same) (Stand-push blocks (reserved + 1) (files chain) entry is.stand here)
+  stand_more : (l : List Entry) → l ≡ listed_files chain ++ entry ∷ [] → Stand blocks (reserved + 1) l
+  stand_more l same = subst (Stand blocks (reserved + 1)) (sym same) (Stand-push blocks (reserved + 1) (listed_files chain) entry is.stand here)
 
-  closed_more : (l : List Entry) → l ≡ files chain ++ entry ∷ [] → ButLastClosed l
-  closed_more l same = subst ButLastClosed (sym same) (subst (All (λ (e : Entry). is_closed e ≡ true)) (sym (front-push (files chain) entry)) closed)
+  closed_more : (l : List Entry) → l ≡ listed_files chain ++ entry ∷ [] → ButLastClosed l
+  closed_more l same = subst ButLastClosed (sym same) (subst (All (λ (e : Entry). is_closed e ≡ true)) (sym (front-push (listed_files chain) entry)) closed)
 
-  usable-filled : first_broken (mount_rules reserved blocks (filled entry chain)) ≡ None
+  usable-filled : first_broken (mount_rules reserved blocks (with_entry_more entry chain)) ≡ None
   usable-filled =
       let b : ChainBlock = record { number = (last_block chain).number; block = record (last_block chain).block { entries = (last_block chain).block.entries ++ entry ∷ [] } } in
-      usable_from reserved blocks (filled entry chain) (record {
+      usable_from reserved blocks (with_entry_more entry chain) (record {
         placed = ap first_broken (same_places reserved 1 chain (last_place chain) b refl) ∙ is.placed;
         full = subst (λ (n : ℕ). All Full (take (n - 1) (set chain (last_place chain) b))) (sym (length-set chain (last_place chain) b))
             (subst (All Full) (sym (take-set-le (length chain - 1) chain (last_place chain) b (omega arith))) is.full);
-        stand = stand_more (files (filled entry chain)) (files-filled entry chain some);
-        closed = closed_more (files (filled entry chain)) (files-filled entry chain some);
+        stand = stand_more (listed_files (with_entry_more entry chain)) (files-filled entry chain some);
+        closed = closed_more (listed_files (with_entry_more entry chain)) (files-filled entry chain some);
       })
 
-  usable-extended : last_is_full chain ≡ true → length (files chain) < 4 * reserved → first_broken (mount_rules reserved blocks (extended entry chain)) ≡ None
+  usable-extended : last_is_full chain ≡ true → length (listed_files chain) < 4 * reserved → first_broken (mount_rules reserved blocks (extended entry chain)) ≡ None
   usable-extended is_full few =
       let b : ChainBlock = record { number = (last_block chain).number; block = record (last_block chain).block { forward = next_number chain } } in
       let held = there.holds (last_place chain) blank_block (omega (arith, some)) in
@@ -148,21 +148,21 @@ module _ (reserved blocks : ℕ) (entry : Entry) (image : Image) (chain : List C
       let all : All Full chain = all_full chain some is.full four in
       let others : All Full (set chain (last_place chain) b) = All-set Full chain (last_place chain) b four all in
       usable_from reserved blocks (extended entry chain) (record {
-        placed = places_more reserved 1 (set chain (last_place chain) b) (next_block entry chain) (ap first_broken (same_places reserved 1 chain (last_place chain) b refl) ∙ is.placed)
+        placed = places_more reserved 1 (set chain (last_place chain) b) (next_directory_block entry chain) (ap first_broken (same_places reserved 1 chain (last_place chain) b refl) ∙ is.placed)
             (omega (arith, length-set chain (last_place chain) b)) (omega (arith, length-set chain (last_place chain) b, few, full_count chain all));
         full = subst (All Full)
-            (sym (take_at (set chain (last_place chain) b) (next_block entry chain ∷ []) (length (extended entry chain) - 1) (omega (arith, length-append (set chain (last_place chain) b) (next_block entry chain ∷ []))))) others;
-        stand = stand_more (files (extended entry chain)) (files-extended entry chain some);
-        closed = closed_more (files (extended entry chain)) (files-extended entry chain some);
+            (sym (take_at (set chain (last_place chain) b) (next_directory_block entry chain ∷ []) (length (extended entry chain) - 1) (omega (arith, length-append (set chain (last_place chain) b) (next_directory_block entry chain ∷ []))))) others;
+        stand = stand_more (listed_files (extended entry chain)) (files-extended entry chain some);
+        closed = closed_more (listed_files (extended entry chain)) (files-extended entry chain some);
       })
 
-  usable_either : length (files chain) < 4 * reserved → (b : Bool) → last_is_full chain ≡ b → first_broken (mount_rules reserved blocks (if b then extended entry chain else filled entry chain)) ≡ None
+  usable_either : length (listed_files chain) < 4 * reserved → (b : Bool) → last_is_full chain ≡ b → first_broken (mount_rules reserved blocks (if b then extended entry chain else with_entry_more entry chain)) ≡ None
   usable_either few true is_full = usable-extended is_full few
   usable_either few false is_full = usable-filled
 
 pub usable-added : (reserved blocks : ℕ) (entry : Entry) (image : Image) (chain : List ChainBlock) → IsDirectory image chain → first_broken (mount_rules reserved blocks chain) ≡ None
-    → All (λ (e : Entry). is_closed e ≡ true) (files chain) → length (files chain) < 4 * reserved
-    → stands blocks (reserved + 1 + blocks_in (files chain)) entry ≡ true
+    → All (λ (e : Entry). is_closed e ≡ true) (listed_files chain) → length (listed_files chain) < 4 * reserved
+    → stands blocks (reserved + 1 + blocks_in (listed_files chain)) entry ≡ true
     → first_broken (mount_rules reserved blocks (added entry chain)) ≡ None
 usable-added reserved blocks entry image chain there none closed few here =
     usable_either reserved blocks entry image chain there (usable_of reserved blocks chain none) closed here few (last_is_full chain) refl

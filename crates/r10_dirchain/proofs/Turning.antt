@@ -7,11 +7,11 @@ use Rattle.r10_medium.specs.Stop.{Settled, Leaves, ComesBy, SameBut}
 use Rattle.r10_medium.proofs.Stops.{weakened, reads_now, settled_reads}
 use Rattle.r10_dirchain.specs.declared.chain.ChainBlock.{ChainBlock}
 use Rattle.r10_dirchain.specs.Chain.{IsDirectory, at, blank_block}
-use Rattle.r10_dirchain.specs.OnMedium.{SameButIn, Put, PutTwo, IsPublished, IsWritten, Turned, Turns, HasNext}
+use Rattle.r10_dirchain.specs.OnMedium.{SameButIn, Put, PutTwo, IsPublished, IsWrittenByteForByte, Turned, Turns, HasNext}
 use Rattle.r10_dirblock.specs.Block.{block_bytes}
 use Rattle.r10_dirblock.specs.declared.entry.Entry.{Entry}
 use Rattle.r10_dirblock.specs.declared.block.DirBlock.{DirBlock}
-use Rattle.r10_dirchain.specs.Steps.{formatted, replaced, emptied, with_shutdown, extended, last_place, last_block, next_number, next_block, last_is_full, filled, added, spare}
+use Rattle.r10_dirchain.specs.Steps.{formatted, replaced, emptied, with_shutdown, extended, last_place, last_block, next_number, next_directory_block, last_is_full, with_entry_more, added, spare}
 use Rattle.r10_dirchain.proofs.Directories.{still_directory, turned_in, turned_alone, put_behind, written_behind, leading_to, some_block}
 
 pub on_ok : {T E : Type 0} (result : Result T E) (P Q : Type 0) → (P → Q) → OnOk result P → OnOk result Q
@@ -37,7 +37,7 @@ turns_of chain made unlinked changed old new result is none moments reads settle
       (λ image. ⊎_elim (λ from. inl (still_directory from.0 image chain unlinked (here from.0 from.1) from.2 none)) (λ turned. inr turned.directory)) moments;
   reads = ⊎_elim (λ same. inl (record {
     directory = still_directory old.blocks new.blocks chain unlinked is same none;
-    written = All-from_get_or (IsWritten unlinked new.blocks) chain blank_block (λ i lt. inl (none i lt));
+    written = All-from_get_or (IsWrittenByteForByte unlinked new.blocks) chain blank_block (λ i lt. inl (none i lt));
     others = same;
   })) (λ turned. inr turned) reads;
   settled = settled;
@@ -148,41 +148,41 @@ PutsLinked next linking old new result =
     × OnOk result (Settled (PutTwo old.blocks next linking) new)
 
 turned_on : (chain : List ChainBlock) (entry : Entry) (old new : Image) → IsDirectory old chain → HasNext old chain
-    → PutTwo old (next_block entry chain) (leading_to (next_number chain) chain) new
+    → PutTwo old (next_directory_block entry chain) (leading_to (next_number chain) chain) new
     → Turned (extended entry chain) ((last_block chain).number ∷ next_number chain ∷ []) old new
 turned_on chain entry old new is has put = record {
   directory =
       let some = some_block old chain is in
-      put_behind old new chain (last_place chain) (next_block entry chain) is (omega (arith, some)) refl (λ k lt e. absurd (omega (arith, has.in_order k lt, lt, e))) refl refl put;
+      put_behind old new chain (last_place chain) (next_directory_block entry chain) is (omega (arith, some)) refl (λ k lt e. absurd (omega (arith, has.in_order k lt, lt, e))) refl refl put;
   written =
       let some = some_block old chain is in
-      written_behind old new chain (next_block entry chain) is (omega (arith, some)) (λ k lt e. absurd (omega (arith, has.in_order k lt, lt, e))) put;
+      written_behind old new chain (next_directory_block entry chain) is (omega (arith, some)) (λ k lt e. absurd (omega (arith, has.in_order k lt, lt, e))) put;
   others = put.others;
 }
 
 concretely : {T E : Type 0} (chain : List ChainBlock) (entry : Entry) (old new : Disk) (result : Result T E) → IsDirectory old.blocks chain → HasNext old.blocks chain
-    → PutsLinked (next_block entry chain) (leading_to (next_number chain) chain) old new result
+    → PutsLinked (next_directory_block entry chain) (leading_to (next_number chain) chain) old new result
     → Turns chain (extended entry chain) (next_number chain ∷ []) ((last_block chain).number ∷ next_number chain ∷ []) old new result
 concretely chain entry old new result is has puts =
-    turns_twice chain (extended entry chain) ((last_block chain).number ∷ next_number chain ∷ []) (next_block entry chain) (leading_to (next_number chain) chain) old new result is
+    turns_twice chain (extended entry chain) ((last_block chain).number ∷ next_number chain ∷ []) (next_directory_block entry chain) (leading_to (next_number chain) chain) old new result is
     (λ i lt e. absurd (omega (arith, has.in_order i lt, lt, e)))
     (λ image put. turned_on chain entry old.blocks image is has put) puts.0 puts.1 puts.2
 
 pub extended_by : {T E : Type 0} (chain : List ChainBlock) (entry : Entry) (next linking : ChainBlock) (old new : Disk) (result : Result T E) → IsDirectory old.blocks chain → HasNext old.blocks chain
-    → next ≡ next_block entry chain → linking ≡ leading_to next.number chain
+    → next ≡ next_directory_block entry chain → linking ≡ leading_to next.number chain
     → PutsLinked next linking old new result
     → Turns chain (extended entry chain) (next_number chain ∷ []) ((last_block chain).number ∷ next_number chain ∷ []) old new result
 extended_by chain entry next linking old new result is has a b puts =
     concretely chain entry old new result is has
-    (subst (λ (m : ChainBlock). PutsLinked (next_block entry chain) m old new result) (b ∙ ap (λ (n : ChainBlock). leading_to n.number chain) a)
+    (subst (λ (m : ChainBlock). PutsLinked (next_directory_block entry chain) m old new result) (b ∙ ap (λ (n : ChainBlock). leading_to n.number chain) a)
     (subst (λ (n : ChainBlock). PutsLinked n linking old new result) a puts))
 
 -- the last block has a place: the step is the one that puts the entry there
 pub in_place : {T E : Type 0} (chain : List ChainBlock) (entry : Entry) (old new : Disk) (result : Result T E) → last_is_full chain ≡ false
-    → Turns chain (filled entry chain) [] ((last_block chain).number ∷ []) old new result
+    → Turns chain (with_entry_more entry chain) [] ((last_block chain).number ∷ []) old new result
     → Turns chain (added entry chain) (spare chain) ((last_block chain).number ∷ spare chain) old new result
 in_place chain entry old new result is turns =
-    subst (λ (b : Bool). Turns chain (if b then extended entry chain else filled entry chain) (if b then next_number chain ∷ [] else [])
+    subst (λ (b : Bool). Turns chain (if b then extended entry chain else with_entry_more entry chain) (if b then next_number chain ∷ [] else [])
     ((last_block chain).number ∷ (if b then next_number chain ∷ [] else [])) old new result) (sym is) turns
 
 -- ---- a new directory

@@ -10,13 +10,13 @@ use Rattle.r10_dirblock.specs.declared.read.DirFault.{DirFault}
 use Rattle.r10_dirblock.specs.Block.{read_block, IsBlock}
 use Rattle.r10_dirblock.proofs.Found.{only}
 use Rattle.r10_dirchain.specs.declared.chain.ChainBlock.{ChainBlock}
-use Rattle.r10_dirchain.specs.Chain.{link, Linked, Holds, IsDirectory, blank_block}
+use Rattle.r10_dirchain.specs.Chain.{link, Linked, HoldsBlock, IsDirectory, blank_block}
 use Rattle.r10_dirchain.specs.declared.read.ChainError.{ChainError}
 use Rattle.r10_dirchain.specs.declared.read.ChainError.TheVariants.{BadDirectory, Medium, OutOfMemory}
-use Rattle.r10_dirchain.specs.Bad.{Leads, IsUnfit, IsBad, IsChainError, IsNoFault, AreApart, numbers}
+use Rattle.r10_dirchain.specs.Bad.{LinksLead, IsUnfit, IsBad, IsChainError, IsNoFault, BlocksAreApart, numbers}
 use Rattle.r10_dirchain.proofs.Directories.{one_block, same_block, apart}
 
-one_link : (image : Image) (a b : ChainBlock) → Holds image a → Holds image b → a.number ≡ b.number → a ≡ b
+one_link : (image : Image) (a b : ChainBlock) → HoldsBlock image a → HoldsBlock image b → a.number ≡ b.number → a ≡ b
 one_link image a b ha hb e = pair a.number b.number a.block b.block e (same_block image a b ha hb e)
   where
     pair : (m n : ℕ) (d f : DirBlock) → m ≡ n → d ≡ f → ◌≡◌ {A = ChainBlock} (record { number = m; block = d }) (record { number = n; block = f })
@@ -26,22 +26,22 @@ cons_same : (x u : ChainBlock) (l m : List ChainBlock) → x ≡ u → l ≡ m �
 cons_same x u l m a b = rw (a, b)
 
 -- two chains from one block on are one
-one_chain : (image : Image) (a b : List ChainBlock) (back p other q : ℕ) → All (Holds image) a → All (Holds image) b
+one_chain : (image : Image) (a b : List ChainBlock) (back p other q : ℕ) → All (HoldsBlock image) a → All (HoldsBlock image) b
     → Linked back p (map link a) → Linked other q (map link b) → p ≡ q → a ≡ b
 one_chain image [] b back p other q ha hb la lb e = absurd la
 one_chain image (x ∷ a) [] back p other q ha hb la lb e = absurd lb
 one_chain image (x ∷ []) (u ∷ []) back p other q ha hb la lb e =
-    cons_same x u [] [] (one_link image x u (All-head (Holds image) x [] ha) (All-head (Holds image) u [] hb) (la.0 ∙ e ∙ sym lb.0)) refl
+    cons_same x u [] [] (one_link image x u (All-head (HoldsBlock image) x [] ha) (All-head (HoldsBlock image) u [] hb) (la.0 ∙ e ∙ sym lb.0)) refl
 one_chain image (x ∷ []) (u ∷ v ∷ b) back p other q ha hb la lb e =
-    let same = same_block image x u (All-head (Holds image) x [] ha) (All-head (Holds image) u (v ∷ b) hb) (la.0 ∙ e ∙ sym lb.0) in
+    let same = same_block image x u (All-head (HoldsBlock image) x [] ha) (All-head (HoldsBlock image) u (v ∷ b) hb) (la.0 ∙ e ∙ sym lb.0) in
     absurd (lb.2 (ap (λ (d : DirBlock). d.forward) (sym same) ∙ la.2 ∙ e))
 one_chain image (x ∷ y ∷ a) (u ∷ []) back p other q ha hb la lb e =
-    let same = same_block image x u (All-head (Holds image) x (y ∷ a) ha) (All-head (Holds image) u [] hb) (la.0 ∙ e ∙ sym lb.0) in
+    let same = same_block image x u (All-head (HoldsBlock image) x (y ∷ a) ha) (All-head (HoldsBlock image) u [] hb) (la.0 ∙ e ∙ sym lb.0) in
     absurd (la.2 (ap (λ (d : DirBlock). d.forward) same ∙ lb.2 ∙ sym e))
 one_chain image (x ∷ y ∷ a) (u ∷ v ∷ b) back p other q ha hb la lb e =
-    let same = one_link image x u (All-head (Holds image) x (y ∷ a) ha) (All-head (Holds image) u (v ∷ b) hb) (la.0 ∙ e ∙ sym lb.0) in
+    let same = one_link image x u (All-head (HoldsBlock image) x (y ∷ a) ha) (All-head (HoldsBlock image) u (v ∷ b) hb) (la.0 ∙ e ∙ sym lb.0) in
     cons_same x u (y ∷ a) (v ∷ b) same
-    (one_chain image (y ∷ a) (v ∷ b) p x.block.forward q u.block.forward (All-tail (Holds image) x (y ∷ a) ha) (All-tail (Holds image) u (v ∷ b) hb) la.3 lb.3
+    (one_chain image (y ∷ a) (v ∷ b) p x.block.forward q u.block.forward (All-tail (HoldsBlock image) x (y ∷ a) ha) (All-tail (HoldsBlock image) u (v ∷ b) hb) la.3 lb.3
     (ap (λ (c : ChainBlock). c.block.forward) same))
 
 pub one_directory : (image : Image) (a b : List ChainBlock) → IsDirectory image a → IsDirectory image b → a ≡ b
@@ -65,25 +65,25 @@ goes_on_behind x u passed whole last n same on = record {
 }
 
 -- a chain goes on behind blocks that lead somewhere
-along_chain : (image : Image) (passed chain : List ChainBlock) (back p other q last n : ℕ) → All (Holds image) passed → All (Holds image) chain
-    → Leads back p (map link passed) last n → Linked other q (map link chain) → p ≡ q → back ≡ other → GoesOn passed chain last n
+along_chain : (image : Image) (passed chain : List ChainBlock) (back p other q last n : ℕ) → All (HoldsBlock image) passed → All (HoldsBlock image) chain
+    → LinksLead back p (map link passed) last n → Linked other q (map link chain) → p ≡ q → back ≡ other → GoesOn passed chain last n
 along_chain image passed [] back p other q last n hp hc leads l e f = absurd l
 along_chain image [] (u ∷ []) back p other q last n hp hc leads l e f =
     record { next = u; more = []; splits = refl; number = l.0 ∙ sym e ∙ leads.1; behind = l.1 ∙ sym f ∙ leads.0 }
 along_chain image [] (u ∷ v ∷ chain) back p other q last n hp hc leads l e f =
     record { next = u; more = v ∷ chain; splits = refl; number = l.0 ∙ sym e ∙ leads.1; behind = l.1 ∙ sym f ∙ leads.0 }
 along_chain image (x ∷ passed) (u ∷ []) back p other q last n hp hc leads l e f =
-    let same = same_block image x u (All-head (Holds image) x passed hp) (All-head (Holds image) u [] hc) (leads.0 ∙ e ∙ sym l.0) in
+    let same = same_block image x u (All-head (HoldsBlock image) x passed hp) (All-head (HoldsBlock image) u [] hc) (leads.0 ∙ e ∙ sym l.0) in
     absurd (leads.2 (ap (λ (d : DirBlock). d.forward) same ∙ l.2 ∙ sym e))
 along_chain image (x ∷ passed) (u ∷ v ∷ chain) back p other q last n hp hc leads l e f =
-    let same = one_link image x u (All-head (Holds image) x passed hp) (All-head (Holds image) u (v ∷ chain) hc) (leads.0 ∙ e ∙ sym l.0) in
+    let same = one_link image x u (All-head (HoldsBlock image) x passed hp) (All-head (HoldsBlock image) u (v ∷ chain) hc) (leads.0 ∙ e ∙ sym l.0) in
     goes_on_behind x u passed (v ∷ chain) last n (sym same)
-    (along_chain image passed (v ∷ chain) p x.block.forward q u.block.forward last n (All-tail (Holds image) x passed hp) (All-tail (Holds image) u (v ∷ chain) hc) leads.3 l.3
+    (along_chain image passed (v ∷ chain) p x.block.forward q u.block.forward last n (All-tail (HoldsBlock image) x passed hp) (All-tail (HoldsBlock image) u (v ∷ chain) hc) leads.3 l.3
     (ap (λ (c : ChainBlock). c.block.forward) same) e)
 
 -- two lists of blocks that lead somewhere lead to the same place, or one goes on behind the other
-along_passed : (image : Image) (a b : List ChainBlock) (back p other q last m final n : ℕ) → All (Holds image) a → All (Holds image) b
-    → Leads back p (map link a) last m → Leads other q (map link b) final n → p ≡ q → back ≡ other
+along_passed : (image : Image) (a b : List ChainBlock) (back p other q last m final n : ℕ) → All (HoldsBlock image) a → All (HoldsBlock image) b
+    → LinksLead back p (map link a) last m → LinksLead other q (map link b) final n → p ≡ q → back ≡ other
     → (m ≡ n) ⊎ (GoesOn a b last m ⊎ GoesOn b a final n)
 along_passed image [] [] back p other q last m final n ha hb la lb e f = inl (sym la.1 ∙ e ∙ lb.1)
 along_passed image [] (u ∷ b) back p other q last m final n ha hb la lb e f =
@@ -91,17 +91,17 @@ along_passed image [] (u ∷ b) back p other q last m final n ha hb la lb e f =
 along_passed image (x ∷ a) [] back p other q last m final n ha hb la lb e f =
     inr (inr (record { next = x; more = a; splits = refl; number = la.0 ∙ e ∙ lb.1; behind = la.1 ∙ f ∙ lb.0 }))
 along_passed image (x ∷ a) (u ∷ b) back p other q last m final n ha hb la lb e f =
-    let same = one_link image x u (All-head (Holds image) x a ha) (All-head (Holds image) u b hb) (la.0 ∙ e ∙ sym lb.0) in
+    let same = one_link image x u (All-head (HoldsBlock image) x a ha) (All-head (HoldsBlock image) u b hb) (la.0 ∙ e ∙ sym lb.0) in
     ⊎_elim (λ here. inl here)
     (λ on. inr (⊎_elim (λ there. inl (goes_on_behind x u a b last m (sym same) there)) (λ there. inr (goes_on_behind u x b a final n same there)) on))
-    (along_passed image a b p x.block.forward q u.block.forward last m final n (All-tail (Holds image) x a ha) (All-tail (Holds image) u b hb) la.3 lb.3
+    (along_passed image a b p x.block.forward q u.block.forward last m final n (All-tail (HoldsBlock image) x a ha) (All-tail (HoldsBlock image) u b hb) la.3 lb.3
     (ap (λ (c : ChainBlock). c.block.forward) same) e)
 
 clash : (d : DirBlock) (fault : DirFault) (r : Result DirBlock DirFault) → r ≡ Ok d → r ≡ Err fault → ⊥
 clash d fault r a b = cc
 
 -- a block that the list goes on with can be taken
-taken_there : (image : Image) (passed whole : List ChainBlock) (last n : ℕ) → All (Holds image) whole → AreApart whole → GoesOn passed whole last n
+taken_there : (image : Image) (passed whole : List ChainBlock) (last n : ℕ) → All (HoldsBlock image) whole → BlocksAreApart whole → GoesOn passed whole last n
     → IsUnfit image last n ⊎ Contains (numbers passed) n → ⊥
 taken_there image passed whole last n holds apart_whole on cannot = ⊎_elim unfit again cannot
   where
@@ -111,11 +111,11 @@ taken_there image passed whole last n holds apart_whole on cannot = ⊎_elim unf
     list : List ChainBlock
     list = passed ++ b ∷ on.more
 
-    all : All (Holds image) list
-    all = All-same (Holds image) list whole (sym on.splits) holds
+    all : All (HoldsBlock image) list
+    all = All-same (HoldsBlock image) list whole (sym on.splits) holds
 
-    here : Holds image b
-    here = All-head (Holds image) b on.more (All-same (Holds image) (b ∷ on.more) (drop (length passed) list) (sym (drop-append_seam passed (b ∷ on.more))) (All-drop (Holds image) (length passed) list all))
+    here : HoldsBlock image b
+    here = All-head (HoldsBlock image) b on.more (All-same (HoldsBlock image) (b ∷ on.more) (drop (length passed) list) (sym (drop-append_seam passed (b ∷ on.more))) (All-drop (HoldsBlock image) (length passed) list all))
 
     is : IsBlock (block_at image n) b.block
     is = subst (λ (k : ℕ). IsBlock (block_at image k) b.block) on.number here.is
@@ -129,7 +129,7 @@ taken_there image passed whole last n holds apart_whole on cannot = ⊎_elim unf
     again there =
         let k = there.0 in
         let k_within : k < length passed = omega (arith, there.1, length-map passed (λ (c : ChainBlock). c.number)) in
-        let apart_list : AreApart list = subst AreApart on.splits apart_whole in
+        let apart_list : BlocksAreApart list = subst BlocksAreApart on.splits apart_whole in
         let first : (get_or list k blank_block).number ≡ n =
         ap (λ (c : ChainBlock). c.number) (get_or_append_left passed (b ∷ on.more) blank_block k k_within) ∙ sym (get_or-map (λ (c : ChainBlock). c.number) passed k blank_block n k_within) ∙ there.2 in
         let second : (get_or list (length passed) blank_block).number ≡ n = ap (λ (c : ChainBlock). c.number) (get_or-append_seam passed b on.more blank_block) ∙ on.number in

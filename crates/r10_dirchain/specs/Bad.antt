@@ -8,10 +8,10 @@ use Rattle.r10_dirblock.specs.Block.{read_block, IsBlock}
 use Rattle.r10_dirchain.specs.declared.chain.ChainBlock.{ChainBlock}
 use Rattle.r10_dirchain.specs.declared.read.ChainError.{ChainError}
 use Rattle.r10_dirchain.specs.declared.read.ChainError.TheVariants.{BadDirectory, Medium, OutOfMemory}
-use Rattle.r10_dirchain.specs.Chain.{Link, link, Holds}
+use Rattle.r10_dirchain.specs.Chain.{Link, link, HoldsBlock}
 
 -- block n is a directory block, which links back to `back`
-pub record IsTaken (image : Image) (back n : ℕ) (block : DirBlock) : Type 0 where
+pub record LinksBack (image : Image) (back n : ℕ) (block : DirBlock) : Type 0 where
   pub within : n < length image
   pub is : IsBlock (block_at image n) block
   pub links_back : block.reverse ≡ back
@@ -24,13 +24,13 @@ IsUnfit image back n =
     ⊎ ((block : DirBlock) × IsBlock (block_at image n) block × (block.reverse ≢ back)))
 
 -- these blocks, of which the first links back to `back`, lead from block n on to block `next`, and `last` is the one before it
-abbrev pub Leads : ℕ → ℕ → List Link → ℕ → ℕ → Type 0
-Leads back n [] last next = (back ≡ last) × (n ≡ next)
-Leads back n (l ∷ more) last next = (l.number ≡ n) × (l.back ≡ back) × (l.forward ≢ n) × Leads n l.forward more last next
+abbrev pub LinksLead : ℕ → ℕ → List Link → ℕ → ℕ → Type 0
+LinksLead back n [] last next = (back ≡ last) × (n ≡ next)
+LinksLead back n (l ∷ more) last next = (l.number ≡ n) × (l.back ≡ back) × (l.forward ≢ n) × LinksLead n l.forward more last next
 
 -- no two blocks have the same number
-abbrev pub AreApart : List ChainBlock → Type 0
-AreApart chain = AllPairs (λ (a b : ChainBlock). a.number ≢ b.number) chain
+abbrev pub BlocksAreApart : List ChainBlock → Type 0
+BlocksAreApart chain = AllPairs (λ (a b : ChainBlock). a.number ≢ b.number) chain
 
 abbrev pub numbers : List ChainBlock → List ℕ
 numbers chain = map (λ (b : ChainBlock). b.number) chain
@@ -39,9 +39,9 @@ numbers chain = map (λ (b : ChainBlock). b.number) chain
 pub record IsBad (image : Image) (n : ℕ) : Type 0 where
   pub passed : List ChainBlock
   pub last : ℕ
-  pub holds : All (Holds image) passed
-  pub apart : AreApart passed
-  pub leads : Leads 1 1 (map link passed) last n
+  pub holds : All (HoldsBlock image) passed
+  pub apart : BlocksAreApart passed
+  pub leads : LinksLead 1 1 (map link passed) last n
   pub cannot : IsUnfit image last n ⊎ Contains (numbers passed) n
 
 -- what an error says of the block that was looked at, and of the whole chain

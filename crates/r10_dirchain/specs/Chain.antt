@@ -23,18 +23,18 @@ Linked back n (l ∷ []) = (l.number ≡ n) × (l.back ≡ back) × (l.forward �
 Linked back n (l ∷ m ∷ more) = (l.number ≡ n) × (l.back ≡ back) × (l.forward ≢ n) × Linked n l.forward (m ∷ more)
 
 -- the medium has this directory block at its number
-pub record Holds (image : Image) (b : ChainBlock) : Type 0 where
+pub record HoldsBlock (image : Image) (b : ChainBlock) : Type 0 where
   pub within : b.number < length image
   pub is : IsBlock (block_at image b.number) b.block
 
 -- The medium's directory is this chain, from block 1 on, which links back to itself.
 pub record IsDirectory (image : Image) (chain : List ChainBlock) : Type 0 where
   pub linked : Linked 1 1 (map link chain)
-  pub holds : All (Holds image) chain
+  pub holds : All (HoldsBlock image) chain
 
 -- the entries of all files, in order
-abbrev pub files : List ChainBlock → List Entry
-files chain = flat_map (λ b. b.block.entries) chain
+abbrev pub listed_files : List ChainBlock → List Entry
+listed_files chain = flat_map (λ b. b.block.entries) chain
 
 -- the block at a place of the chain, from 0 on
 abbrev pub blank_block : ChainBlock

@@ -5,7 +5,7 @@ use Rattle.r10_medium.specs.Disk.{Disk, Image, IsSynced, block_at}
 use Rattle.r10_medium.specs.Stop.{Settled, Leaves, ComesBy, SameBut}
 use Rattle.r10_dirblock.specs.Block.{block_bytes}
 use Rattle.r10_dirchain.specs.declared.chain.ChainBlock.{ChainBlock}
-use Rattle.r10_dirchain.specs.Chain.{IsDirectory, Holds, at}
+use Rattle.r10_dirchain.specs.Chain.{IsDirectory, HoldsBlock, at}
 
 -- the same but in blocks of these numbers
 pub record SameButIn (numbers : List ℕ) (old new : Image) : Type 0 where
@@ -15,25 +15,25 @@ pub record SameButIn (numbers : List ℕ) (old new : Image) : Type 0 where
 -- this directory block was put at its number, and nothing else was changed
 pub record Put (old : Image) (b : ChainBlock) (new : Image) : Type 0 where
   pub others : SameBut b.number old new
-  pub holds : Holds new b
+  pub holds : HoldsBlock new b
   pub bytes : block_at new b.number ≡ block_bytes b.block
 
 -- these two blocks were put at their numbers, and nothing else was changed
 pub record PutTwo (old : Image) (next linking : ChainBlock) (new : Image) : Type 0 where
   pub others : SameButIn (linking.number ∷ next.number ∷ []) old new
-  pub next_holds : Holds new next
-  pub linking_holds : Holds new linking
+  pub next_holds : HoldsBlock new next
+  pub linking_holds : HoldsBlock new linking
   pub next_bytes : block_at new next.number ≡ block_bytes next.block
   pub linking_bytes : block_at new linking.number ≡ block_bytes linking.block
 
 -- where the block has one of these numbers, the medium has it byte for byte as this recorder writes it
-abbrev pub IsWritten : List ℕ → Image → ChainBlock → Type 0
-IsWritten numbers image b = All (λ n. b.number ≢ n) numbers ⊎ (block_at image b.number ≡ block_bytes b.block)
+abbrev pub IsWrittenByteForByte : List ℕ → Image → ChainBlock → Type 0
+IsWrittenByteForByte numbers image b = All (λ n. b.number ≢ n) numbers ⊎ (block_at image b.number ≡ block_bytes b.block)
 
 -- the directory is this chain now, its blocks of these numbers are written anew, and no block of another number is touched
 pub record Turned (chain : List ChainBlock) (numbers : List ℕ) (old new : Image) : Type 0 where
   pub directory : IsDirectory new chain
-  pub written : All (IsWritten numbers new) chain
+  pub written : All (IsWrittenByteForByte numbers new) chain
   pub others : SameButIn numbers old new
 
 -- A step from one chain to another, which may write some blocks that nothing links to, and then changes the directory at once.

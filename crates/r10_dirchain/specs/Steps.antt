@@ -2,16 +2,16 @@
 use Rattle.std.specs.Prelude.{ℕ, ◌+◌, ◌-◌, Bool, List, [], ◌∷◌, ◌++◌, length, take, slice_set, Option, None, Some, nat_le, ◌==◌, if◌then◌else◌}
 use Rattle.std.specs.List.{last_or, suffix_len}
 use Rattle.r10_dirblock.specs.Block.{blank}
-use Rattle.r10_dirblock.specs.Texts.{padded}
+use Rattle.r10_dirblock.specs.Texts.{padded_text}
 use Rattle.r10_dirblock.specs.declared.entry.Entry.{Entry}
 use Rattle.r10_dirblock.specs.declared.block.DirBlock.{DirBlock}
 use Rattle.r10_dirchain.specs.declared.chain.ChainBlock.{ChainBlock}
-use Rattle.r10_dirchain.specs.Chain.{at, files}
+use Rattle.r10_dirchain.specs.Chain.{at, listed_files}
 
 -- the directory of a medium that is formatted: block 1 alone, properly dismounted and without files
 abbrev pub formatted : List ℕ → List ChainBlock
 formatted volume =
-    record { number = 1; block = record { shutdown = 0xFF; volume = padded 32 volume; forward = 1; reverse = 1; entries = [] } } ∷ []
+    record { number = 1; block = record { shutdown = 0xFF; volume = padded_text 32 volume; forward = 1; reverse = 1; entries = [] } } ∷ []
 
 -- another content in the block at place i
 abbrev pub replaced : List ChainBlock → ℕ → DirBlock → List ChainBlock
@@ -30,12 +30,12 @@ abbrev pub entry_or_blank : Option Entry → Entry
 entry_or_blank None = blank
 entry_or_blank (Some e) = e
 
-abbrev pub last_file : List ChainBlock → Entry
-last_file chain = entry_or_blank (last_or None (files chain))
+abbrev pub last_listed : List ChainBlock → Entry
+last_listed chain = entry_or_blank (last_or None (listed_files chain))
 
 -- another last entry
-abbrev pub with_last : Entry → List Entry → List Entry
-with_last entry entries = take (length entries - 1) entries ++ entry ∷ []
+abbrev pub with_last_entry : Entry → List Entry → List Entry
+with_last_entry entry entries = take (length entries - 1) entries ++ entry ∷ []
 
 -- the place of the last block that lists a file
 abbrev pub lists_none : ChainBlock → Bool
@@ -48,7 +48,7 @@ last_listing chain = length chain - suffix_len lists_none chain - 1
 abbrev pub updated : Entry → List ChainBlock → List ChainBlock
 updated entry chain =
     let i = last_listing chain in
-    replaced chain i (record (at chain i).block { entries = with_last entry (at chain i).block.entries })
+    replaced chain i (record (at chain i).block { entries = with_last_entry entry (at chain i).block.entries })
 
 -- the place of the last block
 abbrev pub last_place : List ChainBlock → ℕ
@@ -62,8 +62,8 @@ abbrev pub last_is_full : List ChainBlock → Bool
 last_is_full chain = nat_le 4 (length (last_block chain).block.entries)
 
 -- one file more, in the last block
-abbrev pub filled : Entry → List ChainBlock → List ChainBlock
-filled entry chain =
+abbrev pub with_entry_more : Entry → List ChainBlock → List ChainBlock
+with_entry_more entry chain =
     replaced chain (last_place chain) (record (last_block chain).block { entries = (last_block chain).block.entries ++ entry ∷ [] })
 
 -- the number of the next block of a directory whose blocks are those from 1 on
@@ -71,8 +71,8 @@ abbrev pub next_number : List ChainBlock → ℕ
 next_number chain = length chain + 1
 
 -- a new last block, of the same volume, which lists one file
-abbrev pub next_block : Entry → List ChainBlock → ChainBlock
-next_block entry chain = record {
+abbrev pub next_directory_block : Entry → List ChainBlock → ChainBlock
+next_directory_block entry chain = record {
   number = next_number chain;
   block = record {
     shutdown = 0xFF;
@@ -86,11 +86,11 @@ next_block entry chain = record {
 -- one file more, in a new last block
 abbrev pub extended : Entry → List ChainBlock → List ChainBlock
 extended entry chain =
-    replaced chain (last_place chain) (record (last_block chain).block { forward = next_number chain }) ++ next_block entry chain ∷ []
+    replaced chain (last_place chain) (record (last_block chain).block { forward = next_number chain }) ++ next_directory_block entry chain ∷ []
 
 -- one file more
 abbrev pub added : Entry → List ChainBlock → List ChainBlock
-added entry chain = if last_is_full chain then extended entry chain else filled entry chain
+added entry chain = if last_is_full chain then extended entry chain else with_entry_more entry chain
 
 -- the numbers of the blocks that the step writes before anything links to them
 abbrev pub spare : List ChainBlock → List ℕ

@@ -2,11 +2,11 @@
 use Rattle.std.specs.Prelude.{◌≡◌, ℕ, ◌+◌, List, [], ◌∷◌, map, replicate, refl, Some, None, true, false}
 use Rattle.r10_count.specs.Checks.{first_broken}
 use Rattle.r10_dirblock.specs.declared.entry.Entry.{Entry}
-use Rattle.r10_dirblock.specs.Texts.{dashes, padded}
+use Rattle.r10_dirblock.specs.Texts.{dashes, padded_text}
 use Rattle.r10_dirblock.specs.Block.{block_bytes, head_bytes, entry_bytes, blank}
 use Rattle.r10_dirblock.specs.Vectors.{formatted_bytes}
 use Rattle.r10_dirchain.specs.declared.chain.ChainBlock.{ChainBlock}
-use Rattle.r10_dirchain.specs.Chain.{link, Linked, files, at}
+use Rattle.r10_dirchain.specs.Chain.{link, Linked, listed_files, at}
 use Rattle.r10_dirchain.specs.Mount.{mount_rules}
 use Rattle.r10_count.specs.Names.{is_volume}
 use Rattle.r10_dirchain.specs.Steps.{formatted, added, emptied, updated, with_shutdown, spare}
@@ -48,17 +48,17 @@ file n = record blank { first_block = 3 + n; block_count = 1; size = 196; close_
 abbrev pub open_file : ℕ → Entry
 open_file n = record (file n) { size = 68; close_time = dashes }
 
-abbrev pub four : List ChainBlock
-four = added (file 3) (added (file 2) (added (file 1) (added (file 0) (formatted volume))))
+abbrev pub four_listed : List ChainBlock
+four_listed = added (file 3) (added (file 2) (added (file 1) (added (file 0) (formatted volume))))
 
 abbrev pub five : List ChainBlock
-five = added (file 4) four
+five = added (file 4) four_listed
 
-abbrev pub eight : List ChainBlock
-eight = added (file 7) (added (file 6) (added (file 5) five))
+abbrev pub eight_listed : List ChainBlock
+eight_listed = added (file 7) (added (file 6) (added (file 5) five))
 
 -- the first four stand in block 1, which links to itself
-pub four_places : map link four ≡ record { number = 1; forward = 1; back = 1 } ∷ []
+pub four_places : map link four_listed ≡ record { number = 1; forward = 1; back = 1 } ∷ []
 four_places = refl
 
 -- the fifth makes block 2, to which block 1 links, and which has one entry
@@ -68,13 +68,13 @@ five_places = refl
 pub one_in_the_second : (at five 1).block.entries ≡ file 4 ∷ []
 one_in_the_second = refl
 
-pub the_second_before_it_is_linked : spare four ≡ 2 ∷ []
+pub the_second_before_it_is_linked : spare four_listed ≡ 2 ∷ []
 the_second_before_it_is_linked = refl
 
-pub the_volume_of_the_second : (at five 1).block.volume ≡ padded 32 volume
+pub the_volume_of_the_second : (at five 1).block.volume ≡ padded_text 32 volume
 the_volume_of_the_second = refl
 
-pub eight_files : files eight ≡ file 0 ∷ file 1 ∷ file 2 ∷ file 3 ∷ file 4 ∷ file 5 ∷ file 6 ∷ file 7 ∷ []
+pub eight_files : listed_files eight_listed ≡ file 0 ∷ file 1 ∷ file 2 ∷ file 3 ∷ file 4 ∷ file 5 ∷ file 6 ∷ file 7 ∷ []
 eight_files = refl
 
 pub eight_are_linked : Linked 1 1 (map link five)
@@ -83,14 +83,14 @@ eight_are_linked = (refl, refl, λ e. two_is_not_one e, (refl, refl, refl))
     two_is_not_one : ◌≡◌ {A = ℕ} 2 1 → ⊥
     two_is_not_one e = cc
 
-pub eight_are_usable : first_broken (mount_rules 2 64 eight) ≡ None
+pub eight_are_usable : first_broken (mount_rules 2 64 eight_listed) ≡ None
 eight_are_usable = refl
 
 -- the last file is the first of the second block
-pub the_fifth_updated : files (updated (open_file 4) five) ≡ file 0 ∷ file 1 ∷ file 2 ∷ file 3 ∷ open_file 4 ∷ []
+pub the_fifth_updated : listed_files (updated (open_file 4) five) ≡ file 0 ∷ file 1 ∷ file 2 ∷ file 3 ∷ open_file 4 ∷ []
 the_fifth_updated = refl
 
-pub none_left : files (emptied five) ≡ []
+pub none_left : listed_files (emptied five) ≡ []
 none_left = refl
 
 pub one_block_left : map link (emptied five) ≡ record { number = 1; forward = 1; back = 1 } ∷ []

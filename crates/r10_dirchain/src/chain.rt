@@ -1,6 +1,6 @@
 // The directory in memory.
 ghost use Rattle.std.specs.Prelude.{◌≡◌, ◌<◌, length, IfOk, IsTrue, ◌↔◌};
-ghost use Rattle.r10_dirchain.specs.Chain.{files, at};
+ghost use Rattle.r10_dirchain.specs.Chain.{listed_files, at};
 ghost use Rattle.r10_dirchain.specs.Mount.{listed};
 
 use r10_dirblock::{DirBlock, Entry};
@@ -46,7 +46,7 @@ impl Directory {
 
     /// The entries of all files, in order.
     pub fn files(&self, alloc: Global) -> Result<Vec<Entry>, AllocError>
-        ensures { IfOk result (λ v. v.items ≡ files self.now) }
+        ensures { IfOk result (λ v. v.items ≡ listed_files self.now) }
     {
         let mut entries = Vec::new(alloc);
         for link in &self.chain {

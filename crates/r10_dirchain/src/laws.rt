@@ -7,18 +7,18 @@ ghost use Rattle.r10_dirblock.specs.declared.block.DirBlock.{DirBlock};
 ghost use Rattle.r10_dirblock.specs.declared.entry.Entry.{Entry};
 ghost use Rattle.r10_dirchain.specs.declared.chain.ChainBlock.{ChainBlock};
 ghost use Rattle.r10_dirchain.specs.Bad.{IsBad};
-ghost use Rattle.r10_dirchain.specs.Chain.{files, IsDirectory};
+ghost use Rattle.r10_dirchain.specs.Chain.{listed_files, IsDirectory};
 ghost use Rattle.r10_dirchain.specs.Mount.{blocks_in, mount_rules, stands};
 ghost use Rattle.r10_dirchain.specs.OnMedium.{HasNext};
-ghost use Rattle.r10_dirchain.specs.Steps.{added, emptied, formatted, updated, with_last, with_shutdown};
+ghost use Rattle.r10_dirchain.specs.Steps.{added, emptied, formatted, updated, with_last_entry, with_shutdown};
 
 /// Each step changes the list of files as its name says.
 pub fn file_lists()
-    ensures formatted { (volume : List ℕ) → files (formatted volume) ≡ [] }
-    ensures added { (entry : Entry) (chain : List ChainBlock) → 0 < length chain → files (added entry chain) ≡ files chain ++ entry ∷ [] }
-    ensures updated { (entry : Entry) (chain : List ChainBlock) → 0 < length (files chain) → files (updated entry chain) ≡ with_last entry (files chain) }
-    ensures erased { (chain : List ChainBlock) → files (emptied chain) ≡ [] }
-    ensures shutdown { (shutdown : ℕ) (chain : List ChainBlock) → files (with_shutdown shutdown chain) ≡ files chain }
+    ensures formatted { (volume : List ℕ) → listed_files (formatted volume) ≡ [] }
+    ensures added { (entry : Entry) (chain : List ChainBlock) → 0 < length chain → listed_files (added entry chain) ≡ listed_files chain ++ entry ∷ [] }
+    ensures updated { (entry : Entry) (chain : List ChainBlock) → 0 < length (listed_files chain) → listed_files (updated entry chain) ≡ with_last_entry entry (listed_files chain) }
+    ensures erased { (chain : List ChainBlock) → listed_files (emptied chain) ≡ [] }
+    ensures shutdown { (shutdown : ℕ) (chain : List ChainBlock) → listed_files (with_shutdown shutdown chain) ≡ listed_files chain }
 {}
 
 /// Entries at the front of a block stay byte for byte in every block with the same entries there.
@@ -37,11 +37,11 @@ pub fn usable_directories()
         → first_broken (mount_rules reserved blocks (with_shutdown shutdown chain)) ≡ None }
     ensures erased { (reserved : ℕ) (blocks : ℕ) (chain : List ChainBlock) → 1 ≤ reserved → first_broken (mount_rules reserved blocks (emptied chain)) ≡ None }
     ensures added { (reserved : ℕ) (blocks : ℕ) (entry : Entry) (image : Image) (chain : List ChainBlock) → IsDirectory image chain → first_broken (mount_rules reserved blocks chain) ≡ None
-        → All (λ e. is_closed e ≡ true) (files chain) → length (files chain) < 4 * reserved
-        → stands blocks (reserved + 1 + blocks_in (files chain)) entry ≡ true
+        → All (λ e. is_closed e ≡ true) (listed_files chain) → length (listed_files chain) < 4 * reserved
+        → stands blocks (reserved + 1 + blocks_in (listed_files chain)) entry ≡ true
         → first_broken (mount_rules reserved blocks (added entry chain)) ≡ None }
-    ensures updated { (reserved : ℕ) (blocks : ℕ) (entry : Entry) (chain : List ChainBlock) → first_broken (mount_rules reserved blocks chain) ≡ None → 0 < length (files chain)
-        → stands blocks (reserved + 1 + blocks_in (take (length (files chain) - 1) (files chain))) entry ≡ true
+    ensures updated { (reserved : ℕ) (blocks : ℕ) (entry : Entry) (chain : List ChainBlock) → first_broken (mount_rules reserved blocks chain) ≡ None → 0 < length (listed_files chain)
+        → stands blocks (reserved + 1 + blocks_in (take (length (listed_files chain) - 1) (listed_files chain))) entry ≡ true
         → first_broken (mount_rules reserved blocks (updated entry chain)) ≡ None }
 {}
 

@@ -3,7 +3,7 @@ ghost use Rattle.std.specs.Prelude.{◌≡◌, ◌≤◌, List, IfOk, IfErr, IsE
 ghost use Rattle.r10_medium.specs.Disk.{Unchanged, Rose};
 ghost use Rattle.r10_dirchain.specs.declared.chain.ChainBlock.{ChainBlock};
 ghost use Rattle.r10_dirchain.specs.Chain.{IsDirectory};
-ghost use Rattle.r10_dirchain.specs.Bad.{IsTaken, IsTakeError, IsChainError, IsNoFault};
+ghost use Rattle.r10_dirchain.specs.Bad.{LinksBack, IsTakeError, IsChainError, IsNoFault};
 
 use crate::{ChainBlock, Directory};
 use r10_dirblock::{DirBlock, decode};
@@ -85,7 +85,7 @@ fn take_block<M: BlockMedium>(
     back: u64,
     number: u64,
 ) -> Result<DirBlock, ChainError>
-    ensures taken { IfOk result (IsTaken (M.disk medium.old).blocks back number) }
+    ensures taken { IfOk result (LinksBack (M.disk medium.old).blocks back number) }
     ensures bad { IfErr result (IsTakeError (M.disk medium.old).blocks back number) }
     ensures same { Unchanged (M.disk medium.old) (M.disk medium.new) }
     ensures no_fewer { (M.disk medium.old).failures ≤ (M.disk medium.new).failures }

@@ -12,11 +12,11 @@ pub struct Room {
 }
 
 impl Room {
-    ghost use Rattle.r10_dirchain.specs.Rooms.{room_for};
+    ghost use Rattle.r10_dirchain.specs.Rooms.{block_room};
 
     // Memory for so many blocks.
     pub(crate) fn of(alloc: Global, blocks: usize) -> Result<Self, AllocError>
-        ensures { IfOk result (λ room. blocks ≤ room_for room) }
+        ensures { IfOk result (λ room. blocks ≤ block_room room) }
     {
         let blocks = Vec::with_capacity(alloc, blocks)?;
         Ok(Room { blocks })
@@ -24,7 +24,7 @@ impl Room {
 
     // Moves these blocks into this memory, where one more can be put behind them.
     pub(crate) fn take_in(self, chain: &mut Vec<ChainBlock>)
-        requires { length chain.old.items < room_for self }
+        requires { length chain.old.items < block_room self }
         ensures same { chain.new.items ≡ chain.old.items }
         ensures room { vec_len chain.new < vec_capacity chain.new }
     {

@@ -3,12 +3,12 @@ ghost use Rattle.std.specs.Prelude.{◌≡◌, ◌⊎◌, ◌≤◌, ◌<◌, �
 ghost use Rattle.std.specs.List.{All};
 ghost use Rattle.r10_medium.specs.Disk.{Counts, IsSynced};
 ghost use Rattle.r10_medium.specs.Stop.{Settled, Leaves};
-ghost use Rattle.r10_dirblock.specs.Block.{HasRooms, has_room};
+ghost use Rattle.r10_dirblock.specs.Block.{HasRooms, has_room_for_size};
 ghost use Rattle.r10_dirchain.specs.declared.chain.ChainBlock.{ChainBlock};
-ghost use Rattle.r10_dirchain.specs.Chain.{IsDirectory, files, at};
+ghost use Rattle.r10_dirchain.specs.Chain.{IsDirectory, listed_files, at};
 ghost use Rattle.r10_dirchain.specs.OnMedium.{HasNext, Turns};
-ghost use Rattle.r10_dirchain.specs.Rooms.{room_for};
-ghost use Rattle.r10_dirchain.specs.Steps.{added, blocks_with_one_more, emptied, extended, filled, last_block, last_is_full, last_listing, last_place, lists_none, next_block, next_number, replaced, spare, updated, with_shutdown};
+ghost use Rattle.r10_dirchain.specs.Rooms.{block_room};
+ghost use Rattle.r10_dirchain.specs.Steps.{added, blocks_with_one_more, emptied, extended, with_entry_more, last_block, last_is_full, last_listing, last_place, lists_none, next_directory_block, next_number, replaced, spare, updated, with_shutdown};
 
 use crate::put::{put_block, put_linked};
 use crate::{ChainBlock, Directory, Room};
@@ -68,8 +68,8 @@ impl Directory {
         entry: Entry,
     ) -> Result<(), MediumFault>
         requires stands { IsDirectory (M.disk medium.old).blocks self.old }
-        requires some { 0 < length (files self.old) }
-        requires room { has_room entry ≡ true }
+        requires some { 0 < length (listed_files self.old) }
+        requires room { has_room_for_size entry ≡ true }
         ensures done { OnOk result (self.new ≡ updated entry self.old) }
         ensures kept { OnErr result (self.new ≡ self.old) }
         ensures turns { Turns self.old (updated entry self.old) [] ((at self.old (last_listing self.old)).number ∷ []) (M.disk medium.old) (M.disk medium.new) result }
@@ -85,7 +85,7 @@ impl Directory {
 
     /// Asks for the memory that adding a file takes, before what the file lists is written.
     pub fn ready(&self, alloc: Global) -> Result<Room, AllocError>
-        ensures { IfOk result (λ room. length self.now < room_for room) }
+        ensures { IfOk result (λ room. length self.now < block_room room) }
     {
         Room::of(alloc, self.chain.len() + 1)
     }
@@ -115,8 +115,8 @@ impl Directory {
         requires stands { IsDirectory (M.disk medium.old).blocks self.old }
         requires next { HasNext (M.disk medium.old).blocks self.old }
         requires place { blocks_with_one_more self.old ≤ reserved }
-        requires room { has_room entry ≡ true }
-        requires ready { length self.old < room_for ready }
+        requires room { has_room_for_size entry ≡ true }
+        requires ready { length self.old < block_room ready }
         ensures done { OnOk result (self.new ≡ added entry self.old) }
         ensures kept { OnErr result (self.new ≡ self.old) }
         ensures turns { Turns self.old (added entry self.old) (spare self.old) ((last_block self.old).number ∷ spare self.old) (M.disk medium.old) (M.disk medium.new) result }
@@ -135,10 +135,10 @@ impl Directory {
     fn add_entry<M: BlockMedium>(&mut self, medium: &mut M, entry: Entry) -> Result<(), MediumFault>
         requires stands { IsDirectory (M.disk medium.old).blocks self.old }
         requires place { last_is_full self.old ≡ false }
-        requires room { has_room entry ≡ true }
-        ensures done { OnOk result (self.new ≡ filled entry self.old) }
+        requires room { has_room_for_size entry ≡ true }
+        ensures done { OnOk result (self.new ≡ with_entry_more entry self.old) }
         ensures kept { OnErr result (self.new ≡ self.old) }
-        ensures turns { Turns self.old (filled entry self.old) [] ((last_block self.old).number ∷ []) (M.disk medium.old) (M.disk medium.new) result }
+        ensures turns { Turns self.old (with_entry_more entry self.old) [] ((last_block self.old).number ∷ []) (M.disk medium.old) (M.disk medium.new) result }
         ensures sure { OnOk result (IsSynced (M.disk medium.new)) }
         ensures counts { Counts (M.disk medium.old) (M.disk medium.new) result }
     {
@@ -157,8 +157,8 @@ impl Directory {
     ) -> Result<(), MediumFault>
         requires stands { IsDirectory (M.disk medium.old).blocks self.old }
         requires next { HasNext (M.disk medium.old).blocks self.old }
-        requires room { has_room entry ≡ true }
-        requires ready { length self.old < room_for ready }
+        requires room { has_room_for_size entry ≡ true }
+        requires ready { length self.old < block_room ready }
         ensures done { OnOk result (self.new ≡ extended entry self.old) }
         ensures kept { OnErr result (self.new ≡ self.old) }
         ensures turns { Turns self.old (extended entry self.old) (next_number self.old ∷ []) ((last_block self.old).number ∷ next_number self.old ∷ []) (M.disk medium.old) (M.disk medium.new) result }
@@ -194,7 +194,7 @@ impl Directory {
     // A block behind the last one, which lists one file.
     fn next_block(&self, entry: Entry) -> ChainBlock
         requires { 0 < length self.now }
-        ensures { result ≡ next_block entry self.now }
+        ensures { result ≡ next_directory_block entry self.now }
     {
         let last = self.last();
         let number = self.chain.len() as u64 + 1;
@@ -231,7 +231,7 @@ impl Directory {
 
     // The place of the last block that lists a file.
     fn last_listing(&self) -> usize
-        requires { 0 < length (files self.now) }
+        requires { 0 < length (listed_files self.now) }
         ensures within { result < length self.now }
         ensures place { result ≡ last_listing self.now }
         ensures lists { 0 < length (at self.now result).block.entries }

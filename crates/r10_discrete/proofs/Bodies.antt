@@ -13,7 +13,7 @@ use Rattle.r10_count.specs.Form.{IsBody, IsForeign, FitsAll, OpensAll, SuitsAll,
 use Rattle.r10_count.proofs.Bodies.{one_spelled}
 use Rattle.r10_count.proofs.Fixed.{fixed_length, fixed_parts}
 use Rattle.r10_count.proofs.Plain.{plain_spelled}
-use Rattle.r10_discrete.specs.Discrete.{FitsDiscrete, FitsPacket, IsDiscrete, IsForeignDiscrete, discrete_body, discrete_entry}
+use Rattle.r10_discrete.specs.Discrete.{FitsDiscrete, FitsDiscreteBody, IsDiscrete, IsForeignDiscrete, discrete_body, discrete_entry}
 use Rattle.r10_discrete.specs.Entry.{discrete_form, has_only}
 use Rattle.r10_discrete.specs.declared.entry.DiscreteEntry.{DiscreteEntry}
 
@@ -122,7 +122,7 @@ is_foreign body f =
     (f.0, parts.0, f.3, refl, parts.1, f.5 ∙ ap (λ t. le_bytes 4 f.0 ++ t) parts.3)
 
 -- a body is made of one number of discretes and one list of entries
-pub one_discrete_body : (bits others : ℕ) (es ds : List DiscreteEntry) → FitsPacket bits es → FitsPacket others ds → discrete_body bits es ≡ discrete_body others ds → (bits ≡ others) × (es ≡ ds)
+pub one_discrete_body : (bits others : ℕ) (es ds : List DiscreteEntry) → FitsDiscreteBody bits es → FitsDiscreteBody others ds → discrete_body bits es ≡ discrete_body others ds → (bits ≡ others) × (es ≡ ds)
 one_discrete_body bits others es ds fe fd same =
     let words = same_u32 (8 * bits) (8 * others) (flat_map discrete_entry es) (flat_map discrete_entry ds) (omega (arith, fe.discretes.1)) (omega (arith, fd.discretes.1)) same in (
       omega (arith, words.0),

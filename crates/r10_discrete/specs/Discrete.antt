@@ -17,14 +17,14 @@ abbrev pub FitsDiscrete : ℕ → DiscreteEntry → Type 0
 FitsDiscrete bits e = IsCount e.count × (e.states < 2 ^ bits)
 
 -- what a packet may have: at least one change, of 1 to 31 discretes
-pub record FitsPacket (bits : ℕ) (entries : List DiscreteEntry) : Type 0 where
+pub record FitsDiscreteBody (bits : ℕ) (entries : List DiscreteEntry) : Type 0 where
   pub some : 0 < length entries
   pub discretes : (1 ≤ bits) × (bits ≤ 31)
   pub fields : AllByRecursion (FitsDiscrete bits) entries
 
 -- the body that the writer makes of these changes of so many discretes
 abbrev pub IsDiscrete : ℕ → List DiscreteEntry → List ℕ → Type 0
-IsDiscrete bits entries body = FitsPacket bits entries × (body ≡ discrete_body bits entries)
+IsDiscrete bits entries body = FitsDiscreteBody bits entries × (body ≡ discrete_body bits entries)
 
 -- whoever wrote it: a word, and twelve bytes for each change
 abbrev pub IsForeignDiscrete : List ℕ → Type 0

@@ -16,8 +16,8 @@ pub record FitsFields (e : DiscreteEntry) : Type 0 where
 pub twelve : (n : ℕ) → Some 12 ≡ Some n → 12 ≤ n
 twelve n e = let is : 12 ≡ n = cc in omega arith
 
-pub word-fits : (setting : ℕ) → 8 * (setting % 32) < 2 ^ 32
-word-fits setting = omega arith
+pub discrete_word-fits : (setting : ℕ) → 8 * (setting % 32) < 2 ^ 32
+discrete_word-fits setting = omega arith
 
 abbrev entry_of : ℕ → ℕ → DiscreteEntry
 entry_of count states = record { count = count; states = states }
@@ -26,8 +26,8 @@ same_fields : (m n x y : ℕ) → m ≡ n → x ≡ y → entry_of m x ≡ entry
 same_fields m n x y counts states = rw (counts, states) refl
 
 -- no other entry is spelled so
-pub entry-one : (e d : DiscreteEntry) → FitsFields e → FitsFields d → discrete_entry e ≡ discrete_entry d → e ≡ d
-entry-one e d fe fd same =
+pub discrete_entry-one : (e d : DiscreteEntry) → FitsFields e → FitsFields d → discrete_entry e ≡ discrete_entry d → e ≡ d
+discrete_entry-one e d fe fd same =
     let first = same_stamp e.count d.count (le_bytes 4 e.states) (le_bytes 4 d.states) fe.count fd.count same in
     let second = same_u32 e.states d.states [] [] fe.states fd.states first.1 in
     same_fields e.count d.count e.states d.states first.0 second.0
@@ -52,7 +52,7 @@ discrete_form = record {
   covers = λ front. twelve;
   sized = λ before e fits. refl;
   tells = λ before e fits. (lit< tt, refl);
-  one = λ before e d. entry-one e d;
+  one = λ before e d. discrete_entry-one e d;
   alone = λ e. refl;
-  worded = λ setting n. word-fits setting;
+  worded = λ setting n. discrete_word-fits setting;
 }

@@ -3,10 +3,10 @@
 ghost use Rattle.std.specs.Prelude.{◌≡◌, ◌↔◌, ◌+◌, ◌*◌, ◌^◌, ◌<◌, ℕ, List, ◌++◌, length, IsTrue, IfOk};
 ghost use Rattle.r10_count.specs.Bytes.{le_bytes};
 ghost use Rattle.r10_count.specs.Append.{Appends};
-ghost use Rattle.r10_count.specs.Reading.{Reads};
+ghost use Rattle.r10_count.specs.Reading.{ReadsBody};
 ghost use Rattle.r10_count.specs.declared.reading.Reading.TheVariants.{Strict};
-ghost use Rattle.r10_discrete.specs.Discrete.{FitsPacket, IsDiscrete, IsForeignDiscrete, discrete_body};
-ghost use Rattle.r10_discrete.specs.declared.entry.DiscreteEntry.{DiscreteEntry as Spoken};
+ghost use Rattle.r10_discrete.specs.Discrete.{FitsDiscreteBody, IsDiscrete, IsForeignDiscrete, discrete_body};
+ghost use Rattle.r10_discrete.specs.declared.entry.DiscreteEntry.{DiscreteEntry as DiscreteEntryValue};
 
 use crate::entry::DiscreteEntry;
 use r10_count::{Items, Reading, read_body, split_u32, write_body};
@@ -37,7 +37,7 @@ impl DiscreteBody {
     /// Whether there is an entry, the channel has 1 to 31 discretes, and no state has a bit beyond
     /// them.
     pub fn check(&self) -> bool
-        ensures { IsTrue result ↔ FitsPacket self.now.bits self.now.entries }
+        ensures { IsTrue result ↔ FitsDiscreteBody self.now.bits self.now.entries }
     {
         let bits = self.bits;
         let entries = self.entries.as_slice();
@@ -57,7 +57,7 @@ impl DiscreteBody {
 
     /// Adds the body's bytes. Where memory is refused, nothing is added.
     pub fn encode_into(&self, out: &mut Vec<u8>) -> Result<(), AllocError>
-        requires { FitsPacket self.now.bits self.now.entries }
+        requires { FitsDiscreteBody self.now.bits self.now.entries }
         ensures { Appends (discrete_body self.now.bits self.now.entries) out.old out.new result }
     {
         write_body(u32::from(self.bits), 0, self.entries.as_slice(), out)
@@ -66,8 +66,8 @@ impl DiscreteBody {
     /// Reads a body: the number of discretes and the entries that this recorder writes as these
     /// bytes, or whether another recorder may have written them.
     pub fn decode(alloc: Global, body: &[u8]) -> Result<Reading<DiscreteBody>, AllocError>
-        ensures found { IfOk result (Reads (λ read. IsDiscrete read.bits read.entries body.now) (IsForeignDiscrete body.now)) }
-        ensures only { (bits : ℕ) (entries : List Spoken) → IsDiscrete bits entries body.now → IfOk result (λ reading. reading ≡ Strict (record { bits = bits; entries = entries })) }
+        ensures found { IfOk result (ReadsBody (λ read. IsDiscrete read.bits read.entries body.now) (IsForeignDiscrete body.now)) }
+        ensures only { (bits : ℕ) (entries : List DiscreteEntryValue) → IsDiscrete bits entries body.now → IfOk result (λ reading. reading ≡ Strict (record { bits = bits; entries = entries })) }
     {
         let bits = told_bits(body);
         match read_body(alloc, bits, 0, body)? {

@@ -8,7 +8,7 @@ use Rattle.r10_dirblock.specs.Block.{is_closed}
 use Rattle.r10_dirblock.specs.Texts.{stripped}
 use Rattle.r10_dirblock.specs.declared.entry.Entry.{Entry}
 use Rattle.r10_dirchain.specs.Bad.{IsBad}
-use Rattle.r10_dirchain.specs.Chain.{files, IsDirectory}
+use Rattle.r10_dirchain.specs.Chain.{listed_files, IsDirectory}
 use Rattle.r10_dirchain.specs.declared.chain.ChainBlock.{ChainBlock}
 use Rattle.r10_images.specs.declared.listing.Outcome.{Outcome}
 use Rattle.r10_images.specs.declared.listing.Outcome.TheVariants.{Done, Refused}
@@ -27,26 +27,26 @@ flag_text true = codes "1"
 flag_text false = codes "0"
 
 -- `file`, the file's number, its name, its size in bytes, its blocks, and whether it is closed
-abbrev pub file_line : ℕ → Entry → List ℕ
-file_line n e =
+abbrev pub listed_file_line : ℕ → Entry → List ℕ
+listed_file_line n e =
     (codes "file " ++ (decimal n ++ codes " "))
     ++ (shown_name e
     ++ (codes " " ++ (decimal e.size ++ (codes " " ++ (decimal e.block_count ++ (codes " " ++ (flag_text (is_closed e) ++ codes "\n")))))))
 
 -- the lines of the files from number n on
-abbrev pub file_lines : ℕ → List Entry → List ℕ
-file_lines n [] = []
-file_lines n (e ∷ entries) = file_line n e ++ file_lines (n + 1) entries
+abbrev pub listed_file_lines : ℕ → List Entry → List ℕ
+listed_file_lines n [] = []
+listed_file_lines n (e ∷ entries) = listed_file_line n e ++ listed_file_lines (n + 1) entries
 
 -- the first block of the chain that can't be taken
 abbrev pub refusal_line : ℕ → List ℕ
 refusal_line block = codes "refused 26 BadDirectory " ++ (decimal block ++ codes "\n")
 
 -- the lines of the files of the medium's directory, or the refusal where it has none
-abbrev pub Prints : Image → Outcome → List ℕ → Type 0
-Prints image Done text = (chain : List ChainBlock) × IsDirectory image chain × (text ≡ file_lines 0 (files chain))
-Prints image Refused text = (block : ℕ) × IsBad image block × (text ≡ refusal_line block)
+abbrev pub PrintsFiles : Image → Outcome → List ℕ → Type 0
+PrintsFiles image Done text = (chain : List ChainBlock) × IsDirectory image chain × (text ≡ listed_file_lines 0 (listed_files chain))
+PrintsFiles image Refused text = (block : ℕ) × IsBad image block × (text ≡ refusal_line block)
 
 -- a writer was given them
-abbrev pub Lists : Image → Outcome → Option (List ℕ) → Option (List ℕ) → Type 0
-Lists image outcome old new = (text : List ℕ) × Prints image outcome text × Appends old new text
+abbrev pub ListsFiles : Image → Outcome → Option (List ℕ) → Option (List ℕ) → Type 0
+ListsFiles image outcome old new = (text : List ℕ) × PrintsFiles image outcome text × Appends old new text

@@ -7,17 +7,17 @@ use Rattle.r10_dirblock.specs.Block.{head_bytes, entry_bytes, blank}
 use Rattle.r10_dirblock.specs.Vectors.{flight, formatted_bytes}
 use Rattle.r10_images.specs.Formatted.{format_rules, formatted_block}
 use Rattle.r10_images.specs.Image.{image_blocks}
-use Rattle.r10_images.specs.Listing.{file_line, file_lines, refusal_line}
+use Rattle.r10_images.specs.Listing.{listed_file_line, listed_file_lines, refusal_line}
 use Rattle.r10_images.specs.declared.limits.Limit.TheVariants as limits
 
 -- ---- lines
 
-pub flight-line : file_line 0 flight ≡ codes "file 0 FLT1 272 1 1\n"
+pub flight-line : listed_file_line 0 flight ≡ codes "file 0 FLT1 272 1 1\n"
 unfolding digits
 flight-line = refl
 
 -- a name of `A b/c`, with a space behind it; a file that is not closed
-pub odd-lines : file_lines 9 (record flight { name = codes "A b/c " ++ replicate 50 0; size = 68; close_time = dashes } ∷ blank ∷ []) ≡ codes "file 9 A?b?c 68 1 0\nfile 10  0 0 1\n"
+pub odd-lines : listed_file_lines 9 (record flight { name = codes "A b/c " ++ replicate 50 0; size = 68; close_time = dashes } ∷ blank ∷ []) ≡ codes "file 9 A?b?c 68 1 0\nfile 10  0 0 1\n"
 unfolding digits
 odd-lines = refl
 

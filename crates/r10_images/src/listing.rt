@@ -3,7 +3,7 @@
 ghost use Rattle.std.specs.Prelude.{◌≡◌, ◌++◌, IfOk, IfSome, OnOk, map, string_bytes};
 ghost use Rattle.std.specs.Io.KnownBytes.{Appends};
 ghost use Rattle.r10_images.specs.Image.{image_blocks};
-ghost use Rattle.r10_images.specs.Listing.{shown_byte, shown_name, file_line, file_lines, refusal_line, Lists};
+ghost use Rattle.r10_images.specs.Listing.{shown_byte, shown_name, listed_file_line, listed_file_lines, refusal_line, ListsFiles};
 
 use crate::fault::StreamFault;
 use crate::held::Image;
@@ -31,7 +31,7 @@ pub fn list_files<R: Read, W: Write>(
     reader: &mut R,
     writer: &mut W,
 ) -> Result<Outcome, StreamFault>
-    ensures { IfOk result (λ outcome. IfSome (R.remaining reader.old) (λ input. Lists (image_blocks input) outcome (W.contents writer.old) (W.contents writer.new))) }
+    ensures { IfOk result (λ outcome. IfSome (R.remaining reader.old) (λ input. ListsFiles (image_blocks input) outcome (W.contents writer.old) (W.contents writer.new))) }
 {
     let mut image = Image::of(read_whole(alloc, reader)?);
     let outcome = list_medium(alloc, &mut image, writer)?;
@@ -44,7 +44,7 @@ fn list_medium<M: BlockMedium, W: Write>(
     medium: &mut M,
     writer: &mut W,
 ) -> Result<Outcome, StreamFault>
-    ensures { IfOk result (λ outcome. Lists (M.disk medium.old).blocks outcome (W.contents writer.old) (W.contents writer.new)) }
+    ensures { IfOk result (λ outcome. ListsFiles (M.disk medium.old).blocks outcome (W.contents writer.old) (W.contents writer.new)) }
 {
     match read_chain(alloc, medium) {
         Ok(directory) => {
@@ -63,7 +63,7 @@ fn list_medium<M: BlockMedium, W: Write>(
 
 /// Writes the line of each file.
 fn write_files<W: Write>(alloc: Global, files: &[Entry], writer: &mut W) -> Result<(), StreamFault>
-    ensures { OnOk result (Appends (W.contents writer.old) (W.contents writer.new) (file_lines 0 files.now)) }
+    ensures { OnOk result (Appends (W.contents writer.old) (W.contents writer.new) (listed_file_lines 0 files.now)) }
 {
     for (number, entry) in files.iter().enumerate() {
         write_file(alloc, number, entry, writer)?;
@@ -78,7 +78,7 @@ fn write_file<W: Write>(
     entry: &Entry,
     writer: &mut W,
 ) -> Result<(), StreamFault>
-    ensures { OnOk result (Appends (W.contents writer.old) (W.contents writer.new) (file_line number entry.now)) }
+    ensures { OnOk result (Appends (W.contents writer.old) (W.contents writer.new) (listed_file_line number entry.now)) }
 {
     let name = shown_name(alloc, entry)?;
     let (size, blocks) = (entry.size, entry.block_count);

@@ -15,7 +15,7 @@ use Rattle.r10_body.specs.declared.entry.Entry.{Entry}
 use Rattle.r10_indexbody.proofs.Nodes.{body-length as node_length}
 use Rattle.r10_indexbody.proofs.Roots.{body-length as root_length}
 use Rattle.r10_body.specs.Packets.{Packet, FitsPacket, packet_bytes, file_bytes, file_entries}
-use Rattle.r10_body.specs.Rules.{MayFollow, EachFollows, IsFile, Rise, is_setup, is_time, is_index, is_data, is_node, is_root, is_closed, closed_from, packet_on, entry_on, node_entries, root_entries, last_time}
+use Rattle.r10_body.specs.Rules.{MayFollow, EachFollows, IsFile, Rise, is_setup_packet, is_time, is_index, is_data, is_node, is_root, is_closed_file, closed_from, packet_on, is_entry_on, node_entries, root_entries, last_time}
 use Rattle.r10_body.proofs.ChannelLists.{rises}
 use Rattle.r10_body.proofs.Indexes.{counted, counted_first, counted_yes, index_long, no_nodes, no_roots, none_at, part_of}
 use Rattle.r10_body.proofs.Rules.{follows_more, follows_fit, bytes_more}
@@ -49,8 +49,8 @@ no_node ps none = nil_of (filter is_node ps) (length-filter is_node ps ∙ no_no
 -- of packets of data the first alone is on channel 0
 on_zero_at : (before : List Packet) (p : Packet) (b : Bool) → is_index p ≡ false → 0 < length before → p.channel == 0 ≡ b → MayFollow before p → count_by (packet_on 0) (p ∷ []) ≡ 0
 on_zero_at before p true plain some on may =
-    let is : IsTrue (is_setup p || is_index p) = may.channels.0.1 (eqb-true p.channel 0 on) in
-    let setup : is_setup p ≡ true = setup_of (is_setup p) (is_index p) plain is in
+    let is : IsTrue (is_setup_packet p || is_index p) = may.channels.0.1 (eqb-true p.channel 0 on) in
+    let setup : is_setup_packet p ≡ true = setup_of (is_setup_packet p) (is_index p) plain is in
     absurd (omega (arith, may.start.0.0 setup))
   where
     setup_of : (a b : Bool) → b ≡ false → a || b ≡ true → a ≡ true
@@ -68,7 +68,7 @@ on_zero before (p ∷ ps) some each none =
 pub one_on_zero : (ps : List Packet) → EachFollows [] ps → count_by is_index ps ≡ 0 → 0 < length ps → count_by (packet_on 0) ps ≡ 1
 one_on_zero [] each none some = absurd (omega (arith, some))
 one_on_zero (p ∷ ps) each none some =
-    let setup : is_setup p ≡ true = each.0.start.0.1 refl in
+    let setup : is_setup_packet p ≡ true = each.0.start.0.1 refl in
     let zero_is : p.channel ≡ 0 = each.0.channels.0.0 (rw setup refl) in
     let one : count_by (packet_on 0) (p ∷ []) ≡ 1 = rw zero_is refl in
     omega (arith, counted_first (packet_on 0) p ps, one, on_zero (p ∷ []) ps (omega arith) each.1 (left_none p ps none))
@@ -128,8 +128,8 @@ pub record Behind (ps : List Packet) (n : ℕ) (before : List Packet) : Type 0 w
   pub some : 2 ≤ length before
 
 -- no index packet says an entry
-nothing_more : (before : List Packet) (n : ℕ) → EachFollows [] before → Rise 0 (filter (entry_on 0) (file_entries before) ++ [])
-nothing_more before n each = subst (λ (es : List Entry). Rise 0 es) (sym (append-nil (filter (entry_on 0) (file_entries before)))) (rises 0 before each)
+nothing_more : (before : List Packet) (n : ℕ) → EachFollows [] before → Rise 0 (filter (is_entry_on 0) (file_entries before) ++ [])
+nothing_more before n each = subst (λ (es : List Entry). Rise 0 es) (sym (append-nil (filter (is_entry_on 0) (file_entries before)))) (rises 0 before each)
 
 node_short : (n : ℕ) → n ≤ 100 → 24 + (4 + 20 * n + 0 + 3) / 4 * 4 ≤ 524288
 node_short n le = omega (arith, le)
@@ -282,7 +282,7 @@ count_bound : (m : ℕ) → m ≤ 3276500 → ((m + 99) / 100 ≤ 32765) × (m �
 count_bound m le = (omega (arith, le), omega arith, omega arith)
 
 -- a file without an index, and its index behind it, are a file that is closed
-pub index_closes : (ps : List Packet) → IsFile ps → is_closed ps ≡ false → FitsIndex ps → IsFile (ps ++ index_of ps) × (is_closed (ps ++ index_of ps) ≡ true)
+pub index_closes : (ps : List Packet) → IsFile ps → is_closed_file ps ≡ false → FitsIndex ps → IsFile (ps ++ index_of ps) × (is_closed_file (ps ++ index_of ps) ≡ true)
 index_closes ps file unclosed index =
     let none : count_by is_index ps ≡ 0 = file.index unclosed in
     let fits = follows_fit [] ps file.each in
@@ -295,11 +295,11 @@ index_closes ps file unclosed index =
     let behind = all_nodes ps n file none fits (omega (arith, index.short)) (omega (arith, bound.2, size)) in
     let may = root_follows ps n fits index bound.0 (omega (arith, bound.1, size)) behind in
     let each = follows_more [] (ps ++ nodes) last behind.each may in
-    let closed : is_closed ((ps ++ nodes) ++ last ∷ []) ≡ true = closed_last false (ps ++ nodes) last in
+    let closed : is_closed_file ((ps ++ nodes) ++ last ∷ []) ≡ true = closed_last false (ps ++ nodes) last in
     let joined : (ps ++ nodes) ++ last ∷ [] ≡ ps ++ index_of ps = append_assoc ps nodes (last ∷ []) in
     let whole : IsFile ((ps ++ nodes) ++ last ∷ []) = record {
       each = each;
       start = omega (arith, behind.some, length-append (ps ++ nodes) (last ∷ []));
       index = λ e. absurd (no (sym e ∙ closed));
     } in
-    (subst (λ (qs : List Packet). IsFile qs) joined whole, subst (λ (qs : List Packet). is_closed qs ≡ true) joined closed)
+    (subst (λ (qs : List Packet). IsFile qs) joined whole, subst (λ (qs : List Packet). is_closed_file qs ≡ true) joined closed)

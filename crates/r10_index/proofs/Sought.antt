@@ -10,8 +10,8 @@ use Rattle.r10_body.specs.declared.entry.Entry.{Entry}
 use Rattle.r10_body.specs.declared.entry.Timed.{Timed}
 use Rattle.r10_body.specs.Content.{messages_of}
 use Rattle.r10_body.specs.Packets.{Packet, packet_bytes, packet_entries, file_bytes, file_entries, with_gaps}
-use Rattle.r10_body.specs.Rules.{MayFollow, EachFollows, Rise, entry_on, node_entry, node_entries}
-use Rattle.r10_index.specs.Candidates.{is_sought, may_reach, may_hold, candidates}
+use Rattle.r10_body.specs.Rules.{MayFollow, EachFollows, Rise, is_entry_on, node_entry_of, node_entries}
+use Rattle.r10_index.specs.Candidates.{is_sought, may_reach, may_hold_sought, candidates}
 
 -- ---- counts of a packet
 
@@ -46,12 +46,12 @@ entries_joined offset [] qs = let same : offset ≡ offset + 0 = omega arith in 
 entries_joined offset (p ∷ ps) qs =
     let next : ℕ = offset + length (packet_bytes p) in
     let sum : next + length (file_bytes ps) ≡ offset + length (packet_bytes p ++ file_bytes ps) = omega (arith, length-append (packet_bytes p) (file_bytes ps)) in
-    ap (λ (es : List NodeEntry). node_entry offset p ∷ es) (entries_joined next ps qs ∙ ap (λ n. node_entries next ps ++ node_entries n qs) sum)
+    ap (λ (es : List NodeEntry). node_entry_of offset p ∷ es) (entries_joined next ps qs ∙ ap (λ n. node_entries next ps ++ node_entries n qs) sum)
 
-pub entries_more : (ps : List Packet) (p : Packet) → node_entries 0 (ps ++ p ∷ []) ≡ node_entries 0 ps ++ node_entry (length (file_bytes ps)) p ∷ []
+pub entries_more : (ps : List Packet) (p : Packet) → node_entries 0 (ps ++ p ∷ []) ≡ node_entries 0 ps ++ node_entry_of (length (file_bytes ps)) p ∷ []
 entries_more ps p =
     let start : 0 + length (file_bytes ps) ≡ length (file_bytes ps) = omega arith in
-    entries_joined 0 ps (p ∷ []) ∙ ap (λ n. node_entries 0 ps ++ node_entry n p ∷ []) start
+    entries_joined 0 ps (p ∷ []) ∙ ap (λ n. node_entries 0 ps ++ node_entry_of n p ∷ []) start
 
 -- ---- what is sought is found
 
@@ -62,21 +62,21 @@ kept test xs y ys is =
 
 pub packet_found : (before : List Packet) (p : Packet) (behind : List Packet) (e : Entry) (channel : Option ℕ) (from to : ℕ) → EachFollows [] (before ++ p ∷ behind)
     → Contains (packet_entries p) e → is_sought channel e.channel ≡ true → from ≤ e.count → e.count ≤ to
-    → Contains (candidates channel from to (node_entries 0 (before ++ p ∷ behind))) (node_entry (length (file_bytes before)) p)
+    → Contains (candidates channel from to (node_entries 0 (before ++ p ∷ behind))) (node_entry_of (length (file_bytes before)) p)
 packet_found before p behind e channel from to each has sought low high =
     let may : MayFollow before p = follows_at [] before p behind each in
     let es = packet_entries p in
-    let named : NodeEntry = node_entry (length (file_bytes before)) p in
+    let named : NodeEntry = node_entry_of (length (file_bytes before)) p in
     let at : get_or es has.0 e ≡ e = has.2 in
     let least : p.counter ≤ e.count =
-    subst (λ (x : Entry). p.counter ≤ x.count) at (none_before p.counter (filter (entry_on p.channel) (file_entries before)) es may.counts.0 may.counts.1 has.0 e has.1) in
+    subst (λ (x : Entry). p.counter ≤ x.count) at (none_before p.counter (filter (is_entry_on p.channel) (file_entries before)) es may.counts.0 may.counts.1 has.0 e has.1) in
     let most : e.count ≤ p.counter + 1000000 = All-contains (λ (x : Entry). x.count ≤ p.counter + 1000000) es e (All-from_recursion (λ (x : Entry). x.count ≤ p.counter + 1000000) es may.counts.2) has in
     let own : e.channel ≡ p.channel = ap (λ (x : Entry). x.channel) (sym at) ∙ all_on p.channel p.flagged (messages_of p.counter p.content) has.0 e has.1 in
     let reach : may_reach from to named ≡ true =
     and_from (leb (from - 1000000) p.counter) (leb p.counter to) (le-leb (from - 1000000) p.counter (omega (arith, low, most))) (le-leb p.counter to (omega (arith, high, least))) in
-    let holds : may_hold channel from to named ≡ true = and_from (is_sought channel p.channel) (may_reach from to named) (subst (λ c. is_sought channel c ≡ true) own sought) reach in
+    let holds : may_hold_sought channel from to named ≡ true = and_from (is_sought channel p.channel) (may_reach from to named) (subst (λ c. is_sought channel c ≡ true) own sought) reach in
     let start : 0 + length (file_bytes before) ≡ length (file_bytes before) = omega arith in
     let rest : List NodeEntry = node_entries (0 + length (file_bytes before) + length (packet_bytes p)) behind in
     let joined : node_entries 0 (before ++ p ∷ behind) ≡ node_entries 0 before ++ named ∷ rest =
-    entries_joined 0 before (p ∷ behind) ∙ ap (λ n. node_entries 0 before ++ node_entry n p ∷ rest) start in
-    subst (λ (ns : List NodeEntry). Contains (candidates channel from to ns) named) (sym joined) (kept (may_hold channel from to) (node_entries 0 before) named rest holds)
+    entries_joined 0 before (p ∷ behind) ∙ ap (λ n. node_entries 0 before ++ node_entry_of n p ∷ rest) start in
+    subst (λ (ns : List NodeEntry). Contains (candidates channel from to ns) named) (sym joined) (kept (may_hold_sought channel from to) (node_entries 0 before) named rest holds)

@@ -1,7 +1,7 @@
 //! Headers of index packets.
 
 ghost use Rattle.std.specs.Prelude.{◌≡◌, ◌≤◌};
-ghost use Rattle.r10_index.specs.Headers.{node_header as told_header, root_header as told_root_header};
+ghost use Rattle.r10_index.specs.Headers.{node_header as told_node_header, root_header as told_root_header};
 
 use r10_count::Count;
 use r10_packet::Header;
@@ -9,7 +9,7 @@ use r10_packet::Header;
 /// The header of a node of so many entries behind so many nodes.
 pub(crate) fn node_header(counter: Count, before: usize, entries: usize) -> Header
     requires { entries ≤ 100 }
-    ensures { result ≡ told_header counter before entries }
+    ensures { result ≡ told_node_header counter before entries }
 {
     let size = 20 * entries as u32;
     Header {

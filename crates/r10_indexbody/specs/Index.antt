@@ -73,5 +73,5 @@ abbrev pub IsForeignIndex : List ℕ → Type 0
 IsForeignIndex body = IsForeignNode body ⊎ IsForeignRoot body
 
 -- there is a word, and it says that the file's size or data headers are there, which aren't read
-abbrev pub is_opaque : List ℕ → Bool
-is_opaque body = nat_le 4 (length body) && (bit_of 30 (u32_at body 0) || bit_of 29 (u32_at body 0))
+abbrev pub is_opaque_index : List ℕ → Bool
+is_opaque_index body = nat_le 4 (length body) && (bit_of 30 (u32_at body 0) || bit_of 29 (u32_at body 0))

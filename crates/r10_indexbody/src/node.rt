@@ -3,10 +3,10 @@
 ghost use Rattle.std.specs.Prelude.{◌≡◌, ◌↔◌, ◌^◌, ◌<◌, List, length, IsTrue, IfOk};
 ghost use Rattle.std.specs.List.{AllByRecursion};
 ghost use Rattle.r10_count.specs.Append.{Appends};
-ghost use Rattle.r10_count.specs.Reading.{Reads};
+ghost use Rattle.r10_count.specs.Reading.{ReadsBody};
 ghost use Rattle.r10_count.specs.declared.reading.Reading.TheVariants.{Strict};
 ghost use Rattle.r10_indexbody.specs.Index.{FitsNode, IsNode, IsForeignNode, node_body};
-ghost use Rattle.r10_indexbody.specs.declared.entry.NodeEntry.{NodeEntry as Spoken};
+ghost use Rattle.r10_indexbody.specs.declared.entry.NodeEntry.{NodeEntry as NodeEntryValue};
 
 use crate::entry::NodeEntry;
 use r10_count::{Items, Reading, read_body, write_body};
@@ -33,8 +33,8 @@ impl NodeBody {
     /// Reads a body: the entries that this recorder writes as these bytes, or whether another
     /// recorder may have written them.
     pub fn decode(alloc: Global, body: &[u8]) -> Result<Reading<NodeBody>, AllocError>
-        ensures found { IfOk result (Reads (λ read. IsNode read.entries body.now) (IsForeignNode body.now)) }
-        ensures only { (entries : List Spoken) → IsNode entries body.now → IfOk result (λ reading. reading ≡ Strict (record { entries = entries })) }
+        ensures found { IfOk result (ReadsBody (λ read. IsNode read.entries body.now) (IsForeignNode body.now)) }
+        ensures only { (entries : List NodeEntryValue) → IsNode entries body.now → IfOk result (λ reading. reading ≡ Strict (record { entries = entries })) }
     {
         match read_body(alloc, 0, 0, body)? {
             Reading::Strict(entries) => Ok(Reading::Strict(NodeBody { entries })),

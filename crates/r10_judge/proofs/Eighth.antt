@@ -13,15 +13,15 @@ use Rattle.r10_body.proofs.Recording.{setup-first, time-second, uart-third, node
 use Rattle.r10_body.specs.Content.{type_of}
 use Rattle.r10_body.specs.Faults.{IsAtFault}
 use Rattle.r10_body.specs.Packets.{Packet, FitsPacket, packet_bytes, packet_rest, file_bytes, file_entries}
-use Rattle.r10_body.specs.Rules.{MayFollow, EachFollows, KeepsChecksums, KeepsStart, KeepsChannels, KeepsSequence, KeepsCounts, KeepsIndex, Rise, is_index, is_data, is_node, packet_on, entry_on, node_entries}
-use Rattle.r10_body.specs.Vectors.{data_packets, data-len, node_packet}
+use Rattle.r10_body.specs.Rules.{MayFollow, EachFollows, KeepsChecksums, KeepsStart, KeepsChannels, KeepsSequence, KeepsCounts, KeepsIndex, Rise, is_index, is_data, is_node, packet_on, is_entry_on, node_entries}
+use Rattle.r10_body.specs.Vectors.{data_packets, data-len, a_node_packet}
 use Rattle.r10_body.specs.declared.entry.Entry.{Entry}
 use Rattle.r10_body.specs.declared.fault.FileFault.TheVariants.{Rule}
 use Rattle.r10_strict.proofs.Written.{packet_foreign}
 use Rattle.r10_body.proofs.Indexes.{counted, no_nodes, no_roots}
 use Rattle.r10_body.proofs.Rules.{follows_more, follows_fit, bytes_more, entries_more}
 use Rattle.r10_body.proofs.Sentences.{type_fits, rest_length}
-use Rattle.r10_tracks.specs.Broken as broken
+use Rattle.r10_tracks.specs.Broken as broken_later
 use Rattle.r10_judge.specs.Judged.{KeepRules, BreaksIn, broken_rule, in_open_file, stopped_at}
 use Rattle.r10_judge.specs.Copies.{copy, copies, node_of_99}
 use Rattle.r10_judge.proofs.Judging.{to_bytes, from_bytes, reads_own}
@@ -38,13 +38,13 @@ pub record KeepsBelow (before : List Packet) (p : Packet) : Type 0 where
   pub counts : KeepsCounts before p
 
 least_eight : (closed : Bool) (before : List Packet) (p : Packet) (m : ℕ) → KeepsBelow before p → BreaksIn closed before p m → 8 ≤ m
-least_eight closed before p m keeps (broken_rule (broken.start b)) = absurd (b keeps.start)
-least_eight closed before p m keeps (broken_rule (broken.channels b)) = absurd (b keeps.channels)
-least_eight closed before p m keeps (broken_rule (broken.sequence b)) = absurd (b keeps.sequence)
-least_eight closed before p m keeps (broken_rule (broken.counts b)) = absurd (b keeps.counts)
-least_eight closed before p m keeps (broken_rule (broken.index b)) = lit≤ tt
-least_eight closed before p m keeps (broken_rule (broken.counters b)) = lit≤ tt
-least_eight closed before p m keeps (broken_rule (broken.events b)) = lit≤ tt
+least_eight closed before p m keeps (broken_rule (broken_later.start b)) = absurd (b keeps.start)
+least_eight closed before p m keeps (broken_rule (broken_later.channels b)) = absurd (b keeps.channels)
+least_eight closed before p m keeps (broken_rule (broken_later.sequence b)) = absurd (b keeps.sequence)
+least_eight closed before p m keeps (broken_rule (broken_later.counts b)) = absurd (b keeps.counts)
+least_eight closed before p m keeps (broken_rule (broken_later.index b)) = lit≤ tt
+least_eight closed before p m keeps (broken_rule (broken_later.counters b)) = lit≤ tt
+least_eight closed before p m keeps (broken_rule (broken_later.events b)) = lit≤ tt
 least_eight closed before p m keeps (in_open_file index open_file) = lit≤ tt
 
 at_eight : (closed : Bool) (before : List Packet) (p : Packet) (more : List ℕ) → KeepRules closed before → KeepsBelow before p → BreaksIn closed before p 8
@@ -79,14 +79,14 @@ record Known (n : ℕ) (ps : List Packet) : Type 0 where
   pub counts : AllByRecursion (λ e. e.count ≡ 1000) (file_entries ps)
 
 -- entries at one count don't fall
-filtered : (channel : ℕ) (es : List Entry) (e : Entry) (b : Bool) → entry_on channel e ≡ b → AllByRecursion (λ x. x.count ≡ 1000) (filter (entry_on channel) es) → e.count ≡ 1000
-    → AllByRecursion (λ x. x.count ≡ 1000) (filter (entry_on channel) (e ∷ es))
+filtered : (channel : ℕ) (es : List Entry) (e : Entry) (b : Bool) → is_entry_on channel e ≡ b → AllByRecursion (λ x. x.count ≡ 1000) (filter (is_entry_on channel) es) → e.count ≡ 1000
+    → AllByRecursion (λ x. x.count ≡ 1000) (filter (is_entry_on channel) (e ∷ es))
 filtered channel es e true is rest here = rw is (here, rest)
 filtered channel es e false is rest here = rw is rest
 
-all_filtered : (channel : ℕ) (es : List Entry) → AllByRecursion (λ x. x.count ≡ 1000) es → AllByRecursion (λ x. x.count ≡ 1000) (filter (entry_on channel) es)
+all_filtered : (channel : ℕ) (es : List Entry) → AllByRecursion (λ x. x.count ≡ 1000) es → AllByRecursion (λ x. x.count ≡ 1000) (filter (is_entry_on channel) es)
 all_filtered channel [] all = tt
-all_filtered channel (e ∷ es) all = filtered channel es e (entry_on channel e) refl (all_filtered channel es all.1) all.0
+all_filtered channel (e ∷ es) all = filtered channel es e (is_entry_on channel e) refl (all_filtered channel es all.1) all.0
 
 all_joined : {A : Type 0} (P : A → Type 0) (xs ys : List A) → AllByRecursion P xs → AllByRecursion P ys → AllByRecursion P (xs ++ ys)
 all_joined P [] ys all more = more
@@ -104,7 +104,7 @@ copy_may n ps lt k = record {
   start = ((λ e. absurd (no e), λ e. absurd (omega (arith, e, k.long))), λ e. absurd (omega (arith, e, k.long)));
   channels = ((λ e. absurd (no e), λ e. absurd (omega (arith, e))), λ _. k.types, λ _. refl);
   sequence = omega (arith, k.fives, lt);
-  counts = ((refl, tt), level 0 _ (all_joined (λ (x : Entry). x.count ≡ 1000) (filter (entry_on 5) (file_entries ps)) _ (all_filtered 5 (file_entries ps) k.counts) (refl, tt)) (omega arith), (lit≤ tt, tt));
+  counts = ((refl, tt), level 0 _ (all_joined (λ (x : Entry). x.count ≡ 1000) (filter (is_entry_on 5) (file_entries ps)) _ (all_filtered 5 (file_entries ps) k.counts) (refl, tt)) (omega arith), (lit≤ tt, tt));
   index = (no_roots ps k.index, no_nodes ps k.index);
   counters = (λ e. absurd (omega (arith, e, k.long)), λ e. absurd (no e));
   events = tt;
@@ -179,7 +179,7 @@ keeps_below n ps least most k =
       start = ((λ e. absurd (no e), λ e. absurd (omega (arith, e, k.long))), λ e. absurd (omega (arith, e, k.long)));
       channels = ((λ _. refl, λ _. refl), λ lt. absurd (omega arith), λ _. refl);
       sequence = omega (arith, k.zeros);
-      counts = (tt, subst (λ (es : List Entry). Rise 0 es) (sym (append-nil (filter (entry_on 0) (file_entries ps)))) (level 0 _ (all_filtered 0 (file_entries ps) k.counts) (omega arith)), tt);
+      counts = (tt, subst (λ (es : List Entry). Rise 0 es) (sym (append-nil (filter (is_entry_on 0) (file_entries ps)))) (level 0 _ (all_filtered 0 (file_entries ps) k.counts) (omega arith)), tt);
     }
 
 one_short : (n : ℕ) (ps : List Packet) → 98 ≤ n → Known n ps → KeepsIndex ps (node_of_99 ps) → ⊥
@@ -196,13 +196,13 @@ short_node n closed more least most =
     let k = known n most in
     let ps = copies n in
     subst (λ (offset : ℕ). IsAtFault (file_bytes ps ++ (packet_bytes (node_of_99 ps) ++ more)) closed offset (Rule 8)) k.bytes
-    (at_eight closed ps (node_of_99 ps) more (record { strict = k.each; unclosed = λ _. k.index }) (keeps_below n ps least most k) (broken_rule (broken.index (one_short n ps least k))))
+    (at_eight closed ps (node_of_99 ps) more (record { strict = k.each; unclosed = λ _. k.index }) (keeps_below n ps least most k) (broken_rule (broken_later.index (one_short n ps least k))))
 
 -- ---- an index packet of an unclosed file
 
-pub open_index : (more : List ℕ) → IsAtFault (file_bytes data_packets ++ (packet_bytes node_packet ++ more)) false 124 (Rule 8)
+pub open_index : (more : List ℕ) → IsAtFault (file_bytes data_packets ++ (packet_bytes a_node_packet ++ more)) false 124 (Rule 8)
 open_index more =
     let may = node-fourth in
-    subst (λ (offset : ℕ). IsAtFault (file_bytes data_packets ++ (packet_bytes node_packet ++ more)) false offset (Rule 8)) data-len
-    (at_eight false data_packets node_packet more (record { strict = (setup-first, (time-second, (uart-third, tt))); unclosed = λ _. refl })
+    subst (λ (offset : ℕ). IsAtFault (file_bytes data_packets ++ (packet_bytes a_node_packet ++ more)) false offset (Rule 8)) data-len
+    (at_eight false data_packets a_node_packet more (record { strict = (setup-first, (time-second, (uart-third, tt))); unclosed = λ _. refl })
     (record { fits = may.fits; checksums = may.checksums; start = may.start; channels = may.channels; sequence = may.sequence; counts = may.counts }) (in_open_file refl refl))

@@ -7,9 +7,9 @@ use Rattle.r10_packet.specs.declared.fault.PacketFault.{PacketFault}
 use Rattle.r10_body.proofs.Lone.{packet-length}
 use Rattle.r10_body.specs.Foreign.{opaque_at, IsForeignPacket}
 use Rattle.r10_body.specs.Packets.{Packet, packet_bytes, file_bytes, file_entries}
-use Rattle.r10_body.specs.Rules.{MayFollow, EndsIndex, is_index, is_closed}
-use Rattle.r10_body.specs.Faults.{HasFault, Reads, BreaksRule, IsWrongHere, IsAtFault, first_packet}
-use Rattle.r10_body.specs.Faults as faults
+use Rattle.r10_body.specs.Rules.{MayFollow, EndsIndex, is_index, is_closed_file}
+use Rattle.r10_body.specs.Faults.{HasFault, ReadsPacket, BreaksRule, IsWrongHere, IsAtFault, first_packet}
+use Rattle.r10_body.specs.Faults as broken_rules
 use Rattle.r10_body.specs.declared.fault.FileFault.{FileFault}
 use Rattle.r10_body.specs.declared.fault.FileFault.TheVariants.{Truncated, DataSum, Body, Rule}
 use Rattle.r10_strict.specs.Tracks.{named}
@@ -34,7 +34,7 @@ none_below : (before : List Packet) (rest : List ℕ) (closed : Bool) (n m : ℕ
 none_below before rest closed zero m foreign right less breaks = omega (arith, less)
 none_below before rest closed (suc n) m foreign right less breaks = elim (cases_lt m n) [
   | inl under ↦ none_below before rest closed n m foreign right under breaks
-  | inr over ↦ right (Rule m) (faults.rule foreign breaks (λ k other. at_least m k (λ lower. none_below before rest closed n k foreign right (omega (arith, lower, less)) other)))
+  | inr over ↦ right (Rule m) (broken_rules.rule foreign breaks (λ k other. at_least m k (λ lower. none_below before rest closed n k foreign right (omega (arith, lower, less)) other)))
 ]
 
 no_rule : (before : List Packet) (rest : List ℕ) (closed : Bool) (m : ℕ) → IsForeignPacket (first_packet rest) → NothingWrong closed before rest → BreaksRule before rest closed m → ⊥
@@ -45,7 +45,7 @@ framed : (before : List Packet) (rest : List ℕ) (closed : Bool) → 0 < length
 framed before rest closed some right = by (framing_fault rest) refl where
   by : (o : Option PacketFault) → framing_fault rest ≡ o → framing_fault rest ≡ None
   by None is = is
-  by (Some fault) is = absurd (right (named fault) (faults.packet (inl some) (framing_is rest fault is)))
+  by (Some fault) is = absurd (right (named fault) (broken_rules.packet (inl some) (framing_is rest fault is)))
 
 first_foreign : (before : List Packet) (rest : List ℕ) (closed : Bool) → 0 < length rest → NothingWrong closed before rest → (IsForeignPacket (first_packet rest) → ⊥) → ⊥
 first_foreign before rest closed some right none = by (opaque_at rest) (has_data_checksum rest) refl refl where
@@ -54,8 +54,8 @@ first_foreign before rest closed some right none = by (opaque_at rest) (has_data
 
   by : (opaque sum : Bool) → opaque_at rest ≡ opaque → has_data_checksum rest ≡ sum → ⊥
   by true sum is told = none (is_foreign rest sound (λ clear. absurd (true≢false (sym is ∙ clear))))
-  by false false is told = right DataSum (faults.packet (inl some) (sound, is, told))
-  by false true is told = right Body (faults.packet (inl some) (sound, is, told, λ body. none (is_foreign rest sound (λ _. (told, body)))))
+  by false false is told = right DataSum (broken_rules.packet (inl some) (sound, is, told))
+  by false true is told = right Body (broken_rules.packet (inl some) (sound, is, told, λ body. none (is_foreign rest sound (λ _. (told, body)))))
 
 -- ---- packet by packet
 
@@ -63,27 +63,27 @@ first_foreign before rest closed some right none = by (opaque_at rest) (has_data
 abbrev MayStand : Bool → List Packet → Packet → Type 0
 MayStand closed before p = MayFollow before p × (closed ≡ false → is_index p ≡ false)
 
-not_here : (before : List Packet) (rest : List ℕ) (closed : Bool) (p : Packet) → Reads rest p → ((m : ℕ) → BreaksRule before rest closed m → ⊥) → closed ≡ false → is_index p ≡ false
+not_here : (before : List Packet) (rest : List ℕ) (closed : Bool) (p : Packet) → ReadsPacket rest p → ((m : ℕ) → BreaksRule before rest closed m → ⊥) → closed ≡ false → is_index p ≡ false
 not_here before rest closed p reads right open_file = by (is_index p) refl where
   by : (b : Bool) → is_index p ≡ b → is_index p ≡ false
   by false is = is
-  by true is = absurd (right 8 (faults.unclosed p reads is open_file))
+  by true is = absurd (right 8 (broken_rules.unclosed p reads is open_file))
 
-may_stand : (before : List Packet) (rest : List ℕ) (closed : Bool) (p : Packet) → Reads rest p → ((m : ℕ) → BreaksRule before rest closed m → ⊥) → (MayStand closed before p → ⊥) → ⊥
+may_stand : (before : List Packet) (rest : List ℕ) (closed : Bool) (p : Packet) → ReadsPacket rest p → ((m : ℕ) → BreaksRule before rest closed m → ⊥) → (MayStand closed before p → ⊥) → ⊥
 may_stand before rest closed p reads right none =
-    right 4 (faults.start p reads (λ start. right 5 (faults.channels p reads (λ channels. right 6 (faults.sequence p reads (λ sequence. right 7 (faults.counts p reads (λ counts.
-    right 8 (faults.index p reads (λ index. right 9 (faults.counters p reads (λ counters. right 10 (faults.events p reads (λ events.
+    right 4 (broken_rules.start p reads (λ start. right 5 (broken_rules.channels p reads (λ channels. right 6 (broken_rules.sequence p reads (λ sequence. right 7 (broken_rules.counts p reads (λ counts.
+    right 8 (broken_rules.index p reads (λ index. right 9 (broken_rules.counters p reads (λ counters. right 10 (broken_rules.events p reads (λ events.
     none (record { fits = reads.0; checksums = reads.1; start = start; channels = channels; sequence = sequence; counts = counts; index = index; counters = counters; events = events }, not_here before rest closed p reads right)))))))))))))))
 
 abbrev behind : List ℕ → List ℕ
 behind rest = drop (header_at rest).packet_len rest
 
-same_bytes : (bytes : List ℕ) (before : List Packet) (rest : List ℕ) (p : Packet) → Reads rest p → bytes ≡ file_bytes before ++ rest → bytes ≡ file_bytes (before ++ p ∷ []) ++ behind rest
+same_bytes : (bytes : List ℕ) (before : List Packet) (rest : List ℕ) (p : Packet) → ReadsPacket rest p → bytes ≡ file_bytes before ++ rest → bytes ≡ file_bytes (before ++ p ∷ []) ++ behind rest
 same_bytes bytes before rest p reads is =
     is ∙ ap (λ (t : List ℕ). file_bytes before ++ t) (sym (first_joined rest) ∙ ap (λ (t : List ℕ). t ++ behind rest) reads.2)
     ∙ sym (append_assoc (file_bytes before) (packet_bytes p) (behind rest)) ∙ ap (λ (t : List ℕ). t ++ behind rest) (sym (bytes_more before p))
 
-shorter : (rest : List ℕ) (p : Packet) (n : ℕ) → Reads rest p → length rest ≤ suc n → length (behind rest) ≤ n
+shorter : (rest : List ℕ) (p : Packet) (n : ℕ) → ReadsPacket rest p → length rest ≤ suc n → length (behind rest) ≤ n
 shorter rest p n reads le =
     omega (arith, le, ap (λ (t : List ℕ). length t) (first_joined rest), length-append (first_packet rest) (behind rest), ap (λ (t : List ℕ). length t) reads.2, packet-length p)
 
@@ -95,25 +95,25 @@ keep_more closed before p keep may = record {
 
 -- ---- at the end
 
-says : (bytes : List ℕ) (packets : List Packet) (closed : Bool) → KeepRules closed packets → bytes ≡ file_bytes packets → 2 ≤ length packets → is_closed packets ≡ closed → EndsIndex packets → SaysClosed bytes closed
+says : (bytes : List ℕ) (packets : List Packet) (closed : Bool) → KeepRules closed packets → bytes ≡ file_bytes packets → 2 ≤ length packets → is_closed_file packets ≡ closed → EndsIndex packets → SaysClosed bytes closed
 says bytes packets closed keep is two same ends =
     let told = begins packets keep.strict (omega (arith, two)) in
     (told.0, file_entries packets, (packets, is, record { file = record { each = keep.strict; start = two; index = ends }; setup_is = told.1; entries_are = λ channel. refl; closed_is = same }))
 
 whole : (bytes : List ℕ) (packets : List Packet) (closed : Bool) → KeepRules closed packets → bytes ≡ file_bytes packets → 2 ≤ length packets → NothingWrong closed packets [] → (SaysClosed bytes closed → ⊥) → ⊥
 whole bytes packets false keep is two right none = none (says bytes packets false keep is two (not_closed packets (keep.unclosed refl)) (λ _. keep.unclosed refl))
-whole bytes packets true keep is two right none = by (is_closed packets) refl where
-  by : (b : Bool) → is_closed packets ≡ b → ⊥
+whole bytes packets true keep is two right none = by (is_closed_file packets) refl where
+  by : (b : Bool) → is_closed_file packets ≡ b → ⊥
   by true shut = none (says bytes packets true keep is two shut (λ open_end. absurd (true≢false (sym shut ∙ open_end))))
-  by false open_end = right (Rule 8) (faults.no_index refl two refl open_end)
+  by false open_end = right (Rule 8) (broken_rules.no_index refl two refl open_end)
 
 ended : (bytes : List ℕ) (packets : List Packet) (closed : Bool) → KeepRules closed packets → bytes ≡ file_bytes packets → NothingWrong closed packets [] → (SaysClosed bytes closed → ⊥) → ⊥
 ended bytes packets closed keep is right none = elim (cases_lt (length packets) 2) [
   | inr two ↦ whole bytes packets closed keep is two right none
   | inl few ↦
       elim (cases_lt (length packets) 1) [
-        | inl empty ↦ right Truncated (faults.packet (inr (omega (arith, empty))) refl)
-        | inr one ↦ right (Rule 4) (faults.no_time refl (omega (arith, few, one)))
+        | inl empty ↦ right Truncated (broken_rules.packet (inr (omega (arith, empty))) refl)
+        | inr one ↦ right (Rule 4) (broken_rules.no_time refl (omega (arith, few, one)))
       ]
 ]
 
@@ -125,9 +125,9 @@ none_wrong bytes closed before rest right keep is =
     λ fault wrong. right (length (file_bytes before)) fault (record { packets = before; rest = rest; bytes_are = is; offset_is = refl; strict = keep.strict; unclosed = keep.unclosed; wrong = wrong })
 
 -- a packet of any recorder that stands first there is this recorder's, and may stand there
-may_come : (before : List Packet) (rest : List ℕ) (closed : Bool) → IsForeignPacket (first_packet rest) → NothingWrong closed before rest → ((p : Packet) → Reads rest p → MayStand closed before p → ⊥) → ⊥
+may_come : (before : List Packet) (rest : List ℕ) (closed : Bool) → IsForeignPacket (first_packet rest) → NothingWrong closed before rest → ((p : Packet) → ReadsPacket rest p → MayStand closed before p → ⊥) → ⊥
 may_come before rest closed foreign right none =
-    no_rule before rest closed 3 foreign right (faults.body (λ (p, reads). may_stand before rest closed p reads (λ m. no_rule before rest closed m foreign right) (none p reads)))
+    no_rule before rest closed 3 foreign right (broken_rules.body (λ (p, reads). may_stand before rest closed p reads (λ m. no_rule before rest closed m foreign right) (none p reads)))
 
 walk : (bytes : List ℕ) (closed : Bool) (n : ℕ) (before : List Packet) (rest : List ℕ) → ((offset : ℕ) (fault : FileFault) → IsAtFault bytes closed offset fault → ⊥) → (SaysClosed bytes closed → ⊥)
     → KeepRules closed before → bytes ≡ file_bytes before ++ rest → length rest ≤ n → ⊥

@@ -8,14 +8,14 @@ use Rattle.r10_packet.specs.declared.header.Header.{Header}
 use Rattle.r10_body.proofs.Lone.{packet-length}
 use Rattle.r10_body.specs.Foreign.{IsForeignPacket}
 use Rattle.r10_body.specs.Packets.{Packet, packet_bytes, file_bytes, file_entries}
-use Rattle.r10_body.specs.Faults.{HasFault, KeepsHeader, KeepsFiller, Reads, BreaksRule, IsWrongHere, IsAtFault, first_packet}
-use Rattle.r10_body.specs.Faults as faults
+use Rattle.r10_body.specs.Faults.{HasFault, KeepsHeader, KeepsFiller, ReadsPacket, BreaksRule, IsWrongHere, IsAtFault, first_packet}
+use Rattle.r10_body.specs.Faults as broken_rules
 use Rattle.r10_body.specs.declared.fault.FileFault.{FileFault}
 use Rattle.r10_strict.proofs.Fronts.{range_front, stays}
 use Rattle.r10_strict.proofs.Ways.{first_again, packet_long}
 use Rattle.r10_strict.specs.declared.file.Fault.{Fault}
 use Rattle.r10_tracks.specs.declared.tracks.Tracks.{Tracks}
-use Rattle.r10_judge.specs.Judged.{GoesOn, BreaksAt, SaysClosed, MayMiss}
+use Rattle.r10_judge.specs.Judged.{KeepsRulesSoFar, BreaksAt, SaysClosed, MayMiss}
 use Rattle.r10_judge.proofs.Judging.{begins, whole_first}
 
 -- ---- what stands behind a packet changes no rule of it
@@ -39,37 +39,37 @@ same_header packet more foreign = (stays packet more foreign.framed).header
 abbrev IsOwn : Header → Type 0
 IsOwn h = (h.version ≡ 8) × (bit_and h.flags 0xEC ≡ 0) × (h.packet_len ≤ 524288)
 
-reads_more : (packet more : List ℕ) (p : Packet) → IsForeignPacket packet → Reads packet p → Reads (packet ++ more) p
+reads_more : (packet more : List ℕ) (p : Packet) → IsForeignPacket packet → ReadsPacket packet p → ReadsPacket (packet ++ more) p
 reads_more packet more p foreign reads = (reads.0, reads.1, first_again packet more foreign ∙ sym (whole_first packet foreign) ∙ reads.2)
 
-reads_less : (packet more : List ℕ) (p : Packet) → IsForeignPacket packet → Reads (packet ++ more) p → Reads packet p
+reads_less : (packet more : List ℕ) (p : Packet) → IsForeignPacket packet → ReadsPacket (packet ++ more) p → ReadsPacket packet p
 reads_less packet more p foreign reads = (reads.0, reads.1, whole_first packet foreign ∙ sym (first_again packet more foreign) ∙ reads.2)
 
 breaks_more : (before : List Packet) (packet more : List ℕ) (closed : Bool) (n : ℕ) → IsForeignPacket packet → BreaksRule before packet closed n → BreaksRule before (packet ++ more) closed n
-breaks_more before packet more closed n foreign (faults.version b) = faults.version (λ k. b (subst IsOwn (same_header packet more foreign) k))
-breaks_more before packet more closed n foreign (faults.filler is b) = faults.filler ((stays packet more foreign.framed).opaque ∙ is) (λ k. b ((same_filler packet more foreign).0 k))
-breaks_more before packet more closed n foreign (faults.body b) = faults.body (λ (p, reads). b (p, reads_less packet more p foreign reads))
-breaks_more before packet more closed n foreign (faults.start p reads b) = faults.start p (reads_more packet more p foreign reads) b
-breaks_more before packet more closed n foreign (faults.channels p reads b) = faults.channels p (reads_more packet more p foreign reads) b
-breaks_more before packet more closed n foreign (faults.sequence p reads b) = faults.sequence p (reads_more packet more p foreign reads) b
-breaks_more before packet more closed n foreign (faults.counts p reads b) = faults.counts p (reads_more packet more p foreign reads) b
-breaks_more before packet more closed n foreign (faults.index p reads b) = faults.index p (reads_more packet more p foreign reads) b
-breaks_more before packet more closed n foreign (faults.unclosed p reads i o) = faults.unclosed p (reads_more packet more p foreign reads) i o
-breaks_more before packet more closed n foreign (faults.counters p reads b) = faults.counters p (reads_more packet more p foreign reads) b
-breaks_more before packet more closed n foreign (faults.events p reads b) = faults.events p (reads_more packet more p foreign reads) b
+breaks_more before packet more closed n foreign (broken_rules.version b) = broken_rules.version (λ k. b (subst IsOwn (same_header packet more foreign) k))
+breaks_more before packet more closed n foreign (broken_rules.filler is b) = broken_rules.filler ((stays packet more foreign.framed).opaque ∙ is) (λ k. b ((same_filler packet more foreign).0 k))
+breaks_more before packet more closed n foreign (broken_rules.body b) = broken_rules.body (λ (p, reads). b (p, reads_less packet more p foreign reads))
+breaks_more before packet more closed n foreign (broken_rules.start p reads b) = broken_rules.start p (reads_more packet more p foreign reads) b
+breaks_more before packet more closed n foreign (broken_rules.channels p reads b) = broken_rules.channels p (reads_more packet more p foreign reads) b
+breaks_more before packet more closed n foreign (broken_rules.sequence p reads b) = broken_rules.sequence p (reads_more packet more p foreign reads) b
+breaks_more before packet more closed n foreign (broken_rules.counts p reads b) = broken_rules.counts p (reads_more packet more p foreign reads) b
+breaks_more before packet more closed n foreign (broken_rules.index p reads b) = broken_rules.index p (reads_more packet more p foreign reads) b
+breaks_more before packet more closed n foreign (broken_rules.unclosed p reads i o) = broken_rules.unclosed p (reads_more packet more p foreign reads) i o
+breaks_more before packet more closed n foreign (broken_rules.counters p reads b) = broken_rules.counters p (reads_more packet more p foreign reads) b
+breaks_more before packet more closed n foreign (broken_rules.events p reads b) = broken_rules.events p (reads_more packet more p foreign reads) b
 
 breaks_less : (before : List Packet) (packet more : List ℕ) (closed : Bool) (n : ℕ) → IsForeignPacket packet → BreaksRule before (packet ++ more) closed n → BreaksRule before packet closed n
-breaks_less before packet more closed n foreign (faults.version b) = faults.version (λ k. b (subst IsOwn (sym (same_header packet more foreign)) k))
-breaks_less before packet more closed n foreign (faults.filler is b) = faults.filler (sym (stays packet more foreign.framed).opaque ∙ is) (λ k. b ((same_filler packet more foreign).1 k))
-breaks_less before packet more closed n foreign (faults.body b) = faults.body (λ (p, reads). b (p, reads_more packet more p foreign reads))
-breaks_less before packet more closed n foreign (faults.start p reads b) = faults.start p (reads_less packet more p foreign reads) b
-breaks_less before packet more closed n foreign (faults.channels p reads b) = faults.channels p (reads_less packet more p foreign reads) b
-breaks_less before packet more closed n foreign (faults.sequence p reads b) = faults.sequence p (reads_less packet more p foreign reads) b
-breaks_less before packet more closed n foreign (faults.counts p reads b) = faults.counts p (reads_less packet more p foreign reads) b
-breaks_less before packet more closed n foreign (faults.index p reads b) = faults.index p (reads_less packet more p foreign reads) b
-breaks_less before packet more closed n foreign (faults.unclosed p reads i o) = faults.unclosed p (reads_less packet more p foreign reads) i o
-breaks_less before packet more closed n foreign (faults.counters p reads b) = faults.counters p (reads_less packet more p foreign reads) b
-breaks_less before packet more closed n foreign (faults.events p reads b) = faults.events p (reads_less packet more p foreign reads) b
+breaks_less before packet more closed n foreign (broken_rules.version b) = broken_rules.version (λ k. b (subst IsOwn (sym (same_header packet more foreign)) k))
+breaks_less before packet more closed n foreign (broken_rules.filler is b) = broken_rules.filler (sym (stays packet more foreign.framed).opaque ∙ is) (λ k. b ((same_filler packet more foreign).1 k))
+breaks_less before packet more closed n foreign (broken_rules.body b) = broken_rules.body (λ (p, reads). b (p, reads_more packet more p foreign reads))
+breaks_less before packet more closed n foreign (broken_rules.start p reads b) = broken_rules.start p (reads_less packet more p foreign reads) b
+breaks_less before packet more closed n foreign (broken_rules.channels p reads b) = broken_rules.channels p (reads_less packet more p foreign reads) b
+breaks_less before packet more closed n foreign (broken_rules.sequence p reads b) = broken_rules.sequence p (reads_less packet more p foreign reads) b
+breaks_less before packet more closed n foreign (broken_rules.counts p reads b) = broken_rules.counts p (reads_less packet more p foreign reads) b
+breaks_less before packet more closed n foreign (broken_rules.index p reads b) = broken_rules.index p (reads_less packet more p foreign reads) b
+breaks_less before packet more closed n foreign (broken_rules.unclosed p reads i o) = broken_rules.unclosed p (reads_less packet more p foreign reads) i o
+breaks_less before packet more closed n foreign (broken_rules.counters p reads b) = broken_rules.counters p (reads_less packet more p foreign reads) b
+breaks_less before packet more closed n foreign (broken_rules.events p reads b) = broken_rules.events p (reads_less packet more p foreign reads) b
 
 -- ---- the end
 
@@ -82,12 +82,12 @@ broken_at_fault closed at bytes b = subst (λ (f : Fault). IsAtFault bytes close
   offset_is = refl;
   strict = b.keep.strict;
   unclosed = b.keep.unclosed;
-  wrong = faults.rule (subst IsForeignPacket (sym (first_again b.packet b.more b.foreign)) b.foreign) (breaks_more b.packets b.packet b.more closed b.number b.foreign b.broken)
+  wrong = broken_rules.rule (subst IsForeignPacket (sym (first_again b.packet b.more b.foreign)) b.foreign) (breaks_more b.packets b.packet b.more closed b.number b.foreign b.broken)
       (λ m broken. b.least m (breaks_less b.packets b.packet b.more closed m b.foreign broken));
 })
 
 -- what stands behind packets that keep the rules has another fault
-pub fault_at_fault : (closed : Bool) (tracks : Tracks) (before rest : List ℕ) (fault : FileFault) (goes : GoesOn closed tracks before) → (0 < length rest) ⊎ (length before ≡ 0) → HasFault rest fault
+pub fault_at_fault : (closed : Bool) (tracks : Tracks) (before rest : List ℕ) (fault : FileFault) (goes : KeepsRulesSoFar closed tracks before) → (0 < length rest) ⊎ (length before ≡ 0) → HasFault rest fault
     → IsAtFault (before ++ rest) closed (length before) fault
 fault_at_fault closed tracks before rest fault goes some has = record {
   packets = goes.packets;
@@ -96,7 +96,7 @@ fault_at_fault closed tracks before rest fault goes some has = record {
   offset_is = ap length goes.bytes_are;
   strict = goes.keep.strict;
   unclosed = goes.keep.unclosed;
-  wrong = faults.packet (elim some [ inl more ↦ inl more | inr none ↦ inr (no_packets goes.packets (sym (ap length goes.bytes_are) ∙ none)) ]) has;
+  wrong = broken_rules.packet (elim some [ inl more ↦ inl more | inr none ↦ inr (no_packets goes.packets (sym (ap length goes.bytes_are) ∙ none)) ]) has;
 }
   where
     no_packets : (packets : List Packet) → length (file_bytes packets) ≡ 0 → length packets ≡ 0
@@ -104,7 +104,7 @@ fault_at_fault closed tracks before rest fault goes some has = record {
     no_packets (p ∷ ps) none = absurd (omega (arith, none, packet-length p, length-append (packet_bytes p) (file_bytes ps)))
 
 -- something is missing
-ends : (closed : Bool) (tracks : Tracks) (bytes : List ℕ) (fault : FileFault) (goes : GoesOn closed tracks bytes) → IsWrongHere goes.packets [] closed fault → IsAtFault bytes closed (length bytes) fault
+ends : (closed : Bool) (tracks : Tracks) (bytes : List ℕ) (fault : FileFault) (goes : KeepsRulesSoFar closed tracks bytes) → IsWrongHere goes.packets [] closed fault → IsAtFault bytes closed (length bytes) fault
 ends closed tracks bytes fault goes wrong = record {
   packets = goes.packets;
   rest = [];
@@ -115,11 +115,11 @@ ends closed tracks bytes fault goes wrong = record {
   wrong = wrong;
 }
 
-pub missing_at_fault : (closed : Bool) (tracks : Tracks) (bytes : List ℕ) (fault : FileFault) (goes : GoesOn closed tracks bytes) → MayMiss closed goes.packets (Some fault) → IsAtFault bytes closed (length bytes) fault
+pub missing_at_fault : (closed : Bool) (tracks : Tracks) (bytes : List ℕ) (fault : FileFault) (goes : KeepsRulesSoFar closed tracks bytes) → MayMiss closed goes.packets (Some fault) → IsAtFault bytes closed (length bytes) fault
 missing_at_fault closed tracks bytes fault goes missing = ends closed tracks bytes fault goes (missing)
 
 -- nothing is missing
-pub nothing_missing : (closed : Bool) (tracks : Tracks) (bytes : List ℕ) (goes : GoesOn closed tracks bytes) → MayMiss closed goes.packets None → SaysClosed bytes closed
+pub nothing_missing : (closed : Bool) (tracks : Tracks) (bytes : List ℕ) (goes : KeepsRulesSoFar closed tracks bytes) → MayMiss closed goes.packets None → SaysClosed bytes closed
 nothing_missing closed tracks bytes goes (some, same, ends) =
     let told = begins goes.packets goes.keep.strict (omega (arith, some)) in
     (told.0, file_entries goes.packets, (goes.packets, goes.bytes_are, record { file = record { each = goes.keep.strict; start = some; index = ends }; setup_is = told.1; entries_are = λ channel. refl; closed_is = same }))

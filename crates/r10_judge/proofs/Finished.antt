@@ -4,10 +4,10 @@ use Rattle.r10_body.specs.Packets.{Packet}
 use Rattle.r10_body.proofs.OneMeaning.{one_list}
 use Rattle.r10_tracks.specs.Tracks.{IsTracked}
 use Rattle.r10_tracks.specs.declared.tracks.Tracks.{Tracks}
-use Rattle.r10_judge.specs.Judged.{GoesOn, IsKept, SaysClosed}
+use Rattle.r10_judge.specs.Judged.{KeepsRulesSoFar, TracksStrictFile, SaysClosed}
 
 -- the packets that were taken are those of the file
-pub kept_file : (closed : Bool) (tracks : Tracks) (bytes : List ℕ) → GoesOn closed tracks bytes → SaysClosed bytes closed → IsKept closed tracks bytes
+pub kept_file : (closed : Bool) (tracks : Tracks) (bytes : List ℕ) → KeepsRulesSoFar closed tracks bytes → SaysClosed bytes closed → TracksStrictFile closed tracks bytes
 kept_file closed tracks bytes goes (text, entries, (packets, are, say)) = record {
   text = text;
   entries = entries;

@@ -14,7 +14,7 @@ use Rattle.r10_body.specs.declared.fault.FileFault.{FileFault}
 use Rattle.r10_body.specs.declared.fault.FileFault.TheVariants.{Truncated}
 use Rattle.r10_strict.proofs.Faults.{fault_stays}
 use Rattle.r10_judge.specs.Files.{file_at}
-use Rattle.r10_judge.specs.Walks.{Ends, EndsAt}
+use Rattle.r10_judge.specs.Walks.{EndsWithFault, EndsAt}
 use Rattle.r10_judge.specs.declared.extent.Extent.{Extent}
 
 -- ---- what is taken
@@ -61,8 +61,8 @@ window_is image e at count whole within inside = shown_as image e.first (file_at
 
 -- what stands behind packets of a window has its fault in the file, but where it may only be cut off
 pub fault_on : (file window : List ℕ) (at count n : ℕ) (f : FileFault) → window ≡ take count (drop at file) → n ≤ length window → at + count ≤ length file
-    → Ends (Some f) (drop n window) → (at + count < length file → f ≡ Truncated → ⊥) → EndsAt file (at + n) f
-fault_on file window at count n f is le inside ends cut = subst (λ (l : List ℕ). Ends (Some f) l) joined (longer, has)
+    → EndsWithFault (Some f) (drop n window) → (at + count < length file → f ≡ Truncated → ⊥) → EndsAt file (at + n) f
+fault_on file window at count n f is le inside ends cut = subst (λ (l : List ℕ). EndsWithFault (Some f) l) joined (longer, has)
   where
     behind : List ℕ
     behind = drop count (drop at file)
@@ -93,7 +93,7 @@ pub none_is : (o : Option FileFault) → is_some o ≡ false → o ≡ None
 none_is None none = refl
 none_is (Some f) none = cc
 
-pub ends_some : (o : Option FileFault) (rest : List ℕ) → is_some o ≡ true → IfSome o (λ f. Ends (Some f) rest) → Ends o rest
+pub ends_some : (o : Option FileFault) (rest : List ℕ) → is_some o ≡ true → IfSome o (λ f. EndsWithFault (Some f) rest) → EndsWithFault o rest
 ends_some None rest some has = cc
 ends_some (Some f) rest some has = has
 

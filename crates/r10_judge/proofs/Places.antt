@@ -5,9 +5,9 @@ use Rattle.r10_packet.specs.Framing.{header_at}
 use Rattle.r10_body.proofs.Lone.{packet-length}
 use Rattle.r10_body.specs.Foreign.{IsForeignPacket}
 use Rattle.r10_body.specs.Packets.{Packet, packet_bytes, file_bytes}
-use Rattle.r10_body.specs.Rules.{EachFollows, MayFollow, is_index, is_closed}
-use Rattle.r10_body.specs.Faults.{HasFault, Reads, BreaksRule, IsWrongHere, IsAtFault, first_packet}
-use Rattle.r10_body.specs.Faults as faults
+use Rattle.r10_body.specs.Rules.{EachFollows, MayFollow, is_index, is_closed_file}
+use Rattle.r10_body.specs.Faults.{HasFault, ReadsPacket, BreaksRule, IsWrongHere, IsAtFault, first_packet}
+use Rattle.r10_body.specs.Faults as broken_rules
 use Rattle.r10_body.specs.declared.fault.FileFault.{FileFault}
 use Rattle.r10_body.specs.declared.fault.FileFault.TheVariants.{Rule}
 use Rattle.r10_strict.proofs.Faults.{one_fault, apart}
@@ -37,18 +37,18 @@ breaks_none : (closed : Bool) (before : List Packet) (p : Packet) (n : ℕ) → 
 breaks_none closed before p n may unclosed (broken_rule b) = may_break_none before p n may b
 breaks_none closed before p n may unclosed (in_open_file index open_file) = true≢false (sym index ∙ unclosed open_file)
 
-its_reading : (closed : Bool) (before : List Packet) (rest : List ℕ) (on : GoesOnWith closed before rest) → Reads rest on.packet
+its_reading : (closed : Bool) (before : List Packet) (rest : List ℕ) (on : GoesOnWith closed before rest) → ReadsPacket rest on.packet
 its_reading closed before rest on =
     (on.may.fits, on.may.checksums, ap first_packet on.first ∙ first_again (packet_bytes on.packet) on.more (packet_foreign on.packet on.may.fits))
 
 -- then nothing is wrong there
 nothing_wrong : (closed : Bool) (before : List Packet) (rest : List ℕ) (fault : FileFault) → GoesOnWith closed before rest → IsWrongHere before rest closed fault → ⊥
-nothing_wrong closed before rest fault on (faults.packet some has) =
+nothing_wrong closed before rest fault on (broken_rules.packet some has) =
     apart (packet_bytes on.packet) on.more fault (packet_foreign on.packet on.may.fits) (subst (λ (b : List ℕ). HasFault b fault) on.first has)
-nothing_wrong closed before rest (Rule n) on (faults.rule foreign broken least) =
+nothing_wrong closed before rest (Rule n) on (broken_rules.rule foreign broken least) =
     breaks_none closed before on.packet n on.may on.unclosed (from_bytes closed before rest on.packet n (its_reading closed before rest on) broken)
-nothing_wrong closed before rest fault on (faults.no_time none one) = no_bytes closed before rest on none
-nothing_wrong closed before rest fault on (faults.no_index none some shut open_end) = no_bytes closed before rest on none
+nothing_wrong closed before rest fault on (broken_rules.no_time none one) = no_bytes closed before rest on none
+nothing_wrong closed before rest fault on (broken_rules.no_index none some shut open_end) = no_bytes closed before rest on none
 
 -- ---- two lists of packets at the front of the same bytes
 
@@ -117,22 +117,22 @@ same_rule : (m n : ℕ) → m ≤ n → n ≤ m → Rule m ≡ Rule n
 same_rule m n less more = let is : m ≡ n = omega (arith, less, more) in ap Rule is
 
 one_wrong : (before : List Packet) (rest : List ℕ) (closed : Bool) (f g : FileFault) → IsWrongHere before rest closed f → IsWrongHere before rest closed g → f ≡ g
-one_wrong before rest closed f g (faults.packet some has) (faults.packet more too) = one_fault rest f g has too
-one_wrong before rest closed f g (faults.packet some has) (faults.rule foreign broken least) = absurd (no_fault rest f foreign has)
-one_wrong before rest closed f g (faults.packet some has) (faults.no_time none one) = absurd (some_there before rest some none (omega (arith, one)))
-one_wrong before rest closed f g (faults.packet some has) (faults.no_index none two shut open_end) = absurd (some_there before rest some none (omega (arith, two)))
-one_wrong before rest closed f g (faults.rule foreign broken least) (faults.packet some has) = absurd (no_fault rest g foreign has)
-one_wrong before rest closed (Rule m) (Rule n) (faults.rule foreign broken least) (faults.rule too other first) = same_rule m n (least n other) (first m broken)
-one_wrong before rest closed f g (faults.rule foreign broken least) (faults.no_time none one) = absurd (not_empty rest foreign none)
-one_wrong before rest closed f g (faults.rule foreign broken least) (faults.no_index none two shut open_end) = absurd (not_empty rest foreign none)
-one_wrong before rest closed f g (faults.no_time none one) (faults.packet some has) = absurd (some_there before rest some none (omega (arith, one)))
-one_wrong before rest closed f g (faults.no_time none one) (faults.rule foreign broken least) = absurd (not_empty rest foreign none)
-one_wrong before rest closed f g (faults.no_time none one) (faults.no_time too other) = refl
-one_wrong before rest closed f g (faults.no_time none one) (faults.no_index too two shut open_end) = absurd (omega (arith, one, two))
-one_wrong before rest closed f g (faults.no_index none two shut open_end) (faults.packet some has) = absurd (some_there before rest some none (omega (arith, two)))
-one_wrong before rest closed f g (faults.no_index none two shut open_end) (faults.rule foreign broken least) = absurd (not_empty rest foreign none)
-one_wrong before rest closed f g (faults.no_index none two shut open_end) (faults.no_time too one) = absurd (omega (arith, one, two))
-one_wrong before rest closed f g (faults.no_index none two shut open_end) (faults.no_index too more still open_too) = refl
+one_wrong before rest closed f g (broken_rules.packet some has) (broken_rules.packet more too) = one_fault rest f g has too
+one_wrong before rest closed f g (broken_rules.packet some has) (broken_rules.rule foreign broken least) = absurd (no_fault rest f foreign has)
+one_wrong before rest closed f g (broken_rules.packet some has) (broken_rules.no_time none one) = absurd (some_there before rest some none (omega (arith, one)))
+one_wrong before rest closed f g (broken_rules.packet some has) (broken_rules.no_index none two shut open_end) = absurd (some_there before rest some none (omega (arith, two)))
+one_wrong before rest closed f g (broken_rules.rule foreign broken least) (broken_rules.packet some has) = absurd (no_fault rest g foreign has)
+one_wrong before rest closed (Rule m) (Rule n) (broken_rules.rule foreign broken least) (broken_rules.rule too other first) = same_rule m n (least n other) (first m broken)
+one_wrong before rest closed f g (broken_rules.rule foreign broken least) (broken_rules.no_time none one) = absurd (not_empty rest foreign none)
+one_wrong before rest closed f g (broken_rules.rule foreign broken least) (broken_rules.no_index none two shut open_end) = absurd (not_empty rest foreign none)
+one_wrong before rest closed f g (broken_rules.no_time none one) (broken_rules.packet some has) = absurd (some_there before rest some none (omega (arith, one)))
+one_wrong before rest closed f g (broken_rules.no_time none one) (broken_rules.rule foreign broken least) = absurd (not_empty rest foreign none)
+one_wrong before rest closed f g (broken_rules.no_time none one) (broken_rules.no_time too other) = refl
+one_wrong before rest closed f g (broken_rules.no_time none one) (broken_rules.no_index too two shut open_end) = absurd (omega (arith, one, two))
+one_wrong before rest closed f g (broken_rules.no_index none two shut open_end) (broken_rules.packet some has) = absurd (some_there before rest some none (omega (arith, two)))
+one_wrong before rest closed f g (broken_rules.no_index none two shut open_end) (broken_rules.rule foreign broken least) = absurd (not_empty rest foreign none)
+one_wrong before rest closed f g (broken_rules.no_index none two shut open_end) (broken_rules.no_time too one) = absurd (omega (arith, one, two))
+one_wrong before rest closed f g (broken_rules.no_index none two shut open_end) (broken_rules.no_index too more still open_too) = refl
 
 pub one_reason : (bytes : List ℕ) (closed : Bool) (offset : ℕ) (fault : FileFault) (place : ℕ) (other : FileFault) → IsAtFault bytes closed offset fault → IsAtFault bytes closed place other → fault ≡ other
 one_reason bytes closed offset fault place other x y =
@@ -142,11 +142,11 @@ one_reason bytes closed offset fault place other x y =
 
 -- ---- none of a strict file
 
-nothing_missing : (packets : List Packet) (closed : Bool) (fault : FileFault) → 2 ≤ length packets → is_closed packets ≡ closed → IsWrongHere packets [] closed fault → ⊥
-nothing_missing packets closed fault two is (faults.packet some has) = some_there packets [] some refl (omega (arith, two))
-nothing_missing packets closed fault two is (faults.rule foreign broken least) = not_empty [] foreign refl
-nothing_missing packets closed fault two is (faults.no_time none one) = omega (arith, two, one)
-nothing_missing packets closed fault two is (faults.no_index none some shut open_end) = true≢false (sym shut ∙ sym is ∙ open_end)
+nothing_missing : (packets : List Packet) (closed : Bool) (fault : FileFault) → 2 ≤ length packets → is_closed_file packets ≡ closed → IsWrongHere packets [] closed fault → ⊥
+nothing_missing packets closed fault two is (broken_rules.packet some has) = some_there packets [] some refl (omega (arith, two))
+nothing_missing packets closed fault two is (broken_rules.rule foreign broken least) = not_empty [] foreign refl
+nothing_missing packets closed fault two is (broken_rules.no_time none one) = omega (arith, two, one)
+nothing_missing packets closed fault two is (broken_rules.no_index none some shut open_end) = true≢false (sym shut ∙ sym is ∙ open_end)
 
 pub strict_apart : (bytes : List ℕ) (closed : Bool) (offset : ℕ) (fault : FileFault) → IsAtFault bytes closed offset fault → SaysClosed bytes closed → ⊥
 strict_apart bytes closed offset fault x (text, entries, (all, they, say)) =

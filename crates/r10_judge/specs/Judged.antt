@@ -2,7 +2,7 @@
 use Rattle.std.specs.Prelude.{◌≡◌, ℕ, ◌≤◌, Bool, false, IsTrue, List, [], ◌++◌, length, count_by, min, Option, Some, None}
 use Rattle.r10_body.specs.Packets.{Packet, file_bytes}
 use Rattle.r10_body.specs.Files.{FileSays, PacketsSay}
-use Rattle.r10_body.specs.Rules.{EachFollows, EndsIndex, MayFollow, is_closed, is_index}
+use Rattle.r10_body.specs.Rules.{EachFollows, EndsIndex, MayFollow, is_closed_file, is_index}
 use Rattle.r10_body.specs.Foreign.{IsForeignPacket}
 use Rattle.r10_body.specs.Faults.{BreaksRule, IsWrongHere}
 use Rattle.r10_body.specs.declared.entry.Entry.{Entry}
@@ -20,7 +20,7 @@ pub record KeepRules (closed : Bool) (packets : List Packet) : Type 0 where
   pub unclosed : closed ≡ false → count_by is_index packets ≡ 0
 
 -- all bytes so far are packets that keep the rules, and these are their tracks
-pub record GoesOn (closed : Bool) (tracks : Tracks) (bytes : List ℕ) : Type 0 where
+pub record KeepsRulesSoFar (closed : Bool) (tracks : Tracks) (bytes : List ℕ) : Type 0 where
   pub packets : List Packet
   pub bytes_are : bytes ≡ file_bytes packets
   pub keep : KeepRules closed packets
@@ -41,11 +41,11 @@ pub record BreaksAt (closed : Bool) (at : Fault) (bytes : List ℕ) : Type 0 whe
 
 -- where a judge stands behind these bytes of packets
 abbrev pub StandsAt : Option Fault → Bool → Tracks → List ℕ → Type 0
-StandsAt None closed tracks bytes = GoesOn closed tracks bytes
+StandsAt None closed tracks bytes = KeepsRulesSoFar closed tracks bytes
 StandsAt (Some at) closed tracks bytes = BreaksAt closed at bytes
 
-abbrev pub Stands : Judge → List ℕ → Type 0
-Stands j bytes = StandsAt j.broken j.closed j.tracks bytes
+abbrev pub TracksJudged : Judge → List ℕ → Type 0
+TracksJudged j bytes = StandsAt j.broken j.closed j.tracks bytes
 
 -- ---- one packet more
 
@@ -55,9 +55,9 @@ pub data BreaksIn (closed : Bool) (before : List Packet) (p : Packet) : ℕ → 
   in_open_file : IsTrue (is_index p) → closed ≡ false → BreaksIn closed before p 8
 
 -- it may come next, or this is the least of the rules from 4 on that it breaks
-abbrev pub BreaksFirst : Bool → List Packet → Packet → Option ℕ → Type 0
-BreaksFirst closed before p None = MayFollow before p × (closed ≡ false → is_index p ≡ false)
-BreaksFirst closed before p (Some n) = BreaksIn closed before p n × ((m : ℕ) → BreaksIn closed before p m → n ≤ m)
+abbrev pub BreaksRuleOfFileFirst : Bool → List Packet → Packet → Option ℕ → Type 0
+BreaksRuleOfFileFirst closed before p None = MayFollow before p × (closed ≡ false → is_index p ≡ false)
+BreaksRuleOfFileFirst closed before p (Some n) = BreaksIn closed before p n × ((m : ℕ) → BreaksIn closed before p m → n ≤ m)
 
 abbrev pub stopped_at : List Packet → ℕ → Fault
 stopped_at packets n = record { offset = length (file_bytes packets); fault = Rule n }
@@ -74,7 +74,7 @@ abbrev pub SaysClosed : List ℕ → Bool → Type 0
 SaysClosed bytes closed = (text : List ℕ) × (entries : List Entry) × FileSays bytes text entries closed
 
 -- the bytes are a strict file with this closing, and these are the tracks of its packets
-pub record IsKept (closed : Bool) (tracks : Tracks) (bytes : List ℕ) : Type 0 where
+pub record TracksStrictFile (closed : Bool) (tracks : Tracks) (bytes : List ℕ) : Type 0 where
   pub text : List ℕ
   pub entries : List Entry
   pub packets : List Packet
@@ -84,5 +84,5 @@ pub record IsKept (closed : Bool) (tracks : Tracks) (bytes : List ℕ) : Type 0 
 
 -- nothing is missing behind packets that keep the rules, or what is missing makes the file end with this fault
 abbrev pub MayMiss : Bool → List Packet → Option FileFault → Type 0
-MayMiss closed packets None = (2 ≤ length packets) × (is_closed packets ≡ closed) × EndsIndex packets
+MayMiss closed packets None = (2 ≤ length packets) × (is_closed_file packets ≡ closed) × EndsIndex packets
 MayMiss closed packets (Some fault) = IsWrongHere packets [] closed fault

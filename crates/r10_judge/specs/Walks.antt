@@ -2,29 +2,29 @@
 use Rattle.std.specs.Prelude.{◌≡◌, ℕ, ◌<◌, List, ◌++◌, length, drop, Option, Some, None}
 use Rattle.r10_body.specs.Faults.{HasFault}
 use Rattle.r10_body.specs.declared.fault.FileFault.{FileFault}
-use Rattle.r10_strict.specs.Tracks.{Stands as StandsForeign}
-use Rattle.r10_judge.specs.Judged.{Stands as StandsJudged}
+use Rattle.r10_strict.specs.Tracks.{TracksForeign}
+use Rattle.r10_judge.specs.Judged.{TracksJudged}
 use Rattle.r10_judge.specs.declared.walk.Walk.{Walk}
 use Rattle.r10_judge.specs.declared.window.Walked.{Walked}
 
 -- the bytes so far are packets of any recorder, none or more, and they are judged
-pub record Stands (walk : Walk) (bytes : List ℕ) : Type 0 where
-  pub foreign : StandsForeign walk.track bytes
-  pub judged : StandsJudged walk.judge bytes
+pub record TracksWalked (walk : Walk) (bytes : List ℕ) : Type 0 where
+  pub foreign : TracksForeign walk.track bytes
+  pub judged : TracksJudged walk.judge bytes
 
 -- what is left has this fault, or nothing is left
-abbrev pub Ends : Option FileFault → List ℕ → Type 0
-Ends None rest = length rest ≡ 0
-Ends (Some fault) rest = (0 < length rest) × HasFault rest fault
+abbrev pub EndsWithFault : Option FileFault → List ℕ → Type 0
+EndsWithFault None rest = length rest ≡ 0
+EndsWithFault (Some fault) rest = (0 < length rest) × HasFault rest fault
 
 -- what stands at an offset has this fault
 abbrev pub EndsAt : List ℕ → ℕ → FileFault → Type 0
-EndsAt bytes offset fault = Ends (Some fault) (drop offset bytes)
+EndsAt bytes offset fault = EndsWithFault (Some fault) (drop offset bytes)
 
 -- the file is walked up to its end, or up to what is no packet of any recorder
 pub record IsWalked (bytes : List ℕ) (walked : Walked) : Type 0 where
   pub before : List ℕ
   pub rest : List ℕ
   pub bytes_are : bytes ≡ before ++ rest
-  pub stands : Stands walked.walk before
-  pub ends : Ends walked.fault rest
+  pub stands : TracksWalked walked.walk before
+  pub ends : EndsWithFault walked.fault rest

@@ -8,8 +8,8 @@ ghost use Rattle.r10_body.specs.Foreign.{IsForeignPacket};
 ghost use Rattle.r10_body.specs.Packets.{Packet, FitsPacket, packet_body, packet_bytes};
 ghost use Rattle.r10_body.specs.Rules.{EndsIndex, KeepsChecksums};
 ghost use Rattle.r10_body.specs.Rules.{is_index as is_index_packet};
-ghost use Rattle.r10_judge.specs.Judged.{Stands, GoesOn, BreaksFirst, IsKept, MayMiss, SaysClosed, least_of_index, stopped_at};
-ghost use Rattle.r10_strict.specs.Facts.{Tells, kind_of};
+ghost use Rattle.r10_judge.specs.Judged.{TracksJudged, KeepsRulesSoFar, BreaksRuleOfFileFirst, TracksStrictFile, MayMiss, SaysClosed, least_of_index, stopped_at};
+ghost use Rattle.r10_strict.specs.Facts.{AreFactsOf, kind_of};
 ghost use Rattle.r10_tracks.specs.Tracks.{IsTracked};
 
 use r10_body::FileFault;
@@ -32,7 +32,7 @@ pub struct Judge {
 impl Judge {
     /// The start of a file whose directory entry is closed or not.
     pub fn new(alloc: Global, closed: bool) -> Judge
-        ensures stands { Stands result [] }
+        ensures stands { TracksJudged result [] }
         ensures closed { result.closed ≡ closed }
     {
         Judge {
@@ -44,8 +44,8 @@ impl Judge {
 
     /// Takes the next packet, whoever wrote it. Where memory is refused, it isn't taken.
     pub fn take(&mut self, alloc: Global, packet: &[u8]) -> Result<(), AllocError>
-        ensures taken { (before : List ℕ) → Stands self.old before → IsForeignPacket packet.now → length (before ++ packet.now) < 2 ^ 63 → OnOk result (Stands self.new (before ++ packet.now)) }
-        ensures kept { (before : List ℕ) → Stands self.old before → OnErr result (Stands self.new before) }
+        ensures taken { (before : List ℕ) → TracksJudged self.old before → IsForeignPacket packet.now → length (before ++ packet.now) < 2 ^ 63 → OnOk result (TracksJudged self.new (before ++ packet.now)) }
+        ensures kept { (before : List ℕ) → TracksJudged self.old before → OnErr result (TracksJudged self.new before) }
         ensures closed { self.new.closed ≡ self.old.closed }
     {
         if self.broken.is_some() {
@@ -64,7 +64,7 @@ impl Judge {
     /// Whether the packets so far are a strict file, whatever its directory entry is: closed by an
     /// index, or without index packets.
     pub fn is_strict(&self) -> bool
-        ensures { (bytes : List ℕ) → Stands self.now bytes → self.now.closed ≡ true → (IsTrue result ↔ IsStrict bytes) }
+        ensures { (bytes : List ℕ) → TracksJudged self.now bytes → self.now.closed ≡ true → (IsTrue result ↔ IsStrict bytes) }
     {
         match self.broken {
             None => self.is_whole(),
@@ -75,7 +75,7 @@ impl Judge {
     /// Where and how the file that ends here is at fault under its directory entry; `None` where it is a
     /// strict file with that closing.
     pub fn end(&self) -> Option<Fault>
-        ensures { (bytes : List ℕ) → Stands self.now bytes → MatchOption result (SaysClosed bytes self.now.closed) (λ at. IsAtFault bytes self.now.closed at.offset at.fault) }
+        ensures { (bytes : List ℕ) → TracksJudged self.now bytes → MatchOption result (SaysClosed bytes self.now.closed) (λ at. IsAtFault bytes self.now.closed at.offset at.fault) }
     {
         match self.first_broken() {
             Some(at) => Some(at),
@@ -86,7 +86,7 @@ impl Judge {
     /// What is kept of the packets of a strict file with the closing of its directory entry; else where and
     /// how the file is at fault that ends here.
     pub fn finish(self) -> Result<Tracks, Fault>
-        ensures { (bytes : List ℕ) → Stands self bytes → MatchResult result (λ tracks. IsKept self.closed tracks bytes) (λ at. IsAtFault bytes self.closed at.offset at.fault) }
+        ensures { (bytes : List ℕ) → TracksJudged self bytes → MatchResult result (λ tracks. TracksStrictFile self.closed tracks bytes) (λ at. IsAtFault bytes self.closed at.offset at.fault) }
     {
         match self.first_broken() {
             Some(at) => Err(at),
@@ -96,7 +96,7 @@ impl Judge {
 
     /// What is kept of packets that keep the rules, or the fault of the file that ends behind them.
     fn finish_packets(self) -> Result<Tracks, Fault>
-        ensures { (bytes : List ℕ) → GoesOn self.closed self.tracks bytes → MatchResult result (λ tracks. IsKept self.closed tracks bytes) (λ at. IsAtFault bytes self.closed at.offset at.fault) }
+        ensures { (bytes : List ℕ) → KeepsRulesSoFar self.closed self.tracks bytes → MatchResult result (λ tracks. TracksStrictFile self.closed tracks bytes) (λ at. IsAtFault bytes self.closed at.offset at.fault) }
     {
         match self.end_of_packets() {
             Some(missing) => Err(missing),
@@ -107,7 +107,7 @@ impl Judge {
     /// Where and how the file is at fault whose next packet has this fault of framing, checksum or body: there,
     /// or where a packet before it breaks a rule.
     pub fn fault_behind(&self, fault: FileFault) -> Fault
-        ensures { (before rest : List ℕ) → Stands self.now before → (0 < length rest) ⊎ (length before ≡ 0) → HasFault rest fault
+        ensures { (before rest : List ℕ) → TracksJudged self.now before → (0 < length rest) ⊎ (length before ≡ 0) → HasFault rest fault
             → IsAtFault (before ++ rest) self.now.closed result.offset result.fault }
     {
         match self.first_broken() {
@@ -127,7 +127,7 @@ impl Judge {
 
     /// The fault of a file whose packets keep the rules.
     fn end_of_packets(&self) -> Option<Fault>
-        ensures { (bytes : List ℕ) → GoesOn self.now.closed self.now.tracks bytes → MatchOption result (SaysClosed bytes self.now.closed) (λ at. IsAtFault bytes self.now.closed at.offset at.fault) }
+        ensures { (bytes : List ℕ) → KeepsRulesSoFar self.now.closed self.now.tracks bytes → MatchOption result (SaysClosed bytes self.now.closed) (λ at. IsAtFault bytes self.now.closed at.offset at.fault) }
     {
         let offset = self.tracks.bytes();
         match self.missing() {
@@ -138,7 +138,7 @@ impl Judge {
 
     /// What is missing behind packets that keep the rules: a first packet, a time, or the index.
     fn missing(&self) -> Option<FileFault>
-        ensures { (bytes : List ℕ) (goes : GoesOn self.now.closed self.now.tracks bytes) → MayMiss self.now.closed goes.packets result }
+        ensures { (bytes : List ℕ) (goes : KeepsRulesSoFar self.now.closed self.now.tracks bytes) → MayMiss self.now.closed goes.packets result }
     {
         let packets = self.tracks.packets();
         if packets == 0 {
@@ -152,7 +152,7 @@ impl Judge {
 
     /// That the index is missing, of a file with setup and time whose directory entry is closed.
     fn missing_index(&self) -> Option<FileFault>
-        ensures { (bytes : List ℕ) (goes : GoesOn self.now.closed self.now.tracks bytes) → 2 ≤ length goes.packets → MayMiss self.now.closed goes.packets result }
+        ensures { (bytes : List ℕ) (goes : KeepsRulesSoFar self.now.closed self.now.tracks bytes) → 2 ≤ length goes.packets → MayMiss self.now.closed goes.packets result }
     {
         if !self.closed {
             return None;
@@ -180,9 +180,9 @@ impl Judge {
     /// Takes the next packet, which keeps the first three rules: it is added, or breaks another one.
     fn take_strict(&mut self, facts: &Facts, body: &[u8]) -> Result<(), AllocError>
         requires { self.old.broken ≡ None }
-        ensures taken { (before : List ℕ) (p : Packet) → GoesOn self.old.closed self.old.tracks before → KeepsChecksums p → Tells facts.now p → body.now ≡ packet_body p → FitsPacket p
-            → length (before ++ packet_bytes p) < 2 ^ 63 → OnOk result (Stands self.new (before ++ packet_bytes p)) }
-        ensures kept { (before : List ℕ) → Stands self.old before → OnErr result (Stands self.new before) }
+        ensures taken { (before : List ℕ) (p : Packet) → KeepsRulesSoFar self.old.closed self.old.tracks before → KeepsChecksums p → AreFactsOf facts.now p → body.now ≡ packet_body p → FitsPacket p
+            → length (before ++ packet_bytes p) < 2 ^ 63 → OnOk result (TracksJudged self.new (before ++ packet_bytes p)) }
+        ensures kept { (before : List ℕ) → TracksJudged self.old before → OnErr result (TracksJudged self.new before) }
         ensures closed { self.new.closed ≡ self.old.closed }
     {
         match self.rule(facts, body) {
@@ -196,8 +196,8 @@ impl Judge {
 
     /// The least of the rules from 4 on that the next packet breaks.
     fn rule(&self, facts: &Facts, body: &[u8]) -> Option<u8>
-        ensures { (packets : List Packet) (p : Packet) → IsTracked self.now.tracks packets → FitsPacket p → KeepsChecksums p → Tells facts.now p → body.now ≡ packet_body p
-            → BreaksFirst self.now.closed packets p result }
+        ensures { (packets : List Packet) (p : Packet) → IsTracked self.now.tracks packets → FitsPacket p → KeepsChecksums p → AreFactsOf facts.now p → body.now ≡ packet_body p
+            → BreaksRuleOfFileFirst self.now.closed packets p result }
     {
         let rule = self.tracks.rule(facts, body);
         if self.closed {

@@ -2,7 +2,7 @@
 
 ghost use Rattle.std.specs.Prelude.{◌≡◌, ◌+◌, ◌*◌, ◌≤◌, ◌^◌, ℕ, List, length, IfOk};
 ghost use Rattle.r10_medium.specs.Disk.{Unchanged};
-ghost use Rattle.r10_blockout.specs.Bytes.{HasCause};
+ghost use Rattle.r10_blockout.specs.Bytes.{ReadHasCause};
 ghost use Rattle.r10_judge.specs.Files.{file_at};
 ghost use Rattle.r10_judge.specs.Judgements.{IsJudged};
 ghost use Rattle.r10_judge.specs.Walks.{IsWalked};
@@ -38,7 +38,7 @@ pub fn judge_file<M: BlockMedium>(
     requires size { extent.size ≤ 2 ^ 62 }
     ensures judged { IfOk result (IsJudged (file_at (M.disk medium.old).blocks extent) closed) }
     ensures same { Unchanged (M.disk medium.old) (M.disk medium.new) }
-    ensures counts { HasCause (M.disk medium.old) (M.disk medium.new) result }
+    ensures counts { ReadHasCause (M.disk medium.old) (M.disk medium.new) result }
 {
     match walk_file(alloc, medium, extent, closed, buffer) {
         Ok(walked) => Ok(judged(walked)),

@@ -1,7 +1,7 @@
 //! A file's packets, taken one after the other.
 
 ghost use Rattle.std.specs.Prelude.{◌≡◌, ◌+◌, ◌<◌, ◌≤◌, ◌^◌, ◌++◌, ℕ, List, [], length, take, drop, IfOk};
-ghost use Rattle.r10_judge.specs.Walks.{Stands, Ends};
+ghost use Rattle.r10_judge.specs.Walks.{TracksWalked, EndsWithFault};
 
 use crate::Judge;
 use r10_body::FileFault;
@@ -29,7 +29,7 @@ pub(crate) struct Taken {
 impl Walk {
     /// The start of a file whose directory entry is closed or not.
     pub(crate) fn new(alloc: Global, closed: bool) -> Walk
-        ensures stands { Stands result [] }
+        ensures stands { TracksWalked result [] }
         ensures closed { result.judge.closed ≡ closed }
     {
         Walk {
@@ -40,10 +40,10 @@ impl Walk {
 
     /// Takes the packets that stand in bytes, up to the first that is at fault.
     pub(crate) fn take(&mut self, alloc: Global, bytes: &[u8]) -> Result<Taken, AllocError>
-        requires { (before : List ℕ) × Stands self.old before × (length before + length bytes.now < 2 ^ 63) }
-        ensures stands { IfOk result (λ taken. (before : List ℕ) → Stands self.old before → Stands self.new (before ++ take taken.length bytes.now)) }
+        requires { (before : List ℕ) × TracksWalked self.old before × (length before + length bytes.now < 2 ^ 63) }
+        ensures stands { IfOk result (λ taken. (before : List ℕ) → TracksWalked self.old before → TracksWalked self.new (before ++ take taken.length bytes.now)) }
         ensures inside { IfOk result (λ taken. taken.length ≤ length bytes.now) }
-        ensures ends { IfOk result (λ taken. Ends taken.fault (drop taken.length bytes.now)) }
+        ensures ends { IfOk result (λ taken. EndsWithFault taken.fault (drop taken.length bytes.now)) }
         ensures closed { self.new.judge.closed ≡ self.old.judge.closed }
     {
         let mut done = 0;

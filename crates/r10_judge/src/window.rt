@@ -2,10 +2,10 @@
 
 ghost use Rattle.std.specs.Prelude.{◌≡◌, ◌+◌, ◌-◌, ◌*◌, ◌<◌, ◌≤◌, ◌^◌, ℕ, List, length, take, true, None, Some, IfOk, IfSome, IfNone, ◌⊎◌};
 ghost use Rattle.r10_medium.specs.Disk.{Unchanged};
-ghost use Rattle.r10_blockout.specs.Bytes.{HasCause};
-ghost use Rattle.r10_body.specs.declared.fault.FileFault.TheVariants as faults;
+ghost use Rattle.r10_blockout.specs.Bytes.{ReadHasCause};
+ghost use Rattle.r10_body.specs.declared.fault.FileFault.TheVariants as file_faults;
 ghost use Rattle.r10_judge.specs.Files.{file_at};
-ghost use Rattle.r10_judge.specs.Walks.{Stands, EndsAt, IsWalked};
+ghost use Rattle.r10_judge.specs.Walks.{TracksWalked, EndsAt, IsWalked};
 
 use crate::extent::Extent;
 use crate::walk::{Taken, Walk};
@@ -40,7 +40,7 @@ pub fn walk_file<M: BlockMedium>(
     ensures walked { IfOk result (IsWalked (file_at (M.disk medium.old).blocks extent)) }
     ensures closed { IfOk result (λ walked. walked.walk.judge.closed ≡ closed) }
     ensures same { Unchanged (M.disk medium.old) (M.disk medium.new) }
-    ensures counts { HasCause (M.disk medium.old) (M.disk medium.new) result }
+    ensures counts { ReadHasCause (M.disk medium.old) (M.disk medium.new) result }
 {
     let mut walk = Walk::new(alloc, closed);
     let mut at = 0;
@@ -84,14 +84,14 @@ fn take_window<M: BlockMedium>(
     requires size { extent.size ≤ 2 ^ 62 }
     requires at { at < extent.size }
     requires window { 0 < window }
-    requires walked { Stands walk.old (take at (file_at (M.disk medium.old).blocks extent)) }
-    ensures stands { IfOk result (λ taken. Stands walk.new (take (at + taken.length) (file_at (M.disk medium.old).blocks extent))) }
+    requires walked { TracksWalked walk.old (take at (file_at (M.disk medium.old).blocks extent)) }
+    ensures stands { IfOk result (λ taken. TracksWalked walk.new (take (at + taken.length) (file_at (M.disk medium.old).blocks extent))) }
     ensures inside { IfOk result (λ taken. at + taken.length ≤ extent.size) }
     ensures fault { IfOk result (λ taken. IfSome taken.fault (EndsAt (file_at (M.disk medium.old).blocks extent) (at + taken.length))) }
     ensures cut { IfOk result (λ taken. taken.length ≡ 0 → taken.fault ≡ None → window < extent.size - at) }
     ensures closed { walk.new.judge.closed ≡ walk.old.judge.closed }
     ensures same { Unchanged (M.disk medium.old) (M.disk medium.new) }
-    ensures counts { HasCause (M.disk medium.old) (M.disk medium.new) result }
+    ensures counts { ReadHasCause (M.disk medium.old) (M.disk medium.new) result }
 {
     let left = extent.size - at;
     let count = window.min(left);
@@ -110,7 +110,7 @@ fn take_window<M: BlockMedium>(
 
 /// A fault behind packets; none where bytes may only be missing because they were cut off.
 fn fault_of(fault: Option<FileFault>, cut: bool) -> Option<FileFault>
-    ensures some { IfSome result (λ f. (fault ≡ Some f) × (cut ≡ true → f ≡ faults.Truncated → ⊥)) }
+    ensures some { IfSome result (λ f. (fault ≡ Some f) × (cut ≡ true → f ≡ file_faults.Truncated → ⊥)) }
     ensures none { IfNone result ((fault ≡ None) ⊎ (cut ≡ true)) }
 {
     if !cut {

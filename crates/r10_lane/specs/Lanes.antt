@@ -39,16 +39,16 @@ pub record Waits (spec : ChannelSpec) (last : ℕ) (waiting : List Sample) : Typ
   pub climbs : Climbs 0 (counts_of waiting) last
 
 -- the count of the first sample, or this one
-abbrev pub first_count : List Sample → ℕ → ℕ
-first_count [] n = n
-first_count (x ∷ xs) n = x.count
+abbrev pub first_count_or : List Sample → ℕ → ℕ
+first_count_or [] n = n
+first_count_or (x ∷ xs) n = x.count
 
 -- the count that a lane has reached: of the first sample that waits, else of the last that was accepted
 abbrev pub reached : Lane → ℕ
-reached lane = first_count lane.waiting (count_or_0 lane.last)
+reached lane = first_count_or lane.waiting (count_or_0 lane.last)
 
 -- these samples left the front of what waits, and nothing else is changed
-pub record Took (old : Lane) (samples : List Sample) (new : Lane) : Type 0 where
+pub record TookWaiting (old : Lane) (samples : List Sample) (new : Lane) : Type 0 where
   pub front : old.waiting ≡ samples ++ new.waiting
   pub others : new ≡ record old { waiting = new.waiting }
   pub rises : reached old ≤ reached new

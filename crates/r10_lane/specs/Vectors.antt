@@ -8,7 +8,7 @@ use Rattle.r10_body.specs.declared.message.Message.TheVariants.{Uart}
 use Rattle.r10_body.specs.declared.refusal.Refusal.TheVariants.{CountBack, Overflow, BadMessage}
 use Rattle.r10_body.specs.declared.spec.ChannelSpec.{ChannelSpec}
 use Rattle.r10_machine.specs.Machine.{Lane, fresh_lane}
-use Rattle.r10_lane.specs.Lanes.{Offers, Took, Waits, reached, refused_lane}
+use Rattle.r10_lane.specs.Lanes.{Offers, TookWaiting, Waits, reached, refused_lane}
 
 abbrev channel : ChannelSpec
 channel = record { id = 5; kind = kinds.Uart; capacity = 2; check = 0; bytes = 524288; number = 65535; bits = 0 }
@@ -46,7 +46,7 @@ a_third_is_lost : Offers full 1003 (text 0x43) (Err Overflow) (lane (first ∷ s
 a_third_is_lost = (refl, refl)
 
 -- one is taken, and the next that is accepted has a gap
-one_is_taken : Took (lane (first ∷ second ∷ []) (Some 1002) 1 1) (first ∷ []) (lane (second ∷ []) (Some 1002) 1 1)
+one_is_taken : TookWaiting (lane (first ∷ second ∷ []) (Some 1002) 1 1) (first ∷ []) (lane (second ∷ []) (Some 1002) 1 1)
 one_is_taken = record { front = refl; others = refl; rises = lit≤ tt }
 
 a_gap_is_marked : Offers (lane (second ∷ []) (Some 1002) 1 1) 1004 (text 0x44) (Ok tt) (lane (second ∷ sample 1004 0x44 true ∷ []) (Some 1004) 0 1)

@@ -135,12 +135,12 @@ impl RingLane {
 
 impl LaneOut for RingLane {
     ghost use Rattle.std.specs.Prelude.{◌≡◌, Some, slice_get};
-    ghost use Rattle.r10_lane.specs.Lanes.{Took, reached};
-    ghost use Rattle.r10_lane.specs.Laws.{took_joins, took_nothing, took_stays, took_keeps_spec, took_rises, took_stays_quiet};
+    ghost use Rattle.r10_lane.specs.Lanes.{TookWaiting, reached};
+    ghost use Rattle.r10_lane.specs.Laws.{lane_took_joins, lane_took_nothing, lane_took_stays, lane_took_keeps_spec, lane_took_rises, lane_took_stays_quiet};
 
     ghost spec_of = { λ lane. lane.spec };
 
-    ghost took = { Took };
+    ghost took = { TookWaiting };
 
     ghost shows = { λ lane first. slice_get lane.waiting 0 ≡ Some first };
 
@@ -164,15 +164,15 @@ impl LaneOut for RingLane {
         self.len()
     }
 
-    ghost joins = { took_joins };
+    ghost joins = { lane_took_joins };
 
-    ghost took_none = { took_nothing };
+    ghost took_none = { lane_took_nothing };
 
-    ghost stays = { took_stays };
+    ghost stays = { lane_took_stays };
 
-    ghost keeps_spec = { took_keeps_spec };
+    ghost keeps_spec = { lane_took_keeps_spec };
 
-    ghost rises = { took_rises };
+    ghost rises = { lane_took_rises };
 
-    ghost stays_quiet = { took_stays_quiet };
+    ghost stays_quiet = { lane_took_stays_quiet };
 }

@@ -1,10 +1,10 @@
 -- A fault, and the same fault with its line.
 use Rattle.std.specs.Prelude.{◌≡◌, ℕ, Option, Some, IfSome}
 use Rattle.r10_lines.specs.declared.fault.ScriptFault.{ScriptFault}
-use Rattle.r10_lines.specs.declared.fault.ScriptFault.TheVariants as faults
+use Rattle.r10_lines.specs.declared.fault.ScriptFault.TheVariants as script_faults
 
 -- the table and what is wrong there stay, and so does a line that is known
 abbrev pub IsLocated : ScriptFault → ScriptFault → Type 0
-IsLocated (faults.OutOfMemory error) new = new ≡ faults.OutOfMemory error
-IsLocated (faults.Wrong spot wrong) new =
-    (line : Option ℕ) × (new ≡ faults.Wrong (record { line = line; place = spot.place }) wrong) × IfSome spot.line (λ known. line ≡ Some known)
+IsLocated (script_faults.OutOfMemory error) new = new ≡ script_faults.OutOfMemory error
+IsLocated (script_faults.Wrong spot wrong) new =
+    (line : Option ℕ) × (new ≡ script_faults.Wrong (record { line = line; place = spot.place }) wrong) × IfSome spot.line (λ known. line ≡ Some known)

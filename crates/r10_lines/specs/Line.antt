@@ -20,12 +20,12 @@ abbrev pub word_text : ℕ → List ℕ
 word_text n = encode_lower (to_be_bytes w16 n)
 
 -- 16-bit words, the high byte of each first
-abbrev pub words_bytes : List ℕ → List ℕ
-words_bytes words = flat_map (to_be_bytes w16) words
+abbrev pub words_high_first : List ℕ → List ℕ
+words_high_first words = flat_map (to_be_bytes w16) words
 
 -- words of four hex digits each, a dash where there are none
 abbrev pub words_text : List ℕ → List ℕ
-words_text words = bytes_text (words_bytes words)
+words_text words = bytes_text (words_high_first words)
 
 -- a number of 32 bits in eight hex digits
 abbrev pub long_text : ℕ → List ℕ

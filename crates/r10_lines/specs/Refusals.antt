@@ -3,20 +3,20 @@ use Rattle.std.specs.Prelude.{ℕ, List, [], ◌∷◌, ◌++◌, codes}
 use Rattle.std.specs.Fmt.{decimal}
 use Rattle.r10_body.specs.Refusals.{refusal_number, refusal_name}
 use Rattle.r10_body.specs.declared.fault.FileFault.{FileFault}
-use Rattle.r10_body.specs.declared.fault.FileFault.TheVariants as faults
+use Rattle.r10_body.specs.declared.fault.FileFault.TheVariants as file_faults
 use Rattle.r10_body.specs.declared.refusal.Refusal.{Refusal}
 use Rattle.r10_body.specs.declared.refusal.Refusal.TheVariants as refusals
 use Rattle.r10_lines.specs.Words.{spaced}
 
 -- a fault's word, and behind it the number of a rule
 abbrev pub fault_text : FileFault → List ℕ
-fault_text faults.Truncated = codes "Truncated"
-fault_text faults.Sync = codes "Sync"
-fault_text faults.HeaderSum = codes "HeaderSum"
-fault_text faults.Length = codes "Length"
-fault_text faults.DataSum = codes "DataSum"
-fault_text faults.Body = codes "Body"
-fault_text (faults.Rule number) = codes "Rule " ++ decimal number
+fault_text file_faults.Truncated = codes "Truncated"
+fault_text file_faults.Sync = codes "Sync"
+fault_text file_faults.HeaderSum = codes "HeaderSum"
+fault_text file_faults.Length = codes "Length"
+fault_text file_faults.DataSum = codes "DataSum"
+fault_text file_faults.Body = codes "Body"
+fault_text (file_faults.Rule number) = codes "Rule " ++ decimal number
 
 -- the values that a refusal carries: a block, an offset and a fault, or what was seen
 abbrev pub refusal_values : Refusal → List (List ℕ)

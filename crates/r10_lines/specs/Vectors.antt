@@ -3,18 +3,18 @@ use Rattle.std.specs.Prelude.{◌≡◌, ℕ, true, false, [], ◌∷◌, Some, 
 use Rattle.std.specs.Fmt.{digits}
 use Rattle.hex.specs.Hex.{encode_with}
 use Rattle.r10_body.specs.declared.entry.Entry.{Entry}
-use Rattle.r10_body.specs.declared.fault.FileFault.TheVariants as faults
+use Rattle.r10_body.specs.declared.fault.FileFault.TheVariants as file_faults
 use Rattle.r10_body.specs.declared.message.Message.TheVariants as messages
 use Rattle.r10_body.specs.declared.refusal.Refusal.TheVariants as refusals
 use Rattle.r10_machine.specs.declared.mode.Mode.TheVariants as modes
-use Rattle.r10_machine.specs.declared.reply.Reply.TheVariants as say
+use Rattle.r10_machine.specs.declared.reply.Reply.TheVariants as replies
 use Rattle.r10_lines.specs.Civil.{civil_text}
-use Rattle.r10_lines.specs.Line.{message_text, words_bytes}
+use Rattle.r10_lines.specs.Line.{message_text, words_high_first}
 use Rattle.r10_lines.specs.Refusals.{refusal_text}
 use Rattle.r10_lines.specs.Replies.{mode_text, reply_lines}
 
 -- four digits a word, the high byte first
-pub two_words-bytes : words_bytes (0x0821 ∷ 0xABCD ∷ []) ≡ 0x08 ∷ 0x21 ∷ 0xAB ∷ 0xCD ∷ []
+pub two_words-bytes : words_high_first (0x0821 ∷ 0xABCD ∷ []) ≡ 0x08 ∷ 0x21 ∷ 0xAB ∷ 0xCD ∷ []
 two_words-bytes = refl
 
 pub bus-text : message_text (messages.Bus1553 0x2000 0 (0x0821 ∷ 0xABCD ∷ [])) ≡ codes "1553 2000 0000 0821abcd"
@@ -49,7 +49,7 @@ pub event-text : message_text (messages.Event 3 1) ≡ codes "event 3 1"
 unfolding digits
 event-text = refl
 
-pub nothing-lines : reply_lines 8 (say.Next None) ≡ codes "8 none\n"
+pub nothing-lines : reply_lines 8 (replies.Next None) ≡ codes "8 none\n"
 unfolding digits
 nothing-lines = refl
 
@@ -63,11 +63,11 @@ pub bad_directory-text : refusal_text (refusals.BadDirectory 1) ≡ codes "refus
 unfolding digits
 bad_directory-text = refl
 
-pub rule-text : refusal_text (refusals.BadFile 112 (faults.Rule 4)) ≡ codes "refused 27 BadFile 112 Rule 4"
+pub rule-text : refusal_text (refusals.BadFile 112 (file_faults.Rule 4)) ≡ codes "refused 27 BadFile 112 Rule 4"
 unfolding digits
 rule-text = refl
 
-pub sum-text : refusal_text (refusals.BadFile 0 faults.HeaderSum) ≡ codes "refused 27 BadFile 0 HeaderSum"
+pub sum-text : refusal_text (refusals.BadFile 0 file_faults.HeaderSum) ≡ codes "refused 27 BadFile 0 HeaderSum"
 unfolding digits
 sum-text = refl
 
@@ -77,20 +77,20 @@ behind-text = refl
 
 -- ---- replies
 
-pub done-lines : reply_lines 1 say.Done ≡ codes "1 ok\n"
+pub done-lines : reply_lines 1 replies.Done ≡ codes "1 ok\n"
 unfolding digits
 done-lines = refl
 
-pub stopped-lines : reply_lines 7 (say.Stopped (record { taken = 6; left = 1 })) ≡ codes "7 stopped 6 1\n"
+pub stopped-lines : reply_lines 7 (replies.Stopped (record { taken = 6; left = 1 })) ≡ codes "7 stopped 6 1\n"
 unfolding digits
 stopped-lines = refl
 
-pub refused-lines : reply_lines 6 (say.Refused refusals.MediumFull) ≡ codes "6 refused 25 MediumFull\n"
+pub refused-lines : reply_lines 6 (replies.Refused refusals.MediumFull) ≡ codes "6 refused 25 MediumFull\n"
 unfolding digits
 refused-lines = refl
 
 -- a closed file, and one that is open and has a name of another recorder's: `A b/c`
-pub file-lines : reply_lines 12 (say.Files (
+pub file-lines : reply_lines 12 (replies.Files (
     record { name = codes "FLT1"; size = 272; blocks = 1; closed = true }
     ∷ record { name = codes "A b/c"; size = 16732; blocks = 33; closed = false }
     ∷ []))
@@ -98,12 +98,12 @@ pub file-lines : reply_lines 12 (say.Files (
 unfolding digits
 file-lines = refl
 
-pub no_file-lines : reply_lines 2 (say.Files []) ≡ codes "2 files 0\n"
+pub no_file-lines : reply_lines 2 (replies.Files []) ≡ codes "2 files 0\n"
 unfolding digits
 no_file-lines = refl
 
 -- a full lane, and one message lost
-pub recording-lines : reply_lines 7 (say.Status (record {
+pub recording-lines : reply_lines 7 (replies.Status (record {
   mode = modes.Recording;
   tick = Some 1000;
   files = 1;
@@ -114,7 +114,7 @@ pub recording-lines : reply_lines 7 (say.Status (record {
 unfolding digits
 recording-lines = refl
 
-pub unmounted-lines : reply_lines 1 (say.Status (record { mode = modes.Unmounted; tick = None; files = 0; free = 0; channels = [] }))
+pub unmounted-lines : reply_lines 1 (replies.Status (record { mode = modes.Unmounted; tick = None; files = 0; free = 0; channels = [] }))
     ≡ codes "1 status unmounted - 0 0\n"
 unfolding digits
 unmounted-lines = refl
@@ -129,23 +129,23 @@ failed-text = refl
 abbrev pub empty_entry : ℕ → Entry
 empty_entry count = record { channel = 5; count = count; message = messages.Uart false 0 []; gap = false }
 
-pub next-lines : reply_lines 11 (say.Next (Some (empty_entry 1010))) ≡ codes "11 entry 5 1010 0 uart 0 0 -\n"
+pub next-lines : reply_lines 11 (replies.Next (Some (empty_entry 1010))) ≡ codes "11 entry 5 1010 0 uart 0 0 -\n"
 unfolding digits
 next-lines = refl
 
-pub found-lines : reply_lines 11 (say.Found (Some (record { number = 1; entry = empty_entry 2000 }))) ≡ codes "11 found 1 entry 5 2000 0 uart 0 0 -\n"
+pub found-lines : reply_lines 11 (replies.Found (Some (record { number = 1; entry = empty_entry 2000 }))) ≡ codes "11 found 1 entry 5 2000 0 uart 0 0 -\n"
 unfolding digits
 found-lines = refl
 
-pub found_nothing-lines : reply_lines 12 (say.Found None) ≡ codes "12 none\n"
+pub found_nothing-lines : reply_lines 12 (replies.Found None) ≡ codes "12 none\n"
 unfolding digits
 found_nothing-lines = refl
 
-pub count-lines : reply_lines 4 (say.CountAt (Some 2201000)) ≡ codes "4 count 2201000\n"
+pub count-lines : reply_lines 4 (replies.CountAt (Some 2201000)) ≡ codes "4 count 2201000\n"
 unfolding digits
 count-lines = refl
 
-pub no_count-lines : reply_lines 5 (say.CountAt None) ≡ codes "5 none\n"
+pub no_count-lines : reply_lines 5 (replies.CountAt None) ≡ codes "5 none\n"
 unfolding digits
 no_count-lines = refl
 

@@ -22,7 +22,7 @@ use Rattle.r10_machine.specs.Machine.{Lane, File, with_entries}
 use Rattle.r10_machine.specs.Room.{cost_of, area}
 use Rattle.r10_machine.specs.Checks.{message_checks, count_checks, is_not_before}
 use Rattle.r10_machine.specs.Calls.{closed_whole, shown_whole}
-use Rattle.r10_machine.specs.SoundParts.{Climbs, LaneClimbs, counts_on, count_or_0, IsEntry as IsTimeOrMessage}
+use Rattle.r10_machine.specs.SoundParts.{Climbs, LaneClimbs, counts_on, count_or_0, IsTimeOrMessage}
 use Rattle.r10_machine.proofs.Ranges.{parts_of, ids_distinct}
 use Rattle.r10_machine.proofs.Climbing.{climbs_push, entry_counts}
 use Rattle.r10_machine.proofs.Steady.{checks_pass, parts_pass}

@@ -3,15 +3,15 @@ use Rattle.std.proofs.Common.{◌≡◌, ◌≤◌, ℕ, ◌+◌, Bool, true, fa
 use Rattle.std.specs.List.{AllByRecursion, last_or}
 use Rattle.std.proofs.lemmas.List.{length-append}
 use Rattle.r10_machine.specs.Config.{Config}
-use Rattle.r10_machine.specs.Machine.{Machine, File, Cursor as Reader, SetsCursor, cursor_of, lane_of, with_entries, change_last, last_size, waiting_entries}
+use Rattle.r10_machine.specs.Machine.{Machine, File, Cursor as MachineCursor, SetsCursor, cursor_of, lane_of, with_entries, change_last, last_size, waiting_entries}
 use Rattle.r10_machine.specs.Room.{fits}
 use Rattle.r10_machine.specs.Checks.{is_recording}
 use Rattle.r10_machine.specs.Calls.{TicksIn, closed_whole, shown_whole, all_waiting, time_entry}
 use Rattle.r10_machine.proofs.Steady.{last_shows}
 use Rattle.r10_machine.proofs.Growing.{append_there}
-use Rattle.r10_machine.specs.declared.event.Event.{Event as Asked}
+use Rattle.r10_machine.specs.declared.event.Event.{Event as EventValue}
 use Rattle.r10_machine.specs.declared.event.Event.TheVariants.{Mount, Dismount, Tick, Start, Offer, Pump, Event, Commit, Stop, Seal, Erase, Files, Status, Cursor, Advance, Next, Close, Find, CountAt}
-use Rattle.r10_machine.specs.declared.reply.Reply.{Reply as Answered}
+use Rattle.r10_machine.specs.declared.reply.Reply.{Reply as ReplyValue}
 use Rattle.r10_machine.specs.declared.reply.Reply.TheVariants as replies
 use Rattle.r10_machine.specs.ControlCalls.{closed_in, event_entry}
 use Rattle.r10_machine.specs.Step.{Does}
@@ -32,7 +32,7 @@ keeps_all old new generation same = record {
 pub keeps_same : (old new : Machine) → new ≡ old → Keeps old new
 keeps_same old new is = keeps_all old new (ap (λ (m : Machine). m.generation) is) (ap (λ (m : Machine). m.files) is)
 
-keeps_cursor : (old new : Machine) (id : ℕ) (cursor : Option Reader) → SetsCursor old new id cursor → Keeps old new
+keeps_cursor : (old new : Machine) (id : ℕ) (cursor : Option MachineCursor) → SetsCursor old new id cursor → Keeps old new
 keeps_cursor old new id cursor (sets, is) = keeps_all old new (ap (λ (m : Machine). m.generation) is) (ap (λ (m : Machine). m.files) is)
 
 keeps_last : (old new : Machine) (change : File → File) (f : File) → last_or None old.files ≡ Some f → f.shown ≤ (change f).shown → new.generation ≡ old.generation → new.files ≡ change_last change old.files → Keeps old new
@@ -61,7 +61,7 @@ commits_keep old new size shown is = by (last_or None old.files) refl
     by None last = keeps_all old new (ap (λ (m : Machine). m.generation) is) (ap (λ (m : Machine). m.files) is ∙ none old.files last)
     by (Some f) last = keeps_last old new (shown_whole size) f last (last_of (λ f. f.shown ≤ length f.entries) old.files f last shown) (ap (λ (m : Machine). m.generation) is) (ap (λ (m : Machine). m.files) is)
 
-pub does_keeps : (s : Config) (old : Machine) (event : Asked) (reply : Answered) (new : Machine) → IsSound s old → Does s old event reply new → Keeps old new
+pub does_keeps : (s : Config) (old : Machine) (event : EventValue) (reply : ReplyValue) (new : Machine) → IsSound s old → Does s old event reply new → Keeps old new
 does_keeps s old Mount replies.Done new sound is = keeps_all old new (ap (λ (m : Machine). m.generation) is) (ap (λ (m : Machine). m.files) is)
 does_keeps s old Dismount replies.Done new sound is = keeps_all old new (ap (λ (m : Machine). m.generation) is) (ap (λ (m : Machine). m.files) is)
 does_keeps s old (Tick count parts) replies.Done new sound does = by (is_recording old.mode) does

@@ -3,7 +3,7 @@ use Rattle.std.proofs.Common.{◌≡◌, ◌≤◌, ℕ, Bool, true, false, cond
 use Rattle.std.specs.List.{AllByRecursion, flat_map, last_or}
 use Rattle.std.proofs.lemmas.List.{append_assoc, append-nil}
 use Rattle.std.proofs.lemmas.List.Elements.{filter-append}
-use Rattle.r10_body.specs.Rules.{entry_on}
+use Rattle.r10_body.specs.Rules.{is_entry_on}
 use Rattle.r10_body.specs.Files.{on_channel}
 use Rattle.r10_body.specs.declared.entry.Entry.{Entry}
 use Rattle.r10_machine.specs.Machine.{File, Lane, change_last}
@@ -37,7 +37,7 @@ pub last_counts : (channel : ℕ) (change : File → File) (more : List Entry) �
 last_counts channel change more same files f is own =
     let before = flat_map (λ (f : File). f.entries) (own_files files) in
     ap (λ (l : List Entry). entry_counts (on_channel channel l)) (last_entries change more same files f is own)
-    ∙ ap entry_counts (filter-append (entry_on channel) before more)
+    ∙ ap entry_counts (filter-append (is_entry_on channel) before more)
     ∙ map-joined (λ (e : Entry). e.count) (on_channel channel before) (on_channel channel more)
 
 -- what holds of each own file, and of the last as it is changed, holds afterwards

@@ -5,9 +5,9 @@ use Rattle.std.proofs.lemmas.List.{length-append}
 use Rattle.std.proofs.lemmas.List.Elements.{All-tail}
 use Rattle.r10_count.specs.Checks.{first_broken}
 use Rattle.r10_medium.specs.Disk.{Image}
-use Rattle.r10_dirblock.specs.declared.entry.Entry.{Entry as Listed}
+use Rattle.r10_dirblock.specs.declared.entry.Entry.{Entry as DirectoryEntry}
 use Rattle.r10_dirchain.specs.declared.chain.ChainBlock.{ChainBlock}
-use Rattle.r10_dirchain.specs.Chain.{Holds, blank_block, files as listed_files}
+use Rattle.r10_dirchain.specs.Chain.{HoldsBlock, blank_block, listed_files}
 use Rattle.r10_dirchain.specs.Mount.{place_rules}
 use Rattle.r10_dirchain.proofs.Usable.{placed, place_rules_hold}
 use Rattle.r10_machine.specs.Config.{Config}
@@ -17,18 +17,18 @@ use Rattle.r10_machine.specs.Says.{SaysEach, AreFound, MediumHas}
 use Rattle.r10_machine.specs.Sound.{IsFoundFile}
 
 -- a block lists at most four files
-four_each : (image : Image) (chain : List ChainBlock) → All (Holds image) chain → length (listed_files chain) ≤ 4 * length chain
+four_each : (image : Image) (chain : List ChainBlock) → All (HoldsBlock image) chain → length (listed_files chain) ≤ 4 * length chain
 four_each image [] holds = omega arith
 four_each image (b ∷ chain) holds =
-    let here : Holds image b = holds 0 blank_block (omega arith) in
-    omega (arith, here.is.head.entries, four_each image chain (All-tail (Holds image) b chain holds), length-append b.block.entries (listed_files chain))
+    let here : HoldsBlock image b = holds 0 blank_block (omega arith) in
+    omega (arith, here.is.head.entries, four_each image chain (All-tail (HoldsBlock image) b chain holds), length-append b.block.entries (listed_files chain))
 
 -- and stands among the reserved ones
 few_blocks : (reserved : ℕ) (chain : List ChainBlock) → first_broken (place_rules reserved 1 chain) ≡ None → length chain ≤ reserved
 few_blocks reserved [] places = omega arith
 few_blocks reserved (b ∷ chain) places = let last = placed reserved 1 (b ∷ chain) places (length chain) (omega arith) in omega (arith, last.1)
 
-same_long : (image : Image) (entries : List Listed) (files : List File) → SaysEach image entries files → length files ≡ length entries
+same_long : (image : Image) (entries : List DirectoryEntry) (files : List File) → SaysEach image entries files → length files ≡ length entries
 same_long image [] [] says = refl
 same_long image (e ∷ entries) (f ∷ files) (lists, said, rest) = omega (arith, same_long image entries files rest)
 same_long image entries files says = absurd says

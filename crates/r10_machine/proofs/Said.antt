@@ -11,12 +11,12 @@ use Rattle.r10_medium.specs.Disk.{Block, Image, IsWhole, block_at}
 use Rattle.r10_medium.specs.Stop.{SameBelow}
 use Rattle.r10_medium.proofs.Bytes.{length-concat, whole_drop}
 use Rattle.r10_dirblock.specs.Block.{IsBlock}
-use Rattle.r10_dirblock.specs.declared.entry.Entry.{Entry as Listed}
+use Rattle.r10_dirblock.specs.declared.entry.Entry.{Entry as DirectoryEntry}
 use Rattle.r10_dirchain.specs.declared.chain.ChainBlock.{ChainBlock}
-use Rattle.r10_dirchain.specs.Chain.{Holds, files as listed_files}
+use Rattle.r10_dirchain.specs.Chain.{HoldsBlock, listed_files}
 use Rattle.r10_dirchain.specs.Mount.{mount_rules, place_rules, stands}
 use Rattle.r10_dirchain.specs.OnMedium.{SameButIn, Turned}
-use Rattle.r10_dirchain.specs.Steps.{with_last}
+use Rattle.r10_dirchain.specs.Steps.{with_last_entry}
 use Rattle.r10_dirchain.proofs.Standing.{Stand, usable_of}
 use Rattle.r10_dirchain.proofs.Usable.{none_broken, placed}
 use Rattle.r10_blockout.specs.Blocks.{bytes_from}
@@ -79,17 +79,17 @@ all_four : (a b c d : Bool) → (a && b && c && d) ≡ true → a ≡ true
 all_four true b c d is = refl
 all_four false b c d is = absurd (cc)
 
-here : (blocks n : ℕ) (e : Listed) → stands blocks n e ≡ true → e.first_block ≡ n
+here : (blocks n : ℕ) (e : DirectoryEntry) → stands blocks n e ≡ true → e.first_block ≡ n
 here blocks n e is = eqb-true e.first_block n (all_four (e.first_block == n) (nat_lt 0 e.size) (e.block_count == (e.size + 511) / 512) (nat_le (n + e.block_count) blocks) is)
 
 -- where a file ends, and the next begins
-after : (blocks n : ℕ) (e : Listed) (f : File) → stands blocks n e ≡ true → Lists f e → (f.first_block ≡ n) × (f.first_block + blocks_of f.size ≡ n + e.block_count)
+after : (blocks n : ℕ) (e : DirectoryEntry) (f : File) → stands blocks n e ≡ true → Lists f e → (f.first_block ≡ n) × (f.first_block + blocks_of f.size ≡ n + e.block_count)
 after blocks n e f is lists =
     let first : e.first_block ≡ n = here blocks n e is in
     (sym lists.first_block ∙ first, omega (arith, first, lists.first_block, lists.block_count))
 
 -- the last of files behind a block is behind it
-last_behind : (old : Image) (blocks n : ℕ) (entries : List Listed) (files : List File) (f : File) → Stand blocks n entries → SaysEach old entries (files ++ f ∷ []) → n ≤ f.first_block
+last_behind : (old : Image) (blocks n : ℕ) (entries : List DirectoryEntry) (files : List File) (f : File) → Stand blocks n entries → SaysEach old entries (files ++ f ∷ []) → n ≤ f.first_block
 last_behind old blocks n [] [] f stand each = absurd each
 last_behind old blocks n [] (g ∷ files) f stand each = absurd each
 last_behind old blocks n (e ∷ []) [] f stand each = let at = after blocks n e f stand.0 each.0 in omega (arith, at.0)
@@ -98,7 +98,7 @@ last_behind old blocks n (e ∷ entries) (g ∷ files) f stand each =
     let rest = last_behind old blocks (n + e.block_count) entries files f stand.1 each.2 in
     omega (arith, rest)
 
-grown_stay : (old new : Image) (blocks n : ℕ) (entries : List Listed) (files : List File) (f : File) → IsWhole old → (kept : ℕ) → SameBelow f.first_block kept old new
+grown_stay : (old new : Image) (blocks n : ℕ) (entries : List DirectoryEntry) (files : List File) (f : File) → IsWhole old → (kept : ℕ) → SameBelow f.first_block kept old new
     → bytes_from new f.first_block f.size ≡ bytes_from old f.first_block f.size → Stand blocks n entries → SaysEach old entries (files ++ f ∷ []) → SaysEach new entries (files ++ f ∷ [])
 grown_stay old new blocks n [] [] f whole kept same bytes stand each = absurd each
 grown_stay old new blocks n [] (g ∷ files) f whole kept same bytes stand each = absurd each
@@ -112,7 +112,7 @@ grown_stay old new blocks n (e ∷ entries) (g ∷ files) f whole kept same byte
       grown_stay old new blocks (n + e.block_count) entries files f whole kept same bytes stand.1 each.2,
     )
 
-grown_keep : (old new : Image) (blocks n : ℕ) (entries : List Listed) (files : List File) (f : File) → IsWhole old → (kept : ℕ) → SameBelow f.first_block kept old new
+grown_keep : (old new : Image) (blocks n : ℕ) (entries : List DirectoryEntry) (files : List File) (f : File) → IsWhole old → (kept : ℕ) → SameBelow f.first_block kept old new
     → bytes_from new f.first_block f.size ≡ bytes_from old f.first_block f.size → Stand blocks n entries → SaysEach old entries (files ++ f ∷ []) → KeepBytes old new (files ++ f ∷ [])
 grown_keep old new blocks n [] [] f whole kept same bytes stand each = absurd each
 grown_keep old new blocks n [] (g ∷ files) f whole kept same bytes stand each = absurd each
@@ -128,7 +128,7 @@ grown_keep old new blocks n (e ∷ entries) (g ∷ files) f whole kept same byte
 abbrev behind : Config → Option File → ℕ
 behind s d = elim d [ None ↦ 1 + s.directory | Some f ↦ f.first_block + blocks_of f.size ]
 
-behind_rises : (s : Config) (old : Image) (blocks : ℕ) (d : Option File) (entries : List Listed) (files : List File) → Stand blocks (behind s d) entries → SaysEach old entries files → behind s d ≤ behind s (last_or d files)
+behind_rises : (s : Config) (old : Image) (blocks : ℕ) (d : Option File) (entries : List DirectoryEntry) (files : List File) → Stand blocks (behind s d) entries → SaysEach old entries files → behind s d ≤ behind s (last_or d files)
 behind_rises s old blocks d [] [] stand each = omega arith
 behind_rises s old blocks d [] (f ∷ files) stand each = absurd each
 behind_rises s old blocks d (e ∷ entries) [] stand each = absurd each
@@ -137,7 +137,7 @@ behind_rises s old blocks d (e ∷ entries) (f ∷ files) stand each =
     let rest = behind_rises s old blocks (Some f) entries files (subst (λ (k : ℕ). Stand blocks k entries) (sym at.1) stand.1) each.2 in
     omega (arith, rest, at.1)
 
-closed_stay : (s : Config) (old new : Image) (blocks : ℕ) (d : Option File) (entries : List Listed) (files : List File) → IsWhole old → (kept : ℕ) → SameBelow (behind s (last_or d files)) kept old new
+closed_stay : (s : Config) (old new : Image) (blocks : ℕ) (d : Option File) (entries : List DirectoryEntry) (files : List File) → IsWhole old → (kept : ℕ) → SameBelow (behind s (last_or d files)) kept old new
     → Stand blocks (behind s d) entries → SaysEach old entries files → SaysEach new entries files
 closed_stay s old new blocks d [] [] whole kept same stand each = tt
 closed_stay s old new blocks d [] (f ∷ files) whole kept same stand each = absurd each
@@ -151,7 +151,7 @@ closed_stay s old new blocks d (e ∷ entries) (f ∷ files) whole kept same sta
       closed_stay s old new blocks (Some f) entries files whole kept same next each.2,
     )
 
-closed_keep : (s : Config) (old new : Image) (blocks : ℕ) (d : Option File) (entries : List Listed) (files : List File) → IsWhole old → (kept : ℕ) → SameBelow (behind s (last_or d files)) kept old new
+closed_keep : (s : Config) (old new : Image) (blocks : ℕ) (d : Option File) (entries : List DirectoryEntry) (files : List File) → IsWhole old → (kept : ℕ) → SameBelow (behind s (last_or d files)) kept old new
     → Stand blocks (behind s d) entries → SaysEach old entries files → KeepBytes old new files
 closed_keep s old new blocks d [] [] whole kept same stand each = tt
 closed_keep s old new blocks d [] (f ∷ files) whole kept same stand each = absurd each
@@ -166,14 +166,14 @@ closed_keep s old new blocks d (e ∷ entries) (f ∷ files) whole kept same sta
 
 -- ---- the directory
 
-chain_stays : (old new : Image) (reserved n m : ℕ) (chain : List ChainBlock) → (kept : ℕ) → SameBelow m kept old new → reserved < m → first_broken (place_rules reserved n chain) ≡ None → All (Holds old) chain → All (Holds new) chain
-chain_stays old new reserved n m [] kept same less places all = All-nil (Holds new)
+chain_stays : (old new : Image) (reserved n m : ℕ) (chain : List ChainBlock) → (kept : ℕ) → SameBelow m kept old new → reserved < m → first_broken (place_rules reserved n chain) ≡ None → All (HoldsBlock old) chain → All (HoldsBlock new) chain
+chain_stays old new reserved n m [] kept same less places all = All-nil (HoldsBlock new)
 chain_stays old new reserved n m (b ∷ chain) kept same less places all =
     let at = placed reserved n (b ∷ chain) places 0 (omega arith) in
-    let holds : Holds old b = All-head (Holds old) b chain all in
-    All-cons (Holds new) b chain
+    let holds : HoldsBlock old b = All-head (HoldsBlock old) b chain all in
+    All-cons (HoldsBlock new) b chain
     (record { within = omega (arith, holds.within, same.size); is = subst (λ (c : Block). IsBlock c b.block) (sym (same.blocks b.number (omega (arith, at.0, at.1, less)))) holds.is })
-    (chain_stays old new reserved (n + 1) m chain kept same less (none_broken (b.number == n && nat_le n reserved) b.number (place_rules reserved (n + 1) chain) places).1 (All-tail (Holds old) b chain all))
+    (chain_stays old new reserved (n + 1) m chain kept same less (none_broken (b.number == n && nat_le n reserved) b.number (place_rules reserved (n + 1) chain) places).1 (All-tail (HoldsBlock old) b chain all))
 
 -- ---- the whole
 
@@ -228,7 +228,7 @@ behind_stays : (old new : Image) (f : File) (reserved : ℕ) (numbers : List ℕ
 behind_stays old new f reserved numbers whole same all less says =
     file_stays old new f same.size (bytes_behind old new f reserved numbers whole same all less says) says
 
-each_behind_stays : (old new : Image) (blocks n reserved : ℕ) (numbers : List ℕ) (entries : List Listed) (files : List File) → IsWhole old → SameButIn numbers old new → All (λ (n : ℕ). n ≤ reserved) numbers → reserved < n
+each_behind_stays : (old new : Image) (blocks n reserved : ℕ) (numbers : List ℕ) (entries : List DirectoryEntry) (files : List File) → IsWhole old → SameButIn numbers old new → All (λ (n : ℕ). n ≤ reserved) numbers → reserved < n
     → Stand blocks n entries → SaysEach old entries files → SaysEach new entries files
 each_behind_stays old new blocks n reserved numbers [] [] whole same all less stand each = tt
 each_behind_stays old new blocks n reserved numbers [] (f ∷ files) whole same all less stand each = absurd each
@@ -240,7 +240,7 @@ each_behind_stays old new blocks n reserved numbers (e ∷ entries) (f ∷ files
       each_behind_stays old new blocks (n + e.block_count) reserved numbers entries files whole same all (omega (arith, less)) stand.1 each.2,
     )
 
-each_behind_keeps : (old new : Image) (blocks n reserved : ℕ) (numbers : List ℕ) (entries : List Listed) (files : List File) → IsWhole old → SameButIn numbers old new → All (λ (n : ℕ). n ≤ reserved) numbers → reserved < n
+each_behind_keeps : (old new : Image) (blocks n reserved : ℕ) (numbers : List ℕ) (entries : List DirectoryEntry) (files : List File) → IsWhole old → SameButIn numbers old new → All (λ (n : ℕ). n ≤ reserved) numbers → reserved < n
     → Stand blocks n entries → SaysEach old entries files → KeepBytes old new files
 each_behind_keeps old new blocks n reserved numbers [] [] whole same all less stand each = tt
 each_behind_keeps old new blocks n reserved numbers [] (f ∷ files) whole same all less stand each = absurd each
@@ -267,19 +267,19 @@ directory_turns s old new chain changed files whole blocks turned all mounts eac
 
 -- ---- files that are listed
 
-pub one_more_said : (image : Image) (entries : List Listed) (files : List File) (e : Listed) (f : File) → SaysEach image entries files → Lists f e → SaysFile image f → SaysEach image (entries ++ e ∷ []) (files ++ f ∷ [])
+pub one_more_said : (image : Image) (entries : List DirectoryEntry) (files : List File) (e : DirectoryEntry) (f : File) → SaysEach image entries files → Lists f e → SaysFile image f → SaysEach image (entries ++ e ∷ []) (files ++ f ∷ [])
 one_more_said image [] [] e f each lists says = (lists, says, tt)
 one_more_said image [] (g ∷ files) e f each lists says = absurd each
 one_more_said image (d ∷ entries) [] e f each lists says = absurd each
 one_more_said image (d ∷ entries) (g ∷ files) e f each lists says = (each.0, each.1, one_more_said image entries files e f each.2 lists says)
 
-behind_first : (e d c : Listed) (entries : List Listed) → with_last e (d ∷ c ∷ entries) ≡ d ∷ with_last e (c ∷ entries)
+behind_first : (e d c : DirectoryEntry) (entries : List DirectoryEntry) → with_last_entry e (d ∷ c ∷ entries) ≡ d ∷ with_last_entry e (c ∷ entries)
 behind_first e d c entries = ap (λ (k : ℕ). take k (d ∷ c ∷ entries) ++ e ∷ []) one_more
   where
     one_more : length (d ∷ c ∷ entries) - 1 ≡ suc (length (c ∷ entries) - 1)
     one_more = omega arith
 
-pub last_said : (image : Image) (entries : List Listed) (files : List File) (g : File) (e : Listed) (f : File) → SaysEach image entries (files ++ g ∷ []) → Lists f e → SaysFile image f → SaysEach image (with_last e entries) (files ++ f ∷ [])
+pub last_said : (image : Image) (entries : List DirectoryEntry) (files : List File) (g : File) (e : DirectoryEntry) (f : File) → SaysEach image entries (files ++ g ∷ []) → Lists f e → SaysFile image f → SaysEach image (with_last_entry e entries) (files ++ f ∷ [])
 last_said image [] [] g e f each lists says = absurd each
 last_said image [] (h ∷ files) g e f each lists says = absurd each
 last_said image (d ∷ []) [] g e f each lists says = (lists, says, tt)
@@ -287,4 +287,4 @@ last_said image (d ∷ c ∷ entries) [] g e f each lists says = absurd each.2
 last_said image (d ∷ []) (h ∷ []) g e f each lists says = absurd each.2
 last_said image (d ∷ []) (h ∷ i ∷ files) g e f each lists says = absurd each.2
 last_said image (d ∷ c ∷ entries) (h ∷ files) g e f each lists says =
-    subst (λ (l : List Listed). SaysEach image l (h ∷ (files ++ f ∷ []))) (sym (behind_first e d c entries)) (each.0, each.1, last_said image (c ∷ entries) files g e f each.2 lists says)
+    subst (λ (l : List DirectoryEntry). SaysEach image l (h ∷ (files ++ f ∷ []))) (sym (behind_first e d c entries)) (each.0, each.1, last_said image (c ∷ entries) files g e f each.2 lists says)

@@ -11,16 +11,16 @@ use Rattle.r10_medium.specs.Disk.{Image}
 use Rattle.r10_machine.specs.declared.mode.Mode.TheVariants as modes
 use Rattle.r10_machine.specs.Config.{Config}
 use Rattle.r10_machine.specs.Limits.{IsConfig}
-use Rattle.r10_machine.specs.Machine.{Machine, Tick as Ticked, Lane, File, cursor_of, lane_of, shown_entries, with_lane}
+use Rattle.r10_machine.specs.Machine.{Machine, Tick as MachineTick, Lane, File, cursor_of, lane_of, shown_entries, with_lane}
 use Rattle.r10_machine.specs.Checks.{mounted_checks, idle_checks, recording_checks, begin_checks, tick_checks, cursor_checks, channel_checks, offer_checks, last_tick, is_taken, is_sealed, in_48_bits}
 use Rattle.r10_machine.specs.Calls.{overflowed}
 use Rattle.r10_machine.specs.Needs.{shown_part}
 use Rattle.r10_machine.specs.SoundParts.{IsSoundLane, IsSoundCursor}
 use Rattle.r10_machine.proofs.Steady.{checks_pass, parts_pass, some_each, records_of, idle_works}
 use Rattle.r10_machine.proofs.Growing.{dropped_sound}
-use Rattle.r10_machine.specs.declared.event.Event.{Event as Asked}
+use Rattle.r10_machine.specs.declared.event.Event.{Event as EventValue}
 use Rattle.r10_machine.specs.declared.event.Event.TheVariants.{Mount, Dismount, Tick, Start, Offer, Pump, Event, Commit, Stop, Seal, Erase, Files, Status, Cursor, Advance, Next, Close, Find, CountAt}
-use Rattle.r10_machine.specs.declared.reply.Reply.{Reply as Answered}
+use Rattle.r10_machine.specs.declared.reply.Reply.{Reply as ReplyValue}
 use Rattle.r10_machine.specs.declared.reply.Reply.TheVariants as replies
 use Rattle.r10_machine.specs.EventChecks.{refusal, start_checks, file_checks, event_checks, seal_checks, erase_checks, most_files}
 use Rattle.r10_machine.specs.Step.{Step, Run, Replies, Refuses, GivesUp, Does, FailsIn, LanesAfter, after_refusal}
@@ -49,11 +49,11 @@ file_there files file from to fine =
 
 -- ---- what a call does
 
-does_sound : (s : Config) (old : Machine) (event : Asked) (reply : Answered) (new : Machine) → IsConfig s → IsSound s old → refusal s old event ≡ None → Does s old event reply new → IsSound s new
+does_sound : (s : Config) (old : Machine) (event : EventValue) (reply : ReplyValue) (new : Machine) → IsConfig s → IsSound s old → refusal s old event ≡ None → Does s old event reply new → IsSound s new
 does_sound s old Mount replies.Done new config sound fine is = subst (IsSound s) (sym is) (mounts_sound s old sound fine)
 does_sound s old Dismount replies.Done new config sound fine is = subst (IsSound s) (sym is) (dismounts_sound s old sound fine)
 does_sound s old (Tick count parts) replies.Done new config sound fine does =
-    let tick : Ticked = record { count = count; civil = parts } in
+    let tick : MachineTick = record { count = count; civil = parts } in
     ticks_sound s old tick new config sound (parts_pass (mounted_checks old.mode) (tick_checks (last_tick old) count parts) fine).1 does
 does_sound s old (Start name setup) replies.Done new config sound fine does =
     let parts = parts_pass (idle_checks old.mode) (start_checks s old name setup) fine in
@@ -85,7 +85,7 @@ does_sound s old event reply new config sound fine does = absurd does
 
 -- ---- refusals
 
-refusal_sound : (s : Config) (event : Asked) (old : Machine) → IsSound s old → IsSound s (after_refusal event old)
+refusal_sound : (s : Config) (event : EventValue) (old : Machine) → IsSound s old → IsSound s (after_refusal event old)
 refusal_sound s (Offer channel count message) old sound = by (is_none (first_broken (offer_checks (lane_of channel old) count message)))
   where
     by : (b : Bool) → IsSound s (cond b (with_lane channel overflowed old) old)
@@ -95,7 +95,7 @@ refusal_sound s event old sound = sound
 
 -- ---- failures of the medium
 
-lost_specs : (event : Asked) (olds ends news : List Lane) → LanesAfter event olds ends news → map (λ lane. lane.spec) news ≡ map (λ lane. lane.spec) olds
+lost_specs : (event : EventValue) (olds ends news : List Lane) → LanesAfter event olds ends news → map (λ lane. lane.spec) news ≡ map (λ lane. lane.spec) olds
 lost_specs event [] [] [] after = refl
 lost_specs event (old ∷ olds) (end ∷ ends) (new ∷ news) ((n, most, is), after) =
     let here : new.spec ≡ old.spec = ap (λ (l : Lane). l.spec) is in
@@ -103,7 +103,7 @@ lost_specs event (old ∷ olds) (end ∷ ends) (new ∷ news) ((n, most, is), af
     ap (λ (c : ChannelSpec). c ∷ map (λ lane. lane.spec) news) here ∙ ap (λ (l : List ChannelSpec). old.spec ∷ l) rest
 lost_specs event olds ends news after = absurd after
 
-lost_sound : (event : Asked) (olds ends news : List Lane) → LanesAfter event olds ends news → AllByRecursion IsSoundLane olds → AllByRecursion IsSoundLane news
+lost_sound : (event : EventValue) (olds ends news : List Lane) → LanesAfter event olds ends news → AllByRecursion IsSoundLane olds → AllByRecursion IsSoundLane news
 lost_sound event [] [] [] after all = tt
 lost_sound event (old ∷ olds) (end ∷ ends) (new ∷ news) ((n, most, is), after) (here, all) =
     let less = dropped_sound n old here in
@@ -133,7 +133,7 @@ parts_there (new ∷ news) (end ∷ ends) same zero n there =
     omega (arith, shown, there)
 parts_there (new ∷ news) (end ∷ ends) same (suc i) n there = parts_there news ends (same_heads new end news ends same).1 i n there
 
-fails_sound : (s : Config) (old : Machine) (event : Asked) (new : Machine) → IsConfig s → IsSound s old → refusal s old event ≡ None → FailsIn s old event new → IsSound s new
+fails_sound : (s : Config) (old : Machine) (event : EventValue) (new : Machine) → IsConfig s → IsSound s old → refusal s old event ≡ None → FailsIn s old event new → IsSound s new
 fails_sound s old event new config sound fine fails =
     let end = fails.end in
     let ends : IsSound s end = elim fails.either [ inl is ↦ subst (IsSound s) (sym is) sound | inr done ↦ does_sound s old event done.0 end config sound fine done.1 ] in
@@ -159,12 +159,12 @@ fails_sound s old event new config sound fine fails =
 
 -- ---- steps
 
-gives_up_sound : (s : Config) (before : ℕ) (old : Machine) (event : Asked) (r : Refusal) (new : Machine) → IsConfig s → IsSound s old → refusal s old event ≡ None → GivesUp s before old event r new → IsSound s new
+gives_up_sound : (s : Config) (before : ℕ) (old : Machine) (event : EventValue) (r : Refusal) (new : Machine) → IsConfig s → IsSound s old → refusal s old event ≡ None → GivesUp s before old event r new → IsSound s new
 gives_up_sound s before old event Medium new config sound fine (uses, room, rose, fails) = fails_sound s old event new config sound fine fails
 gives_up_sound s before old event OutOfMemory new config sound fine (asks, room, is) = subst (IsSound s) (sym is) sound
 gives_up_sound s before old event r new config sound fine given = subst (IsSound s) (sym given.1) sound
 
-replies_sound : (s : Config) (before : ℕ) (old : Machine) (event : Asked) (reply : Answered) (new : Machine) → IsConfig s → IsSound s old → Replies s before old event reply new → IsSound s new
+replies_sound : (s : Config) (before : ℕ) (old : Machine) (event : EventValue) (reply : ReplyValue) (new : Machine) → IsConfig s → IsSound s old → Replies s before old event reply new → IsSound s new
 replies_sound s before old event (replies.Refused r) new config sound refuses = by (refusal s old event) refl refuses
   where
     by : (o : Option Refusal) → refusal s old event ≡ o → Refuses o s before old event r new → IsSound s new
@@ -172,11 +172,11 @@ replies_sound s before old event (replies.Refused r) new config sound refuses = 
     by (Some first) is (same, after) = subst (IsSound s) (sym after) (refusal_sound s event old sound)
 replies_sound s before old event reply new config sound (fine, does) = does_sound s old event reply new config sound fine does
 
-pub step_sound : (s : Config) (old : Machine) (event : Asked) (reply : Answered) (new : Machine) → IsConfig s → IsSound s old → Step s old event reply new → IsSound s new
+pub step_sound : (s : Config) (old : Machine) (event : EventValue) (reply : ReplyValue) (new : Machine) → IsConfig s → IsSound s old → Step s old event reply new → IsSound s new
 step_sound s old event reply new config sound (more, replied) =
     replies_sound s old.failures (record old { failures = new.failures }) event reply new config (sound_with s old old.cursors new.failures sound sound.cursors) replied
 
-pub run_sound : (s : Config) (old : Machine) (events : List Asked) (rs : List Answered) (images : List Image) (new : Machine) → IsConfig s → IsSound s old → Run s old events rs images new → IsSound s new
+pub run_sound : (s : Config) (old : Machine) (events : List EventValue) (rs : List ReplyValue) (images : List Image) (new : Machine) → IsConfig s → IsSound s old → Run s old events rs images new → IsSound s new
 run_sound s old [] [] [] new config sound is = subst (IsSound s) (sym is) sound
 run_sound s old (e ∷ events) (r ∷ rs) (i ∷ images) new config sound (mid, step, says, rest) = run_sound s mid events rs images new config (step_sound s old e r mid config sound step) rest
 run_sound s old events rs images new config sound is = absurd is

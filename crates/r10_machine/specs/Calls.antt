@@ -1,7 +1,7 @@
 -- What each call does that is neither refused nor fails: the answer and the new state.
 use Rattle.std.specs.Prelude.{◌≡◌, ℕ, ◌+◌, ◌<◌, Bool, true, false, List, [], ◌∷◌, ◌++◌, length, map, take, drop, count_by, Option, Some, None, IsSomeAnd, nat_lt, slice_get}
 use Rattle.std.specs.List.{flat_map, sum_by}
-use Rattle.r10_body.specs.Rules.{entry_on}
+use Rattle.r10_body.specs.Rules.{is_entry_on}
 use Rattle.r10_body.specs.declared.entry.Entry.{Entry}
 use Rattle.r10_body.specs.declared.message.Message.{Message}
 use Rattle.r10_body.specs.declared.message.Message.TheVariants as messages
@@ -97,7 +97,7 @@ all_waiting lanes = flat_map (λ channel. front_of (lane_in channel lanes)) (ris
 
 -- each lane loses its own of these entries
 abbrev pub lanes_without : List Entry → List Lane → List Lane
-lanes_without entries lanes = map (λ lane. without (count_by (entry_on lane.spec.id) entries) lane) lanes
+lanes_without entries lanes = map (λ lane. without (count_by (is_entry_on lane.spec.id) entries) lane) lanes
 
 abbrev pub waiting_count : List Lane → ℕ
 waiting_count lanes = sum_by (λ lane. length lane.waiting) lanes

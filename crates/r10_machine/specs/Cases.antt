@@ -7,9 +7,9 @@ use Rattle.r10_machine.specs.declared.mode.Mode.TheVariants.{Idle, Recording, Fa
 use Rattle.r10_machine.specs.Machine.{Machine, File, Lane, with_lane}
 use Rattle.r10_machine.specs.Calls.{accepted, overflowed, without}
 use Rattle.r10_machine.specs.SmallCases.{narrow, four_bytes, full_file, one_node}
-use Rattle.r10_machine.specs.Vectors.{settings, channel, new, mounted, ticked, started, filled, lost, stopped, begun, time_entry, leap_day, name, text, entry, read}
-use Rattle.r10_machine.specs.declared.event.Event.TheVariants as ask
-use Rattle.r10_machine.specs.declared.reply.Reply.TheVariants as say
+use Rattle.r10_machine.specs.Vectors.{settings, channel, new, mounted, ticked, started, filled_lane, lost, stopped, begun, first_time, leap_day, name, text, entry, read}
+use Rattle.r10_machine.specs.declared.event.Event.TheVariants as events
+use Rattle.r10_machine.specs.declared.reply.Reply.TheVariants as replies
 use Rattle.r10_machine.specs.Finding.{found, count_at, status_of, free_bytes}
 use Rattle.r10_machine.specs.EventChecks.{refusal}
 use Rattle.r10_machine.specs.ControlCalls.{event_entry, erased_with}
@@ -17,194 +17,194 @@ use Rattle.r10_machine.specs.Step.{Step, Replies, has_room}
 
 -- ---- refusals in every mode
 
-pub commit-idle : refusal settings mounted ask.Commit ≡ Some refusals.NotRecording
+pub commit-idle : refusal settings mounted events.Commit ≡ Some refusals.NotRecording
 commit-idle = refl
 
-pub erase-recording : refusal settings started ask.Erase ≡ Some refusals.Busy
+pub erase-recording : refusal settings started events.Erase ≡ Some refusals.Busy
 erase-recording = refl
 
-pub dismount-recording : refusal settings started ask.Dismount ≡ Some refusals.Busy
+pub dismount-recording : refusal settings started events.Dismount ≡ Some refusals.Busy
 dismount-recording = refl
 
-pub dismount-unmounted : refusal settings new ask.Dismount ≡ Some refusals.NotMounted
+pub dismount-unmounted : refusal settings new events.Dismount ≡ Some refusals.NotMounted
 dismount-unmounted = refl
 
-pub event-too-large : refusal settings started (ask.Event 4096 1000) ≡ Some refusals.BadEvent
+pub event-too-large : refusal settings started (events.Event 4096 1000) ≡ Some refusals.BadEvent
 event-too-large = refl
 
 -- a count is judged before the number
-pub event-out-of-range : refusal settings started (ask.Event 4096 281474976710656) ≡ Some refusals.CountRange
+pub event-out-of-range : refusal settings started (events.Event 4096 281474976710656) ≡ Some refusals.CountRange
 event-out-of-range = refl
 
-pub event-back : refusal settings (record started { last_event = Some 1000 }) (ask.Event 4096 999) ≡ Some refusals.CountBack
+pub event-back : refusal settings (record started { last_event = Some 1000 }) (events.Event 4096 999) ≡ Some refusals.CountBack
 event-back = refl
 
-pub seal-of-nothing : refusal settings mounted ask.Seal ≡ Some refusals.NoSuchFile
+pub seal-of-nothing : refusal settings mounted events.Seal ≡ Some refusals.NoSuchFile
 seal-of-nothing = refl
 
-pub seal-of-closed : refusal settings stopped ask.Seal ≡ Some refusals.NoSuchFile
+pub seal-of-closed : refusal settings stopped events.Seal ≡ Some refusals.NoSuchFile
 seal-of-closed = refl
 
-pub seal-of-open : refusal settings (record stopped { files = begun ∷ [] }) ask.Seal ≡ None
+pub seal-of-open : refusal settings (record stopped { files = begun ∷ [] }) events.Seal ≡ None
 seal-of-open = refl
 
-pub files-unmounted : refusal settings new ask.Files ≡ Some refusals.NotMounted
+pub files-unmounted : refusal settings new events.Files ≡ Some refusals.NotMounted
 files-unmounted = refl
 
-pub status-failed : refusal settings (record started { mode = Failed }) ask.Status ≡ None
+pub status-failed : refusal settings (record started { mode = Failed }) events.Status ≡ None
 status-failed = refl
 
-pub erase-at-the-end : refusal settings (record stopped { generation = 2 ^ 64 - 1 }) ask.Erase ≡ Some refusals.Stale
+pub erase-at-the-end : refusal settings (record stopped { generation = 2 ^ 64 - 1 }) events.Erase ≡ Some refusals.Stale
 erase-at-the-end = refl
 
-pub find-in-no-file : refusal settings stopped (ask.Find 1 5 0) ≡ Some refusals.NoSuchFile
+pub find-in-no-file : refusal settings stopped (events.Find 1 5 0) ≡ Some refusals.NoSuchFile
 find-in-no-file = refl
 
-pub find-out-of-range : refusal settings stopped (ask.Find 1 5 281474976710656) ≡ Some refusals.CountRange
+pub find-out-of-range : refusal settings stopped (events.Find 1 5 281474976710656) ≡ Some refusals.CountRange
 find-out-of-range = refl
 
-pub count-at-no-date : refusal settings stopped (ask.CountAt 1 (record leap_day { day = 30 })) ≡ Some refusals.BadCivil
+pub count-at-no-date : refusal settings stopped (events.CountAt 1 (record leap_day { day = 30 })) ≡ Some refusals.BadCivil
 count-at-no-date = refl
 
 -- two directory blocks list eight files
 abbrev pub file_called : ℕ → File
 file_called letter = record begun { name = letter ∷ []; closed = true }
 
-pub ninth-file : refusal settings (record ticked { files = map file_called (0x41 ∷ 0x42 ∷ 0x43 ∷ 0x44 ∷ 0x45 ∷ 0x46 ∷ 0x47 ∷ 0x48 ∷ []) }) (ask.Start (0x49 ∷ []) []) ≡ Some refusals.DirectoryFull
+pub ninth-file : refusal settings (record ticked { files = map file_called (0x41 ∷ 0x42 ∷ 0x43 ∷ 0x44 ∷ 0x45 ∷ 0x46 ∷ 0x47 ∷ 0x48 ∷ []) }) (events.Start (0x49 ∷ []) []) ≡ Some refusals.DirectoryFull
 ninth-file = refl
 
-pub eighth-file : refusal settings (record ticked { files = map file_called (0x41 ∷ 0x42 ∷ 0x43 ∷ 0x44 ∷ 0x45 ∷ 0x46 ∷ 0x47 ∷ []) }) (ask.Start (0x49 ∷ []) []) ≡ None
+pub eighth-file : refusal settings (record ticked { files = map file_called (0x41 ∷ 0x42 ∷ 0x43 ∷ 0x44 ∷ 0x45 ∷ 0x46 ∷ 0x47 ∷ []) }) (events.Start (0x49 ∷ []) []) ≡ None
 eighth-file = refl
 
-pub stale-cursor : refusal settings (record (read 0 [] stopped) { files = []; generation = 1 }) (ask.Advance 0) ≡ Some refusals.Stale
+pub stale-cursor : refusal settings (record (read 0 [] stopped) { files = []; generation = 1 }) (events.Advance 0) ≡ Some refusals.Stale
 stale-cursor = refl
 
 -- ---- the modes
 
-pub unmounted-pump : refusal settings new (ask.Pump 5 1) ≡ Some refusals.NotMounted
+pub unmounted-pump : refusal settings new (events.Pump 5 1) ≡ Some refusals.NotMounted
 unmounted-pump = refl
 
-pub mounted-again : refusal settings mounted ask.Mount ≡ Some refusals.AlreadyMounted
+pub mounted-again : refusal settings mounted events.Mount ≡ Some refusals.AlreadyMounted
 mounted-again = refl
 
-pub mount-recording : refusal settings started ask.Mount ≡ Some refusals.AlreadyMounted
+pub mount-recording : refusal settings started events.Mount ≡ Some refusals.AlreadyMounted
 mount-recording = refl
 
-pub stop-idle : refusal settings mounted ask.Stop ≡ Some refusals.NotRecording
+pub stop-idle : refusal settings mounted events.Stop ≡ Some refusals.NotRecording
 stop-idle = refl
 
 -- offers are taken in every mode, and nothing else by a recorder that failed
-abbrev pub failed : Machine
-failed = record started { mode = Failed }
+abbrev pub failed_machine : Machine
+failed_machine = record started { mode = Failed }
 
-pub stop-failed : refusal settings failed ask.Stop ≡ Some refusals.Failed
+pub stop-failed : refusal settings failed_machine events.Stop ≡ Some refusals.Failed
 stop-failed = refl
 
-pub mount-failed : refusal settings failed ask.Mount ≡ Some refusals.Failed
+pub mount-failed : refusal settings failed_machine events.Mount ≡ Some refusals.Failed
 mount-failed = refl
 
-pub offer-unmounted : refusal settings new (ask.Offer 5 0 (text [])) ≡ None
+pub offer-unmounted : refusal settings new (events.Offer 5 0 (text [])) ≡ None
 offer-unmounted = refl
 
-pub offer-failed : refusal settings failed (ask.Offer 5 1001 (text [])) ≡ None
+pub offer-failed : refusal settings failed_machine (events.Offer 5 1001 (text [])) ≡ None
 offer-failed = refl
 
 -- ---- starts and ticks
 
-pub no-time : refusal settings mounted (ask.Start [] []) ≡ Some refusals.NoTime
+pub no-time : refusal settings mounted (events.Start [] []) ≡ Some refusals.NoTime
 no-time = refl
 
-pub setup-too-long : (text : List ℕ) → length text ≡ 524261 → refusal settings mounted (ask.Start [] text) ≡ Some refusals.TooLong
+pub setup-too-long : (text : List ℕ) → length text ≡ 524261 → refusal settings mounted (events.Start [] text) ≡ Some refusals.TooLong
 setup-too-long text long = rw long refl
 
-pub bad-name : refusal settings ticked (ask.Start [] []) ≡ Some refusals.BadName
+pub bad-name : refusal settings ticked (events.Start [] []) ≡ Some refusals.BadName
 bad-name = refl
 
-pub start-recording : refusal settings started (ask.Start [] []) ≡ Some refusals.Busy
+pub start-recording : refusal settings started (events.Start [] []) ≡ Some refusals.Busy
 start-recording = refl
 
-pub taken-name : refusal settings stopped (ask.Start name []) ≡ Some refusals.NameTaken
+pub taken-name : refusal settings stopped (events.Start name []) ≡ Some refusals.NameTaken
 taken-name = refl
 
 -- two directory blocks have room for more files
-pub second-file : refusal settings stopped (ask.Start (0x46 ∷ []) []) ≡ None
+pub second-file : refusal settings stopped (events.Start (0x46 ∷ []) []) ≡ None
 second-file = refl
 
-pub unsealed : refusal settings (record stopped { files = begun ∷ [] }) (ask.Start (0x46 ∷ []) []) ≡ Some refusals.Unsealed
+pub unsealed : refusal settings (record stopped { files = begun ∷ [] }) (events.Start (0x46 ∷ []) []) ≡ Some refusals.Unsealed
 unsealed = refl
 
-pub no-such-date : refusal settings mounted (ask.Tick 1000 (record leap_day { year = 2023 })) ≡ Some refusals.BadCivil
+pub no-such-date : refusal settings mounted (events.Tick 1000 (record leap_day { year = 2023 })) ≡ Some refusals.BadCivil
 no-such-date = refl
 
-pub tick-back : refusal settings ticked (ask.Tick 999 leap_day) ≡ Some refusals.CountBack
+pub tick-back : refusal settings ticked (events.Tick 999 leap_day) ≡ Some refusals.CountBack
 tick-back = refl
 
-pub tick-again : refusal settings ticked (ask.Tick 1000 leap_day) ≡ None
+pub tick-again : refusal settings ticked (events.Tick 1000 leap_day) ≡ None
 tick-again = refl
 
-pub tick-out-of-range : refusal settings ticked (ask.Tick 281474976710656 leap_day) ≡ Some refusals.CountRange
+pub tick-out-of-range : refusal settings ticked (events.Tick 281474976710656 leap_day) ≡ Some refusals.CountRange
 tick-out-of-range = refl
 
 -- a tick while recording is an entry
-pub tick-recording : Step settings started (ask.Tick 2000 leap_day) say.Done
-    (record started { tick = Some (record { count = 2000; civil = leap_day }); files = record begun { entries = time_entry ∷ record time_entry { count = 2000 } ∷ [] } ∷ [] })
+pub tick-recording : Step settings started (events.Tick 2000 leap_day) replies.Done
+    (record started { tick = Some (record { count = 2000; civil = leap_day }); files = record begun { entries = first_time ∷ record first_time { count = 2000 } ∷ [] } ∷ [] })
 tick-recording = (lit≤ tt, (refl, (refl, refl)))
 
 -- ---- offers and pumps
 
-pub no-channel : refusal settings started (ask.Offer 99 1000 (text [])) ≡ Some refusals.NoSuchChannel
+pub no-channel : refusal settings started (events.Offer 99 1000 (text [])) ≡ Some refusals.NoSuchChannel
 no-channel = refl
 
-pub pump-no-channel : refusal settings started (ask.Pump 99 1) ≡ Some refusals.NoSuchChannel
+pub pump-no-channel : refusal settings started (events.Pump 99 1) ≡ Some refusals.NoSuchChannel
 pump-no-channel = refl
 
-pub time-offered : refusal settings started (ask.Offer 5 1001 (messages.Time leap_day)) ≡ Some refusals.WrongKind
+pub time-offered : refusal settings started (events.Offer 5 1001 (messages.Time leap_day)) ≡ Some refusals.WrongKind
 time-offered = refl
 
-pub sub-too-large : refusal settings started (ask.Offer 5 281474976710656 (messages.Uart false 16384 [])) ≡ Some refusals.BadMessage
+pub sub-too-large : refusal settings started (events.Offer 5 281474976710656 (messages.Uart false 16384 [])) ≡ Some refusals.BadMessage
 sub-too-large = refl
 
 -- a packet of 128 bytes has room for a message of 88 without a checksum, and of 86 with one
 abbrev pub short : ℕ → Machine
 short check = record new { lanes = record { spec = record (channel 5 2) { check = check; bytes = 128 }; waiting = []; last = None; missed = 0; lost = 0; erased = 0 } ∷ [] }
 
-pub longest : refusal settings (short 0) (ask.Offer 5 1000 (text (replicate 88 0))) ≡ None
+pub longest : refusal settings (short 0) (events.Offer 5 1000 (text (replicate 88 0))) ≡ None
 longest = refl
 
-pub too-long : refusal settings (short 0) (ask.Offer 5 281474976710656 (text (replicate 89 0))) ≡ Some refusals.TooLong
+pub too-long : refusal settings (short 0) (events.Offer 5 281474976710656 (text (replicate 89 0))) ≡ Some refusals.TooLong
 too-long = refl
 
-pub longest-checked : refusal settings (short 8) (ask.Offer 5 1000 (text (replicate 86 0))) ≡ None
+pub longest-checked : refusal settings (short 8) (events.Offer 5 1000 (text (replicate 86 0))) ≡ None
 longest-checked = refl
 
-pub too-long-checked : refusal settings (short 8) (ask.Offer 5 1000 (text (replicate 88 0))) ≡ Some refusals.TooLong
+pub too-long-checked : refusal settings (short 8) (events.Offer 5 1000 (text (replicate 88 0))) ≡ Some refusals.TooLong
 too-long-checked = refl
 
-pub highest-count : refusal settings started (ask.Offer 5 281474976710655 (text [])) ≡ None
+pub highest-count : refusal settings started (events.Offer 5 281474976710655 (text [])) ≡ None
 highest-count = refl
 
-pub count-too-large : refusal settings started (ask.Offer 5 281474976710656 (text [])) ≡ Some refusals.CountRange
+pub count-too-large : refusal settings started (events.Offer 5 281474976710656 (text [])) ≡ Some refusals.CountRange
 count-too-large = refl
 
-pub count-back-before-overflow : refusal settings filled (ask.Offer 5 1001 (text [])) ≡ Some refusals.CountBack
+pub count-back-before-overflow : refusal settings filled_lane (events.Offer 5 1001 (text [])) ≡ Some refusals.CountBack
 count-back-before-overflow = refl
 
-pub overflow : refusal settings filled (ask.Offer 5 1002 (text [])) ≡ Some refusals.Overflow
+pub overflow : refusal settings filled_lane (events.Offer 5 1002 (text [])) ≡ Some refusals.Overflow
 overflow = refl
 
-pub other-channel : refusal settings filled (ask.Offer 6 0 (text [])) ≡ None
+pub other-channel : refusal settings filled_lane (events.Offer 6 0 (text [])) ≡ None
 other-channel = refl
 
 -- a refusal that isn't an overflow is not counted
-pub refused-uncounted : Step settings filled (ask.Offer 5 1001 (text [])) (say.Refused refusals.CountBack) filled
+pub refused-uncounted : Step settings filled_lane (events.Offer 5 1001 (text [])) (replies.Refused refusals.CountBack) filled_lane
 refused-uncounted = (lit≤ tt, (refl, refl))
 
 -- an entry that has room isn't left: a pump that moves nothing is no step
-pub moves-none : (next : Machine) → Replies settings 0 filled (ask.Pump 5 1) (say.Moved 0) next → ⊥
+pub moves-none : (next : Machine) → Replies settings 0 filled_lane (events.Pump 5 1) (replies.Moved 0) next → ⊥
 moves-none next (fine, (takes, some, is)) = omega (arith, some (lit< tt))
 
 -- fewer than have room is no step while the index can't be full
-pub moves-one : (next : Machine) → Replies settings 0 filled (ask.Pump 5 2) (say.Moved 1) next → ⊥
+pub moves-one : (next : Machine) → Replies settings 0 filled_lane (events.Pump 5 2) (replies.Moved 1) next → ⊥
 moves-one next (fine, (takes, some, is)) = false-is-true (takes.stops (lit< tt))
   where
     false-is-true : false ≡ true → ⊥
@@ -212,31 +212,31 @@ moves-one next (fine, (takes, some, is)) = false-is-true (takes.stops (lit< tt))
 
 -- ---- cursors
 
-pub file-not-there : refusal settings stopped (ask.Cursor 1 [] 0 5000) ≡ Some refusals.NoSuchFile
+pub file-not-there : refusal settings stopped (events.Cursor 1 [] 0 5000) ≡ Some refusals.NoSuchFile
 file-not-there = refl
 
-pub range-before-file : refusal settings stopped (ask.Cursor 1 [] 0 281474976710656) ≡ Some refusals.CountRange
+pub range-before-file : refusal settings stopped (events.Cursor 1 [] 0 281474976710656) ≡ Some refusals.CountRange
 range-before-file = refl
 
-pub unknown-idle : refusal settings mounted (ask.Advance 9) ≡ Some refusals.NoCursor
+pub unknown-idle : refusal settings mounted (events.Advance 9) ≡ Some refusals.NoCursor
 unknown-idle = refl
 
-pub unknown-unmounted : refusal settings new (ask.Advance 9) ≡ Some refusals.NotMounted
+pub unknown-unmounted : refusal settings new (events.Advance 9) ≡ Some refusals.NotMounted
 unknown-unmounted = refl
 
-pub next-unknown : refusal settings new (ask.Next 9) ≡ Some refusals.NoCursor
+pub next-unknown : refusal settings new (events.Next 9) ≡ Some refusals.NoCursor
 next-unknown = refl
 
-pub close-unknown : refusal settings failed (ask.Close 0) ≡ Some refusals.NoCursor
+pub close-unknown : refusal settings failed_machine (events.Close 0) ≡ Some refusals.NoCursor
 close-unknown = refl
 
-pub next-failed : refusal settings (read 0 [] failed) (ask.Next 0) ≡ None
+pub next-failed : refusal settings (read 0 [] failed_machine) (events.Next 0) ≡ None
 next-failed = refl
 
-pub not-read-out : refusal settings (read 0 (time_entry ∷ []) stopped) (ask.Advance 0) ≡ Some refusals.Unread
+pub not-read-out : refusal settings (read 0 (first_time ∷ []) stopped) (events.Advance 0) ≡ Some refusals.Unread
 not-read-out = refl
 
-pub stale-before-unread : refusal settings (record (read 0 (time_entry ∷ []) stopped) { generation = 1 }) (ask.Advance 0) ≡ Some refusals.Stale
+pub stale-before-unread : refusal settings (record (read 0 (first_time ∷ []) stopped) { generation = 1 }) (events.Advance 0) ≡ Some refusals.Stale
 stale-before-unread = refl
 
 -- ---- room: a medium of three blocks, and a file with a setup of 100 bytes
@@ -245,50 +245,50 @@ stale-before-unread = refl
 abbrev pub full : Machine
 full = record (with_lane 5 (accepted 1002 (four_bytes 2)) started) { files = full_file ∷ [] }
 
-pub full-pump : Step narrow full (ask.Pump 5 1) (say.Refused refusals.MediumFull) full
+pub full-pump : Step narrow full (events.Pump 5 1) (replies.Refused refusals.MediumFull) full
 full-pump = (lit≤ tt, (refl, refl))
 
-pub full-pumps-none : Step narrow full (ask.Pump 5 0) (say.Moved 0) full
+pub full-pumps-none : Step narrow full (events.Pump 5 0) (replies.Moved 0) full
 full-pumps-none = (lit≤ tt, (refl, (record { within = lit≤ tt; stops = λ less. absurd (omega (arith, less)) }, λ some. absurd (omega (arith, some)), refl)))
 
 -- what has no room waits for another file
-pub full-stop : Step narrow full ask.Stop (say.Stopped (record { taken = 0; left = 1 }))
+pub full-stop : Step narrow full events.Stop (replies.Stopped (record { taken = 0; left = 1 }))
     (record full { mode = Idle; files = record full_file { shown = 2; closed = true; size = 216 } ∷ [] })
 full-stop = (lit≤ tt, (refl, (record { within = lit≤ tt; stops = λ less. absurd (omega (arith, less)) }, refl, refl)))
 
-pub full-tick : Step narrow full (ask.Tick 2000 leap_day) (say.Refused refusals.MediumFull) full
+pub full-tick : Step narrow full (events.Tick 2000 leap_day) (replies.Refused refusals.MediumFull) full
 full-tick = (lit≤ tt, (refl, refl))
 
 -- a start whose setup and time have no room
-pub no-room-to-start : Step narrow (record ticked { lanes = full.lanes }) (ask.Start name (replicate 249 0)) (say.Refused refusals.MediumFull) (record ticked { lanes = full.lanes })
+pub no-room-to-start : Step narrow (record ticked { lanes = full.lanes }) (events.Start name (replicate 249 0)) (replies.Refused refusals.MediumFull) (record ticked { lanes = full.lanes })
 no-room-to-start = (lit≤ tt, (refl, refl))
 
-pub room-to-start : has_room narrow ticked (ask.Start name (replicate 248 0)) ≡ true
+pub room-to-start : has_room narrow ticked (events.Start name (replicate 248 0)) ≡ true
 room-to-start = refl
 
 -- want of memory is no answer where there is no room
-pub no-memory-no-room : has_room narrow full (ask.Pump 5 1) ≡ false
+pub no-memory-no-room : has_room narrow full (events.Pump 5 1) ≡ false
 no-memory-no-room = refl
 
-pub full-index : Step one_node (record started { files = record begun { entries = replicate 99 time_entry } ∷ [] }) (ask.Tick 1000 leap_day) (say.Refused refusals.IndexFull) (record started { files = record begun { entries = replicate 99 time_entry } ∷ [] })
+pub full-index : Step one_node (record started { files = record begun { entries = replicate 99 first_time } ∷ [] }) (events.Tick 1000 leap_day) (replies.Refused refusals.IndexFull) (record started { files = record begun { entries = replicate 99 first_time } ∷ [] })
 full-index = (lit≤ tt, (refl, refl))
 
 -- ---- a failure of the medium
 
 -- a count that rose in a call that was answered
-pub counted : Step settings new ask.Mount say.Done (record mounted { failures = 3 })
-counted = (lit≤ tt, (refl, refl))
+pub counted-rise : Step settings new events.Mount replies.Done (record mounted { failures = 3 })
+counted-rise = (lit≤ tt, (refl, refl))
 
 -- a failure that wasn't counted is no answer
-pub uncounted : Step settings new ask.Mount (say.Refused refusals.Medium) (record new { mode = Failed }) → ⊥
+pub uncounted : Step settings new events.Mount (replies.Refused refusals.Medium) (record new { mode = Failed }) → ⊥
 uncounted (more, (uses, room, rose, fails)) = omega (arith, rose (lit< tt))
 
 -- a pump that fails may lose what it was to take, and no more
-pub pump-fails : Step settings lost (ask.Pump 5 1) (say.Refused refusals.Medium) (record (with_lane 5 (without 1) lost) { mode = Failed; failures = 1 })
+pub pump-fails : Step settings lost (events.Pump 5 1) (replies.Refused refusals.Medium) (record (with_lane 5 (without 1) lost) { mode = Failed; failures = 1 })
 pump-fails = (lit≤ tt, (refl, refl, λ less. lit< tt, record { end = record lost { failures = 1 }; either = inl refl; files = refl; lanes = ((1, lit≤ tt, refl), ((0, lit≤ tt, refl), tt)); rest = refl }))
 
 -- an offer doesn't fail
-pub offer-fails : (next : Machine) → Step settings started (ask.Offer 5 1001 (text [])) (say.Refused refusals.Medium) next → ⊥
+pub offer-fails : (next : Machine) → Step settings started (events.Offer 5 1001 (text [])) (replies.Refused refusals.Medium) next → ⊥
 offer-fails next (more, (uses, room, rose, fails)) = cc
 
 -- ---- recording events
@@ -296,16 +296,16 @@ offer-fails next (more, (uses, room, rose, fails)) = cc
 pub first-event : (event_entry settings 3 1000 begun).message ≡ messages.Event 3 0
 first-event = refl
 
-pub second-event : (event_entry settings 3 1000 (record begun { entries = time_entry ∷ event_entry settings 3 1000 begun ∷ [] })).message ≡ messages.Event 3 1
+pub second-event : (event_entry settings 3 1000 (record begun { entries = first_time ∷ event_entry settings 3 1000 begun ∷ [] })).message ≡ messages.Event 3 1
 second-event = refl
 
-pub other-event : (event_entry settings 4 1000 (record begun { entries = time_entry ∷ event_entry settings 3 1000 begun ∷ [] })).message ≡ messages.Event 4 0
+pub other-event : (event_entry settings 4 1000 (record begun { entries = first_time ∷ event_entry settings 3 1000 begun ∷ [] })).message ≡ messages.Event 4 0
 other-event = refl
 
 -- ---- finding: messages at 1000 and 2000
 
 abbrev pub two_messages : File
-two_messages = record begun { entries = time_entry ∷ entry 5 1000 (text []) false ∷ entry 5 2000 (text []) false ∷ []; shown = 3 }
+two_messages = record begun { entries = first_time ∷ entry 5 1000 (text []) false ∷ entry 5 2000 (text []) false ∷ []; shown = 3 }
 
 pub finds-the-first : found two_messages 5 1000 ≡ Some (record { number = 0; entry = entry 5 1000 (text []) false })
 finds-the-first = refl
@@ -328,7 +328,7 @@ pub count-before : count_at begun (record leap_day { centi = 77 }) ≡ None
 count-before = refl
 
 -- the last time alone decides, though an earlier one would be in range
-pub count-past-the-end : count_at (record begun { entries = time_entry ∷ entry 1 281474976710655 (messages.Time leap_day) false ∷ []; shown = 2 }) (record leap_day { centi = 79 }) ≡ None
+pub count-past-the-end : count_at (record begun { entries = first_time ∷ entry 1 281474976710655 (messages.Time leap_day) false ∷ []; shown = 2 }) (record leap_day { centi = 79 }) ≡ None
 count-past-the-end = refl
 
 -- ---- status: a full lane and one message lost
@@ -336,7 +336,7 @@ count-past-the-end = refl
 pub free-while-recording : free_bytes settings started ≡ 30964
 free-while-recording = refl
 
-pub told-of-a-loss : status_of settings (with_lane 5 overflowed filled) ≡ record {
+pub told-of-a-loss : status_of settings (with_lane 5 overflowed filled_lane) ≡ record {
   mode = Recording;
   tick = Some 1000;
   files = 1;
@@ -350,7 +350,7 @@ told-unmounted = refl
 
 -- ---- erases and seals
 
-pub erase : Step settings stopped ask.Erase say.Done
+pub erase : Step settings stopped events.Erase replies.Done
     (record stopped { files = []; generation = 1; lanes = map (erased_with stopped.files) stopped.lanes })
 erase = (lit≤ tt, (refl, refl))
 
@@ -361,8 +361,8 @@ erased-counts = refl
 abbrev pub costly : File
 costly = record begun { setup = replicate 300 0; first_block = 2 }
 
-pub no-room-for-an-index : has_room narrow (record mounted { files = costly ∷ [] }) ask.Seal ≡ false
+pub no-room-for-an-index : has_room narrow (record mounted { files = costly ∷ [] }) events.Seal ≡ false
 no-room-for-an-index = refl
 
-pub room-for-an-index : has_room narrow (record mounted { files = record costly { setup = [] } ∷ [] }) ask.Seal ≡ true
+pub room-for-an-index : has_room narrow (record mounted { files = record costly { setup = [] } ∷ [] }) events.Seal ≡ true
 room-for-an-index = refl

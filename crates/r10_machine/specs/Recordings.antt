@@ -8,7 +8,7 @@ use Rattle.r10_machine.specs.Config.{Config}
 use Rattle.r10_machine.specs.Machine.{Machine, File, Cursor, Sets, fresh, with_lane}
 use Rattle.r10_machine.specs.Room.{TakesIn, room_for}
 use Rattle.r10_machine.specs.Calls.{accepted}
-use Rattle.r10_machine.specs.Vectors.{settings, new, mounted, ticked, started, name, setup, leap_day, text, entry, read, small, small_started, two, two-in-order, abc_offered, both_offered, both_pumped, small_stopped, filled, lost, pumped, resumed, stopped, replayed, replayed-in-order}
+use Rattle.r10_machine.specs.Vectors.{settings, new, mounted, ticked, started, name, setup_text, leap_day, text, entry, read, small, small_started, two, two-in-order, abc_offered, both_offered, both_pumped, small_stopped, filled_lane, lost, pumped, resumed, stopped, replayed, replayed-in-order}
 use Rattle.r10_machine.specs.declared.event.Event.{Event}
 use Rattle.r10_machine.specs.declared.event.Event.TheVariants as ask
 use Rattle.r10_machine.specs.declared.reply.Reply.{Reply}
@@ -45,7 +45,7 @@ first-new new = record { changed = refl; others = other-is }
 -- ---- the first recording
 
 pub first-recording : Goes small (fresh small.channels [] 0)
-    (ask.Mount ∷ ask.Tick 1000 leap_day ∷ ask.Start name setup
+    (ask.Mount ∷ ask.Tick 1000 leap_day ∷ ask.Start name setup_text
     ∷ ask.Offer 5 1000 (text (0x41 ∷ 0x42 ∷ 0x43 ∷ [])) ∷ ask.Offer 5 1010 (text []) ∷ ask.Pump 5 2 ∷ ask.Stop
     ∷ ask.Cursor 0 (5 ∷ []) 0 281474976710655 ∷ ask.Advance 0 ∷ ask.Next 0 ∷ ask.Next 0 ∷ ask.Next 0 ∷ [])
     (say.Done ∷ say.Done ∷ say.Done
@@ -106,7 +106,7 @@ first-recording = (
 -- ---- a recording with a lost message
 
 pub a-lost-message : Goes settings new
-    (ask.Mount ∷ ask.Tick 1000 leap_day ∷ ask.Start name setup
+    (ask.Mount ∷ ask.Tick 1000 leap_day ∷ ask.Start name setup_text
     ∷ ask.Offer 5 1001 (text (0x41 ∷ [])) ∷ ask.Offer 5 1002 (text (0x42 ∷ [])) ∷ ask.Offer 5 1003 (text (0x43 ∷ []))
     ∷ ask.Pump 5 2 ∷ ask.Offer 5 1004 (text (0x44 ∷ [])) ∷ ask.Stop
     ∷ ask.Cursor 0 (5 ∷ []) 0 281474976710655 ∷ ask.Advance 0 ∷ ask.Next 0 ∷ ask.Next 0 ∷ ask.Next 0 ∷ ask.Next 0 ∷ [])
@@ -130,7 +130,7 @@ a-lost-message = (
         with_lane 5 (accepted 1001 (text (0x41 ∷ []))) started,
         (lit≤ tt, (refl, refl)),
         (
-          filled,
+          filled_lane,
           (lit≤ tt, (refl, refl)),
           (
             lost,

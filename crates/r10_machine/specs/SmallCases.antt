@@ -4,7 +4,7 @@ use Rattle.r10_count.specs.Checks.{first_broken}
 use Rattle.r10_body.specs.declared.entry.Entry.{Entry}
 use Rattle.r10_body.specs.declared.message.Message.{Message}
 use Rattle.r10_body.specs.declared.message.Kind.TheVariants as kinds
-use Rattle.r10_machine.specs.declared.fault.SettingsFault.TheVariants as faults
+use Rattle.r10_machine.specs.declared.fault.SettingsFault.TheVariants as settings_faults
 use Rattle.r10_machine.specs.Config.{Config}
 use Rattle.r10_machine.specs.Machine.{Lane, File, with_entries, rising as in_rising_order}
 use Rattle.r10_machine.specs.Room.{blocks_of, may_fill_index, cost_of, area, fitting, room_for}
@@ -12,7 +12,7 @@ use Rattle.r10_machine.specs.Checks.{is_setup}
 use Rattle.r10_machine.specs.Limits.{settings_rules}
 use Rattle.r10_machine.specs.Calls.{accepted, overflowed, all_waiting, lanes_without, waiting_count}
 use Rattle.r10_machine.specs.Replay.{wanted}
-use Rattle.r10_machine.specs.Vectors.{settings, channel, begun, time_entry, text, entry}
+use Rattle.r10_machine.specs.Vectors.{settings, channel, begun, first_time, text, entry}
 
 -- ---- setup texts
 
@@ -76,10 +76,10 @@ fitting-areas = refl
 abbrev pub one_node : Config
 one_node = record settings { nodes = 1 }
 
-pub ninety-nine : may_fill_index one_node (record begun { entries = replicate 98 time_entry }) ≡ false
+pub ninety-nine : may_fill_index one_node (record begun { entries = replicate 98 first_time }) ≡ false
 ninety-nine = refl
 
-pub a-hundred : may_fill_index one_node (record begun { entries = replicate 99 time_entry }) ≡ true
+pub a-hundred : may_fill_index one_node (record begun { entries = replicate 99 first_time }) ≡ true
 a-hundred = refl
 
 -- ---- what waits
@@ -91,16 +91,16 @@ lanes =
     ∷ record { spec = channel 5 1; waiting = record { count = 2000; message = text (0x59 ∷ []); gap = false } ∷ record { count = 2001; message = text (0x5A ∷ []); gap = false } ∷ []; last = Some 2001; missed = 0; lost = 0; erased = 0 }
     ∷ []
 
-abbrev pub rising : List Entry
-rising = entry 5 2000 (text (0x59 ∷ [])) false ∷ entry 6 2000 (text (0x58 ∷ [])) false ∷ []
+abbrev pub two_rising : List Entry
+two_rising = entry 5 2000 (text (0x59 ∷ [])) false ∷ entry 6 2000 (text (0x58 ∷ [])) false ∷ []
 
-pub waiting-by-channel : all_waiting lanes ≡ rising
+pub waiting-by-channel : all_waiting lanes ≡ two_rising
 waiting-by-channel = refl
 
 pub rising-channels : in_rising_order (6 ∷ 5 ∷ 9 ∷ 7 ∷ []) ≡ 5 ∷ 6 ∷ 7 ∷ 9 ∷ []
 rising-channels = refl
 
-pub one-left : waiting_count (lanes_without rising lanes) ≡ 1
+pub one-left : waiting_count (lanes_without two_rising lanes) ≡ 1
 one-left = refl
 
 -- an overflow is counted, and marks the next message alone
@@ -129,66 +129,66 @@ least-settings = refl
 pub greatest-settings : first_broken (settings_rules (record settings { blocks = 16777216; directory = 64; nodes = 32765; channels = channel 65535 65536 ∷ [] })) ≡ None
 greatest-settings = refl
 
-pub too-few-blocks : first_broken (settings_rules (record settings { blocks = 3; directory = 2 })) ≡ Some faults.Blocks
+pub too-few-blocks : first_broken (settings_rules (record settings { blocks = 3; directory = 2 })) ≡ Some settings_faults.Blocks
 too-few-blocks = refl
 
-pub too-many-blocks : first_broken (settings_rules (record settings { blocks = 16777217 })) ≡ Some faults.Blocks
+pub too-many-blocks : first_broken (settings_rules (record settings { blocks = 16777217 })) ≡ Some settings_faults.Blocks
 too-many-blocks = refl
 
-pub blocks-first : first_broken (settings_rules (record settings { blocks = 3; directory = 65 })) ≡ Some faults.Blocks
+pub blocks-first : first_broken (settings_rules (record settings { blocks = 3; directory = 65 })) ≡ Some settings_faults.Blocks
 blocks-first = refl
 
-pub no-directory : first_broken (settings_rules (record settings { directory = 0; channels = [] })) ≡ Some faults.Directory
+pub no-directory : first_broken (settings_rules (record settings { directory = 0; channels = [] })) ≡ Some settings_faults.Directory
 no-directory = refl
 
-pub time-is-zero : first_broken (settings_rules (record settings { time = 0 })) ≡ Some (faults.Channel 0)
+pub time-is-zero : first_broken (settings_rules (record settings { time = 0 })) ≡ Some (settings_faults.Channel 0)
 time-is-zero = refl
 
-pub repeated : first_broken (settings_rules (record settings { event = 5; nodes = 0 })) ≡ Some (faults.Channel 5)
+pub repeated : first_broken (settings_rules (record settings { event = 5; nodes = 0 })) ≡ Some (settings_faults.Channel 5)
 repeated = refl
 
-pub repeated-later : first_broken (settings_rules (record settings { channels = channel 5 0 ∷ channel 6 4 ∷ channel 5 2 ∷ [] })) ≡ Some (faults.Channel 5)
+pub repeated-later : first_broken (settings_rules (record settings { channels = channel 5 0 ∷ channel 6 4 ∷ channel 5 2 ∷ [] })) ≡ Some (settings_faults.Channel 5)
 repeated-later = refl
 
-pub time-is-event : first_broken (settings_rules (record settings { time = 2 })) ≡ Some (faults.Channel 2)
+pub time-is-event : first_broken (settings_rules (record settings { time = 2 })) ≡ Some (settings_faults.Channel 2)
 time-is-event = refl
 
-pub channel-is-time : first_broken (settings_rules (record settings { channels = channel 5 2 ∷ channel 1 2 ∷ channel 5 2 ∷ [] })) ≡ Some (faults.Channel 1)
+pub channel-is-time : first_broken (settings_rules (record settings { channels = channel 5 2 ∷ channel 1 2 ∷ channel 5 2 ∷ [] })) ≡ Some (settings_faults.Channel 1)
 channel-is-time = refl
 
-pub channel-is-zero : first_broken (settings_rules (record settings { nodes = 0; channels = channel 5 2 ∷ channel 0 2 ∷ [] })) ≡ Some (faults.Channel 0)
+pub channel-is-zero : first_broken (settings_rules (record settings { nodes = 0; channels = channel 5 2 ∷ channel 0 2 ∷ [] })) ≡ Some (settings_faults.Channel 0)
 channel-is-zero = refl
 
-pub no-channels : first_broken (settings_rules (record settings { channels = []; time = 2 })) ≡ Some (faults.Channel 0)
+pub no-channels : first_broken (settings_rules (record settings { channels = []; time = 2 })) ≡ Some (settings_faults.Channel 0)
 no-channels = refl
 
-pub too-many-channels : first_broken (settings_rules (record settings { channels = replicate 65 (channel 5 0); time = 2 })) ≡ Some (faults.Channel 0)
+pub too-many-channels : first_broken (settings_rules (record settings { channels = replicate 65 (channel 5 0); time = 2 })) ≡ Some (settings_faults.Channel 0)
 too-many-channels = refl
 
-pub capacity-before-check : first_broken (settings_rules (record settings { channels = record (channel 5 2) { check = 7 } ∷ channel 6 0 ∷ [] })) ≡ Some (faults.Capacity 6)
+pub capacity-before-check : first_broken (settings_rules (record settings { channels = record (channel 5 2) { check = 7 } ∷ channel 6 0 ∷ [] })) ≡ Some (settings_faults.Capacity 6)
 capacity-before-check = refl
 
-pub check-before-bytes : first_broken (settings_rules (record settings { channels = record (channel 5 2) { bytes = 127 } ∷ record (channel 6 4) { check = 24 } ∷ [] })) ≡ Some (faults.Check 6)
+pub check-before-bytes : first_broken (settings_rules (record settings { channels = record (channel 5 2) { bytes = 127 } ∷ record (channel 6 4) { check = 24 } ∷ [] })) ≡ Some (settings_faults.Check 6)
 check-before-bytes = refl
 
-pub odd-bytes : first_broken (settings_rules (record settings { channels = record (channel 5 2) { bytes = 130; number = 0 } ∷ [] })) ≡ Some (faults.Bytes 5)
+pub odd-bytes : first_broken (settings_rules (record settings { channels = record (channel 5 2) { bytes = 130; number = 0 } ∷ [] })) ≡ Some (settings_faults.Bytes 5)
 odd-bytes = refl
 
-pub number-before-nodes : first_broken (settings_rules (record settings { nodes = 0; channels = record (channel 5 2) { number = 65536 } ∷ [] })) ≡ Some (faults.Number 5)
+pub number-before-nodes : first_broken (settings_rules (record settings { nodes = 0; channels = record (channel 5 2) { number = 65536 } ∷ [] })) ≡ Some (settings_faults.Number 5)
 number-before-nodes = refl
 
 -- 1 to 31 discretes, and no number of them is asked of another kind
-pub too-many-discretes : first_broken (settings_rules (record settings { nodes = 0; channels = record (channel 5 2) { kind = kinds.Discrete; bits = 31 } ∷ record (channel 6 2) { kind = kinds.Discrete; bits = 32 } ∷ [] })) ≡ Some (faults.Bits 6)
+pub too-many-discretes : first_broken (settings_rules (record settings { nodes = 0; channels = record (channel 5 2) { kind = kinds.Discrete; bits = 31 } ∷ record (channel 6 2) { kind = kinds.Discrete; bits = 32 } ∷ [] })) ≡ Some (settings_faults.Bits 6)
 too-many-discretes = refl
 
-pub no-discretes : first_broken (settings_rules (record settings { channels = record (channel 5 2) { kind = kinds.Message } ∷ record (channel 6 2) { kind = kinds.Discrete } ∷ [] })) ≡ Some (faults.Bits 6)
+pub no-discretes : first_broken (settings_rules (record settings { channels = record (channel 5 2) { kind = kinds.Message } ∷ record (channel 6 2) { kind = kinds.Discrete } ∷ [] })) ≡ Some (settings_faults.Bits 6)
 no-discretes = refl
 
-pub no-nodes : first_broken (settings_rules (record settings { nodes = 32766; volume = [] })) ≡ Some faults.Nodes
+pub no-nodes : first_broken (settings_rules (record settings { nodes = 32766; volume = [] })) ≡ Some settings_faults.Nodes
 no-nodes = refl
 
-pub no-volume : first_broken (settings_rules (record settings { volume = [] })) ≡ Some faults.Volume
+pub no-volume : first_broken (settings_rules (record settings { volume = [] })) ≡ Some settings_faults.Volume
 no-volume = refl
 
-pub volume-with-blank : first_broken (settings_rules (record settings { volume = 0x41 ∷ 0x20 ∷ 0x42 ∷ [] })) ≡ Some faults.Volume
+pub volume-with-blank : first_broken (settings_rules (record settings { volume = 0x41 ∷ 0x20 ∷ 0x42 ∷ [] })) ≡ Some settings_faults.Volume
 volume-with-blank = refl

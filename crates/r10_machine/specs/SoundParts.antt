@@ -43,8 +43,8 @@ LaneClimbs files lane = Climbs 0 (counts_on lane.spec.id files ++ map (λ x. x.c
 -- ---- files
 
 -- an entry is a time on the clock's channel, or a message that its channel takes
-abbrev pub IsEntry : Config → Entry → Type 0
-IsEntry s e = IsCount e.count × elim e.message [
+abbrev pub IsTimeOrMessage : Config → Entry → Type 0
+IsTimeOrMessage s e = IsCount e.count × elim e.message [
   | Time civil ↦ (e.channel ≡ s.time) × IsCivil civil × (e.gap ≡ false)
   | _ ↦ IsSomeAnd (spec_of s.channels e.channel) (λ spec. first_broken (message_checks spec e.message) ≡ None)
 ]

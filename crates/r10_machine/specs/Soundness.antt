@@ -5,19 +5,19 @@ use Rattle.r10_body.specs.declared.entry.Entry.{Entry}
 use Rattle.r10_body.specs.declared.message.Message.TheVariants.{Event}
 use Rattle.r10_machine.specs.Machine.{Machine, File, cursor_of}
 use Rattle.r10_machine.specs.SoundParts.{IsSoundCursor}
-use Rattle.r10_machine.specs.Vectors.{settings, new, mounted, started, stopped, begun, time_entry, read}
+use Rattle.r10_machine.specs.Vectors.{settings, new, mounted, started, stopped, begun, first_time, read}
 use Rattle.r10_machine.specs.ControlCalls.{event_entry}
 use Rattle.r10_machine.specs.Sound.{IsSound, IsEntry, IsFoundFile}
 
-abbrev pub found : File
-found = record begun { name = 0x45 ∷ []; own = false }
+abbrev pub found_file : File
+found_file = record begun { name = 0x45 ∷ []; own = false }
 
 abbrev pub event_at : ℕ → Entry
 event_at count = event_entry settings 3 count begun
 
 -- the event was recorded at 1001, and is not shown yet
 abbrev pub marked : Machine
-marked = record started { last_event = Some 1001; files = found ∷ record begun { first_block = 4; entries = time_entry ∷ event_at 1001 ∷ [] } ∷ [] }
+marked = record started { last_event = Some 1001; files = found_file ∷ record begun { first_block = 4; entries = first_time ∷ event_at 1001 ∷ [] } ∷ [] }
 
 none-open : (m : Machine) → m.cursors ≡ [] → (id : ℕ) → IfSome (cursor_of id m) (IsSoundCursor m)
 none-open m is id = rw is (nothing id)
@@ -73,7 +73,7 @@ nothing-open sound = differ sound.work.recording
 pub covers-too-much : IsSound settings (read 5 [] stopped) → ⊥
 covers-too-much sound = omega (arith, (sound.cursors 0).1 refl)
 
-pub found-as-it-is : IsFoundFile found
+pub found-as-it-is : IsFoundFile found_file
 found-as-it-is = (refl, refl)
 
 pub marked-sound : IsSound settings marked
@@ -115,15 +115,15 @@ pub event-out-of-range : IsSound settings (record marked { last_event = Some 281
 event-out-of-range sound = omega (arith, sound.event)
 
 -- another recorder's file shows all
-pub found-hides : IsSound settings (record mounted { files = record found { shown = 0 } ∷ [] }) → ⊥
+pub found-hides : IsSound settings (record mounted { files = record found_file { shown = 0 } ∷ [] }) → ⊥
 found-hides sound = omega (arith, sound.work.others.0 refl)
 
 -- nothing is recorded into another recorder's file
-pub found-open : IsSound settings (record started { files = found ∷ [] }) → ⊥
+pub found-open : IsSound settings (record started { files = found_file ∷ [] }) → ⊥
 found-open sound = differ sound.work.recording
 
 -- two directory blocks list eight files
-pub nine-files : IsSound settings (record mounted { files = found ∷ found ∷ found ∷ found ∷ found ∷ found ∷ found ∷ found ∷ found ∷ [] }) → ⊥
+pub nine-files : IsSound settings (record mounted { files = found_file ∷ found_file ∷ found_file ∷ found_file ∷ found_file ∷ found_file ∷ found_file ∷ found_file ∷ found_file ∷ [] }) → ⊥
 nine-files sound = omega (arith, sound.most)
 
 pub past-all-generations : IsSound settings (record mounted { generation = 2 ^ 64 }) → ⊥

@@ -35,18 +35,18 @@ text bytes = Uart false 0 bytes
 abbrev pub entry : ℕ → ℕ → Message → Bool → Entry
 entry channel count message gap = record { channel = channel; count = count; message = message; gap = gap }
 
-abbrev pub time_entry : Entry
-time_entry = entry 1 1000 (Time leap_day) false
+abbrev pub first_time : Entry
+first_time = entry 1 1000 (Time leap_day) false
 
 abbrev pub name : List ℕ
 name = 0x46 ∷ 0x4C ∷ 0x54 ∷ 0x31 ∷ []
 
-abbrev pub setup : List ℕ
-setup = 0x41 ∷ 0x42 ∷ 0x43 ∷ 0x44 ∷ []
+abbrev pub setup_text : List ℕ
+setup_text = 0x41 ∷ 0x42 ∷ 0x43 ∷ 0x44 ∷ []
 
 -- a file as it was begun, and one that is closed with these entries
 abbrev pub begun : File
-begun = record { name = name; setup = setup; entries = time_entry ∷ []; shown = 1; closed = false; own = true; first_block = 3; size = 68 }
+begun = record { name = name; setup = setup_text; entries = first_time ∷ []; shown = 1; closed = false; own = true; first_block = 3; size = 68 }
 
 -- ---- entries in order
 
@@ -107,11 +107,11 @@ abbrev pub both_offered : Machine
 both_offered = with_lane 5 (accepted 1010 (text [])) abc_offered
 
 abbrev pub both_pumped : Machine
-both_pumped = record (with_lane 5 (without 2) both_offered) { files = record begun { entries = time_entry ∷ two } ∷ [] }
+both_pumped = record (with_lane 5 (without 2) both_offered) { files = record begun { entries = first_time ∷ two } ∷ [] }
 
 -- the file in 272 bytes, which r10_body's vectors write out
 abbrev pub small_stopped : Machine
-small_stopped = record both_pumped { mode = Idle; files = record begun { entries = time_entry ∷ two; shown = 3; closed = true; size = 272 } ∷ [] }
+small_stopped = record both_pumped { mode = Idle; files = record begun { entries = first_time ∷ two; shown = 3; closed = true; size = 272 } ∷ [] }
 
 two-in-turn : rises two ≡ true
 unfolding rises
@@ -122,11 +122,11 @@ two-in-order = stands two two-in-turn
 
 -- ---- a recording with a lost message
 
-abbrev pub filled : Machine
-filled = with_lane 5 (accepted 1002 (text (0x42 ∷ []))) (with_lane 5 (accepted 1001 (text (0x41 ∷ []))) started)
+abbrev pub filled_lane : Machine
+filled_lane = with_lane 5 (accepted 1002 (text (0x42 ∷ []))) (with_lane 5 (accepted 1001 (text (0x41 ∷ []))) started)
 
 abbrev pub lost : Machine
-lost = with_lane 5 overflowed filled
+lost = with_lane 5 overflowed filled_lane
 
 abbrev pub first_two : List Entry
 first_two = entry 5 1001 (text (0x41 ∷ [])) false ∷ entry 5 1002 (text (0x42 ∷ [])) false ∷ []
@@ -135,14 +135,14 @@ abbrev pub after_gap : Entry
 after_gap = entry 5 1004 (text (0x44 ∷ [])) true
 
 abbrev pub pumped : Machine
-pumped = record (with_lane 5 (without 2) lost) { files = record begun { entries = time_entry ∷ first_two } ∷ [] }
+pumped = record (with_lane 5 (without 2) lost) { files = record begun { entries = first_time ∷ first_two } ∷ [] }
 
 abbrev pub resumed : Machine
 resumed = with_lane 5 (accepted 1004 (text (0x44 ∷ []))) pumped
 
 -- the file with all four entries; the steps leave its size to the packing
 abbrev pub whole : File
-whole = record begun { entries = time_entry ∷ first_two ++ after_gap ∷ []; shown = 4; closed = true; size = 200 }
+whole = record begun { entries = first_time ∷ first_two ++ after_gap ∷ []; shown = 4; closed = true; size = 200 }
 
 abbrev pub stopped : Machine
 stopped = record (with_lane 5 (without 1) resumed) { mode = Idle; files = whole ∷ [] }

@@ -2,11 +2,11 @@
 
 ghost use Rattle.std.specs.Prelude.{◌≡◌, ◌≤◌, ◌∷◌, ◌++◌, ℕ, List, [], None, length, All};
 ghost use Rattle.r10_count.specs.Checks.{first_broken};
-ghost use Rattle.r10_dirblock.specs.declared.entry.Entry.{Entry as Listed};
-ghost use Rattle.r10_dirchain.specs.Chain.{files as listed_files};
+ghost use Rattle.r10_dirblock.specs.declared.entry.Entry.{Entry as DirectoryEntry};
+ghost use Rattle.r10_dirchain.specs.Chain.{listed_files};
 ghost use Rattle.r10_dirchain.specs.Mount.{mount_rules};
 ghost use Rattle.r10_dirchain.specs.OnMedium.{SameButIn, Turned};
-ghost use Rattle.r10_dirchain.specs.Steps.{with_last};
+ghost use Rattle.r10_dirchain.specs.Steps.{with_last_entry};
 ghost use Rattle.r10_dirchain.specs.declared.chain.ChainBlock.{ChainBlock};
 ghost use Rattle.r10_machine.specs.Config.{Config};
 ghost use Rattle.r10_machine.specs.Machine.{File};
@@ -46,8 +46,8 @@ pub fn bytes_stand()
 
 /// A file is listed behind others, or in place of the last.
 pub fn files_are_listed()
-    ensures more { (image : Image) (entries : List Listed) (files : List File) (e : Listed) (f : File)
+    ensures more { (image : Image) (entries : List DirectoryEntry) (files : List File) (e : DirectoryEntry) (f : File)
         → SaysEach image entries files → Lists f e → SaysFile image f → SaysEach image (entries ++ e ∷ []) (files ++ f ∷ []) }
-    ensures last { (image : Image) (entries : List Listed) (files : List File) (before : File) (e : Listed) (f : File)
-        → SaysEach image entries (files ++ before ∷ []) → Lists f e → SaysFile image f → SaysEach image (with_last e entries) (files ++ f ∷ []) }
+    ensures last { (image : Image) (entries : List DirectoryEntry) (files : List File) (before : File) (e : DirectoryEntry) (f : File)
+        → SaysEach image entries (files ++ before ∷ []) → Lists f e → SaysFile image f → SaysEach image (with_last_entry e entries) (files ++ f ∷ []) }
 {}

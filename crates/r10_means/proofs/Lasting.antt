@@ -8,7 +8,7 @@ use Rattle.r10_body.specs.declared.entry.Entry.{Entry}
 use Rattle.r10_body.specs.declared.spec.ChannelSpec.{ChannelSpec}
 use Rattle.r10_medium.specs.Disk.{Image}
 use Rattle.r10_dirchain.specs.declared.chain.ChainBlock.{ChainBlock}
-use Rattle.r10_volume.specs.Holding.{Holds, Open}
+use Rattle.r10_volume.specs.Holding.{HoldsFiles, Open}
 use Rattle.r10_machine.specs.Calls.{shown_whole}
 use Rattle.r10_machine.specs.Checks.{idle_checks, recording_checks}
 use Rattle.r10_machine.specs.Limits.{IsConfig}
@@ -24,7 +24,7 @@ use Rattle.r10_machine.specs.Step.{Step}
 use Rattle.r10_machine.specs.declared.event.Event.TheVariants.{Commit, Seal}
 use Rattle.r10_machine.specs.declared.reply.Reply.TheVariants as replies
 use Rattle.r10_means.specs.Kept.{Kept, mode_of, idle, recording}
-use Rattle.r10_means.specs.Means.{AreCounted, IsCounted, LeadsTo, Means}
+use Rattle.r10_means.specs.Means.{LanesAreCounted, LaneIsCounted, KeptStepsTo, KeptStandsFor}
 use Rattle.r10_means.proofs.Leading.{StepsStaySound, failing, no_fewer, numbers_at}
 
 -- ---- lists
@@ -52,7 +52,7 @@ own_list (x ∷ files) f g own same = by x.own (own_list files f g own same)
 -- ---- numbers
 
 counts_stay : (old new : List File) → ((channel : ℕ) → own_entries channel new ≡ own_entries channel old) → (specs : List ChannelSpec) (taken erased : List ℕ) (lanes : List Lane)
-    → AreCounted old specs taken erased lanes → AreCounted new specs taken erased lanes
+    → LanesAreCounted old specs taken erased lanes → LanesAreCounted new specs taken erased lanes
 counts_stay old new same [] [] [] [] are = tt
 counts_stay old new same (x ∷ specs) (t ∷ taken) (e ∷ erased) (l ∷ lanes) are = (
   record { spec_is = are.0.spec_is; erased_is = are.0.erased_is; taken_is = are.0.taken_is ∙ ap (λ (es : List Entry). saturated (e + length es)) (sym (same x.id)) },
@@ -66,10 +66,10 @@ counts_stay old new same (x ∷ specs) (t ∷ taken) [] lanes are = absurd are
 counts_stay old new same (x ∷ specs) (t ∷ taken) (e ∷ erased) [] are = absurd are
 
 pub numbers_stay : (files later : List File) (f g : File) → g.own ≡ f.own → g.entries ≡ f.entries → later ≡ files ++ f ∷ [] → (specs : List ChannelSpec) (taken erased : List ℕ) (lanes : List Lane)
-    → AreCounted later specs taken erased lanes → AreCounted (files ++ g ∷ []) specs taken erased lanes
+    → LanesAreCounted later specs taken erased lanes → LanesAreCounted (files ++ g ∷ []) specs taken erased lanes
 numbers_stay files later f g own same is specs taken erased lanes are =
     counts_stay (files ++ f ∷ []) (files ++ g ∷ []) (λ channel. ap (on_channel channel) (own_list files f g own same)) specs taken erased lanes
-    (subst (λ (l : List File). AreCounted l specs taken erased lanes) is are)
+    (subst (λ (l : List File). LanesAreCounted l specs taken erased lanes) is are)
 
 -- ---- commits
 
@@ -77,8 +77,8 @@ may_record : (mode : Mode) → mode ≡ modes.Recording → first_broken (record
 may_record mode is = subst (λ v. first_broken (recording_checks v) ≡ None) (sym is) refl
 
 pub committed : StepsStaySound → (k : Kept) (old new : Image) (before now : ℕ) (m : Machine) (chain made : List ChainBlock) (o later : Open) (files : List File) (f : File) (size : ℕ)
-    → IsConfig k.config → Means k old before m → k.work ≡ recording chain o → m.files ≡ files ++ f ∷ [] → Holds k.config new made (Some later) (files ++ shown_whole size f ∷ []) → before ≤ now
-    → LeadsTo k m Commit replies.Done (record k { work = recording made later }) new now (record m { files = files ++ shown_whole size f ∷ []; failures = now })
+    → IsConfig k.config → KeptStandsFor k old before m → k.work ≡ recording chain o → m.files ≡ files ++ f ∷ [] → HoldsFiles k.config new made (Some later) (files ++ shown_whole size f ∷ []) → before ≤ now
+    → KeptStepsTo k m Commit replies.Done (record k { work = recording made later }) new now (record m { files = files ++ shown_whole size f ∷ []; failures = now })
 committed law k old new before now m chain made o later files f size limits means at is holds more =
     let shown : List File = files ++ shown_whole size f ∷ [] in
     let done : Machine = record m { files = shown; failures = now } in
@@ -103,14 +103,14 @@ committed law k old new before now m chain made o later files f size limits mean
     }
 
 pub closed_numbers : (files : List File) (f g : File) → g.own ≡ f.own → g.entries ≡ f.entries → (specs : List ChannelSpec) (taken erased : List ℕ) (lanes : List Lane)
-    → AreCounted (files ++ f ∷ []) specs taken erased lanes → AreCounted (files ++ g ∷ []) specs taken erased lanes
+    → LanesAreCounted (files ++ f ∷ []) specs taken erased lanes → LanesAreCounted (files ++ g ∷ []) specs taken erased lanes
 closed_numbers files f g own same specs taken erased lanes are = numbers_stay files (files ++ f ∷ []) f g own same refl specs taken erased lanes are
 
 -- ---- seals
 
 pub sealed : StepsStaySound → (k : Kept) (old new : Image) (before now : ℕ) (m : Machine) (chain made : List ChainBlock) (files : List File) (f : File) (size : ℕ)
-    → IsConfig k.config → Means k old before m → k.work ≡ idle chain → m.files ≡ files ++ f ∷ [] → refusal k.config m Seal ≡ None → cost_of f ≤ area k.config f
-    → Holds k.config new made None (files ++ closed_in size f ∷ []) → before ≤ now → LeadsTo k m Seal replies.Done (record k { work = idle made }) new now (record m { files = files ++ closed_in size f ∷ []; failures = now })
+    → IsConfig k.config → KeptStandsFor k old before m → k.work ≡ idle chain → m.files ≡ files ++ f ∷ [] → refusal k.config m Seal ≡ None → cost_of f ≤ area k.config f
+    → HoldsFiles k.config new made None (files ++ closed_in size f ∷ []) → before ≤ now → KeptStepsTo k m Seal replies.Done (record k { work = idle made }) new now (record m { files = files ++ closed_in size f ∷ []; failures = now })
 sealed law k old new before now m chain made files f size limits means at is fine room holds more =
     let shown : List File = files ++ closed_in size f ∷ [] in
     let done : Machine = record m { files = shown; failures = now } in

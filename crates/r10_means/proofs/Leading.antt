@@ -7,7 +7,7 @@ use Rattle.r10_body.specs.declared.spec.ChannelSpec.{ChannelSpec}
 use Rattle.r10_count.specs.declared.civil.Parts.{Parts}
 use Rattle.r10_medium.specs.Disk.{Image, Rose}
 use Rattle.r10_dirchain.specs.declared.chain.ChainBlock.{ChainBlock}
-use Rattle.r10_volume.specs.Holding.{Holds, OthersAreFound}
+use Rattle.r10_volume.specs.Holding.{HoldsFiles, OthersAreFound}
 use Rattle.r10_machine.specs.declared.mode.Mode.{Mode}
 use Rattle.r10_machine.specs.declared.mode.Mode.TheVariants as modes
 use Rattle.r10_machine.specs.Calls.{TicksIn}
@@ -20,23 +20,23 @@ use Rattle.r10_machine.specs.Says.{MediumSays}
 use Rattle.r10_machine.specs.Sound.{IsSound}
 use Rattle.r10_machine.specs.ControlCalls.{erased_with, own_entries}
 use Rattle.r10_machine.specs.Step.{FailsIn, LanesAfter, Step, Refuses, after_refusal, asks_memory, entry_has_room, uses_medium}
-use Rattle.r10_machine.specs.declared.event.Event.{Event as Asked}
+use Rattle.r10_machine.specs.declared.event.Event.{Event as EventValue}
 use Rattle.r10_machine.specs.declared.event.Event.TheVariants.{Mount, Dismount, Tick, Start, Offer, Pump, Event, Commit, Stop, Seal, Erase, Files, Status, Cursor, Advance, Next, Close, Find, CountAt}
-use Rattle.r10_machine.specs.declared.reply.Reply.{Reply as Answered}
+use Rattle.r10_machine.specs.declared.reply.Reply.{Reply as ReplyValue}
 use Rattle.r10_machine.specs.declared.reply.Reply.TheVariants as replies
 use Rattle.r10_means.specs.Kept.{Kept, Work, mode_of, unmounted, idle, failed}
-use Rattle.r10_means.specs.Means.{AreCounted, HasFiles, IsCounted, LeadsTo, Means, NumbersAre}
+use Rattle.r10_means.specs.Means.{LanesAreCounted, HasFiles, LaneIsCounted, KeptStepsTo, KeptStandsFor, NumbersAre}
 
 -- every step keeps a sound state sound
 abbrev pub StepsStaySound : Type 0
-StepsStaySound = (s : Config) (old : Machine) (event : Asked) (reply : Answered) (new : Machine) → IsConfig s → IsSound s old → Step s old event reply new → IsSound s new
+StepsStaySound = (s : Config) (old : Machine) (event : EventValue) (reply : ReplyValue) (new : Machine) → IsConfig s → IsSound s old → Step s old event reply new → IsSound s new
 
 -- ---- failures that are counted change no check
 
 abbrev pub failing : ℕ → Machine → Machine
 failing n m = record m { failures = n }
 
-pub same_refusal : (s : Config) (m : Machine) (n : ℕ) (event : Asked) → refusal s (failing n m) event ≡ refusal s m event
+pub same_refusal : (s : Config) (m : Machine) (n : ℕ) (event : EventValue) → refusal s (failing n m) event ≡ refusal s m event
 same_refusal s m n Mount = refl
 same_refusal s m n Dismount = refl
 same_refusal s m n (Tick count parts) = refl
@@ -57,7 +57,7 @@ same_refusal s m n (Close id) = refl
 same_refusal s m n (Find file channel count) = refl
 same_refusal s m n (CountAt file parts) = refl
 
-same_room : (s : Config) (m : Machine) (n : ℕ) (event : Asked) → entry_has_room s (failing n m) event ≡ entry_has_room s m event
+same_room : (s : Config) (m : Machine) (n : ℕ) (event : EventValue) → entry_has_room s (failing n m) event ≡ entry_has_room s m event
 same_room s m n Mount = refl
 same_room s m n Dismount = refl
 same_room s m n (Tick count parts) = refl
@@ -80,10 +80,10 @@ same_room s m n (CountAt file parts) = refl
 
 -- ---- where nothing changes
 
-pub no_fewer : (k : Kept) (old : Image) (before now : ℕ) (m : Machine) → Means k old before m → before ≤ now → m.failures ≤ now
+pub no_fewer : (k : Kept) (old : Image) (before now : ℕ) (m : Machine) → KeptStandsFor k old before m → before ≤ now → m.failures ≤ now
 no_fewer k old before now m means more = omega (arith, means.counted, more)
 
-pub still_means : (k : Kept) (old new : Image) (before now : ℕ) (m : Machine) → Means k old before m → new ≡ old → IsSound k.config (failing now m) → Means k new now (failing now m)
+pub still_means : (k : Kept) (old new : Image) (before now : ℕ) (m : Machine) → KeptStandsFor k old before m → new ≡ old → IsSound k.config (failing now m) → KeptStandsFor k new now (failing now m)
 still_means k old new before now m means same sound = record {
   mode = means.mode;
   tick = means.tick;
@@ -93,8 +93,8 @@ still_means k old new before now m means same sound = record {
   sound = sound;
 }
 
-pub refused : StepsStaySound → (k : Kept) (old new : Image) (before now : ℕ) (m : Machine) (event : Asked) (r : Refusal) → IsConfig k.config → Means k old before m → new ≡ old → before ≤ now
-    → refusal k.config m event ≡ Some r → ((n : Machine) → after_refusal event n ≡ n) → LeadsTo k m event (replies.Refused r) k new now (record m { failures = now })
+pub refused : StepsStaySound → (k : Kept) (old new : Image) (before now : ℕ) (m : Machine) (event : EventValue) (r : Refusal) → IsConfig k.config → KeptStandsFor k old before m → new ≡ old → before ≤ now
+    → refusal k.config m event ≡ Some r → ((n : Machine) → after_refusal event n ≡ n) → KeptStepsTo k m event (replies.Refused r) k new now (record m { failures = now })
 refused law k old new before now m event r limits means same more is stays =
     let later : Machine = failing now m in
     let step : Step k.config m event (replies.Refused r) later = (
@@ -103,8 +103,8 @@ refused law k old new before now m event r limits means same more is stays =
     ) in
     record { step = step; means = still_means k old new before now m means same (law k.config m event (replies.Refused r) later limits means.sound step) }
 
-pub lacks_memory : StepsStaySound → (k : Kept) (old new : Image) (before now : ℕ) (m : Machine) (event : Asked) → IsConfig k.config → Means k old before m → new ≡ old → before ≤ now
-    → refusal k.config m event ≡ None → asks_memory event ≡ true → entry_has_room k.config m event ≡ true → LeadsTo k m event (replies.Refused OutOfMemory) k new now (record m { failures = now })
+pub lacks_memory : StepsStaySound → (k : Kept) (old new : Image) (before now : ℕ) (m : Machine) (event : EventValue) → IsConfig k.config → KeptStandsFor k old before m → new ≡ old → before ≤ now
+    → refusal k.config m event ≡ None → asks_memory event ≡ true → entry_has_room k.config m event ≡ true → KeptStepsTo k m event (replies.Refused OutOfMemory) k new now (record m { failures = now })
 lacks_memory law k old new before now m event limits means same more fine asks room =
     let later : Machine = failing now m in
     let step : Step k.config m event (replies.Refused OutOfMemory) later = (
@@ -125,8 +125,8 @@ may_mount mode is = subst (λ v. first_broken (unmounted_checks v) ≡ None) (sy
 may_dismount : (mode : Mode) → mode ≡ modes.Idle → first_broken (idle_checks mode) ≡ None
 may_dismount mode is = subst (λ v. first_broken (idle_checks v) ≡ None) (sym is) refl
 
-pub mounted : StepsStaySound → (k : Kept) (old new : Image) (before now : ℕ) (m : Machine) (chain : List ChainBlock) → IsConfig k.config → Means k old before m → k.work ≡ unmounted → Holds k.config new chain None m.files → before ≤ now
-    → LeadsTo k m Mount replies.Done (record k { work = idle chain }) new now (record m { mode = modes.Idle; failures = now })
+pub mounted : StepsStaySound → (k : Kept) (old new : Image) (before now : ℕ) (m : Machine) (chain : List ChainBlock) → IsConfig k.config → KeptStandsFor k old before m → k.work ≡ unmounted → HoldsFiles k.config new chain None m.files → before ≤ now
+    → KeptStepsTo k m Mount replies.Done (record k { work = idle chain }) new now (record m { mode = modes.Idle; failures = now })
 mounted law k old new before now m chain limits means at holds more =
     let later : Machine = record m { mode = modes.Idle; failures = now } in
     let step : Step k.config m Mount replies.Done later = (no_fewer k old before now m means more, (may_mount m.mode (means.mode ∙ ap mode_of at), refl)) in
@@ -142,8 +142,8 @@ mounted law k old new before now m chain limits means at holds more =
       };
     }
 
-pub dismounted : StepsStaySound → (k : Kept) (old new : Image) (before now : ℕ) (m : Machine) (chain : List ChainBlock) → IsConfig k.config → Means k old before m → k.work ≡ idle chain
-    → MediumSays k.config new m.files → OthersAreFound new m.files → before ≤ now → LeadsTo k m Dismount replies.Done (record k { work = unmounted }) new now (record m { mode = modes.Unmounted; failures = now })
+pub dismounted : StepsStaySound → (k : Kept) (old new : Image) (before now : ℕ) (m : Machine) (chain : List ChainBlock) → IsConfig k.config → KeptStandsFor k old before m → k.work ≡ idle chain
+    → MediumSays k.config new m.files → OthersAreFound new m.files → before ≤ now → KeptStepsTo k m Dismount replies.Done (record k { work = unmounted }) new now (record m { mode = modes.Unmounted; failures = now })
 dismounted law k old new before now m chain limits means at says found more =
     let later : Machine = record m { mode = modes.Unmounted; failures = now } in
     let step : Step k.config m Dismount replies.Done later = (no_fewer k old before now m means more, (may_dismount m.mode (means.mode ∙ ap mode_of at), refl)) in
@@ -161,9 +161,9 @@ dismounted law k old new before now m chain limits means at says found more =
 
 -- ---- a failure of the medium
 
-pub failed_so : StepsStaySound → (k : Kept) (old new : Image) (before now : ℕ) (m later : Machine) (event : Asked) → IsConfig k.config → Means k old before m → before ≤ now → Rose before now
+pub failed_so : StepsStaySound → (k : Kept) (old new : Image) (before now : ℕ) (m later : Machine) (event : EventValue) → IsConfig k.config → KeptStandsFor k old before m → before ≤ now → Rose before now
     → refusal k.config m event ≡ None → uses_medium event ≡ true → entry_has_room k.config m event ≡ true → FailsIn k.config (failing now m) event later
-    → later.tick ≡ k.tick → later.failures ≡ now → MediumSays k.config new later.files → LeadsTo k m event (replies.Refused Medium) (record k { work = failed }) new now later
+    → later.tick ≡ k.tick → later.failures ≡ now → MediumSays k.config new later.files → KeptStepsTo k m event (replies.Refused Medium) (record k { work = failed }) new now later
 failed_so law k old new before now m later event limits means more rose fine uses room fails tick counted says =
     let gives : Refuses (refusal k.config (failing now m) event) k.config m.failures (failing now m) event Medium later =
     subst (λ o. Refuses o k.config m.failures (failing now m) event Medium later) (sym (same_refusal k.config m now event ∙ fine))
@@ -185,12 +185,12 @@ failed_so law k old new before now m later event limits means more rose fine use
     }
 
 -- as before, but for what was taken from lanes
-pub failed_before : (s : Config) (m : Machine) (event : Asked) (lanes : List Lane) → LanesAfter event m.lanes m.lanes lanes → FailsIn s m event (record m { mode = modes.Failed; lanes = lanes })
+pub failed_before : (s : Config) (m : Machine) (event : EventValue) (lanes : List Lane) → LanesAfter event m.lanes m.lanes lanes → FailsIn s m event (record m { mode = modes.Failed; lanes = lanes })
 failed_before s m event lanes after = record { end = m; either = inl refl; files = refl; lanes = after; rest = refl }
 
 -- ---- erases
 
-count_erased : (spec : ChannelSpec) (files : List File) (taken erased : ℕ) (lane : Lane) → IsCounted files spec taken erased lane → IsCounted [] spec taken taken (erased_with files lane)
+count_erased : (spec : ChannelSpec) (files : List File) (taken erased : ℕ) (lane : Lane) → LaneIsCounted files spec taken erased lane → LaneIsCounted [] spec taken taken (erased_with files lane)
 count_erased spec files taken erased lane is =
     let same : (erased_with files lane).erased ≡ taken =
     ap (λ n. saturated (n + length (own_entries lane.spec.id files))) is.erased_is ∙ ap (λ (x : ChannelSpec). saturated (erased + length (own_entries x.id files))) is.spec_is ∙ sym is.taken_is in
@@ -200,7 +200,7 @@ count_erased spec files taken erased lane is =
       taken_is = omega (arith, is.taken_is);
     }
 
-counts_erased : (specs : List ChannelSpec) (files : List File) (taken erased : List ℕ) (lanes : List Lane) → AreCounted files specs taken erased lanes → AreCounted [] specs taken taken (map (erased_with files) lanes)
+counts_erased : (specs : List ChannelSpec) (files : List File) (taken erased : List ℕ) (lanes : List Lane) → LanesAreCounted files specs taken erased lanes → LanesAreCounted [] specs taken taken (map (erased_with files) lanes)
 counts_erased [] files [] [] [] are = tt
 counts_erased (x ∷ specs) files (t ∷ taken) (e ∷ erased) (l ∷ lanes) are = (count_erased x files t e l are.0, counts_erased specs files taken erased lanes are.1)
 counts_erased [] files [] [] (l ∷ lanes) are = absurd are
@@ -210,8 +210,8 @@ counts_erased (x ∷ specs) files [] erased lanes are = absurd are
 counts_erased (x ∷ specs) files (t ∷ taken) [] lanes are = absurd are
 counts_erased (x ∷ specs) files (t ∷ taken) (e ∷ erased) [] are = absurd are
 
-pub erased : StepsStaySound → (k : Kept) (old new : Image) (before now : ℕ) (m : Machine) (chain made : List ChainBlock) → IsConfig k.config → Means k old before m → k.work ≡ idle chain → refusal k.config m Erase ≡ None
-    → Holds k.config new made None [] → before ≤ now → LeadsTo k m Erase replies.Done (record k { work = idle made; generation = k.generation + 1; erased = k.taken }) new now (record m { files = []; generation = m.generation + 1; lanes = map (erased_with m.files) m.lanes; failures = now })
+pub erased : StepsStaySound → (k : Kept) (old new : Image) (before now : ℕ) (m : Machine) (chain made : List ChainBlock) → IsConfig k.config → KeptStandsFor k old before m → k.work ≡ idle chain → refusal k.config m Erase ≡ None
+    → HoldsFiles k.config new made None [] → before ≤ now → KeptStepsTo k m Erase replies.Done (record k { work = idle made; generation = k.generation + 1; erased = k.taken }) new now (record m { files = []; generation = m.generation + 1; lanes = map (erased_with m.files) m.lanes; failures = now })
 erased law k old new before now m chain made limits means at fine holds more =
     let later : Machine = record m { files = []; generation = m.generation + 1; lanes = map (erased_with m.files) m.lanes; failures = now } in
     let step : Step k.config m Erase replies.Done later = (no_fewer k old before now m means more, (fine, refl)) in
@@ -230,8 +230,8 @@ erased law k old new before now m chain made limits means at fine holds more =
 
 -- ---- the clock, while no file is recorded
 
-pub ticked : StepsStaySound → (k : Kept) (old new : Image) (before now : ℕ) (m : Machine) (chain : List ChainBlock) (count : ℕ) (parts : Parts) → IsConfig k.config → Means k old before m → k.work ≡ idle chain
-    → refusal k.config m (Tick count parts) ≡ None → new ≡ old → before ≤ now → LeadsTo k m (Tick count parts) replies.Done (record k { tick = Some (record { count = count; civil = parts }) }) new now (record m { tick = Some (record { count = count; civil = parts }); failures = now })
+pub ticked : StepsStaySound → (k : Kept) (old new : Image) (before now : ℕ) (m : Machine) (chain : List ChainBlock) (count : ℕ) (parts : Parts) → IsConfig k.config → KeptStandsFor k old before m → k.work ≡ idle chain
+    → refusal k.config m (Tick count parts) ≡ None → new ≡ old → before ≤ now → KeptStepsTo k m (Tick count parts) replies.Done (record k { tick = Some (record { count = count; civil = parts }) }) new now (record m { tick = Some (record { count = count; civil = parts }); failures = now })
 ticked law k old new before now m chain count parts limits means at fine same more =
     let later : Machine = record m { tick = Some (record { count = count; civil = parts }); failures = now } in
     let step : Step k.config m (Tick count parts) replies.Done later = (

@@ -3,44 +3,44 @@ use Rattle.std.specs.Prelude.{◌≡◌, ℕ, ◌+◌, List, [], ◌∷◌, Opti
 use Rattle.r10_medium.specs.Disk.{Image}
 use Rattle.r10_body.specs.declared.refusal.Refusal.{Refusal}
 use Rattle.r10_body.specs.declared.spec.ChannelSpec.{ChannelSpec}
-use Rattle.r10_volume.specs.Holding.{Holds, OthersAreFound}
+use Rattle.r10_volume.specs.Holding.{HoldsFiles, OthersAreFound}
 use Rattle.r10_machine.specs.Config.{Config}
 use Rattle.r10_machine.specs.Machine.{File, Lane, Machine, saturated}
 use Rattle.r10_machine.specs.ControlCalls.{own_entries}
 use Rattle.r10_machine.specs.Says.{MediumSays}
 use Rattle.r10_machine.specs.Sound.{IsSound}
 use Rattle.r10_machine.specs.Step.{Step}
-use Rattle.r10_machine.specs.declared.event.Event.{Event as Asked}
-use Rattle.r10_machine.specs.declared.reply.Reply.{Reply as Answered}
+use Rattle.r10_machine.specs.declared.event.Event.{Event as EventValue}
+use Rattle.r10_machine.specs.declared.reply.Reply.{Reply as ReplyValue}
 use Rattle.r10_means.specs.Kept.{Kept, Work, mode_of, unmounted, idle, recording, failed}
 
 -- the files are those that the medium says; of one in use, by its directory, with the file that is written
 abbrev pub HasFiles : Config → Work → Image → List File → Type 0
 HasFiles s unmounted image files = MediumSays s image files × OthersAreFound image files
-HasFiles s (idle chain) image files = Holds s image chain None files
-HasFiles s (recording chain file) image files = Holds s image chain (Some file) files
+HasFiles s (idle chain) image files = HoldsFiles s image chain None files
+HasFiles s (recording chain file) image files = HoldsFiles s image chain (Some file) files
 HasFiles s failed image files = MediumSays s image files
 
 -- a channel's lane: of its entries so many were taken in, and erases took so many
-pub record IsCounted (files : List File) (spec : ChannelSpec) (taken erased : ℕ) (lane : Lane) : Type 0 where
+pub record LaneIsCounted (files : List File) (spec : ChannelSpec) (taken erased : ℕ) (lane : Lane) : Type 0 where
   pub spec_is : lane.spec ≡ spec
   pub erased_is : lane.erased ≡ erased
   pub taken_is : taken ≡ saturated (erased + length (own_entries spec.id files))
 
-abbrev pub AreCounted : List File → List ChannelSpec → List ℕ → List ℕ → List Lane → Type 0
-AreCounted files [] [] [] [] = Unit {0}
-AreCounted files (spec ∷ specs) (t ∷ taken) (e ∷ erased) (lane ∷ lanes) = IsCounted files spec t e lane × AreCounted files specs taken erased lanes
-AreCounted files specs taken erased lanes = ⊥
+abbrev pub LanesAreCounted : List File → List ChannelSpec → List ℕ → List ℕ → List Lane → Type 0
+LanesAreCounted files [] [] [] [] = Unit {0}
+LanesAreCounted files (spec ∷ specs) (t ∷ taken) (e ∷ erased) (lane ∷ lanes) = LaneIsCounted files spec t e lane × LanesAreCounted files specs taken erased lanes
+LanesAreCounted files specs taken erased lanes = ⊥
 
 -- the numbers are the machine's; of a recorder that failed they are told to nobody
 abbrev pub NumbersAre : Kept → Machine → Type 0
 NumbersAre k m = elim k.work [
   | failed ↦ Unit {0}
-  | _ ↦ (m.last_event ≡ k.last_event) × (m.generation ≡ k.generation) × AreCounted m.files k.config.channels k.taken k.erased m.lanes
+  | _ ↦ (m.last_event ≡ k.last_event) × (m.generation ≡ k.generation) × LanesAreCounted m.files k.config.channels k.taken k.erased m.lanes
 ]
 
 -- what is kept, over a medium that reads as an image and has failed so often, stands for this machine, whatever waits in its lanes
-pub record Means (k : Kept) (image : Image) (failures : ℕ) (m : Machine) : Type 0 where
+pub record KeptStandsFor (k : Kept) (image : Image) (failures : ℕ) (m : Machine) : Type 0 where
   pub mode : m.mode ≡ mode_of k.work
   pub tick : m.tick ≡ k.tick
   pub counted : m.failures ≡ failures
@@ -49,6 +49,6 @@ pub record Means (k : Kept) (image : Image) (failures : ℕ) (m : Machine) : Typ
   pub sound : IsSound k.config m
 
 -- the step leads to this machine, which is meant then
-pub record LeadsTo (k : Kept) (m : Machine) (event : Asked) (reply : Answered) (later : Kept) (image : Image) (failures : ℕ) (machine : Machine) : Type 0 where
+pub record KeptStepsTo (k : Kept) (m : Machine) (event : EventValue) (reply : ReplyValue) (later : Kept) (image : Image) (failures : ℕ) (machine : Machine) : Type 0 where
   pub step : Step k.config m event reply machine
-  pub means : Means later image failures machine
+  pub means : KeptStandsFor later image failures machine

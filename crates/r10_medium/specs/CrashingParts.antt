@@ -28,7 +28,7 @@ pub record IsSameButCalls (old new : Crashing) : Type 0 where
   pub lowest : new.lowest ≡ old.lowest
 
 -- A call: one of those that are left goes well, and where none is left it fails without effect.
-pub record Calls {T E : Type 0} (old new : Crashing) (result : Result T E) : Type 0 where
+pub record CallsCrashing {T E : Type 0} (old new : Crashing) (result : Result T E) : Type 0 where
   pub taken : 0 < calls_left old → IsOk result × (calls_left new + 1 ≡ calls_left old)
   pub stopped : calls_left old ≡ 0 → IsErr result × (calls_left new ≡ 0) × IsSameButCalls old new
 

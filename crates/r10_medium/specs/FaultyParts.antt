@@ -22,7 +22,7 @@ abbrev pub faulty_disk : {M : Type 0} {G : Ghosts M} → Faulty M G → Disk
 faulty_disk f = faulty (disk_in f) (has_failed f)
 
 -- A call. Each one counts. The one that is due fails, and does nothing to the medium; every other one is the medium's own.
-pub record Calls {M T E : Type 0} {G : Ghosts M} (old new : Faulty M G) (result : Result T E) : Type 0 where
+pub record CallsFaulty {M T E : Type 0} {G : Ghosts M} (old new : Faulty M G) (result : Result T E) : Type 0 where
   pub counted : call_that_fails new ≡ call_that_fails old - 1
   pub due : call_that_fails old ≡ 1 → IsErr result × (medium_in new ≡ medium_in old) × (has_failed new ≡ true)
   pub others : call_that_fails old ≢ 1 → Counts (disk_in old) (disk_in new) result × (has_failed new ≡ has_failed old)

@@ -7,8 +7,8 @@ use Rattle.r10_medium.specs.declared.memory.Memory.{Memory}
 abbrev pub blocks_made : Memory → Image
 blocks_made m = m.front.items
 
-abbrev pub blocks_of : Memory → Image
-blocks_of m = with_zeros m.size (blocks_made m)
+abbrev pub memory_blocks : Memory → Image
+memory_blocks m = with_zeros m.size (blocks_made m)
 
 abbrev pub memory_disk : Memory → Disk
-memory_disk m = disk_of (blocks_of m) (whole_zeros m.size m.front.items m.whole) (zeros_fit m.front m.size m.within m.room)
+memory_disk m = disk_of (memory_blocks m) (whole_zeros m.size m.front.items m.whole) (zeros_fit m.front m.size m.within m.room)

@@ -8,8 +8,8 @@ use Rattle.r10_count.proofs.BodyParts.{first_is}
 use Rattle.r10_count.proofs.Lengths.{next_long, sizes_from}
 use Rattle.r10_count.specs.Texts.{told_size}
 use Rattle.r10_count.proofs.Plain.{plain_spelled, plain_fits, plain_all}
-use Rattle.r10_message.specs.Message.{FitsMessage, IsMessage, IsForeignMessage, message_body, message_entry, entry_size}
-use Rattle.r10_message.specs.Entry.{message_form, entry-told, entry-one, entry-size}
+use Rattle.r10_message.specs.Message.{FitsMessage, IsMessage, IsForeignMessage, message_body, message_entry, message_entry_size}
+use Rattle.r10_message.specs.Entry.{message_form, message_entry-told, message_entry-one, message_entry-size}
 use Rattle.r10_message.specs.declared.entry.MessageEntry.{MessageEntry}
 
 pub spelled_is : (before : ℕ) (es : List MessageEntry) → spelled_all message_form before es ≡ flat_map message_entry es
@@ -63,8 +63,8 @@ is_foreign body f = (f.0, f.1, f.2, eq-eqb (f.0 % 65536) (length f.1) f.3, f.4, 
 -- an entry is read from the front of bytes in one way
 pub one_message_entry : (e d : MessageEntry) (x y : List ℕ) → FitsMessage e → FitsMessage d → message_entry e ++ x ≡ message_entry d ++ y → (e ≡ d) × (x ≡ y)
 one_message_entry e d x y fe fd same =
-    let first = first_is 12 told_size (message_entry e) x (message_entry d) y (entry-told e fe) (entry-told d fd) same in
-    (entry-one e d fe fd first.0, first.1)
+    let first = first_is 12 told_size (message_entry e) x (message_entry d) y (message_entry-told e fe) (message_entry-told d fd) same in
+    (message_entry-one e d fe fd first.0, first.1)
 
 -- a body is made of one list of entries
 pub one_message_body : (es ds : List MessageEntry) → AllByRecursion FitsMessage es → AllByRecursion FitsMessage ds → message_body es ≡ message_body ds → es ≡ ds
@@ -72,16 +72,16 @@ one_message_body es ds fe fd same =
     one_spelled message_form 0 es ds (fits_are 0 es fe) (fits_are 0 ds fd) (spelled_is 0 es ∙ ap (drop 4) same ∙ sym (spelled_is 0 ds))
 
 -- the entries that are left are the next one and those behind it
-pub next_size : (es : List MessageEntry) (i : ℕ) (e : MessageEntry) → i < length es → e ≡ get_or es i e → length (flat_map message_entry (drop i es)) ≡ entry_size e + length (flat_map message_entry (drop (i + 1) es))
-next_size = next_long message_entry entry_size entry-size
+pub next_size : (es : List MessageEntry) (i : ℕ) (e : MessageEntry) → i < length es → e ≡ get_or es i e → length (flat_map message_entry (drop i es)) ≡ message_entry_size e + length (flat_map message_entry (drop (i + 1) es))
+next_size = next_long message_entry message_entry_size message_entry-size
 
 -- a body has its word and the sizes of its entries
-pub body-length : (es : List MessageEntry) → length (message_body es) ≡ 4 + sum_by entry_size es
-body-length es = omega (arith, sizes_from message_entry entry_size entry-size 0 es)
+pub body-length : (es : List MessageEntry) → length (message_body es) ≡ 4 + sum_by message_entry_size es
+body-length es = omega (arith, sizes_from message_entry message_entry_size message_entry-size 0 es)
 
 entries_long : (es : List MessageEntry) → 12 * length es ≤ length (flat_map message_entry es)
 entries_long [] = omega arith
-entries_long (e ∷ es) = omega (arith, length-append (message_entry e) (flat_map message_entry es), entry-size e, entries_long es)
+entries_long (e ∷ es) = omega (arith, length-append (message_entry e) (flat_map message_entry es), message_entry-size e, entries_long es)
 
 -- each entry has twelve bytes or more, so that a short body has few entries
 pub body_long : (es : List MessageEntry) → 4 + 12 * length es ≤ length (message_body es)

@@ -3,7 +3,7 @@ use Rattle.std.specs.Prelude.{◌≡◌, ℕ, ◌+◌, ◌*◌, ◌/◌, ◌%◌
 use Rattle.std.specs.List.{flat_map, AllByRecursion, concat}
 use Rattle.r10_count.specs.Bytes.{le_bytes, flag_at, u32_at}
 use Rattle.r10_count.specs.Count.{IsCount, stamp}
-use Rattle.r10_count.specs.Form.{IsEntry}
+use Rattle.r10_count.specs.Form.{IsEntryBytes}
 use Rattle.r10_count.specs.Padding.{padded}
 use Rattle.r10_count.specs.Texts.{told_size}
 use Rattle.r10_message.specs.declared.entry.MessageEntry.{MessageEntry}
@@ -21,8 +21,8 @@ abbrev pub message_entry : MessageEntry → List ℕ
 message_entry e = stamp e.count ++ le_bytes 4 (message_header e) ++ padded e.bytes
 
 -- the length of an entry in the body
-abbrev pub entry_size : MessageEntry → ℕ
-entry_size e = 12 + length e.bytes + length e.bytes % 2
+abbrev pub message_entry_size : MessageEntry → ℕ
+message_entry_size e = 12 + length e.bytes + length e.bytes % 2
 
 abbrev pub message_body : List MessageEntry → List ℕ
 message_body entries = message_word (length entries) ++ flat_map message_entry entries
@@ -50,8 +50,8 @@ IsMessage entries body = FitsMessageBody entries × (body ≡ message_body entri
 abbrev pub IsForeignMessage : List ℕ → Type 0
 IsForeignMessage body =
     (word : ℕ) × (entries : List (List ℕ)) × (word < 2 ^ 32) × (word % 2 ^ 16 ≡ length entries)
-    × AllByRecursion (IsEntry 12 told_size) entries × (body ≡ le_bytes 4 word ++ concat entries)
+    × AllByRecursion (IsEntryBytes 12 told_size) entries × (body ≡ le_bytes 4 word ++ concat entries)
 
 -- there is a word, and it says that the entries are segments of messages, which aren't read
-abbrev pub is_opaque : List ℕ → Bool
-is_opaque body = nat_le 4 (length body) && not (u32_at body 0 / 2 ^ 16 % 4 == 0)
+abbrev pub is_opaque_message : List ℕ → Bool
+is_opaque_message body = nat_le 4 (length body) && not (u32_at body 0 / 2 ^ 16 % 4 == 0)

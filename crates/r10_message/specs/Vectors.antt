@@ -2,7 +2,7 @@
 use Rattle.std.specs.Prelude.{◌≡◌, ℕ, true, false, List, [], ◌∷◌, ◌++◌, refl}
 use Rattle.std.proofs.Common.{arith, lit<, lit≤}
 use Rattle.r10_message.specs.declared.entry.MessageEntry.{MessageEntry}
-use Rattle.r10_message.specs.Message.{FitsMessage, IsForeignMessage, message_body, message_entry, message_of, is_opaque}
+use Rattle.r10_message.specs.Message.{FitsMessage, IsForeignMessage, message_body, message_entry, message_of, is_opaque_message}
 
 -- ABC at 1000 and an empty message at 1010
 abbrev pub two_messages : List MessageEntry
@@ -25,16 +25,16 @@ format_error-entry = refl
 pub both_errors-entry : message_entry (message_of 0 true true 0 []) ≡ 0 ∷ 0 ∷ 0 ∷ 0 ∷ 0 ∷ 0 ∷ 0 ∷ 0 ∷ 0 ∷ 0 ∷ 0 ∷ 0xC0 ∷ []
 both_errors-entry = refl
 
-pub whole_messages : is_opaque (2 ∷ 0 ∷ 0xFC ∷ 0xFF ∷ []) ≡ false
+pub whole_messages : is_opaque_message (2 ∷ 0 ∷ 0xFC ∷ 0xFF ∷ []) ≡ false
 whole_messages = refl
 
-pub first_segments : is_opaque (2 ∷ 0 ∷ 1 ∷ 0 ∷ 1 ∷ []) ≡ true
+pub first_segments : is_opaque_message (2 ∷ 0 ∷ 1 ∷ 0 ∷ 1 ∷ []) ≡ true
 first_segments = refl
 
-pub last_segments : is_opaque (2 ∷ 0 ∷ 2 ∷ 0 ∷ []) ≡ true
+pub last_segments : is_opaque_message (2 ∷ 0 ∷ 2 ∷ 0 ∷ []) ≡ true
 last_segments = refl
 
-pub no-word : is_opaque (2 ∷ 0 ∷ 1 ∷ []) ≡ false
+pub no-word : is_opaque_message (2 ∷ 0 ∷ 1 ∷ []) ≡ false
 no-word = refl
 
 -- the last subchannel, and one behind it
@@ -45,9 +45,9 @@ pub subchannel-16384 : FitsMessage (message_of 0 false false 16384 []) → ⊥
 subchannel-16384 fits = omega (arith, fits.sub)
 
 -- a front with any stamp, any upper half of the header, and this length
-abbrev pub front_of : ℕ → List ℕ
-front_of bytes = 0xFF ∷ 0xFF ∷ 0xFF ∷ 0xFF ∷ 0xFF ∷ 0xFF ∷ 0xFF ∷ 0xFF ∷ bytes ∷ 0 ∷ 0xFF ∷ 0xFF ∷ []
+abbrev pub message_front : ℕ → List ℕ
+message_front bytes = 0xFF ∷ 0xFF ∷ 0xFF ∷ 0xFF ∷ 0xFF ∷ 0xFF ∷ 0xFF ∷ 0xFF ∷ bytes ∷ 0 ∷ 0xFF ∷ 0xFF ∷ []
 
 -- any upper half of the word, any stamp and header, and any byte behind an odd number of bytes, may be another recorder's
-pub another-recorders : IsForeignMessage ((2 ∷ 0 ∷ 0xFC ∷ 0xFF ∷ []) ++ front_of 1 ++ (0x41 ∷ 0x20 ∷ []) ++ front_of 0)
-another-recorders = (0xFFFC0002, (front_of 1 ++ (0x41 ∷ 0x20 ∷ [])) ∷ front_of 0 ∷ [], lit< tt, refl, ((lit≤ tt, refl), ((lit≤ tt, refl), tt)), refl)
+pub another-recorders : IsForeignMessage ((2 ∷ 0 ∷ 0xFC ∷ 0xFF ∷ []) ++ message_front 1 ++ (0x41 ∷ 0x20 ∷ []) ++ message_front 0)
+another-recorders = (0xFFFC0002, (message_front 1 ++ (0x41 ∷ 0x20 ∷ [])) ∷ message_front 0 ∷ [], lit< tt, refl, ((lit≤ tt, refl), ((lit≤ tt, refl), tt)), refl)

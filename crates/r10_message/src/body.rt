@@ -2,10 +2,10 @@
 
 ghost use Rattle.std.specs.Prelude.{◌≡◌, ◌↔◌, ◌^◌, ◌<◌, List, length, IsTrue, IfOk};
 ghost use Rattle.r10_count.specs.Append.{Appends};
-ghost use Rattle.r10_count.specs.Reading.{Reads};
+ghost use Rattle.r10_count.specs.Reading.{ReadsBody};
 ghost use Rattle.r10_count.specs.declared.reading.Reading.TheVariants.{Strict};
-ghost use Rattle.r10_message.specs.Message.{FitsMessageBody, IsMessage, IsForeignMessage, message_body, is_opaque};
-ghost use Rattle.r10_message.specs.declared.entry.MessageEntry.{MessageEntry as Spoken};
+ghost use Rattle.r10_message.specs.Message.{FitsMessageBody, IsMessage, IsForeignMessage, message_body, is_opaque_message};
+ghost use Rattle.r10_message.specs.declared.entry.MessageEntry.{MessageEntry as MessageEntryValue};
 
 use crate::entry::MessageEntry;
 use r10_count::{BodyEntry, Items, Reading, read_body, split_u32, write_body};
@@ -51,8 +51,8 @@ impl MessageBody {
     /// Reads a body: the entries that this recorder writes as these bytes, or whether another recorder may have
     /// written them.
     pub fn decode(alloc: Global, body: &[u8]) -> Result<Reading<MessageBody>, AllocError>
-        ensures found { IfOk result (Reads (λ read. IsMessage read.entries body.now) (IsForeignMessage body.now)) }
-        ensures only { (entries : List Spoken) → IsMessage entries body.now → IfOk result (λ reading. reading ≡ Strict (record { entries = entries })) }
+        ensures found { IfOk result (ReadsBody (λ read. IsMessage read.entries body.now) (IsForeignMessage body.now)) }
+        ensures only { (entries : List MessageEntryValue) → IsMessage entries body.now → IfOk result (λ reading. reading ≡ Strict (record { entries = entries })) }
     {
         match read_body(alloc, 0, 0, body)? {
             Reading::Strict(entries) => Ok(Reading::Strict(MessageBody { entries })),
@@ -63,7 +63,7 @@ impl MessageBody {
 
     /// Whether the word of a body says that its entries are segments of messages. Such a body isn't read.
     pub fn is_opaque(body: &[u8]) -> bool
-        ensures { result ≡ is_opaque body.now }
+        ensures { result ≡ is_opaque_message body.now }
     {
         match split_u32(body) {
             Some((word, _)) => word / 0x1_0000 % 4 != 0,

@@ -9,7 +9,7 @@ use Rattle.std.proofs.lemmas.List.Sums.{sum_by-cons}
 use Rattle.r10_medium.specs.Disk.{Image}
 use Rattle.r10_blockout.specs.Blocks.{bytes_from}
 use Rattle.r10_dirblock.specs.Block.{is_closed}
-use Rattle.r10_dirblock.specs.declared.entry.Entry.{Entry as Listed}
+use Rattle.r10_dirblock.specs.declared.entry.Entry.{Entry as DirectoryEntry}
 use Rattle.r10_dirchain.specs.Mount.{blocks_in, stands}
 use Rattle.r10_dirchain.specs.OnMedium.{SameButIn}
 use Rattle.r10_dirchain.proofs.Standing.{Stand}
@@ -23,14 +23,14 @@ use Rattle.r10_machine.specs.Says.{SaysEach}
 abbrev pub behind : Config → Option File → ℕ
 behind s d = elim d [ None ↦ 1 + s.directory | Some f ↦ f.first_block + blocks_of f.size ]
 
-pub stands_at : (blocks n : ℕ) (e : Listed) → stands blocks n e ≡ true → e.first_block ≡ n
+pub stands_at : (blocks n : ℕ) (e : DirectoryEntry) → stands blocks n e ≡ true → e.first_block ≡ n
 stands_at blocks n e is = eqb-true e.first_block n (first (e.first_block == n) (nat_lt 0 e.size) (e.block_count == (e.size + 511) / 512) (nat_le (n + e.block_count) blocks) is)
   where
     first : (a b c d : Bool) → (a && b && c && d) ≡ true → a ≡ true
     first true b c d is = refl
     first false b c d is = absurd (cc)
 
-pub behind_all : (s : Config) (image : Image) (blocks : ℕ) (d : Option File) (entries : List Listed) (files : List File) → Stand blocks (behind s d) entries → SaysEach image entries files
+pub behind_all : (s : Config) (image : Image) (blocks : ℕ) (d : Option File) (entries : List DirectoryEntry) (files : List File) → Stand blocks (behind s d) entries → SaysEach image entries files
     → behind s (last_or d files) ≡ behind s d + blocks_in entries
 behind_all s image blocks d [] [] stand each = omega arith
 behind_all s image blocks d [] (f ∷ files) stand each = absurd each
@@ -40,26 +40,26 @@ behind_all s image blocks d (e ∷ entries) (f ∷ files) stand each =
     let lists = each.0 in
     let next : behind s (Some f) ≡ behind s d + e.block_count = omega (arith, at, lists.first_block, lists.block_count) in
     let rest = behind_all s image blocks (Some f) entries files (subst (λ (k : ℕ). Stand blocks k entries) (sym next) stand.1) each.2 in
-    omega (arith, rest, next, sum_by-cons (λ (c : Listed). c.block_count) e entries)
+    omega (arith, rest, next, sum_by-cons (λ (c : DirectoryEntry). c.block_count) e entries)
 
 -- ---- as many entries as files, and all closed where the last is
 
-pub each_length : (image : Image) (entries : List Listed) (files : List File) → SaysEach image entries files → length entries ≡ length files
+pub each_length : (image : Image) (entries : List DirectoryEntry) (files : List File) → SaysEach image entries files → length entries ≡ length files
 each_length image [] [] each = refl
 each_length image [] (f ∷ files) each = absurd each
 each_length image (e ∷ entries) [] each = absurd each
 each_length image (e ∷ entries) (f ∷ files) each = omega (arith, each_length image entries files each.2)
 
-but_last : (e d : Listed) (entries : List Listed) → take (length (e ∷ d ∷ entries) - 1) (e ∷ d ∷ entries) ≡ e ∷ take (length (d ∷ entries) - 1) (d ∷ entries)
+but_last : (e d : DirectoryEntry) (entries : List DirectoryEntry) → take (length (e ∷ d ∷ entries) - 1) (e ∷ d ∷ entries) ≡ e ∷ take (length (d ∷ entries) - 1) (d ∷ entries)
 but_last e d entries = ap (λ (k : ℕ). take k (e ∷ d ∷ entries)) one_more
   where
     one_more : length (e ∷ d ∷ entries) - 1 ≡ suc (length (d ∷ entries) - 1)
     one_more = omega arith
 
-abbrev Closed : Listed → Type 0
+abbrev Closed : DirectoryEntry → Type 0
 Closed e = is_closed e ≡ true
 
-pub all_closed : (image : Image) (d : Option File) (entries : List Listed) (files : List File) → SaysEach image entries files → All Closed (take (length entries - 1) entries) → elim (last_or d files) as (λ o. Bool) [ None ↦ true | Some f ↦ f.closed ] ≡ true
+pub all_closed : (image : Image) (d : Option File) (entries : List DirectoryEntry) (files : List File) → SaysEach image entries files → All Closed (take (length entries - 1) entries) → elim (last_or d files) as (λ o. Bool) [ None ↦ true | Some f ↦ f.closed ] ≡ true
     → All Closed entries
 all_closed image d [] files each others last = All-nil Closed
 all_closed image d (e ∷ entries) [] each others last = absurd each

@@ -8,14 +8,14 @@ use Rattle.r10_medium.proofs.Stops.{below_puts, weakened, whole_left}
 use Rattle.r10_blockout.specs.Blocks.{first_blocks}
 use Rattle.r10_blockout.specs.Output.{Puts}
 use Rattle.r10_blockout.proofs.Showing.{whole_put}
-use Rattle.r10_dirchain.specs.Chain.{Holds as HasBlock, IsDirectory, at, blank_block, files as listed_files}
+use Rattle.r10_dirchain.specs.Chain.{HoldsBlock, IsDirectory, at, blank_block, listed_files}
 use Rattle.r10_dirchain.specs.Mount.{mount_rules}
 use Rattle.r10_dirchain.specs.declared.chain.ChainBlock.{ChainBlock}
 use Rattle.r10_dirchain.proofs.Directories.{still_holds}
 use Rattle.r10_dirchain.proofs.Standing.{Stand, usable_of}
 use Rattle.r10_dirchain.proofs.Unique.{one_directory}
 use Rattle.r10_dirchain.proofs.Usable.{placed}
-use Rattle.r10_volume.specs.Holding.{Holds}
+use Rattle.r10_volume.specs.Holding.{HoldsFiles}
 use Rattle.r10_volume.proofs.Found.{found_stays}
 use Rattle.r10_machine.specs.Config.{Config}
 use Rattle.r10_machine.specs.Machine.{File}
@@ -40,7 +40,7 @@ directory_below s old new chain files says there below =
     let places = (usable_of s.directory s.blocks chain (held_mounts s old chain files says there)).placed in
     record {
       linked = there.linked;
-      holds = All-from_get_or (HasBlock new) chain blank_block (λ i lt.
+      holds = All-from_get_or (HoldsBlock new) chain blank_block (λ i lt.
           let place = placed s.directory 1 chain places i lt in
           still_holds old new (at chain i) (there.holds i blank_block lt) below.size (below.blocks (at chain i).number (omega (arith, place.0, place.1, next))));
     }
@@ -54,7 +54,7 @@ module _ (s : Config) (files : List File) (bytes : List ℕ) (old new : Image) (
   pub behind_says : MediumSays s old files → MediumSays s new files
   behind_says says = closed_stand s old new files whole (whole_put (bytes ++ put.more) (next_block s files) put.count old new whole put.puts) says 0 below
 
-  pub behind_holds : (chain : List ChainBlock) → Holds s old chain None files → Holds s new chain None files
+  pub behind_holds : (chain : List ChainBlock) → HoldsFiles s old chain None files → HoldsFiles s new chain None files
   behind_holds chain held = record {
     says = behind_says held.says;
     directory = directory_below s old new chain files held.says held.directory below;

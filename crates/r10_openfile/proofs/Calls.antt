@@ -13,16 +13,16 @@ use Rattle.r10_blockout.proofs.Joining.{carries_past}
 use Rattle.r10_body.specs.Files.{FileSays}
 use Rattle.r10_body.specs.Packets.{Packet, file_bytes}
 use Rattle.r10_body.specs.declared.entry.Entry.{Entry}
-use Rattle.r10_packetout.specs.Carries.{Carries, Recording}
+use Rattle.r10_packetout.specs.Carries.{Records, Recording}
 use Rattle.r10_packetout.proofs.Closing.{has_length}
-use Rattle.r10_dirblock.specs.declared.entry.Entry.{Entry as Listed}
-use Rattle.r10_dirchain.specs.Chain.{Holds as HasBlock, IsDirectory, at, blank_block}
+use Rattle.r10_dirblock.specs.declared.entry.Entry.{Entry as DirectoryEntry}
+use Rattle.r10_dirchain.specs.Chain.{HoldsBlock, IsDirectory, at, blank_block}
 use Rattle.r10_dirchain.specs.OnMedium.{HasNext, SameButIn, Turned, Turns}
 use Rattle.r10_dirchain.specs.Steps.{added, last_block, last_place, spare}
 use Rattle.r10_dirchain.specs.declared.chain.ChainBlock.{ChainBlock}
 use Rattle.r10_dirchain.proofs.Directories.{some_block, still_holds}
 use Rattle.r10_dirchain.proofs.Turning.{on_ok}
-use Rattle.r10_volume.specs.Holding.{Holds, IsCarried}
+use Rattle.r10_volume.specs.Holding.{HoldsFiles, IsCarried}
 use Rattle.r10_machine.specs.Config.{Config}
 use Rattle.r10_machine.specs.Machine.{File}
 use Rattle.r10_machine.specs.Room.{next_block}
@@ -44,14 +44,14 @@ directory_stays old new sure chain first blocks there below put same =
     subst (λ (l : Image). IsDirectory l chain) (sym same.reads)
     (record {
       linked = there.linked;
-      holds = All-from_get_or (HasBlock new.blocks) chain blank_block (λ i lt. still_holds old.blocks new.blocks (at chain i) (there.holds i blank_block lt) kept.size (kept.blocks (at chain i).number (below i blank_block lt)));
+      holds = All-from_get_or (HoldsBlock new.blocks) chain blank_block (λ i lt. still_holds old.blocks new.blocks (at chain i) (there.holds i blank_block lt) kept.size (kept.blocks (at chain i).number (below i blank_block lt)));
     })
 
 pub next_stays : (old new sure : Disk) (chain : List ChainBlock) → HasNext old.blocks chain → length new.blocks ≡ length old.blocks → Unchanged new sure → HasNext sure.blocks chain
 next_stays old new sure chain next long same = record { in_order = next.in_order; within = omega (arith, next.within, long, ap (λ (l : Image). length l) same.reads) }
 
 -- what is carried and shown stays where blocks below it change
-carried_behind : (r : Recording) (numbers : List ℕ) (old new : Image) (text : List ℕ) (entries : List Entry) (carried : Carries r old text entries) → Shows old (first_of r.out.blocks) (file_bytes carried.packets) → SameButIn numbers old new
+carried_behind : (r : Recording) (numbers : List ℕ) (old new : Image) (text : List ℕ) (entries : List Entry) (carried : Records r old text entries) → Shows old (first_of r.out.blocks) (file_bytes carried.packets) → SameButIn numbers old new
     → All (λ (n : ℕ). n < first_of r.out.blocks) numbers → IsCarried new (record { recording = r; shown = length r.out.entries }) text entries
 carried_behind r numbers old new text entries carried shows same below =
     let packets = carried.packets in
@@ -79,7 +79,7 @@ carried_behind r numbers old new text entries carried shows same below =
     }
 
 -- the packets, with the last block
-abbrev past_carries : (r : Recording) (old mid : Disk) (text : List ℕ) (entries : List Entry) (carried : Carries r old.blocks text entries) → Puts (first_of r.out.blocks) (file_blocks (file_bytes carried.packets)) old mid → Carries r mid.blocks text entries
+abbrev past_carries : (r : Recording) (old mid : Disk) (text : List ℕ) (entries : List Entry) (carried : Records r old.blocks text entries) → Puts (first_of r.out.blocks) (file_blocks (file_bytes carried.packets)) old mid → Records r mid.blocks text entries
 past_carries r old mid text entries carried put = record {
   packets = carried.packets;
   has = record {
@@ -93,7 +93,7 @@ past_carries r old mid text entries carried put = record {
 }
 
 -- so it is while a file is listed
-pub listed_carried : {T E : Type 0} (chain : List ChainBlock) (e : Listed) (r : Recording) (old mid sure new : Disk) (result : Result T E) (text : List ℕ) (entries : List Entry) (carried : Carries r old.blocks text entries) → IsDirectory sure.blocks chain
+pub listed_carried : {T E : Type 0} (chain : List ChainBlock) (e : DirectoryEntry) (r : Recording) (old mid sure new : Disk) (result : Result T E) (text : List ℕ) (entries : List Entry) (carried : Records r old.blocks text entries) → IsDirectory sure.blocks chain
     → All (λ (b : ChainBlock). b.number < first_of r.out.blocks) chain → All (λ (n : ℕ). n < first_of r.out.blocks) (spare chain) → Puts (first_of r.out.blocks) (file_blocks (file_bytes carried.packets)) old mid
     → Shows mid.blocks (first_of r.out.blocks) (file_bytes carried.packets) → Unchanged mid sure
     → Turns chain (added e chain) (spare chain) ((last_block chain).number ∷ spare chain) sure new result → OnOk result (IsCarried new.blocks (record { recording = r; shown = length r.out.entries }) text entries)
@@ -123,7 +123,7 @@ turned_size chain made unlinked changed old new result turns = ⊎_elim (λ was.
 
 -- ---- the last block
 
-module _ (s : Config) (chain : List ChainBlock) (files : List File) (f : File) (e : Listed) (r : Recording) (old mid : Disk) (may : MayList s old.blocks chain files r f e)
+module _ (s : Config) (chain : List ChainBlock) (files : List File) (f : File) (e : DirectoryEntry) (r : Recording) (old mid : Disk) (may : MayList s old.blocks chain files r f e)
     (put : Puts (first_of r.out.blocks) (file_blocks (file_bytes may.carries.packets)) old mid) where
   abbrev bytes : List ℕ
   bytes = file_bytes may.carries.packets
@@ -133,7 +133,7 @@ module _ (s : Config) (chain : List ChainBlock) (files : List File) (f : File) (
       subst (λ (l : List ℕ). Puts (next_block s files) (first_blocks l (blocks_for (length bytes))) old mid) (sym (append-nil bytes))
       (subst (λ (n : ℕ). Puts n (file_blocks bytes) old mid) (may.first ∙ may.place) put)
 
-  pub last_holds : Holds s mid.blocks chain None files
+  pub last_holds : HoldsFiles s mid.blocks chain None files
   last_holds = behind_holds s files bytes old.blocks mid.blocks (whole_reads old) (record { more = []; count = blocks_for (length bytes); puts = put_here.reads }) chain may.held
 
   pub last_moments : Settled (λ image. MediumSays s image files) old → Leaves (λ image. MediumSays s image files ⊎ MediumSays s image (files ++ f ∷ [])) old mid
@@ -159,16 +159,16 @@ module _ (s : Config) (chain : List ChainBlock) (files : List File) (f : File) (
 
 -- ---- and then the entry
 
-module _ {T E : Type 0} (s : Config) (chain : List ChainBlock) (files : List File) (f : File) (e : Listed) (r : Recording) (old mid sure new : Disk) (result : Result T E) (may : MayList s old.blocks chain files r f e)
+module _ {T E : Type 0} (s : Config) (chain : List ChainBlock) (files : List File) (f : File) (e : DirectoryEntry) (r : Recording) (old mid sure new : Disk) (result : Result T E) (may : MayList s old.blocks chain files r f e)
     (put : Puts (first_of r.out.blocks) (file_blocks (file_bytes may.carries.packets)) old mid) (shows : Shows mid.blocks (first_of r.out.blocks) (file_bytes may.carries.packets)) (says : FileSays (file_bytes may.carries.packets) f.setup f.entries false)
     (same : Unchanged mid sure) (synced : IsSynced sure) (turns : Turns chain (added e chain) (spare chain) ((last_block chain).number ∷ spare chain) sure new result) where
-  held : Holds s sure.blocks chain None files
-  held = subst (λ (l : Image). Holds s l chain None files) (sym same.reads) (last_holds s chain files f e r old mid may put)
+  held : HoldsFiles s sure.blocks chain None files
+  held = subst (λ (l : Image). HoldsFiles s l chain None files) (sym same.reads) (last_holds s chain files f e r old mid may put)
 
   begun : IsBegun s sure.blocks files r f
   begun = subst (λ (l : Image). IsBegun s l files r f) (sym same.reads) (last_begun s chain files f e r old mid may put shows says)
 
-  pub listed_holds : OnOk result (Holds s new.blocks (added e chain) (Some (record { recording = r; shown = length r.out.entries })) (files ++ f ∷ []))
+  pub listed_holds : OnOk result (HoldsFiles s new.blocks (added e chain) (Some (record { recording = r; shown = length r.out.entries })) (files ++ f ∷ []))
   listed_holds = begun_held s chain files r f e sure new result held begun may.sealed may.few may.lists turns
 
   pub listed_reads : MediumSays s new.blocks files ⊎ MediumSays s new.blocks (files ++ f ∷ [])

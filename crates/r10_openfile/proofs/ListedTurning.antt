@@ -9,10 +9,10 @@ use Rattle.r10_medium.specs.Stop.{ComesBy, Leaves, Settled}
 use Rattle.r10_medium.proofs.Stops.{one_image, settled_reads, weakened, whole_left, whole_reads}
 use Rattle.r10_blockout.specs.Blocks.{bytes_from}
 use Rattle.r10_packetout.specs.Carries.{Recording}
-use Rattle.r10_dirblock.specs.declared.entry.Entry.{Entry as Listed}
-use Rattle.r10_dirchain.specs.Chain.{IsDirectory, at, blank_block, files as listed_files}
+use Rattle.r10_dirblock.specs.declared.entry.Entry.{Entry as DirectoryEntry}
+use Rattle.r10_dirchain.specs.Chain.{IsDirectory, at, blank_block, listed_files}
 use Rattle.r10_dirchain.specs.Mount.{mount_rules}
-use Rattle.r10_dirchain.specs.OnMedium.{IsWritten as IsPutThere, SameButIn, Turned, Turns}
+use Rattle.r10_dirchain.specs.OnMedium.{IsWrittenByteForByte, SameButIn, Turned, Turns}
 use Rattle.r10_dirchain.specs.Steps.{added, last_block, last_is_full, next_number, spare}
 use Rattle.r10_dirchain.specs.declared.chain.ChainBlock.{ChainBlock}
 use Rattle.r10_dirchain.proofs.Directories.{still_directory}
@@ -20,7 +20,7 @@ use Rattle.r10_dirchain.proofs.Standing.{usable_of}
 use Rattle.r10_dirchain.proofs.Turning.{on_ok}
 use Rattle.r10_dirchain.proofs.Unique.{one_directory}
 use Rattle.r10_dirchain.proofs.Usable.{placed}
-use Rattle.r10_volume.specs.Holding.{Holds}
+use Rattle.r10_volume.specs.Holding.{HoldsFiles}
 use Rattle.r10_machine.specs.Checks.{is_sealed}
 use Rattle.r10_machine.specs.Config.{Config}
 use Rattle.r10_machine.specs.Machine.{File}
@@ -52,14 +52,14 @@ unlinked_says s old new chain files whole says there reserved same =
     directory_turns s old new chain (spare chain) files whole says.blocks
     (record {
       directory = still_directory old new chain (spare chain) there same apart;
-      written = All-from_get_or (IsPutThere (spare chain) new) chain blank_block (λ i lt. inl (apart i lt));
+      written = All-from_get_or (IsWrittenByteForByte (spare chain) new) chain blank_block (λ i lt. inl (apart i lt));
       others = same;
     })
     reserved mounts (subst (λ (c : List ChainBlock). SaysEach old (listed_files c) files) (one_directory old says.chain chain says.directory there) says.each)
 
 -- ---- the directory's step
 
-module _ {T E : Type 0} (s : Config) (chain : List ChainBlock) (files : List File) (r : Recording) (f : File) (e : Listed) (mid new : Disk) (result : Result T E) (held : Holds s mid.blocks chain None files) (begun : IsBegun s mid.blocks files r f)
+module _ {T E : Type 0} (s : Config) (chain : List ChainBlock) (files : List File) (r : Recording) (f : File) (e : DirectoryEntry) (mid new : Disk) (result : Result T E) (held : HoldsFiles s mid.blocks chain None files) (begun : IsBegun s mid.blocks files r f)
     (closed : is_sealed files ≡ true) (few : length files < most_files s) (lists : Lists f e) (turns : Turns chain (added e chain) (spare chain) ((last_block chain).number ∷ spare chain) mid new result) where
   abbrev changed : List ℕ
   changed = (last_block chain).number ∷ spare chain
@@ -92,10 +92,10 @@ module _ {T E : Type 0} (s : Config) (chain : List ChainBlock) (files : List Fil
       (λ turned. inr (made new.blocks turned))
       turns.reads
 
-  pub begun_held : OnOk result (Holds s new.blocks (added e chain) (Some (record { recording = r; shown = length r.out.entries })) (files ++ f ∷ []))
+  pub begun_held : OnOk result (HoldsFiles s new.blocks (added e chain) (Some (record { recording = r; shown = length r.out.entries })) (files ++ f ∷ []))
   begun_held =
       let turned : Image → Type 0 = Turned (added e chain) changed mid.blocks in
-      on_ok result (Settled turned new) (Holds s new.blocks (added e chain) (Some (record { recording = r; shown = length r.out.entries })) (files ++ f ∷ []))
+      on_ok result (Settled turned new) (HoldsFiles s new.blocks (added e chain) (Some (record { recording = r; shown = length r.out.entries })) (files ++ f ∷ []))
       (λ settled. begun_holds s mid.blocks chain files r f e whole held begun closed few lists new.blocks (settled_reads turned new settled)) turns.settled
 
   -- a stop then leaves them with the file's bytes that are read, by the new directory
@@ -107,5 +107,5 @@ module _ {T E : Type 0} (s : Config) (chain : List ChainBlock) (files : List Fil
       (λ settled image now. (made image (settled image now), bytes image (settled image now) ∙ sym (bytes new.blocks (settled_reads turned new settled)), (settled image now).directory)) turns.settled
 
 -- of a medium that was made sure, a stop leaves what is read
-pub sure_says : (s : Config) (disk : Disk) (chain : List ChainBlock) (files : List File) → IsSynced disk → Holds s disk.blocks chain None files → Settled (λ image. MediumSays s image files × IsDirectory image chain) disk
+pub sure_says : (s : Config) (disk : Disk) (chain : List ChainBlock) (files : List File) → IsSynced disk → HoldsFiles s disk.blocks chain None files → Settled (λ image. MediumSays s image files × IsDirectory image chain) disk
 sure_says s disk chain files synced held image now = subst (λ (l : Image). MediumSays s l files × IsDirectory l chain) (sym (one_image disk synced image now)) (held.says, held.directory)

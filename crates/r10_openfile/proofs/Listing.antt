@@ -15,11 +15,11 @@ use Rattle.r10_body.specs.declared.entry.Entry.{Entry}
 use Rattle.r10_packetout.specs.Carries.{Recording}
 use Rattle.r10_packetout.proofs.Closing.{has_length}
 use Rattle.r10_machine.specs.Cuts.{Agree}
-use Rattle.r10_dirblock.specs.declared.entry.Entry.{Entry as Listed}
-use Rattle.r10_dirchain.specs.Chain.{at, files as listed_files}
+use Rattle.r10_dirblock.specs.declared.entry.Entry.{Entry as DirectoryEntry}
+use Rattle.r10_dirchain.specs.Chain.{at, listed_files}
 use Rattle.r10_dirchain.specs.Mount.{blocks_in, mount_rules, stands}
 use Rattle.r10_dirchain.specs.OnMedium.{Turned}
-use Rattle.r10_dirchain.specs.Steps.{added, extended, filled, last_block, last_is_full, last_place, next_block as next_listing, next_number, spare}
+use Rattle.r10_dirchain.specs.Steps.{added, extended, with_entry_more, last_block, last_is_full, last_place, next_directory_block, next_number, spare}
 use Rattle.r10_dirchain.specs.declared.chain.ChainBlock.{ChainBlock}
 use Rattle.r10_dirchain.proofs.Directories.{some_block}
 use Rattle.r10_dirchain.proofs.FileLists.{files-added}
@@ -27,7 +27,7 @@ use Rattle.r10_dirchain.proofs.Standing.{usable_of}
 use Rattle.r10_dirchain.proofs.Staying.{usable-added}
 use Rattle.r10_dirchain.proofs.Unique.{one_directory}
 use Rattle.r10_dirchain.proofs.Usable.{placed}
-use Rattle.r10_volume.specs.Holding.{Holds, IsWritten, Open}
+use Rattle.r10_volume.specs.Holding.{HoldsFiles, IsWritten, Open}
 use Rattle.r10_volume.proofs.Found.{found_stays}
 use Rattle.r10_body.proofs.Lengths.{file_some}
 use Rattle.r10_machine.specs.Checks.{is_sealed}
@@ -44,19 +44,19 @@ use Rattle.r10_openfile.proofs.BackToBack.{all_closed, behind_all, bytes_behind,
 longer : (chain : List ChainBlock) (i : ℕ) (b c : ChainBlock) → length (slice_set chain i b ++ c ∷ []) ≡ length chain + 1
 longer chain i b c = omega (arith, length-append (slice_set chain i b) (c ∷ []), length-set chain i b)
 
-extended_longer : (e : Listed) (chain : List ChainBlock) → length chain < length (extended e chain)
+extended_longer : (e : DirectoryEntry) (chain : List ChainBlock) → length chain < length (extended e chain)
 extended_longer e chain =
     let b : ChainBlock = record { number = (at chain (last_place chain)).number; block = record (last_block chain).block { forward = next_number chain } } in
-    omega (arith, longer chain (last_place chain) b (next_listing e chain))
+    omega (arith, longer chain (last_place chain) b (next_directory_block e chain))
 
 -- the blocks that are written are reserved ones
-pub written_reserved : (reserved blocks : ℕ) (e : Listed) (chain : List ChainBlock) → 0 < length chain → first_broken (mount_rules reserved blocks chain) ≡ None → first_broken (mount_rules reserved blocks (added e chain)) ≡ None
+pub written_reserved : (reserved blocks : ℕ) (e : DirectoryEntry) (chain : List ChainBlock) → 0 < length chain → first_broken (mount_rules reserved blocks chain) ≡ None → first_broken (mount_rules reserved blocks (added e chain)) ≡ None
     → All (λ (n : ℕ). n ≤ reserved) ((last_block chain).number ∷ spare chain)
 written_reserved reserved blocks e chain some mounts made =
     let last = placed reserved 1 chain (usable_of reserved blocks chain mounts).placed (last_place chain) (omega (arith, some)) in
     All-cons (λ (n : ℕ). n ≤ reserved) (last_block chain).number (spare chain) (omega (arith, last.0, last.1)) (by (last_is_full chain) made)
   where
-    by : (b : Bool) → first_broken (mount_rules reserved blocks (if b then extended e chain else filled e chain)) ≡ None → All (λ (n : ℕ). n ≤ reserved) (if b then next_number chain ∷ [] else [])
+    by : (b : Bool) → first_broken (mount_rules reserved blocks (if b then extended e chain else with_entry_more e chain)) ≡ None → All (λ (n : ℕ). n ≤ reserved) (if b then next_number chain ∷ [] else [])
     by false made = All-nil (λ (n : ℕ). n ≤ reserved)
     by true made =
         let next = placed reserved 1 (extended e chain) (usable_of reserved blocks (extended e chain) made).placed (length chain) (extended_longer e chain) in
@@ -70,7 +70,7 @@ all_with : (P : File → Type 0) (files : List File) (f : File) → AllByRecursi
 all_with P [] f all here = (here, tt)
 all_with P (g ∷ files) f all here = (all.0, all_with P files f all.1 here)
 
-module _ (s : Config) (old : Image) (chain : List ChainBlock) (files : List File) (r : Recording) (f : File) (e : Listed) (whole : IsWhole old) (held : Holds s old chain None files) (begun : IsBegun s old files r f)
+module _ (s : Config) (old : Image) (chain : List ChainBlock) (files : List File) (r : Recording) (f : File) (e : DirectoryEntry) (whole : IsWhole old) (held : HoldsFiles s old chain None files) (begun : IsBegun s old files r f)
     (closed : is_sealed files ≡ true) (few : length files < most_files s) (lists : Lists f e) where
   mounts : first_broken (mount_rules s.directory s.blocks chain) ≡ None
   mounts = held_mounts s old chain files held.says held.directory
@@ -130,7 +130,7 @@ module _ (s : Config) (old : Image) (chain : List ChainBlock) (files : List File
   pub begun_says : (new : Image) → Turned (added e chain) ((last_block chain).number ∷ spare chain) old new → MediumSays s new (files ++ f ∷ [])
   begun_says new turned =
       directory_turns s old new (added e chain) ((last_block chain).number ∷ spare chain) (files ++ f ∷ []) whole held.says.blocks turned reserved mounts_made
-      (subst (λ (l : List Listed). SaysEach old l (files ++ f ∷ [])) (sym (files-added e chain (some_block old chain held.directory))) (one_more_said old (listed_files chain) files e f each lists said))
+      (subst (λ (l : List DirectoryEntry). SaysEach old l (files ++ f ∷ [])) (sym (files-added e chain (some_block old chain held.directory))) (one_more_said old (listed_files chain) files e f each lists said))
 
   pub begun_bytes : (new : Image) (size : ℕ) → Turned (added e chain) ((last_block chain).number ∷ spare chain) old new → bytes_from new f.first_block size ≡ bytes_from old f.first_block size
   begun_bytes new size turned = bytes_behind old new s.directory f.first_block size ((last_block chain).number ∷ spare chain) turned.others reserved (omega (arith, place))
@@ -181,7 +181,7 @@ module _ (s : Config) (old : Image) (chain : List ChainBlock) (files : List File
         stands = subst (λ (l : List Packet). Shows new f.first_block (file_bytes l)) (sym (ap (λ (n : ℕ). take n packets) (sym count) ∙ taken)) (same (length (file_bytes packets)) ∙ begun.shows);
       }
 
-  pub begun_holds : (new : Image) → Turned (added e chain) ((last_block chain).number ∷ spare chain) old new → Holds s new (added e chain) (Some (record { recording = r; shown = length r.out.entries })) (files ++ f ∷ [])
+  pub begun_holds : (new : Image) → Turned (added e chain) ((last_block chain).number ∷ spare chain) old new → HoldsFiles s new (added e chain) (Some (record { recording = r; shown = length r.out.entries })) (files ++ f ∷ [])
   begun_holds new turned =
       let o : Open = record { recording = r; shown = length r.out.entries } in
       let keep = directory_keeps s old new ((last_block chain).number ∷ spare chain) files whole held.says turned.others reserved in

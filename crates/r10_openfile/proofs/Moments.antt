@@ -9,7 +9,7 @@ use Rattle.r10_medium.specs.Disk.{Disk, Image, IsWhole}
 use Rattle.r10_medium.specs.Stop.{ComesBy, Leaves, PutsSome}
 use Rattle.r10_medium.proofs.Stops.{below_puts, reads_now, settled_now, weakened, whole_left}
 use Rattle.r10_machine.proofs.Said.{growing_stands}
-use Rattle.r10_openfile.specs.Keeping.{IsKept, Keeps, StaysKept}
+use Rattle.r10_openfile.specs.Keeping.{StopKeepsFiles, Keeps, StaysKept}
 
 -- blocks of the file's bytes are put, whatever of them: what was shown is shown, and the medium says what it said
 pub keeps_put : (s : Config) (files : List File) (f : File) (bytes : List ℕ) (n : ℕ) (shown a b : Image) → IsWhole a → f.size ≤ length bytes
@@ -32,7 +32,7 @@ kept_put s files f bytes n old new within shows put kept =
     (λ image from. keeps_put s files f bytes n old.blocks from.0 image (whole_left old from.0 from.1) within shows from.2 (kept from.0 from.1)) put.moments
 
 -- what a stop leaves then has the bytes that are read then
-pub kept_now : (s : Config) (files : List File) (f : File) (old new : Disk) → Leaves (Keeps s files f old.blocks) old new → IsKept s files f new
+pub kept_now : (s : Config) (files : List File) (f : File) (old new : Disk) → Leaves (Keeps s files f old.blocks) old new → StopKeepsFiles s files f new
 kept_now s files f old new run image now =
     let left = settled_now (Keeps s files f old.blocks) old new run in
     record { says = (left image now).says; bytes = (left image now).bytes ∙ sym (left new.blocks (reads_now new)).bytes }

@@ -10,9 +10,9 @@ use Rattle.r10_count.specs.Checks.{first_broken}
 use Rattle.r10_medium.specs.Disk.{Disk, Image, IsWhole, block_at}
 use Rattle.r10_medium.specs.Stop.{ComesBy, Settled}
 use Rattle.r10_medium.proofs.Stops.{settled_reads, weakened}
-use Rattle.r10_dirblock.specs.declared.entry.Entry.{Entry as Listed}
+use Rattle.r10_dirblock.specs.declared.entry.Entry.{Entry as DirectoryEntry}
 use Rattle.r10_dirchain.specs.declared.chain.ChainBlock.{ChainBlock}
-use Rattle.r10_dirchain.specs.Chain.{IsDirectory, at, files as listed_files}
+use Rattle.r10_dirchain.specs.Chain.{IsDirectory, at, listed_files}
 use Rattle.r10_dirchain.specs.Mount.{blocks_in, mount_rules, stands}
 use Rattle.r10_dirchain.specs.OnMedium.{SameButIn, Turned, Turns}
 use Rattle.r10_dirchain.specs.Steps.{last_listing, updated}
@@ -32,7 +32,7 @@ use Rattle.r10_machine.specs.Bytes.{KeepBytes}
 use Rattle.r10_machine.proofs.Said.{directory_keeps, directory_turns, last_said}
 use Rattle.r10_machine.specs.Says.{IsFound, Lists, MediumSays, SaysEach, SaysFile}
 use Rattle.r10_openfile.proofs.Ends.{all_front, all_with}
-use Rattle.r10_openfile.specs.Keeping.{Becomes, IsKept, Keeps}
+use Rattle.r10_openfile.specs.Keeping.{Becomes, StopKeepsFiles, Keeps}
 
 -- ---- files behind the blocks that change
 
@@ -52,11 +52,11 @@ same_bytes old new reserved first size numbers same all less =
 -- ---- files back to back
 
 -- what it is for a file to stand at a place
-pub record Place (blocks n : ℕ) (e : Listed) : Type 0 where
+pub record Place (blocks n : ℕ) (e : DirectoryEntry) : Type 0 where
   pub first : e.first_block ≡ n
   pub some : 0 < e.size
 
-pub place_of : (blocks n : ℕ) (e : Listed) → stands blocks n e ≡ true → Place blocks n e
+pub place_of : (blocks n : ℕ) (e : DirectoryEntry) → stands blocks n e ≡ true → Place blocks n e
 place_of blocks n e is =
     let parts = three (e.first_block == n) (nat_lt 0 e.size) (e.block_count == (e.size + 511) / 512) (nat_le (n + e.block_count) blocks) is in
     record { first = eqb-true e.first_block n parts.0; some = ltb-true 0 e.size parts.1 }
@@ -67,12 +67,12 @@ place_of blocks n e is =
     three false b c d is = absurd (cc)
 
 -- where the last file stands
-pub record LastStands (n : ℕ) (entries : List Listed) (f : File) : Type 0 where
+pub record LastStands (n : ℕ) (entries : List DirectoryEntry) (f : File) : Type 0 where
   pub listed : 0 < length entries
   pub first : f.first_block ≡ n + blocks_in (take (length entries - 1) entries)
   pub some : 0 < f.size
 
-pub last_stands : (image : Image) (blocks n : ℕ) (entries : List Listed) (files : List File) (f : File) → Stand blocks n entries → SaysEach image entries (files ++ f ∷ []) → LastStands n entries f
+pub last_stands : (image : Image) (blocks n : ℕ) (entries : List DirectoryEntry) (files : List File) (f : File) → Stand blocks n entries → SaysEach image entries (files ++ f ∷ []) → LastStands n entries f
 last_stands image blocks n [] [] f stand each = absurd each
 last_stands image blocks n [] (g ∷ files) f stand each = absurd each
 last_stands image blocks n (e ∷ []) [] f stand each =
@@ -84,10 +84,10 @@ last_stands image blocks n (e ∷ []) (g ∷ h ∷ files) f stand each = absurd 
 last_stands image blocks n (e ∷ d ∷ entries) (g ∷ files) f stand each =
     let rest = last_stands image blocks (n + e.block_count) (d ∷ entries) files f stand.1 each.2 in
     let front : blocks_in (take (length (e ∷ d ∷ entries) - 1) (e ∷ d ∷ entries)) ≡ e.block_count + blocks_in (take (length (d ∷ entries) - 1) (d ∷ entries)) =
-    ap (λ (k : ℕ). blocks_in (take k (e ∷ d ∷ entries))) (one_more e d entries) ∙ sum_by-cons (λ (c : Listed). c.block_count) e (take (length (d ∷ entries) - 1) (d ∷ entries)) in
+    ap (λ (k : ℕ). blocks_in (take k (e ∷ d ∷ entries))) (one_more e d entries) ∙ sum_by-cons (λ (c : DirectoryEntry). c.block_count) e (take (length (d ∷ entries) - 1) (d ∷ entries)) in
     record { listed = omega arith; first = omega (arith, rest.first, front); some = rest.some }
   where
-    one_more : (e d : Listed) (entries : List Listed) → length (e ∷ d ∷ entries) - 1 ≡ suc (length (d ∷ entries) - 1)
+    one_more : (e d : DirectoryEntry) (entries : List DirectoryEntry) → length (e ∷ d ∷ entries) - 1 ≡ suc (length (d ∷ entries) - 1)
     one_more e d entries = omega arith
 
 -- ---- the last file's entry
@@ -97,7 +97,7 @@ abbrev pub written_in : List ChainBlock → List ℕ
 written_in chain = (at chain (last_listing chain)).number ∷ []
 
 -- over an image that says the files, the last of them is shown anew: it is said, and an entry lists it
-pub record Makes (s : Config) (image : Image) (chain : List ChainBlock) (files : List File) (f g : File) (e : Listed) : Type 0 where
+pub record Makes (s : Config) (image : Image) (chain : List ChainBlock) (files : List File) (f g : File) (e : DirectoryEntry) : Type 0 where
   pub whole : IsWhole image
   pub there : IsDirectory image chain
   pub says : MediumSays s image (files ++ f ∷ [])
@@ -106,7 +106,7 @@ pub record Makes (s : Config) (image : Image) (chain : List ChainBlock) (files :
   pub first : g.first_block ≡ f.first_block
   pub some : f.size ≤ g.size
 
-module _ (s : Config) (old : Image) (chain : List ChainBlock) (files : List File) (f g : File) (e : Listed) (makes : Makes s old chain files f g e) where
+module _ (s : Config) (old : Image) (chain : List ChainBlock) (files : List File) (f g : File) (e : DirectoryEntry) (makes : Makes s old chain files f g e) where
   pub same : makes.says.chain ≡ chain
   same = one_directory old makes.says.chain chain makes.says.directory makes.there
 
@@ -147,7 +147,7 @@ module _ (s : Config) (old : Image) (chain : List ChainBlock) (files : List File
   pub made_says : (new : Image) → Turned (updated e chain) (written_in chain) old new → MediumSays s new (files ++ g ∷ [])
   made_says new turned =
       let listed : SaysEach old (listed_files (updated e chain)) (files ++ g ∷ []) =
-      subst (λ (l : List Listed). SaysEach old l (files ++ g ∷ [])) (sym (files-updated e chain last.listed)) (last_said old (listed_files chain) files f e g each makes.lists makes.made) in
+      subst (λ (l : List DirectoryEntry). SaysEach old l (files ++ g ∷ [])) (sym (files-updated e chain last.listed)) (last_said old (listed_files chain) files f e g each makes.lists makes.made) in
       directory_turns s old new (updated e chain) (written_in chain) (files ++ g ∷ []) makes.whole makes.says.blocks turned reserved mounts_made listed
 
   -- others are found as they were
@@ -166,7 +166,7 @@ module _ (s : Config) (old : Image) (chain : List ChainBlock) (files : List File
 nowhere : (from image : Image) → SameButIn [] from image → image ≡ from
 nowhere from image same = ext_get_or [] image from same.size (λ k lt. same.others k (All-nil (λ (n : ℕ). k ≢ n)))
 
-pub turn_moments : {T E : Type 0} (s : Config) (chain : List ChainBlock) (files : List File) (f g : File) (e : Listed) (old new : Disk) (result : Result T E) → Makes s old.blocks chain files f g e
+pub turn_moments : {T E : Type 0} (s : Config) (chain : List ChainBlock) (files : List File) (f g : File) (e : DirectoryEntry) (old new : Disk) (result : Result T E) → Makes s old.blocks chain files f g e
     → Turns chain (updated e chain) [] (written_in chain) old new result → Becomes s files f (files ++ g ∷ []) old new
 turn_moments s chain files f g e old new result makes turns kept =
     weakened (λ image. ComesBy (SameButIn []) old image ⊎ Turned (updated e chain) (written_in chain) old.blocks image) (λ image. Keeps s files f old.blocks image ⊎ MediumSays s image (files ++ g ∷ [])) old new
@@ -175,18 +175,18 @@ turn_moments s chain files f g e old new result makes turns kept =
     (λ turned. inr (made_says s old.blocks chain files f g e makes image turned)))
     turns.moments
 
-pub turn_settled : {T E : Type 0} (s : Config) (chain : List ChainBlock) (files : List File) (f g : File) (e : Listed) (old new : Disk) (result : Result T E) → Makes s old.blocks chain files f g e
-    → Turns chain (updated e chain) [] (written_in chain) old new result → OnOk result (IsKept s files g new)
+pub turn_settled : {T E : Type 0} (s : Config) (chain : List ChainBlock) (files : List File) (f g : File) (e : DirectoryEntry) (old new : Disk) (result : Result T E) → Makes s old.blocks chain files f g e
+    → Turns chain (updated e chain) [] (written_in chain) old new result → OnOk result (StopKeepsFiles s files g new)
 turn_settled s chain files f g e old new result makes turns =
     let made : Image → Type 0 = Turned (updated e chain) (written_in chain) old.blocks in
-    on_ok result (Settled made new) (IsKept s files g new)
+    on_ok result (Settled made new) (StopKeepsFiles s files g new)
     (λ settled image now. record {
       says = made_says s old.blocks chain files f g e makes image (settled image now);
       bytes = made_bytes s old.blocks chain files f g e makes image g.size (settled image now) ∙ sym (made_bytes s old.blocks chain files f g e makes new.blocks g.size (settled_reads made new settled));
     })
     turns.settled
 
-pub turn_reads : {T E : Type 0} (s : Config) (chain : List ChainBlock) (files : List File) (f g : File) (e : Listed) (old new : Disk) (result : Result T E) → Makes s old.blocks chain files f g e
+pub turn_reads : {T E : Type 0} (s : Config) (chain : List ChainBlock) (files : List File) (f g : File) (e : DirectoryEntry) (old new : Disk) (result : Result T E) → Makes s old.blocks chain files f g e
     → Turns chain (updated e chain) [] (written_in chain) old new result → MediumSays s new.blocks (files ++ f ∷ []) ⊎ MediumSays s new.blocks (files ++ g ∷ [])
 turn_reads s chain files f g e old new result makes turns = ⊎_elim
     (λ turned. inl (subst (λ (l : Image). MediumSays s l (files ++ f ∷ [])) (sym (nowhere old.blocks new.blocks turned.others)) makes.says))
@@ -198,7 +198,7 @@ keep_twice : (old mid new : Image) (files : List File) → KeepBytes old mid fil
 keep_twice old mid new [] keep keeps = tt
 keep_twice old mid new (f ∷ files) (here, keep) (there, keeps) = (there ∙ here, keep_twice old mid new files keep keeps)
 
-pub turn_bytes : {T E : Type 0} (s : Config) (chain : List ChainBlock) (files : List File) (f g : File) (e : Listed) (before : Image) (old new : Disk) (result : Result T E) → Makes s old.blocks chain files f g e
+pub turn_bytes : {T E : Type 0} (s : Config) (chain : List ChainBlock) (files : List File) (f g : File) (e : DirectoryEntry) (before : Image) (old new : Disk) (result : Result T E) → Makes s old.blocks chain files f g e
     → Turns chain (updated e chain) [] (written_in chain) old new result → KeepBytes before old.blocks (files ++ f ∷ []) → KeepBytes before new.blocks (files ++ f ∷ [])
 turn_bytes s chain files f g e before old new result makes turns kept = ⊎_elim
     (λ turned. subst (λ (l : Image). KeepBytes before l (files ++ f ∷ [])) (sym (nowhere old.blocks new.blocks turned.others)) kept)

@@ -6,11 +6,11 @@ use Rattle.r10_blockout.specs.Blocks.{Shows, first_blocks}
 use Rattle.r10_blockout.specs.Output.{first_of, size_of}
 use Rattle.r10_body.specs.Files.{FileSays}
 use Rattle.r10_body.specs.Packets.{file_bytes}
-use Rattle.r10_packetout.specs.Carries.{Carries, Recording}
-use Rattle.r10_dirblock.specs.declared.entry.Entry.{Entry as Listed}
+use Rattle.r10_packetout.specs.Carries.{Records, Recording}
+use Rattle.r10_dirblock.specs.declared.entry.Entry.{Entry as DirectoryEntry}
 use Rattle.r10_dirchain.specs.declared.chain.ChainBlock.{ChainBlock}
 use Rattle.r10_builder.specs.Grows.{all_held}
-use Rattle.r10_volume.specs.Holding.{Holds}
+use Rattle.r10_volume.specs.Holding.{HoldsFiles}
 use Rattle.r10_machine.specs.Checks.{is_sealed}
 use Rattle.r10_machine.specs.Config.{Config}
 use Rattle.r10_machine.specs.Machine.{File}
@@ -35,13 +35,13 @@ pub record IsBegun (s : Config) (image : Image) (files : List File) (r : Recordi
   pub own : f.own ≡ true
   pub whole : f.shown ≡ length f.entries
   pub none : all_held r.builders ≡ []
-  pub carries : Carries r image f.setup f.entries
+  pub carries : Records r image f.setup f.entries
   pub shows : Shows image f.first_block (file_bytes carries.packets)
   pub says : FileSays (file_bytes carries.packets) f.setup f.entries false
 
 -- behind these files, which are closed, a file was written whose packets are all carried and nothing of which is open; this entry lists it, and there is a place for it
-pub record MayList (s : Config) (image : Image) (chain : List ChainBlock) (files : List File) (r : Recording) (f : File) (e : Listed) : Type 0 where
-  pub held : Holds s image chain None files
+pub record MayList (s : Config) (image : Image) (chain : List ChainBlock) (files : List File) (r : Recording) (f : File) (e : DirectoryEntry) : Type 0 where
+  pub held : HoldsFiles s image chain None files
   pub sealed : is_sealed files ≡ true
   pub few : length files < most_files s
   pub time : r.time ≡ s.time
@@ -53,5 +53,5 @@ pub record MayList (s : Config) (image : Image) (chain : List ChainBlock) (files
   pub own : f.own ≡ true
   pub whole : f.shown ≡ length f.entries
   pub none : all_held r.builders ≡ []
-  pub carries : Carries r image f.setup f.entries
+  pub carries : Records r image f.setup f.entries
   pub lists : Lists f e

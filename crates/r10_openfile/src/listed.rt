@@ -5,16 +5,16 @@ ghost use Rattle.std.specs.List.{All};
 ghost use Rattle.r10_medium.specs.Disk.{Counts, block_at};
 ghost use Rattle.r10_medium.specs.Stop.{Leaves, Settled};
 ghost use Rattle.r10_blockout.specs.Blocks.{bytes_from};
-ghost use Rattle.r10_blockout.specs.Output.{HasRoom, first_of};
-ghost use Rattle.r10_body.specs.declared.entry.Entry.{Entry as Said};
-ghost use Rattle.r10_packetout.specs.Carries.{Carries};
-ghost use Rattle.r10_dirblock.specs.Block.{has_room};
+ghost use Rattle.r10_blockout.specs.Output.{HasRoomOnMedium, first_of};
+ghost use Rattle.r10_body.specs.declared.entry.Entry.{Entry as EntryValue};
+ghost use Rattle.r10_packetout.specs.Carries.{Records};
+ghost use Rattle.r10_dirblock.specs.Block.{has_room_for_size};
 ghost use Rattle.r10_dirchain.specs.Chain.{IsDirectory};
 ghost use Rattle.r10_dirchain.specs.OnMedium.{HasNext, IsPublished};
-ghost use Rattle.r10_dirchain.specs.Rooms.{room_for};
+ghost use Rattle.r10_dirchain.specs.Rooms.{block_room};
 ghost use Rattle.r10_dirchain.specs.Steps.{added, blocks_with_one_more, last_block, spare};
 ghost use Rattle.r10_dirchain.specs.declared.chain.ChainBlock.{ChainBlock};
-ghost use Rattle.r10_volume.specs.Holding.{Holds, IsCarried};
+ghost use Rattle.r10_volume.specs.Holding.{HoldsFiles, IsCarried};
 ghost use Rattle.r10_machine.specs.Config.{Config};
 ghost use Rattle.r10_machine.specs.Machine.{File};
 ghost use Rattle.r10_machine.specs.Says.{MediumSays};
@@ -38,15 +38,15 @@ pub fn list_file<M: BlockMedium>(
     room: Room,
     reserved: usize,
 ) -> Result<(), MediumFault>
-    requires inside { HasRoom mux.now.out.blocks 0 (length (M.disk medium.old).blocks) }
-    requires carries { (text : List ℕ) × (entries : List Said) × Carries mux.now (M.disk medium.old).blocks text entries }
+    requires inside { HasRoomOnMedium mux.now.out.blocks 0 (length (M.disk medium.old).blocks) }
+    requires carries { (text : List ℕ) × (entries : List EntryValue) × Records mux.now (M.disk medium.old).blocks text entries }
     requires stands { IsDirectory (M.disk medium.old).blocks directory.old }
     requires below { All (λ (b : ChainBlock). b.number < first_of mux.now.out.blocks) directory.old }
     requires next { HasNext (M.disk medium.old).blocks directory.old × (blocks_with_one_more directory.old ≤ reserved) }
-    requires entry { has_room entry ≡ true }
-    requires ready { length directory.old < room_for room }
+    requires entry { has_room_for_size entry ≡ true }
+    requires ready { length directory.old < block_room room }
     ensures holds { (s : Config) (files : List File) (f : File) → MayList s (M.disk medium.old).blocks directory.old files mux.now f entry
-        → OnOk result (Holds s (M.disk medium.new).blocks directory.new (Some (record { recording = mux.now; shown = length mux.now.out.entries })) (files ++ f ∷ [])) }
+        → OnOk result (HoldsFiles s (M.disk medium.new).blocks directory.new (Some (record { recording = mux.now; shown = length mux.now.out.entries })) (files ++ f ∷ [])) }
     ensures either { (s : Config) (files : List File) (f : File) → MayList s (M.disk medium.old).blocks directory.old files mux.now f entry
         → MediumSays s (M.disk medium.new).blocks files ⊎ MediumSays s (M.disk medium.new).blocks (files ++ f ∷ []) }
     ensures moments { (s : Config) (files : List File) (f : File) → MayList s (M.disk medium.old).blocks directory.old files mux.now f entry → Settled (λ image. MediumSays s image files) (M.disk medium.old)
@@ -55,7 +55,7 @@ pub fn list_file<M: BlockMedium>(
         → OnOk result (Settled (λ image. MediumSays s image (files ++ f ∷ []) × (bytes_from image f.first_block f.size ≡ bytes_from (M.disk medium.new).blocks f.first_block f.size) × IsDirectory image (added entry directory.old)) (M.disk medium.new)) }
     // Whatever files there are: the directory is the medium's, which is synced, and behind its blocks the file carries what it carried, and shows all its packets.
     ensures sure { OnOk result (IsPublished directory.new (M.disk medium.new)) }
-    ensures carries { (text : List ℕ) (entries : List Said) → Carries mux.now (M.disk medium.old).blocks text entries → All (λ (n : ℕ). n < first_of mux.now.out.blocks) (spare directory.old)
+    ensures carries { (text : List ℕ) (entries : List EntryValue) → Records mux.now (M.disk medium.old).blocks text entries → All (λ (n : ℕ). n < first_of mux.now.out.blocks) (spare directory.old)
         → OnOk result (IsCarried (M.disk medium.new).blocks (record { recording = mux.now; shown = length mux.now.out.entries }) text entries) }
     // The blocks in front of the file stay, but for the directory's that are written.
     ensures front { (k : ℕ) → k < first_of mux.now.out.blocks → All (λ (n : ℕ). k ≢ n) ((last_block directory.old).number ∷ spare directory.old) → block_at (M.disk medium.new).blocks k ≡ block_at (M.disk medium.old).blocks k }

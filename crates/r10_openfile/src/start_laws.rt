@@ -3,12 +3,12 @@
 ghost use Rattle.std.specs.Prelude.{◌≡◌, ◌+◌, ◌<◌, ◌≤◌, ◌++◌, ℕ, true, List, [], ◌∷◌, None, Some, length};
 ghost use Rattle.r10_medium.specs.Disk.{Image, IsWhole};
 ghost use Rattle.r10_body.specs.declared.entry.Entry.{Entry};
-ghost use Rattle.r10_packetout.specs.Carries.{Carries, Recording, packets_of};
-ghost use Rattle.r10_dirblock.specs.declared.entry.Entry.{Entry as Listed};
+ghost use Rattle.r10_packetout.specs.Carries.{Records, Recording, packets_of};
+ghost use Rattle.r10_dirblock.specs.declared.entry.Entry.{Entry as DirectoryEntry};
 ghost use Rattle.r10_dirchain.specs.OnMedium.{Turned};
 ghost use Rattle.r10_dirchain.specs.Steps.{added, last_block, spare};
 ghost use Rattle.r10_dirchain.specs.declared.chain.ChainBlock.{ChainBlock};
-ghost use Rattle.r10_volume.specs.Holding.{Holds};
+ghost use Rattle.r10_volume.specs.Holding.{HoldsFiles};
 ghost use Rattle.r10_machine.specs.Checks.{is_sealed};
 ghost use Rattle.r10_machine.specs.Config.{Config};
 ghost use Rattle.r10_machine.specs.Machine.{File};
@@ -21,19 +21,19 @@ ghost use Rattle.r10_openfile.specs.Begun.{IsBegun, IsPut};
 pub fn files_in_front_stay()
     ensures says { (s : Config) (files : List File) (bytes : List ℕ) (old new : Image) → IsWhole old → IsPut (next_block s files) bytes old new → MediumSays s old files → MediumSays s new files }
     ensures holds { (s : Config) (files : List File) (bytes : List ℕ) (old new : Image) → IsWhole old → IsPut (next_block s files) bytes old new → (chain : List ChainBlock)
-        → Holds s old chain None files → Holds s new chain None files }
+        → HoldsFiles s old chain None files → HoldsFiles s new chain None files }
 {}
 
 /// Once it is listed behind closed files, where the directory has a place for it, it is the one that is written, and
 /// the medium shows all its packets.
 pub fn begun_files_are_held()
-    ensures { (s : Config) (old new : Image) (chain : List ChainBlock) (files : List File) (r : Recording) (f : File) (e : Listed) → IsWhole old → Holds s old chain None files → IsBegun s old files r f
+    ensures { (s : Config) (old new : Image) (chain : List ChainBlock) (files : List File) (r : Recording) (f : File) (e : DirectoryEntry) → IsWhole old → HoldsFiles s old chain None files → IsBegun s old files r f
         → is_sealed files ≡ true → length files < most_files s → Lists f e → Turned (added e chain) ((last_block chain).number ∷ spare chain) old new
-        → Holds s new (added e chain) (Some (record { recording = r; shown = length r.out.entries })) (files ++ f ∷ []) }
+        → HoldsFiles s new (added e chain) (Some (record { recording = r; shown = length r.out.entries })) (files ++ f ∷ []) }
 {}
 
 /// An index of a file that is written would name no more than one packet for each entry, and one for the setup
 /// text.
 pub fn packets_are_few()
-    ensures { (r : Recording) (image : Image) (text : List ℕ) (entries : List Entry) → Carries r image text entries → packets_of r ≤ 1 + length entries }
+    ensures { (r : Recording) (image : Image) (text : List ℕ) (entries : List Entry) → Records r image text entries → packets_of r ≤ 1 + length entries }
 {}

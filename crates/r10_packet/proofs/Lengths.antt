@@ -4,7 +4,7 @@ use Rattle.std.specs.Prelude.{slice_index}
 use Rattle.std.proofs.lemmas.Bool.{eqb-true}
 use Rattle.std.proofs.lemmas.List.{length-replicate}
 use Rattle.r10_packet.specs.Sums.{data_checksum}
-use Rattle.r10_packet.specs.Header.{header_bytes, checksum_bits, bits_of, flags_of, check_of_bits}
+use Rattle.r10_packet.specs.Header.{header_bytes, checksum_bits, check_bits_of, flags_of, check_of_bits}
 use Rattle.r10_packet.specs.Packet.{filled, least_filler, framed_bytes, framed}
 use Rattle.r10_packet.specs.declared.header.Header.{Header}
 use Rattle.r10_packet.specs.declared.check.Check.{Check}
@@ -59,7 +59,7 @@ framed_length h body =
     ∙ ap (λ n. n + length (filled bits body (least_filler bits body))) (header_length (framed h body))
 
 -- the flags of a checksum tell it
-pub flags_tell : (check : Check) → checksum_bits (flags_of check) ≡ bits_of check
+pub flags_tell : (check : Check) → checksum_bits (flags_of check) ≡ check_bits_of check
 flags_tell Nothing = refl
 flags_tell Sum8 = refl
 flags_tell Sum16 = refl

@@ -8,7 +8,7 @@ use Rattle.std.proofs.lemmas.Slice.Eq.{bytes_eq-Decides}
 use Rattle.r10_packet.specs.Sums.{data_checksum}
 use Rattle.r10_packet.specs.Header.{header_bytes, checksum_bits}
 use Rattle.r10_packet.specs.Packet.{filled, IsPacketWith}
-use Rattle.r10_packet.specs.Framing.{header_at, body_at, has_lengths, has_room, is_right, has_data_checksum, data_sum_of, checksum_start, header_fault, framing_fault}
+use Rattle.r10_packet.specs.Framing.{header_at, body_at, has_lengths, has_room_for_checksum, is_right, has_data_checksum, data_sum_of, checksum_start, header_fault, framing_fault}
 use Rattle.r10_packet.specs.declared.header.Header.{Header}
 use Rattle.r10_packet.specs.declared.view.DataSum.TheVariants.{NoRoom, Wrong, Right}
 use Rattle.r10_packet.proofs.Fields.{AreBytes, header_back, fields_fit, header_again}
@@ -49,16 +49,16 @@ pub record IsReadWhole (bytes : List ℕ) (h : Header) (body : List ℕ) : Type 
   pub body_is : body_at bytes ≡ body
   pub checksum : has_data_checksum bytes ≡ true
 
-pub right_of : (h : Header) (bytes : List ℕ) → (has_room h && is_right h bytes) ≡ true → data_sum_of h bytes ≡ Right
-right_of h bytes e = (let p = both (has_room h) (is_right h bytes) e in rw (p.0, p.1) refl)
+pub right_of : (h : Header) (bytes : List ℕ) → (has_room_for_checksum h && is_right h bytes) ≡ true → data_sum_of h bytes ≡ Right
+right_of h bytes e = (let p = both (has_room_for_checksum h) (is_right h bytes) e in rw (p.0, p.1) refl)
 
 told_by : (room right : Bool) → (if room then (if right then Right else Wrong) else NoRoom) ≡ Right → (room && right) ≡ true
 told_by true true e = refl
 told_by true false e = absurd (cc)
 told_by false right e = absurd (cc)
 
-pub right_iff : (h : Header) (bytes : List ℕ) → (data_sum_of h bytes ≡ Right) ↔ ((has_room h && is_right h bytes) ≡ true)
-right_iff h bytes = (told_by (has_room h) (is_right h bytes), right_of h bytes)
+pub right_iff : (h : Header) (bytes : List ℕ) → (data_sum_of h bytes ≡ Right) ↔ ((has_room_for_checksum h && is_right h bytes) ≡ true)
+right_iff h bytes = (told_by (has_room_for_checksum h) (is_right h bytes), right_of h bytes)
 
 pub read_whole : (filler packet rest : List ℕ) (h : Header) (body : List ℕ) → IsPacketWith filler packet h body → has_lengths h ≡ true → IsReadWhole (packet ++ rest) h body
 read_whole filler packet rest h body is lengths =
@@ -91,14 +91,14 @@ read_whole filler packet rest h body is lengths =
     ap (λ t. slice_range t start h.packet_len) apart ∙ behind head (inside ++ rest) start h.packet_len head_length (omega arith)
     ∙ ap (λ t. slice_range t (start - 24) (h.packet_len - 24)) spread
     ∙ next_part (body ++ filler) sum rest (start - 24) (h.packet_len - 24) (omega arith) (omega arith) in
-    let room : has_room h ≡ true = le-leb (24 + h.data_len + bits / 8) h.packet_len (omega (arith, is.data_len)) in
+    let room : has_room_for_checksum h ≡ true = le-leb (24 + h.data_len + bits / 8) h.packet_len (omega (arith, is.data_len)) in
     let right : is_right h all ≡ true = (bytes_eq-Decides _ _).1 (told ∙ ap (data_checksum bits) (sym covered)) in
-    let checked : (has_room h && is_right h all) ≡ true = rw (room, right) refl in
+    let checked : (has_room_for_checksum h && is_right h all) ≡ true = rw (room, right) refl in
     record {
       sound = no_fault all (omega arith) sound (omega arith);
       header = header;
       body_is = ap (λ (g : Header). slice_range all 24 (24 + g.data_len)) header ∙ body_is;
-      checksum = ap (λ (g : Header). has_room g && is_right g all) header ∙ checked;
+      checksum = ap (λ (g : Header). has_room_for_checksum g && is_right g all) header ∙ checked;
     }
 
 -- ---- what is read is a sentence
@@ -116,7 +116,7 @@ found_whole bytes fits sound checked =
     let start : ℕ = checksum_start h in
     let whole = whole_of bytes sound in
     let lengths = lengths_of h whole.sound.lengths in
-    let has = both (has_room h) (is_right h bytes) checked in
+    let has = both (has_room_for_checksum h) (is_right h bytes) checked in
     let room : 24 + h.data_len + bits / 8 ≤ n = leb-true (24 + h.data_len + bits / 8) n has.0 in
     let back : bytes ≡ header_bytes h ++ drop 24 bytes = header_back bytes whole.long fits whole.sound.sync whole.sound.total in
     let front : take 24 bytes ≡ header_bytes h = ap (take 24) back ∙ take_at (header_bytes h) (drop 24 bytes) 24 (header_length h) in

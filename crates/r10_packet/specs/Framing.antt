@@ -62,8 +62,8 @@ abbrev pub checksum_start : Header → ℕ
 checksum_start h = h.packet_len - checksum_bits h.flags / 8
 
 -- the data checksum has room behind the body
-abbrev pub has_room : Header → Bool
-has_room h = nat_le (24 + h.data_len + checksum_bits h.flags / 8) h.packet_len
+abbrev pub has_room_for_checksum : Header → Bool
+has_room_for_checksum h = nat_le (24 + h.data_len + checksum_bits h.flags / 8) h.packet_len
 
 -- the data checksum is right
 abbrev pub is_right : Header → List ℕ → Bool
@@ -71,8 +71,8 @@ is_right h bytes =
     bytes_eq (slice_range bytes (checksum_start h) h.packet_len) (data_checksum (checksum_bits h.flags) (slice_range bytes 24 (checksum_start h)))
 
 abbrev pub has_data_checksum : List ℕ → Bool
-has_data_checksum bytes = has_room (header_at bytes) && is_right (header_at bytes) bytes
+has_data_checksum bytes = has_room_for_checksum (header_at bytes) && is_right (header_at bytes) bytes
 
 -- how the data checksum is
 abbrev pub data_sum_of : Header → List ℕ → DataSum
-data_sum_of h bytes = if has_room h then (if is_right h bytes then Right else Wrong) else NoRoom
+data_sum_of h bytes = if has_room_for_checksum h then (if is_right h bytes then Right else Wrong) else NoRoom

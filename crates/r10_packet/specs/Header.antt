@@ -34,11 +34,11 @@ abbrev pub checksum_bits : ℕ → ℕ
 checksum_bits flags = slice_index (0 ∷ 8 ∷ 16 ∷ 32 ∷ []) (flags % 4)
 
 -- the bits of a data checksum, and the flags that tell it
-abbrev pub bits_of : Check → ℕ
-bits_of Nothing = 0
-bits_of Sum8 = 8
-bits_of Sum16 = 16
-bits_of Sum32 = 32
+abbrev pub check_bits_of : Check → ℕ
+check_bits_of Nothing = 0
+check_bits_of Sum8 = 8
+check_bits_of Sum16 = 16
+check_bits_of Sum32 = 32
 
 abbrev pub flags_of : Check → ℕ
 flags_of Nothing = 0
@@ -51,4 +51,4 @@ abbrev pub check_of_bits : ℕ → Check
 check_of_bits bits = if bits == 8 then Sum8 else if bits == 16 then Sum16 else if bits == 32 then Sum32 else Nothing
 
 abbrev pub is_check_width : ℕ → Bool
-is_check_width bits = bits_of (check_of_bits bits) == bits
+is_check_width bits = check_bits_of (check_of_bits bits) == bits

@@ -23,8 +23,8 @@ pub record IsPacketWith (filler bytes : List ℕ) (h : Header) (body : List ℕ)
 abbrev pub IsPacket : List ℕ → Header → List ℕ → Type 0
 IsPacket bytes h body = IsPacketWith (least_filler (checksum_bits h.flags) body) bytes h body
 
-abbrev pub IsForeignPacket : List ℕ → Header → List ℕ → Type 0
-IsForeignPacket bytes h body = (filler : List ℕ) × IsPacketWith filler bytes h body
+abbrev pub IsForeignFrame : List ℕ → Header → List ℕ → Type 0
+IsForeignFrame bytes h body = (filler : List ℕ) × IsPacketWith filler bytes h body
 
 -- the header with the lengths of a body
 abbrev pub framed : Header → List ℕ → Header

@@ -13,14 +13,14 @@ use Rattle.std.proofs.Common.{lit<}
 abbrev pub setup_header : Header
 setup_header = record { channel = 0; packet_len = 32; data_len = 8; version = 8; sequence = 0; flags = 0; data_type = 1; counter = 1000 }
 
-abbrev pub setup_body : List ℕ
-setup_body = 0x0C ∷ 0 ∷ 0 ∷ 0 ∷ 0x41 ∷ 0x42 ∷ 0x43 ∷ 0x44 ∷ []
+abbrev pub setup_body_bytes : List ℕ
+setup_body_bytes = 0x0C ∷ 0 ∷ 0 ∷ 0 ∷ 0x41 ∷ 0x42 ∷ 0x43 ∷ 0x44 ∷ []
 
-abbrev pub setup_packet : List ℕ
-setup_packet =
+abbrev pub setup_packet_bytes : List ℕ
+setup_packet_bytes =
     0x25 ∷ 0xEB ∷ 0x00 ∷ 0x00 ∷ 0x20 ∷ 0x00 ∷ 0x00 ∷ 0x00 ∷ 0x08 ∷ 0x00 ∷ 0x00 ∷ 0x00 ∷ 0x08 ∷ 0x00 ∷ 0x00 ∷ 0x01 ∷ 0xE8 ∷ 0x03 ∷ 0x00 ∷ 0x00 ∷ 0x00 ∷ 0x00 ∷ 0x3D ∷ 0xF0 ∷ 0x0C ∷ 0 ∷ 0 ∷ 0 ∷ 0x41 ∷ 0x42 ∷ 0x43 ∷ 0x44 ∷ []
 
-pub setup_packet-is : IsPacket setup_packet setup_header setup_body
+pub setup_packet-is : IsPacket setup_packet_bytes setup_header setup_body_bytes
 unfolding header_bytes
 setup_packet-is = record {
   fits = record { channel = lit< tt; packet_len = lit< tt; data_len = lit< tt; version = lit< tt; sequence = lit< tt; flags = lit< tt; data_type = lit< tt; counter = lit< tt };
@@ -30,28 +30,28 @@ setup_packet-is = record {
 }
 
 -- the UART packet of two messages, without a data checksum and with one of 8, 16 and 32 bits
-abbrev pub uart_body : List ℕ
-uart_body = 0 ∷ 0 ∷ 0 ∷ 0x80 ∷ 0xE8 ∷ 0x03 ∷ 0 ∷ 0 ∷ 0 ∷ 0 ∷ 0 ∷ 0 ∷ 3 ∷ 0 ∷ 0 ∷ 0 ∷ 0x41 ∷ 0x42 ∷ 0x43 ∷ 0 ∷ 0xF2 ∷ 0x03 ∷ 0 ∷ 0 ∷ 0 ∷ 0 ∷ 0 ∷ 0 ∷ 0 ∷ 0 ∷ 0 ∷ 0 ∷ []
+abbrev pub uart_body_bytes : List ℕ
+uart_body_bytes = 0 ∷ 0 ∷ 0 ∷ 0x80 ∷ 0xE8 ∷ 0x03 ∷ 0 ∷ 0 ∷ 0 ∷ 0 ∷ 0 ∷ 0 ∷ 3 ∷ 0 ∷ 0 ∷ 0 ∷ 0x41 ∷ 0x42 ∷ 0x43 ∷ 0 ∷ 0xF2 ∷ 0x03 ∷ 0 ∷ 0 ∷ 0 ∷ 0 ∷ 0 ∷ 0 ∷ 0 ∷ 0 ∷ 0 ∷ 0 ∷ []
 
-abbrev pub uart_header : ℕ → ℕ → Header
-uart_header len flags = record { channel = 5; packet_len = len; data_len = 32; version = 8; sequence = 0; flags = flags; data_type = 0x50; counter = 1000 }
+abbrev pub uart_packet_header : ℕ → ℕ → Header
+uart_packet_header len flags = record { channel = 5; packet_len = len; data_len = 32; version = 8; sequence = 0; flags = flags; data_type = 0x50; counter = 1000 }
 
 abbrev pub uart_packet : ℕ → ℕ → List ℕ
-uart_packet len flags = header_bytes (uart_header len flags) ++ filled (checksum_bits flags) uart_body (least_filler (checksum_bits flags) uart_body)
+uart_packet len flags = header_bytes (uart_packet_header len flags) ++ filled (checksum_bits flags) uart_body_bytes (least_filler (checksum_bits flags) uart_body_bytes)
 
-pub header-0 : drop 22 (header_bytes (uart_header 56 0)) ≡ 0x72 ∷ 0x3F ∷ []
+pub header-0 : drop 22 (header_bytes (uart_packet_header 56 0)) ≡ 0x72 ∷ 0x3F ∷ []
 unfolding header_bytes
 header-0 = refl
 
-pub header-8 : drop 22 (header_bytes (uart_header 60 1)) ≡ 0x77 ∷ 0x3F ∷ []
+pub header-8 : drop 22 (header_bytes (uart_packet_header 60 1)) ≡ 0x77 ∷ 0x3F ∷ []
 unfolding header_bytes
 header-8 = refl
 
-pub header-16 : drop 22 (header_bytes (uart_header 60 2)) ≡ 0x78 ∷ 0x3F ∷ []
+pub header-16 : drop 22 (header_bytes (uart_packet_header 60 2)) ≡ 0x78 ∷ 0x3F ∷ []
 unfolding header_bytes
 header-16 = refl
 
-pub header-32 : drop 22 (header_bytes (uart_header 60 3)) ≡ 0x79 ∷ 0x3F ∷ []
+pub header-32 : drop 22 (header_bytes (uart_packet_header 60 3)) ≡ 0x79 ∷ 0x3F ∷ []
 unfolding header_bytes
 header-32 = refl
 
@@ -68,11 +68,11 @@ unfolding header_bytes
 tail-32 = refl
 
 -- it is read as what it is
-pub reads-header : header_at (uart_packet 60 3) ≡ uart_header 60 3
+pub reads-header : header_at (uart_packet 60 3) ≡ uart_packet_header 60 3
 unfolding header_bytes
 reads-header = refl
 
-pub reads-body : body_at (uart_packet 60 3) ≡ uart_body
+pub reads-body : body_at (uart_packet 60 3) ≡ uart_body_bytes
 unfolding header_bytes
 reads-body = refl
 
@@ -91,10 +91,10 @@ truncated = refl
 pub no-bytes : framing_fault [] ≡ Some Truncated
 no-bytes = refl
 
-pub wrong-header-sum : framing_fault (0x25 ∷ 0xEB ∷ 1 ∷ drop 3 setup_packet) ≡ Some HeaderSum
+pub wrong-header-sum : framing_fault (0x25 ∷ 0xEB ∷ 1 ∷ drop 3 setup_packet_bytes) ≡ Some HeaderSum
 wrong-header-sum = refl
 
-pub wrong-sync : framing_fault (0x24 ∷ drop 1 setup_packet) ≡ Some Sync
+pub wrong-sync : framing_fault (0x24 ∷ drop 1 setup_packet_bytes) ≡ Some Sync
 wrong-sync = refl
 
 pub time-header : header_bytes (record { channel = 1; packet_len = 36; data_len = 12; version = 8; sequence = 0; flags = 0; data_type = 0x11; counter = 1000 }) ≡ 0x25 ∷ 0xEB ∷ 1 ∷ 0 ∷ 0x24 ∷ 0 ∷ 0 ∷ 0 ∷ 0x0C ∷ 0 ∷ 0 ∷ 0 ∷ 8 ∷ 0 ∷ 0 ∷ 0x11 ∷ 0xE8 ∷ 3 ∷ 0 ∷ 0 ∷ 0 ∷ 0 ∷ 0x46 ∷ 0 ∷ []
@@ -107,33 +107,33 @@ unfolding header_bytes
 each-field = refl
 
 -- lengths: not in whole words, and with a body that doesn't fit
-pub broken-word : framing_fault (header_bytes (uart_header 58 0) ++ uart_body ++ 0 ∷ 0 ∷ []) ≡ Some Length
+pub broken-word : framing_fault (header_bytes (uart_packet_header 58 0) ++ uart_body_bytes ++ 0 ∷ 0 ∷ []) ≡ Some Length
 unfolding header_bytes
 broken-word = refl
 
-pub too-short : framing_fault (header_bytes (uart_header 52 0) ++ uart_body) ≡ Some Length
+pub too-short : framing_fault (header_bytes (uart_packet_header 52 0) ++ uart_body_bytes) ≡ Some Length
 unfolding header_bytes
 too-short = refl
 
-pub greatest-length : has_lengths (uart_header 524288 0) ≡ true
+pub greatest-length : has_lengths (uart_packet_header 524288 0) ≡ true
 greatest-length = refl
 
-pub too-long : has_lengths (uart_header 524292 0) ≡ false
+pub too-long : has_lengths (uart_packet_header 524292 0) ≡ false
 too-long = refl
 
 pub long-setup : has_lengths (record setup_header { packet_len = 524292 }) ≡ true
 long-setup = refl
 
 -- any filler is read, and counts in the data checksum
-pub other-filler : data_sum_of (uart_header 60 1) (header_bytes (uart_header 60 1) ++ filled 8 uart_body (1 ∷ 2 ∷ 3 ∷ [])) ≡ Right
+pub other-filler : data_sum_of (uart_packet_header 60 1) (header_bytes (uart_packet_header 60 1) ++ filled 8 uart_body_bytes (1 ∷ 2 ∷ 3 ∷ [])) ≡ Right
 unfolding header_bytes
 other-filler = refl
 
-pub sum-without-filler : data_sum_of (uart_header 60 1) (header_bytes (uart_header 60 1) ++ uart_body ++ 1 ∷ 2 ∷ 3 ∷ 0x29 ∷ []) ≡ Wrong
+pub sum-without-filler : data_sum_of (uart_packet_header 60 1) (header_bytes (uart_packet_header 60 1) ++ uart_body_bytes ++ 1 ∷ 2 ∷ 3 ∷ 0x29 ∷ []) ≡ Wrong
 unfolding header_bytes
 sum-without-filler = refl
 
-pub no-room : data_sum_of (uart_header 56 1) (header_bytes (uart_header 56 1) ++ uart_body) ≡ NoRoom
+pub no-room : data_sum_of (uart_packet_header 56 1) (header_bytes (uart_packet_header 56 1) ++ uart_body_bytes) ≡ NoRoom
 unfolding header_bytes
 no-room = refl
 

@@ -1,7 +1,7 @@
 //! Which data checksum a packet has.
 
 ghost use Rattle.std.specs.Prelude.{◌≡◌, ◌/◌, ◌<◌, ◌≤◌};
-ghost use Rattle.r10_packet.specs.Header.{bits_of, flags_of, checksum_bits, check_of_bits, is_check_width};
+ghost use Rattle.r10_packet.specs.Header.{check_bits_of, flags_of, checksum_bits, check_of_bits, is_check_width};
 
 /// The data checksum behind a packet's body and filler.
 #[derive(Clone, Copy, Debug, PartialEq, Eq)]
@@ -34,7 +34,7 @@ impl Check {
 
     /// The data checksum that a header's flags tell.
     pub fn of_flags(flags: u8) -> Check
-        ensures { bits_of result ≡ checksum_bits flags }
+        ensures { check_bits_of result ≡ checksum_bits flags }
     {
         match flags % 4 {
             0 => Check::Nothing,
@@ -59,7 +59,7 @@ impl Check {
 
     /// How many bytes it has.
     pub fn width(self) -> usize
-        ensures value { result ≡ bits_of self / 8 }
+        ensures value { result ≡ check_bits_of self / 8 }
         ensures range { result ≤ 4 }
     {
         match self {

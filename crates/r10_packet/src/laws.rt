@@ -2,8 +2,8 @@
 
 ghost use Rattle.std.specs.Prelude.{◌≡◌, ◌+◌, ◌*◌, ◌/◌, ◌<◌, ◌≤◌, ◌++◌, ℕ, List, None, IsTrue, length, take, slice_index};
 ghost use Rattle.r10_packet.specs.Sums.{data_checksum};
-ghost use Rattle.r10_packet.specs.Header.{FitsHeader, header_bytes, checksum_bits, bits_of, flags_of};
-ghost use Rattle.r10_packet.specs.Packet.{filled, least_filler, IsPacketWith, IsForeignPacket};
+ghost use Rattle.r10_packet.specs.Header.{FitsHeader, header_bytes, checksum_bits, check_bits_of, flags_of};
+ghost use Rattle.r10_packet.specs.Packet.{filled, least_filler, IsPacketWith, IsForeignFrame};
 ghost use Rattle.r10_packet.specs.Framing.{header_at, body_at, has_lengths, has_data_checksum, header_fault, framing_fault};
 ghost use Rattle.r10_packet.specs.declared.header.Header.{Header};
 ghost use Rattle.r10_packet.specs.declared.check.Check.{Check};
@@ -25,7 +25,7 @@ pub fn part_lengths()
 
 /// The flags of a data checksum tell it.
 pub fn flags_tell()
-    ensures { (check : Check) → checksum_bits (flags_of check) ≡ bits_of check }
+    ensures { (check : Check) → checksum_bits (flags_of check) ≡ check_bits_of check }
 {}
 
 /// A packet sentence is read as what it says, whatever stands behind it.
@@ -39,5 +39,5 @@ pub fn packet_again()
 /// What is read without a fault, with the right data checksum, is a packet sentence.
 pub fn packet_found()
     ensures { (bytes : List ℕ) → ((i : ℕ) → slice_index bytes i < 256) → framing_fault bytes ≡ None → IsTrue (has_data_checksum bytes)
-        → IsForeignPacket (take (header_at bytes).packet_len bytes) (header_at bytes) (body_at bytes) }
+        → IsForeignFrame (take (header_at bytes).packet_len bytes) (header_at bytes) (body_at bytes) }
 {}

@@ -3,7 +3,7 @@
 ghost use Rattle.std.specs.Prelude.{◌≡◌, ◌+◌, ◌/◌, ◌≤◌, ◌++◌, ◌↔◌, Some, None, length, drop, IfOk, OnOk, IfErr, IsTrue};
 ghost use Rattle.std.specs.Str.{bytes_eq};
 ghost use Rattle.r10_packet.specs.Sums.{data_checksum};
-ghost use Rattle.r10_packet.specs.Header.{bits_of, checksum_bits};
+ghost use Rattle.r10_packet.specs.Header.{check_bits_of, checksum_bits};
 ghost use Rattle.r10_packet.specs.Packet.{framed, framed_bytes, IsPacket};
 ghost use Rattle.r10_packet.specs.Framing.{has_lengths, framing_fault, header_at, body_at, data_sum_of, has_data_checksum};
 
@@ -72,7 +72,7 @@ impl Packet {
 /// Adds the data checksum of all bytes behind the header.
 fn push_checksum(out: &mut Vec<u8>, check: Check) -> Result<(), AllocError>
     requires { 24 ≤ length out.old.items }
-    ensures { OnOk result (out.new.items ≡ out.old.items ++ data_checksum (bits_of check) (drop 24 out.old.items)) }
+    ensures { OnOk result (out.new.items ≡ out.old.items ++ data_checksum (check_bits_of check) (drop 24 out.old.items)) }
 {
     match check {
         Check::Nothing => {}
@@ -94,7 +94,7 @@ fn push_checksum(out: &mut Vec<u8>, check: Check) -> Result<(), AllocError>
 
 /// Whether bytes are the data checksum of others.
 fn is_checksum(sum: &[u8], check: Check, covered: &[u8]) -> bool
-    ensures { result ≡ bytes_eq sum.now (data_checksum (bits_of check) covered.now) }
+    ensures { result ≡ bytes_eq sum.now (data_checksum (check_bits_of check) covered.now) }
 {
     match check {
         Check::Nothing => sum.is_empty(),

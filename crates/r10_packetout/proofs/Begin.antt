@@ -11,17 +11,17 @@ use Rattle.r10_body.specs.Packets.{Packet}
 use Rattle.r10_body.specs.Rules.{Rise}
 use Rattle.r10_body.specs.declared.entry.Entry.{Entry}
 use Rattle.r10_body.specs.Sequence.{next_sequence, numbered}
-use Rattle.r10_builder.specs.State.{State}
+use Rattle.r10_builder.specs.State.{BuilderState}
 use Rattle.r10_builder.specs.Grows.{HasNone, all_held, taken_in}
 use Rattle.r10_builder.specs.Next.{setup_packet, time_packet}
 use Rattle.r10_builder.proofs.Following.{begins}
-use Rattle.r10_builder.specs.Settings.{AreSettings, specs_of}
+use Rattle.r10_builder.specs.Settings.{AreChannelSettings, specs_of}
 use Rattle.r10_packetout.specs.Output.{Has, Writing}
-use Rattle.r10_packetout.specs.Carries.{AreCounted, Carries, Recording, Says, StandApart, time_entry}
+use Rattle.r10_packetout.specs.Carries.{EventsAreCounted, Records, Recording, Says, StandApart, time_entry_at}
 use Rattle.r10_packetout.proofs.Own.{keeps_none}
 
 -- no builder has the setup's channel
-none_on_zero : (least : ℕ) (builders : List State) → AreSettings least (specs_of builders) → HasNone 0 builders
+none_on_zero : (least : ℕ) (builders : List BuilderState) → AreChannelSettings least (specs_of builders) → HasNone 0 builders
 none_on_zero least [] are = tt
 none_on_zero least (b ∷ builders) are = (λ same. absurd (omega (arith, are.0, same)), none_on_zero b.spec.id builders are.2)
 
@@ -29,13 +29,13 @@ rises_alone : (e : Entry) (channel : ℕ) (b : Bool) → e.channel == channel �
 rises_alone e channel true on = rw on (omega arith, tt)
 rises_alone e channel false off = rw off tt
 
-pub begun_says : (r : Recording) (text : List ℕ) (count : ℕ) (civil : Parts) (out : Writing) → StandApart r → AreSettings 0 (specs_of r.builders) → all_held r.builders ≡ [] → AreCounted r.counts []
+pub begun_says : (r : Recording) (text : List ℕ) (count : ℕ) (civil : Parts) (out : Writing) → StandApart r → AreChannelSettings 0 (specs_of r.builders) → all_held r.builders ≡ [] → EventsAreCounted r.counts []
     → length text ≤ 524260 → IsCount count → IsCivil civil
-    → Says (record r { out = out; clock = count; cost = file_cost text (time_entry r.time count civil ∷ []) }) (setup_packet count text ∷ time_packet r.time count civil ∷ []) text (time_entry r.time count civil ∷ [])
+    → Says (record r { out = out; clock = count; cost = file_cost text (time_entry_at r.time count civil ∷ []) }) (setup_packet count text ∷ time_packet r.time count civil ∷ []) text (time_entry_at r.time count civil ∷ [])
 begun_says r text count civil out apart are none counted short counts is =
     let s : Packet = setup_packet count text in
     let t : Packet = time_packet r.time count civil in
-    let e : Entry = time_entry r.time count civil in
+    let e : Entry = time_entry_at r.time count civil in
     let above : 0 < r.time = apart.times.0 in
     let marks : 0 < r.event = apart.events.0 in
     let all : taken_in (s ∷ t ∷ []) r.builders ≡ e ∷ [] = ap (λ (es : List Entry). (e ∷ []) ++ es) none in
@@ -62,10 +62,10 @@ first_number channel count text civil above =
     let number : next_sequence channel (numbered [] (setup_packet count text) ∷ []) ≡ 0 = rw off refl in
     ap (λ n. record (time_packet channel count civil) { sequence = n }) number
 
-pub begun_carried : (r : Recording) (text : List ℕ) (count : ℕ) (civil : Parts) → StandApart r → AreSettings 0 (specs_of r.builders) → all_held r.builders ≡ [] → AreCounted r.counts []
+pub begun_carried : (r : Recording) (text : List ℕ) (count : ℕ) (civil : Parts) → StandApart r → AreChannelSettings 0 (specs_of r.builders) → all_held r.builders ≡ [] → EventsAreCounted r.counts []
     → length text ≤ 524260 → IsCount count → IsCivil civil → (out : Writing) (later : Image)
     → Has out later (numbered [] (setup_packet count text) ∷ numbered (numbered [] (setup_packet count text) ∷ []) (time_packet r.time count civil) ∷ [])
-    → Carries (record r { out = out; clock = count; cost = file_cost text (time_entry r.time count civil ∷ []) }) later text (time_entry r.time count civil ∷ [])
+    → Records (record r { out = out; clock = count; cost = file_cost text (time_entry_at r.time count civil ∷ []) }) later text (time_entry_at r.time count civil ∷ [])
 begun_carried r text count civil apart are none counted short counts is out later has = record {
   packets = setup_packet count text ∷ time_packet r.time count civil ∷ [];
   has = subst (λ (p : Packet). Has out later (setup_packet count text ∷ p ∷ [])) (first_number r.time count text civil apart.times.0) has;

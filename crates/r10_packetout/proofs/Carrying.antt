@@ -11,30 +11,30 @@ use Rattle.r10_body.specs.Content.{type_of}
 use Rattle.r10_body.specs.Cost.{entry_cost, file_cost}
 use Rattle.r10_body.specs.Files.{PacketsSay, on_channel}
 use Rattle.r10_body.specs.Packets.{Packet, file_bytes, file_entries}
-use Rattle.r10_body.specs.Rules.{entry_on as is_on, is_time, last_time}
+use Rattle.r10_body.specs.Rules.{is_entry_on, is_time, last_time}
 use Rattle.r10_body.specs.declared.entry.Entry.{Entry}
 use Rattle.r10_body.proofs.Lengths.{packets_covered}
-use Rattle.r10_builder.specs.State.{State}
+use Rattle.r10_builder.specs.State.{BuilderState}
 use Rattle.r10_builder.specs.declared.closed.Closed.{Closed}
 use Rattle.r10_builder.specs.Grows.{Grows, HasNone, all_held, taken_in}
 use Rattle.r10_builder.specs.Next.{HasType}
 use Rattle.r10_body.specs.Sequence.{numbered}
 use Rattle.r10_builder.proofs.Following.{says_so}
 use Rattle.r10_builder.proofs.Growing.{cost_more}
-use Rattle.r10_builder.specs.Packed.{HandsOn, TakesIn}
+use Rattle.r10_builder.specs.Packed.{HandsOn, TakesInSamples}
 use Rattle.r10_builder.proofs.Places.{all_more}
 use Rattle.r10_packetout.specs.Output.{Has, Writing}
-use Rattle.r10_packetout.specs.Carries.{Carries, HasNoEvents, Recording, Says, StandApart}
+use Rattle.r10_packetout.specs.Carries.{Records, HasNoEvents, Recording, Says, StandApart}
 use Rattle.r10_packetout.proofs.Events.{counted_on, held_closed, held_joined, no_events}
 
 -- ---- entries and cost
 
-pub entries_more : (packets packets' : List Packet) (builders builders' : List State) (entries more : List Entry) → ((channel : ℕ) → on_channel channel (taken_in packets builders) ≡ on_channel channel entries)
+pub entries_more : (packets packets' : List Packet) (builders builders' : List BuilderState) (entries more : List Entry) → ((channel : ℕ) → on_channel channel (taken_in packets builders) ≡ on_channel channel entries)
     → Grows packets builders more packets' builders' → (channel : ℕ) → on_channel channel (taken_in packets' builders') ≡ on_channel channel (entries ++ more)
 entries_more packets packets' builders builders' entries more are grows channel =
-    grows channel ∙ ap (λ (es : List Entry). es ++ on_channel channel more) (are channel) ∙ sym (filter-append (is_on channel) entries more)
+    grows channel ∙ ap (λ (es : List Entry). es ++ on_channel channel more) (are channel) ∙ sym (filter-append (is_entry_on channel) entries more)
 
-pub costs_more : (text : List ℕ) (packets packets' : List Packet) (builders builders' : List State) (more : List Entry) (cost : ℕ) → cost ≡ file_cost text (taken_in packets builders)
+pub costs_more : (text : List ℕ) (packets packets' : List Packet) (builders builders' : List BuilderState) (more : List Entry) (cost : ℕ) → cost ≡ file_cost text (taken_in packets builders)
     → Grows packets builders more packets' builders' → cost + sum_by entry_cost more ≡ file_cost text (taken_in packets' builders')
 costs_more text packets packets' builders builders' more cost is grows =
     ap (λ n. n + sum_by entry_cost more) is ∙ sym (cost_more text packets builders more packets' builders' grows)
@@ -49,14 +49,14 @@ not_at : (type n : ℕ) (b : Bool) → type == n ≡ b → n + 1 ≤ type → ty
 not_at type n true e lt = absurd (omega (arith, lt, eqb-true type n e))
 not_at type n false e lt = e
 
-type_more : (channel type : ℕ) (packets : List Packet) (p : Packet) (builders : List State) → HasType channel type packets → HasNone channel builders → (HasNone p.channel builders → ⊥) → HasType channel type (packets ++ p ∷ [])
+type_more : (channel type : ℕ) (packets : List Packet) (p : Packet) (builders : List BuilderState) → HasType channel type packets → HasNone channel builders → (HasNone p.channel builders → ⊥) → HasType channel type (packets ++ p ∷ [])
 type_more channel type packets p builders has none on =
     all_more (λ (q : Packet). q.channel ≡ channel → type_of q.content ≡ type) packets p has (λ is. absurd (on (subst (λ (n : ℕ). HasNone n builders) (sym is) none)))
 
 -- ---- the laws
 
-pub samples_carried : (r : Recording) (image : Image) (text : List ℕ) (entries more : List Entry) (builders : List State) (carried : Carries r image text entries)
-    → HasNoEvents more → TakesIn carried.packets r.builders more None builders → Carries (record r { builders = builders; cost = r.cost + sum_by entry_cost more }) image text (entries ++ more)
+pub samples_carried : (r : Recording) (image : Image) (text : List ℕ) (entries more : List Entry) (builders : List BuilderState) (carried : Records r image text entries)
+    → HasNoEvents more → TakesInSamples carried.packets r.builders more None builders → Records (record r { builders = builders; cost = r.cost + sum_by entry_cost more }) image text (entries ++ more)
 samples_carried r image text entries more builders carried plain takes =
     let says = carried.says in
     record {
@@ -75,7 +75,7 @@ samples_carried r image text entries more builders carried plain takes =
       };
     }
 
-pub packet_said : (r : Recording) (packets : List Packet) (text : List ℕ) (entries more : List Entry) (builders : List State) → Says r packets text entries → StandApart r → HasNoEvents more
+pub packet_said : (r : Recording) (packets : List Packet) (text : List ℕ) (entries more : List Entry) (builders : List BuilderState) → Says r packets text entries → StandApart r → HasNoEvents more
     → (closed : Closed) (hands : HandsOn closed packets r.builders more builders) (out : Writing)
     → Says (record r { builders = builders; out = out; cost = r.cost + sum_by entry_cost more }) (packets ++ numbered packets hands.packet ∷ []) text (entries ++ more)
 packet_said r packets text entries more builders says apart plain closed hands out =
@@ -93,9 +93,9 @@ packet_said r packets text entries more builders says apart plain closed hands o
       cost_is = costs_more text packets (packets ++ p ∷ []) r.builders builders more r.cost says.cost_is hands.grows;
     }
 
-pub packets_carried : (r : Recording) (image : Image) (text : List ℕ) (entries more : List Entry) (builders : List State) (carried : Carries r image text entries) → StandApart r
+pub packets_carried : (r : Recording) (image : Image) (text : List ℕ) (entries more : List Entry) (builders : List BuilderState) (carried : Records r image text entries) → StandApart r
     → HasNoEvents more → (closed : Closed) (hands : HandsOn closed carried.packets r.builders more builders) (out : Writing) (later : Image) → Has out later (carried.packets ++ numbered carried.packets hands.packet ∷ [])
-    → Carries (record r { builders = builders; out = out; cost = r.cost + sum_by entry_cost more }) later text (entries ++ more)
+    → Records (record r { builders = builders; out = out; cost = r.cost + sum_by entry_cost more }) later text (entries ++ more)
 packets_carried r image text entries more builders carried apart plain closed hands out later has = record {
   packets = carried.packets ++ numbered carried.packets hands.packet ∷ [];
   has = has;

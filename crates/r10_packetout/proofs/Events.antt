@@ -9,7 +9,7 @@ use Rattle.r10_body.specs.Content.{Content, setup, time, event, uart, bus, arinc
 use Rattle.r10_body.specs.Files.{on_channel}
 use Rattle.r10_body.specs.Messages.{channel_refusal, is_kind}
 use Rattle.r10_body.specs.Packets.{Packet, with_gaps, packet_entries, file_entries}
-use Rattle.r10_body.specs.Rules.{entry_on as is_on, is_event_of}
+use Rattle.r10_body.specs.Rules.{is_entry_on, is_event_of}
 use Rattle.r10_body.specs.declared.entry.Entry.{Entry}
 use Rattle.r10_body.specs.declared.entry.Sample.{Sample}
 use Rattle.r10_body.specs.declared.entry.Timed.{Timed}
@@ -19,12 +19,12 @@ use Rattle.r10_body.specs.declared.message.Message.{Message}
 use Rattle.r10_body.specs.declared.message.Message.TheVariants as messages
 use Rattle.r10_body.proofs.Rules.{entries_more}
 use Rattle.r10_body.proofs.Sums.{same_sum}
-use Rattle.r10_builder.specs.Packing.{entry_on, last_count}
-use Rattle.r10_builder.specs.State.{State}
+use Rattle.r10_builder.specs.Packing.{entry_on, last_sample_count}
+use Rattle.r10_builder.specs.State.{BuilderState}
 use Rattle.r10_builder.proofs.Messages.{taken}
 use Rattle.r10_builder.specs.Grows.{Grows, all_held, taken_in}
-use Rattle.r10_builder.specs.Settings.{Takes, is_of}
-use Rattle.r10_packetout.specs.Carries.{AreCounted, HasNoEvents, occurrences}
+use Rattle.r10_builder.specs.Settings.{BuilderTakes, is_of}
+use Rattle.r10_packetout.specs.Carries.{EventsAreCounted, HasNoEvents, occurrences}
 
 -- ---- a packet of another type has none
 
@@ -65,19 +65,19 @@ same_events xs ys same q = same_sum (λ (e : Entry). cond (is_event_of q e) 1 0)
 two_parts : (q : ℕ) (xs ys : List Entry) → count_by (is_event_of q) (xs ++ ys) ≡ count_by (is_event_of q) xs + count_by (is_event_of q) ys
 two_parts q xs ys = sum_by-append _ xs ys
 
-events_more : (q : ℕ) (packets packets' : List Packet) (builders builders' : List State) (more : List Entry) → Grows packets builders more packets' builders'
+events_more : (q : ℕ) (packets packets' : List Packet) (builders builders' : List BuilderState) (more : List Entry) → Grows packets builders more packets' builders'
     → count_by (is_event_of q) (taken_in packets' builders') ≡ count_by (is_event_of q) (taken_in packets builders) + count_by (is_event_of q) more
 events_more q packets packets' builders builders' more grows =
-    same_events (taken_in packets' builders') (taken_in packets builders ++ more) (λ channel. grows channel ∙ sym (filter-append (is_on channel) (taken_in packets builders) more)) q
+    same_events (taken_in packets' builders') (taken_in packets builders ++ more) (λ channel. grows channel ∙ sym (filter-append (is_entry_on channel) (taken_in packets builders) more)) q
     ∙ two_parts q (taken_in packets builders) more
 
 -- builders that take in no event hold none, where no packet is written
-pub held_joined : (packets : List Packet) (builders builders' : List State) (more : List Entry) → HasNoEvents (all_held builders) → HasNoEvents more → Grows packets builders more packets builders' → HasNoEvents (all_held builders')
+pub held_joined : (packets : List Packet) (builders builders' : List BuilderState) (more : List Entry) → HasNoEvents (all_held builders) → HasNoEvents more → Grows packets builders more packets builders' → HasNoEvents (all_held builders')
 held_joined packets builders builders' more none plain grows = λ q.
     omega (arith, events_more q packets packets builders builders' more grows, two_parts q (file_entries packets) (all_held builders'), two_parts q (file_entries packets) (all_held builders), none q, plain q)
 
 -- nor where a packet is written that has none
-pub held_closed : (packets : List Packet) (builders builders' : List State) (more : List Entry) (p : Packet) → HasNoEvents (all_held builders) → HasNoEvents more → HasNoEvents (packet_entries p)
+pub held_closed : (packets : List Packet) (builders builders' : List BuilderState) (more : List Entry) (p : Packet) → HasNoEvents (all_held builders) → HasNoEvents more → HasNoEvents (packet_entries p)
     → Grows packets builders more (packets ++ p ∷ []) builders' → HasNoEvents (all_held builders')
 held_closed packets builders builders' more p none plain off grows = λ q.
     let files : count_by (is_event_of q) (file_entries (packets ++ p ∷ [])) ≡ count_by (is_event_of q) (file_entries packets) + count_by (is_event_of q) (packet_entries p) =
@@ -95,10 +95,10 @@ held_closed packets builders builders' more p none plain off grows = λ q.
 
 -- ---- what is counted
 
-pub counted_on : (counts : List ℕ) (entries more : List Entry) → AreCounted counts entries → HasNoEvents more → AreCounted counts (entries ++ more)
+pub counted_on : (counts : List ℕ) (entries more : List Entry) → EventsAreCounted counts entries → HasNoEvents more → EventsAreCounted counts (entries ++ more)
 counted_on counts entries more are none = λ q. are q ∙ ap (λ n. n % 65536) (let same : count_by (is_event_of q) entries ≡ count_by (is_event_of q) (entries ++ more) = omega (arith, two_parts q entries more, none q) in same)
 
-counted_at : (counts : List ℕ) (entries : List Entry) (number q : ℕ) (e : Entry) (b : Bool) → number == q ≡ b → is_event_of q e ≡ b → number < length counts → AreCounted counts entries
+counted_at : (counts : List ℕ) (entries : List Entry) (number q : ℕ) (e : Entry) (b : Bool) → number == q ≡ b → is_event_of q e ≡ b → number < length counts → EventsAreCounted counts entries
     → get_or (set counts number ((get_or counts number 0 + 1) % 65536)) q 0 ≡ occurrences q (entries ++ e ∷ [])
 counted_at counts entries number q e true on is lt are =
     let same : number ≡ q = eqb-true number q on in
@@ -114,12 +114,12 @@ counted_at counts entries number q e false off is lt are =
     other ∙ are q ∙ ap (λ n. n % 65536) (sym has)
 
 -- one event more of its number
-pub counted_more : (counts : List ℕ) (entries : List Entry) (number : ℕ) (e : Entry) → ((q : ℕ) → is_event_of q e ≡ (number == q)) → number < length counts → AreCounted counts entries
-    → AreCounted (set counts number ((get_or counts number 0 + 1) % 65536)) (entries ++ e ∷ [])
+pub counted_more : (counts : List ℕ) (entries : List Entry) (number : ℕ) (e : Entry) → ((q : ℕ) → is_event_of q e ≡ (number == q)) → number < length counts → EventsAreCounted counts entries
+    → EventsAreCounted (set counts number ((get_or counts number 0 + 1) % 65536)) (entries ++ e ∷ [])
 counted_more counts entries number e is lt are = λ q. counted_at counts entries number q e (number == q) refl (is q) lt are
 
 -- the events are in packets alone
-pub in_packets : (packets : List Packet) (builders : List State) (entries : List Entry) (q : ℕ) → ((channel : ℕ) → on_channel channel (taken_in packets builders) ≡ on_channel channel entries) → HasNoEvents (all_held builders)
+pub in_packets : (packets : List Packet) (builders : List BuilderState) (entries : List Entry) (q : ℕ) → ((channel : ℕ) → on_channel channel (taken_in packets builders) ≡ on_channel channel entries) → HasNoEvents (all_held builders)
     → count_by (is_event_of q) (file_entries packets) ≡ count_by (is_event_of q) entries
 in_packets packets builders entries q same none = omega (arith, same_events (taken_in packets builders) entries same q, two_parts q (file_entries packets) (all_held builders), none q)
 
@@ -141,9 +141,9 @@ plain_at kinds.Arinc q e (messages.Event n o) same is = absurd (no is)
 plain_at kinds.Discrete q e (messages.Event n o) same is = absurd (no is)
 plain_at kinds.Message q e (messages.Event n o) same is = absurd (no is)
 
-found_plain : (channel : ℕ) (s : Sample) (builder : Option State) → IsSomeAnd builder (λ b. (channel_refusal b.spec s.message ≡ None) × (last_count 0 b.samples ≤ s.count)) → HasNoEvents (entry_on channel s ∷ [])
+found_plain : (channel : ℕ) (s : Sample) (builder : Option BuilderState) → IsSomeAnd builder (λ b. (channel_refusal b.spec s.message ≡ None) × (last_sample_count 0 b.samples ≤ s.count)) → HasNoEvents (entry_on channel s ∷ [])
 found_plain channel s None takes = absurd takes
 found_plain channel s (Some b) takes = λ q. plain_at b.spec.kind q (entry_on channel s) s.message refl (taken b.spec s.message takes.0).kind
 
-pub sample_plain : (channel : ℕ) (s : Sample) (builders : List State) → Takes channel s builders → HasNoEvents (entry_on channel s ∷ [])
+pub sample_plain : (channel : ℕ) (s : Sample) (builders : List BuilderState) → BuilderTakes channel s builders → HasNoEvents (entry_on channel s ∷ [])
 sample_plain channel s builders takes = found_plain channel s (find (is_of channel) builders) takes

@@ -17,32 +17,32 @@ use Rattle.r10_body.specs.declared.entry.Entry.{Entry}
 use Rattle.r10_body.specs.declared.message.Message.TheVariants as messages
 use Rattle.r10_body.specs.Sequence.{last_count, numbered}
 use Rattle.r10_body.proofs.ChannelLists.{packet_off_channel, rises}
-use Rattle.r10_builder.specs.State.{State}
+use Rattle.r10_builder.specs.State.{BuilderState}
 use Rattle.r10_builder.specs.Grows.{Grows, HasNone, taken_in}
-use Rattle.r10_builder.specs.Next.{GoesOn, IsGrowing, event_packet, time_packet}
+use Rattle.r10_builder.specs.Next.{ChannelGoesOn, IsGrowing, event_packet, time_packet}
 use Rattle.r10_builder.proofs.Following.{event_follows, grows_on, time_follows}
 use Rattle.r10_builder.proofs.Growing.{between, both, none_held}
 use Rattle.r10_builder.specs.Packed.{Packed}
 use Rattle.r10_builder.specs.Settings.{KeepsSettings, specs_of}
 use Rattle.r10_builder.proofs.Places.{all_more}
 use Rattle.r10_packetout.specs.Output.{Has, Writing}
-use Rattle.r10_packetout.specs.Carries.{AreCounted, Carries, Recording, Says, StandApart, event_entry, occurrences, time_entry}
+use Rattle.r10_packetout.specs.Carries.{EventsAreCounted, Records, Recording, Says, StandApart, next_event_entry, occurrences, time_entry_at}
 use Rattle.r10_packetout.proofs.Carrying.{costs_more, entries_more, last_same}
 use Rattle.r10_packetout.proofs.Events.{counted_more, counted_on, in_packets}
 
 -- ---- a channel that no builder has
 
 -- all that it has is in packets
-pub own_entries : (channel : ℕ) (packets : List Packet) (builders : List State) → HasNone channel builders → on_channel channel (taken_in packets builders) ≡ on_channel channel (file_entries packets)
+pub own_entries : (channel : ℕ) (packets : List Packet) (builders : List BuilderState) → HasNone channel builders → on_channel channel (taken_in packets builders) ≡ on_channel channel (file_entries packets)
 own_entries channel packets builders none =
     both channel packets builders ∙ ap (λ (es : List Entry). on_channel channel (file_entries packets) ++ es) (none_held builders channel none) ∙ append-nil (on_channel channel (file_entries packets))
 
 -- a packet on it keeps to no builder's settings
-pub keeps_none : (p : Packet) (builders : List State) → HasNone p.channel builders → KeepsSettings (specs_of builders) p
+pub keeps_none : (p : Packet) (builders : List BuilderState) → HasNone p.channel builders → KeepsSettings (specs_of builders) p
 keeps_none p [] none = tt
 keeps_none p (b ∷ builders) none = (λ e. absurd (none.0 (sym e)), keeps_none p builders none.1)
 
-own_rise : (packets : List Packet) (p : Packet) (builders : List State) (channel : ℕ) (b : Bool) → p.channel == channel ≡ b → HasNone p.channel builders → EachFollows [] (packets ++ p ∷ [])
+own_rise : (packets : List Packet) (p : Packet) (builders : List BuilderState) (channel : ℕ) (b : Bool) → p.channel == channel ≡ b → HasNone p.channel builders → EachFollows [] (packets ++ p ∷ [])
     → Rise 0 (on_channel channel (taken_in packets builders)) → Rise 0 (on_channel channel (taken_in (packets ++ p ∷ []) builders))
 own_rise packets p builders channel true on none each rise =
     let is : p.channel ≡ channel = eqb-true p.channel channel on in
@@ -54,7 +54,7 @@ own_rise packets p builders channel false off none each rise =
     between packets builders p none channel ∙ ap (λ (es : List Entry). before ++ es) (packet_off_channel channel p off) ∙ append-nil before in
     subst (λ (es : List Entry). Rise 0 es) (sym same) rise
 
-own_packed : (packets : List Packet) (p : Packet) (builders : List State) → Packed packets builders → HasNone p.channel builders → MayFollow packets p → is_index p ≡ false → Packed (packets ++ p ∷ []) builders
+own_packed : (packets : List Packet) (p : Packet) (builders : List BuilderState) → Packed packets builders → HasNone p.channel builders → MayFollow packets p → is_index p ≡ false → Packed (packets ++ p ∷ []) builders
 own_packed packets p builders packed none may other =
     let growing : IsGrowing (packets ++ p ∷ []) = grows_on packets p packed.growing may other in
     record {
@@ -70,7 +70,7 @@ one_cost e = omega (arith, sum_by-cons entry_cost e [])
 
 own_said : (r : Recording) (packets : List Packet) (text : List ℕ) (entries : List Entry) (p : Packet) (e : Entry) (out : Writing) (clock : ℕ) (counts : List ℕ) → Says r packets text entries
     → HasNone p.channel r.builders → MayFollow packets p → is_index p ≡ false → packet_entries p ≡ e ∷ [] → (p.channel ≡ r.time → type_of p.content ≡ 0x11) → (p.channel ≡ r.event → type_of p.content ≡ 0x02)
-    → last_time 0 (packets ++ p ∷ []) ≡ clock → AreCounted counts (entries ++ e ∷ [])
+    → last_time 0 (packets ++ p ∷ []) ≡ clock → EventsAreCounted counts (entries ++ e ∷ [])
     → Says (record r { out = out; clock = clock; counts = counts; cost = r.cost + entry_cost e }) (packets ++ p ∷ []) text (entries ++ e ∷ [])
 own_said r packets text entries p e out clock counts says none may other is times events clock_is counted =
     let two : 2 ≤ length packets = says.packed.growing.start in
@@ -89,7 +89,7 @@ own_said r packets text entries p e out clock counts says none may other is time
 
 -- no count on the channel is later, in packets either
 goes : (r : Recording) (packets : List Packet) (text : List ℕ) (entries : List Entry) (channel type count : ℕ) → Says r packets text entries → HasNone channel r.builders → 0 < channel
-    → AllByRecursion (λ p. p.channel ≡ channel → type_of p.content ≡ type) packets → last_count 0 (on_channel channel entries) ≤ count → GoesOn packets channel type count
+    → AllByRecursion (λ p. p.channel ≡ channel → type_of p.content ≡ type) packets → last_count 0 (on_channel channel entries) ≤ count → ChannelGoesOn packets channel type count
 goes r packets text entries channel type count says none above is later = record {
   above = above;
   type_is = is;
@@ -104,16 +104,16 @@ last_is counter (q ∷ packets) p on = last_is (cond (is_time q) q.counter count
 
 pub time_said : (r : Recording) (packets : List Packet) (text : List ℕ) (entries : List Entry) (count : ℕ) (civil : Parts) (out : Writing) → Says r packets text entries → StandApart r
     → last_count 0 (on_channel r.time entries) ≤ count → IsCount count → IsCivil civil
-    → Says (record r { out = out; clock = count; cost = r.cost + entry_cost (time_entry r.time count civil) }) (packets ++ numbered packets (time_packet r.time count civil) ∷ []) text (entries ++ time_entry r.time count civil ∷ [])
+    → Says (record r { out = out; clock = count; cost = r.cost + entry_cost (time_entry_at r.time count civil) }) (packets ++ numbered packets (time_packet r.time count civil) ∷ []) text (entries ++ time_entry_at r.time count civil ∷ [])
 time_said r packets text entries count civil out says apart later counts is =
     let p : Packet = numbered packets (time_packet r.time count civil) in
-    let e : Entry = time_entry r.time count civil in
+    let e : Entry = time_entry_at r.time count civil in
     let may : MayFollow packets p = time_follows packets r.time count civil says.packed.growing (goes r packets text entries r.time 0x11 count says apart.time apart.times.0 says.times later) apart.times.1 counts is in
     own_said r packets text entries p e out count r.counts says apart.time may refl refl (λ same. refl) (λ same. absurd (apart.differ same)) (last_is 0 packets p refl) (counted_on r.counts entries (e ∷ []) says.counts_are (λ q. refl))
 
-pub times_carried : (r : Recording) (image : Image) (text : List ℕ) (entries : List Entry) (carried : Carries r image text entries) → StandApart r → (count : ℕ) (civil : Parts)
+pub times_carried : (r : Recording) (image : Image) (text : List ℕ) (entries : List Entry) (carried : Records r image text entries) → StandApart r → (count : ℕ) (civil : Parts)
     → last_count 0 (on_channel r.time entries) ≤ count → IsCount count → IsCivil civil → (out : Writing) (later : Image) → Has out later (carried.packets ++ numbered carried.packets (time_packet r.time count civil) ∷ [])
-    → Carries (record r { out = out; clock = count; cost = r.cost + entry_cost (time_entry r.time count civil) }) later text (entries ++ time_entry r.time count civil ∷ [])
+    → Records (record r { out = out; clock = count; cost = r.cost + entry_cost (time_entry_at r.time count civil) }) later text (entries ++ time_entry_at r.time count civil ∷ [])
 times_carried r image text entries carried apart count civil rise counts is out later has = record {
   packets = carried.packets ++ numbered carried.packets (time_packet r.time count civil) ∷ [];
   has = has;
@@ -124,21 +124,21 @@ times_carried r image text entries carried apart count civil rise counts is out 
 
 pub event_said : (r : Recording) (packets : List Packet) (text : List ℕ) (entries : List Entry) (count number : ℕ) (out : Writing) → Says r packets text entries → StandApart r
     → last_count 0 (on_channel r.event entries) ≤ count → IsCount count → number < 2 ^ 12 → number < length r.counts
-    → Says (record r { out = out; counts = set r.counts number ((get_or r.counts number 0 + 1) % 65536); cost = r.cost + entry_cost (event_entry r.event count number entries) })
-    (packets ++ numbered packets (event_packet r.event count number packets) ∷ []) text (entries ++ event_entry r.event count number entries ∷ [])
+    → Says (record r { out = out; counts = set r.counts number ((get_or r.counts number 0 + 1) % 65536); cost = r.cost + entry_cost (next_event_entry r.event count number entries) })
+    (packets ++ numbered packets (event_packet r.event count number packets) ∷ []) text (entries ++ next_event_entry r.event count number entries ∷ [])
 event_said r packets text entries count number out says apart later counts few lt =
     let p : Packet = numbered packets (event_packet r.event count number packets) in
-    let e : Entry = event_entry r.event count number entries in
+    let e : Entry = next_event_entry r.event count number entries in
     let may : MayFollow packets p = event_follows packets r.event count number says.packed.growing (goes r packets text entries r.event 0x02 count says apart.event apart.events.0 says.events later) apart.events.1 counts few in
     let entry : packet_entries p ≡ e ∷ [] =
     ap (λ n. record { channel = r.event; count = count; message = messages.Event number (n % 65536); gap = false } ∷ []) (in_packets packets r.builders entries number says.entries_are says.messages) in
     own_said r packets text entries p e out r.clock (set r.counts number ((get_or r.counts number 0 + 1) % 65536)) says apart.event may refl entry (λ same. absurd (apart.differ (sym same))) (λ same. refl)
     (last_same 0 packets p refl ∙ says.clock_is) (counted_more r.counts entries number e (λ q. refl) lt says.counts_are)
 
-pub events_carried : (r : Recording) (image : Image) (text : List ℕ) (entries : List Entry) (carried : Carries r image text entries) → StandApart r → (count number : ℕ)
+pub events_carried : (r : Recording) (image : Image) (text : List ℕ) (entries : List Entry) (carried : Records r image text entries) → StandApart r → (count number : ℕ)
     → last_count 0 (on_channel r.event entries) ≤ count → IsCount count → number < 2 ^ 12 → number < length r.counts → (out : Writing) (later : Image)
     → Has out later (carried.packets ++ numbered carried.packets (event_packet r.event count number carried.packets) ∷ [])
-    → Carries (record r { out = out; counts = set r.counts number ((get_or r.counts number 0 + 1) % 65536); cost = r.cost + entry_cost (event_entry r.event count number entries) }) later text (entries ++ event_entry r.event count number entries ∷ [])
+    → Records (record r { out = out; counts = set r.counts number ((get_or r.counts number 0 + 1) % 65536); cost = r.cost + entry_cost (next_event_entry r.event count number entries) }) later text (entries ++ next_event_entry r.event count number entries ∷ [])
 events_carried r image text entries carried apart count number rise counts few lt out later has = record {
   packets = carried.packets ++ numbered carried.packets (event_packet r.event count number carried.packets) ∷ [];
   has = has;

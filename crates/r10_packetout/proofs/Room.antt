@@ -15,16 +15,16 @@ use Rattle.r10_body.specs.Rules.{Rise}
 use Rattle.r10_body.specs.declared.entry.Entry.{Entry}
 use Rattle.r10_body.specs.Sequence.{last_count, next_sequence, numbered}
 use Rattle.r10_body.proofs.Rules.{bytes_more}
-use Rattle.r10_builder.specs.State.{State}
+use Rattle.r10_builder.specs.State.{BuilderState}
 use Rattle.r10_builder.specs.declared.closed.Closed.{Closed}
 use Rattle.r10_builder.specs.Grows.{all_held, packet_count}
 use Rattle.r10_builder.specs.Next.{event_packet, setup_packet, time_packet}
 use Rattle.r10_builder.proofs.Rising.{rise_behind}
 use Rattle.r10_builder.specs.Packed.{HandsOn}
-use Rattle.r10_builder.specs.Settings.{AreSettings, specs_of}
+use Rattle.r10_builder.specs.Settings.{AreChannelSettings, specs_of}
 use Rattle.r10_packetout.specs.Packets.{Describes, bare, index_size, packet_size}
 use Rattle.r10_packetout.proofs.Framing.{described}
-use Rattle.r10_packetout.specs.Carries.{AreCounted, Carries, HasNoEvents, Recording, Says, StandApart, event_entry, packets_of, time_entry}
+use Rattle.r10_packetout.specs.Carries.{EventsAreCounted, Records, HasNoEvents, Recording, Says, StandApart, next_event_entry, packets_of, time_entry_at}
 use Rattle.r10_packetout.proofs.Begin.{begun_says}
 use Rattle.r10_packetout.proofs.Carrying.{packet_said}
 use Rattle.r10_packetout.proofs.Closing.{has_length, index_covered}
@@ -53,7 +53,7 @@ few_more packets p few = omega (arith, few, length-append packets (p ∷ []))
 
 -- ---- each packet that is put
 
-pub handed_fits : (r : Recording) (packets : List Packet) (text : List ℕ) (entries more : List Entry) (builders : List State) → Says r packets text entries → StandApart r → HasNoEvents more
+pub handed_fits : (r : Recording) (packets : List Packet) (text : List ℕ) (entries more : List Entry) (builders : List BuilderState) → Says r packets text entries → StandApart r → HasNoEvents more
     → (closed : Closed) → HandsOn closed packets r.builders more builders → length packets < 3276500 → r.cost + sum_by entry_cost more < 2 ^ 63
     → length (file_bytes packets) + packet_size closed.header closed.body.items + index_size (length packets + 1) ≤ r.cost + sum_by entry_cost more
 handed_fits r packets text entries more builders says apart plain closed hands few small =
@@ -64,35 +64,35 @@ handed_fits r packets text entries more builders says apart plain closed hands f
 
 pub time_fits : (r : Recording) (packets : List Packet) (text : List ℕ) (entries : List Entry) → Says r packets text entries → StandApart r → (count : ℕ) (civil : Parts)
     → last_count 0 (on_channel r.time entries) ≤ count → IsCount count → IsCivil civil → (header : Header) (body : List ℕ) → Describes header body (time_packet r.time count civil)
-    → length packets < 3276500 → r.cost + entry_cost (time_entry r.time count civil) < 2 ^ 63
-    → length (file_bytes packets) + packet_size header body + index_size (length packets + 1) ≤ r.cost + entry_cost (time_entry r.time count civil)
+    → length packets < 3276500 → r.cost + entry_cost (time_entry_at r.time count civil) < 2 ^ 63
+    → length (file_bytes packets) + packet_size header body + index_size (length packets + 1) ≤ r.cost + entry_cost (time_entry_at r.time count civil)
 time_fits r packets text entries says apart count civil later counts are header body is few small =
     let p : Packet = time_packet r.time count civil in
-    let e : Entry = time_entry r.time count civil in
+    let e : Entry = time_entry_at r.time count civil in
     ends_at header body packets p (r.cost + entry_cost e) is
     (index_covered (record r { clock = count; cost = r.cost + entry_cost e }) (packets ++ numbered packets p ∷ []) text (entries ++ e ∷ [])
     (time_said r packets text entries count civil r.out says apart later counts are) (few_more packets (numbered packets p) few) small)
 
 pub event_fits : (r : Recording) (packets : List Packet) (text : List ℕ) (entries : List Entry) → Says r packets text entries → StandApart r → (count number : ℕ)
     → last_count 0 (on_channel r.event entries) ≤ count → IsCount count → number < 2 ^ 12 → number < length r.counts → (header : Header) (body : List ℕ) → Describes header body (event_packet r.event count number packets)
-    → length packets < 3276500 → r.cost + entry_cost (event_entry r.event count number entries) < 2 ^ 63
-    → length (file_bytes packets) + packet_size header body + index_size (length packets + 1) ≤ r.cost + entry_cost (event_entry r.event count number entries)
+    → length packets < 3276500 → r.cost + entry_cost (next_event_entry r.event count number entries) < 2 ^ 63
+    → length (file_bytes packets) + packet_size header body + index_size (length packets + 1) ≤ r.cost + entry_cost (next_event_entry r.event count number entries)
 event_fits r packets text entries says apart count number later counts small_number lt header body is few small =
     let p : Packet = event_packet r.event count number packets in
-    let e : Entry = event_entry r.event count number entries in
+    let e : Entry = next_event_entry r.event count number entries in
     ends_at header body packets p (r.cost + entry_cost e) is
     (index_covered _ (packets ++ numbered packets p ∷ []) text (entries ++ e ∷ [])
     (event_said r packets text entries count number r.out says apart later counts small_number lt) (few_more packets (numbered packets p) few) small)
 
 -- ---- the first two packets
 
-pub begun_fits : (r : Recording) (text : List ℕ) (count : ℕ) (civil : Parts) → StandApart r → AreSettings 0 (specs_of r.builders) → all_held r.builders ≡ [] → AreCounted r.counts []
+pub begun_fits : (r : Recording) (text : List ℕ) (count : ℕ) (civil : Parts) → StandApart r → AreChannelSettings 0 (specs_of r.builders) → all_held r.builders ≡ [] → EventsAreCounted r.counts []
     → length text ≤ 524260 → IsCount count → IsCivil civil → (header second : Header) (body other : List ℕ) → Describes header body (setup_packet count text) → Describes second other (time_packet r.time count civil)
-    → packet_size header body + packet_size second other + index_size 2 ≤ file_cost text (time_entry r.time count civil ∷ [])
+    → packet_size header body + packet_size second other + index_size 2 ≤ file_cost text (time_entry_at r.time count civil ∷ [])
 begun_fits r text count civil apart are none counted short counts civil_is header second body other is also =
     let s : Packet = setup_packet count text in
     let t : Packet = time_packet r.time count civil in
-    let e : Entry = time_entry r.time count civil in
+    let e : Entry = time_entry_at r.time count civil in
     let covered = index_covered (record r { clock = count; cost = file_cost text (e ∷ []) }) (s ∷ t ∷ []) text (e ∷ []) (begun_says r text count civil r.out apart are none counted short counts civil_is) (omega arith) (omega (arith, short)) in
     let rest : length (packet_bytes t ++ []) ≡ length (packet_bytes t) + 0 = length-append (packet_bytes t) [] in
     let bytes : length (packet_bytes s ++ (packet_bytes t ++ [])) ≡ length (packet_bytes s) + length (packet_bytes t ++ []) = length-append (packet_bytes s) (packet_bytes t ++ []) in
@@ -104,7 +104,7 @@ begun_fits r text count civil apart are none counted short counts civil_is heade
 
 -- ---- how many packets
 
-pub counted_packets : (r : Recording) (image : Image) (text : List ℕ) (entries : List Entry) (carried : Carries r image text entries) → packet_count carried.packets r.builders ≡ packets_of r
+pub counted_packets : (r : Recording) (image : Image) (text : List ℕ) (entries : List Entry) (carried : Records r image text entries) → packet_count carried.packets r.builders ≡ packets_of r
 counted_packets r image text entries carried = omega (arith, has_length r.out image carried.packets carried.has)
 
 -- ---- counts that don't fall

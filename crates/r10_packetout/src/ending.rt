@@ -1,7 +1,7 @@
 //! What stands behind a packet's body.
 
 ghost use Rattle.std.specs.Prelude.{◌≡◌, ◌+◌, ◌/◌, ◌≤◌, ◌∷◌, ◌++◌, length, take};
-ghost use Rattle.r10_packet.specs.Header.{bits_of};
+ghost use Rattle.r10_packet.specs.Header.{check_bits_of};
 ghost use Rattle.r10_packet.specs.Packet.{least_filler};
 ghost use Rattle.r10_packet.specs.Sums.{data_checksum};
 
@@ -23,7 +23,7 @@ impl Ending {
     /// What stands behind a body.
     pub(crate) fn of(check: Check, body: &[u8]) -> Ending
         requires { length body.now ≤ 524_264 }
-        ensures { let filler = least_filler (bits_of check) body.now in said result ≡ filler ++ data_checksum (bits_of check) (body.now ++ filler) }
+        ensures { let filler = least_filler (check_bits_of check) body.now in said result ≡ filler ++ data_checksum (check_bits_of check) (body.now ++ filler) }
     {
         let width = check.width();
         let filler = (4 - (body.len() + width) % 4) % 4;
@@ -44,7 +44,7 @@ impl Ending {
 
 /// Three zeros and the data checksum of a body, to which filler adds nothing, and zeros behind it.
 fn checksum(check: Check, body: &[u8]) -> [u8; 7]
-    ensures { take (3 + bits_of check / 8) result ≡ 0 ∷ 0 ∷ 0 ∷ data_checksum (bits_of check) body.now }
+    ensures { take (3 + check_bits_of check / 8) result ≡ 0 ∷ 0 ∷ 0 ∷ data_checksum (check_bits_of check) body.now }
 {
     match check {
         Check::Nothing => [0; 7],

@@ -3,7 +3,7 @@ use Rattle.std.proofs.Common.{◌≡◌, ℕ, ◌<◌, Bool, true, List, length,
 use Rattle.std.specs.Prelude.{slice_get}
 use Rattle.std.proofs.lemmas.Option.{get_or_from_slice_get, slice_get_within}
 use Rattle.r10_medium.specs.Disk.{Image}
-use Rattle.r10_dirblock.specs.Block.{has_room}
+use Rattle.r10_dirblock.specs.Block.{has_room_for_size}
 use Rattle.r10_dirblock.specs.declared.entry.Entry.{Entry}
 use Rattle.r10_dirchain.specs.Chain.{IsDirectory}
 use Rattle.r10_dirchain.specs.Mount.{listed}
@@ -25,5 +25,5 @@ pub placed_file : (image : Image) (number : ℕ) (f : Listed) → IsListed image
 placed_file image number f is inside =
     let chain = is.0 in
     let lt : number < length (listed chain) = slice_get_within (listed chain) number f is.2 in
-    let room : has_room f.entry ≡ true = subst (λ (g : Listed). has_room g.entry ≡ true) (get_or_from_slice_get (listed chain) number f f is.2) (rooms image chain is.1.holds number f lt) in
+    let room : has_room_for_size f.entry ≡ true = subst (λ (g : Listed). has_room_for_size g.entry ≡ true) (get_or_from_slice_get (listed chain) number f f is.2) (rooms image chain is.1.holds number f lt) in
     placed image f room inside

@@ -8,24 +8,24 @@ use Rattle.r10_indexbody.specs.declared.entry.NodeEntry.{NodeEntry}
 use Rattle.r10_body.specs.Packets.{Packet}
 use Rattle.r10_body.specs.Rules.{is_data, node_entries}
 use Rattle.r10_body.specs.declared.entry.Entry.{Entry}
-use Rattle.r10_judge.specs.Judged.{IsKept}
+use Rattle.r10_judge.specs.Judged.{TracksStrictFile}
 use Rattle.r10_machine.specs.Replay.{wanted, Ordered}
 use Rattle.r10_checker.specs.Place.{bytes_on}
-use Rattle.r10_cursor.specs.Replays.{Advances, Reading, begun}
+use Rattle.r10_cursor.specs.Replays.{AdvancesReading, Reading, begun_reading}
 use Rattle.r10_cursor.specs.Shown.{IsShown}
 use Rattle.r10_tracks.specs.Tracks.{IsTracked}
 use Rattle.r10_tracks.specs.declared.tracks.Tracks.{Tracks}
-use Rattle.r10_playback.specs.Played.{channels_of, HasCounts, IsFound, IsInstalment}
+use Rattle.r10_playback.specs.Played.{channels_of, HasCounts, IsListedInside, IsInstalment}
 use Rattle.r10_playback.specs.declared.selection.Selection.{Selection}
 use Rattle.r10_playback.proofs.Fronts.{same_entries, shown}
 
-pub kept_shown : (image : Image) (f : Listed) (tracks : Tracks) (kept : IsKept (is_closed f.entry) tracks (bytes_on image f.entry)) (named book : List NodeEntry)
+pub kept_shown : (image : Image) (f : Listed) (tracks : Tracks) (kept : TracksStrictFile (is_closed f.entry) tracks (bytes_on image f.entry)) (named book : List NodeEntry)
     → named ≡ book → ((packets : List Packet) → IsTracked tracks packets → book ≡ node_entries 0 (filter is_data packets)) → IsShown image f.entry.first_block named (filter is_data kept.packets)
 kept_shown image f tracks kept named book same names =
     shown image f.entry.first_block f.entry.size kept.packets named kept.bytes_are kept.say.file.each (same ∙ names kept.packets kept.tracked)
 
-pub instalment : (image : Image) (s : Selection) (f : Listed) (tracks : Tracks) (kept : IsKept (is_closed f.entry) tracks (bytes_on image f.entry)) (channels : List ℕ) (old new : Reading)
-    → HasCounts s → IsFound image s.file f → channels ≡ channels_of s.channel → old ≡ begun channels s.from s.to → Advances old new (filter is_data kept.packets) → IsInstalment image s new.queue
+pub instalment : (image : Image) (s : Selection) (f : Listed) (tracks : Tracks) (kept : TracksStrictFile (is_closed f.entry) tracks (bytes_on image f.entry)) (channels : List ℕ) (old new : Reading)
+    → HasCounts s → IsListedInside image s.file f → channels ≡ channels_of s.channel → old ≡ begun_reading channels s.from s.to → AdvancesReading old new (filter is_data kept.packets) → IsInstalment image s new.queue
 instalment image s f tracks kept channels old new counts found on start advances = record {
   counts = counts;
   file = f;
@@ -33,6 +33,6 @@ instalment image s f tracks kept channels old new counts found on start advances
   packets = kept.packets;
   has = record { bytes_are = kept.bytes_are; strict = kept.say.file; closed = kept.say.closed_is };
   in_order =
-      let begins : Advances (begun (channels_of s.channel) s.from s.to) new (filter is_data kept.packets) = rw (start, on) at advances in
+      let begins : AdvancesReading (begun_reading (channels_of s.channel) s.from s.to) new (filter is_data kept.packets) = rw (start, on) at advances in
       subst (λ (es : List Entry). Ordered (wanted (channels_of s.channel) s.from s.to es) new.queue) (same_entries kept.packets) begins.queues;
 }

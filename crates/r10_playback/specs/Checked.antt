@@ -22,8 +22,8 @@ abbrev pub Checks : List ℕ → Outcome → Option (List ℕ) → Option (List 
 Checks bytes outcome old new = (verdict : Verdict) × IsVerdict bytes verdict × (outcome ≡ verdict_outcome verdict) × Appends old new (verdict_line verdict)
 
 -- the first fault of a file whose directory entry is closed or not; none where it is a strict file with that closing
-abbrev pub IsFound : List ℕ → Bool → Option Fault → Type 0
-IsFound bytes closed found = MatchOption found (SaysClosed bytes closed) (λ at. IsAtFault bytes closed at.offset at.fault)
+abbrev pub IsFirstFault : List ℕ → Bool → Option Fault → Type 0
+IsFirstFault bytes closed found = MatchOption found (SaysClosed bytes closed) (λ at. IsAtFault bytes closed at.offset at.fault)
 
 -- a file at fault is refused
 abbrev pub found_outcome : Option Fault → Outcome
@@ -32,4 +32,4 @@ found_outcome (Some at) = Refused
 
 -- a writer was given the line of what is found
 abbrev pub Judges : List ℕ → Bool → Outcome → Option (List ℕ) → Option (List ℕ) → Type 0
-Judges bytes closed outcome old new = (found : Option Fault) × IsFound bytes closed found × (outcome ≡ found_outcome found) × Appends old new (found_line found)
+Judges bytes closed outcome old new = (found : Option Fault) × IsFirstFault bytes closed found × (outcome ≡ found_outcome found) × Appends old new (found_line found)

@@ -11,23 +11,23 @@ use Rattle.r10_lines.specs.Line.{entry_line}
 use Rattle.r10_playback.specs.Played.{IsInstalment, IsPlayRefusal}
 use Rattle.r10_playback.specs.declared.selection.Selection.{Selection}
 use Rattle.r10_playback.specs.declared.selection.PlayRefusal.{PlayRefusal}
-use Rattle.r10_playback.specs.declared.selection.PlayRefusal.TheVariants as refusals
+use Rattle.r10_playback.specs.declared.selection.PlayRefusal.TheVariants as play_refusals
 
 -- a line for each entry
 abbrev pub entry_lines : List Entry → List ℕ
 entry_lines entries = flat_map entry_line entries
 
 -- a refusal's number, name and block; a file that isn't strict has words of its own
-abbrev pub refusal_text : PlayRefusal → List ℕ
-refusal_text refusals.CountRange = codes "refused 10 CountRange\n"
-refusal_text (refusals.BadDirectory n) = refusal_line n
-refusal_text refusals.NoSuchFile = codes "refused 19 NoSuchFile\n"
-refusal_text refusals.NotStrict = codes "not strict\n"
+abbrev pub play_refusal_text : PlayRefusal → List ℕ
+play_refusal_text play_refusals.CountRange = codes "refused 10 CountRange\n"
+play_refusal_text (play_refusals.BadDirectory n) = refusal_line n
+play_refusal_text play_refusals.NoSuchFile = codes "refused 19 NoSuchFile\n"
+play_refusal_text play_refusals.NotStrict = codes "not strict\n"
 
 -- the lines of the entries that are asked for, or why they are refused
 abbrev pub Prints : Selection → Image → Outcome → List ℕ → Type 0
 Prints s image Done text = (entries : List Entry) × IsInstalment image s entries × (text ≡ entry_lines entries)
-Prints s image Refused text = (refusal : PlayRefusal) × IsPlayRefusal image s refusal × (text ≡ refusal_text refusal)
+Prints s image Refused text = (refusal : PlayRefusal) × IsPlayRefusal image s refusal × (text ≡ play_refusal_text refusal)
 
 -- a writer was given them
 abbrev pub Plays : Selection → Image → Outcome → Option (List ℕ) → Option (List ℕ) → Type 0

@@ -10,16 +10,16 @@ use Rattle.r10_dirchain.specs.declared.chain.ChainBlock.{ChainBlock}
 use Rattle.r10_dirchain.specs.declared.chain.Listed.{Listed}
 use Rattle.r10_body.specs.Faults.{IsAtFault}
 use Rattle.r10_body.specs.Packets.{Packet, file_bytes, file_entries}
-use Rattle.r10_body.specs.Rules.{IsFile, is_closed as is_closed_file}
+use Rattle.r10_body.specs.Rules.{IsFile, is_closed_file}
 use Rattle.r10_body.specs.declared.entry.Entry.{Entry}
 use Rattle.r10_body.specs.declared.fault.FileFault.{FileFault}
 use Rattle.r10_machine.specs.Replay.{wanted, Ordered}
 use Rattle.r10_checker.specs.Place.{bytes_on, is_inside}
 use Rattle.r10_playback.specs.declared.selection.Selection.{Selection}
 use Rattle.r10_playback.specs.declared.selection.PlayFault.{PlayFault}
-use Rattle.r10_playback.specs.declared.selection.PlayFault.TheVariants as faults
+use Rattle.r10_playback.specs.declared.selection.PlayFault.TheVariants as play_faults
 use Rattle.r10_playback.specs.declared.selection.PlayRefusal.{PlayRefusal}
-use Rattle.r10_playback.specs.declared.selection.PlayRefusal.TheVariants as refusals
+use Rattle.r10_playback.specs.declared.selection.PlayRefusal.TheVariants as play_refusals
 
 -- both counts have 48 bits
 abbrev pub HasCounts : Selection → Type 0
@@ -35,11 +35,11 @@ abbrev pub IsListed : Image → ℕ → Listed → Type 0
 IsListed image number f = (chain : List ChainBlock) × IsDirectory image chain × (slice_get (listed chain) number ≡ Some f)
 
 -- and the file lies inside the medium
-abbrev pub IsFound : Image → ℕ → Listed → Type 0
-IsFound image number f = IsListed image number f × (is_inside (length image) f.entry ≡ true)
+abbrev pub IsListedInside : Image → ℕ → Listed → Type 0
+IsListedInside image number f = IsListed image number f × (is_inside (length image) f.entry ≡ true)
 
 -- the bytes of the file are these packets, which keep all rules, with an index exactly where the directory says that it is closed
-pub record HasPackets (image : Image) (f : Listed) (packets : List Packet) : Type 0 where
+pub record HasStrictPackets (image : Image) (f : Listed) (packets : List Packet) : Type 0 where
   pub bytes_are : bytes_on image f.entry ≡ file_bytes packets
   pub strict : IsFile packets
   pub closed : is_closed_file packets ≡ is_closed f.entry
@@ -48,9 +48,9 @@ pub record HasPackets (image : Image) (f : Listed) (packets : List Packet) : Typ
 pub record IsInstalment (image : Image) (s : Selection) (entries : List Entry) : Type 0 where
   pub counts : HasCounts s
   pub file : Listed
-  pub found : IsFound image s.file file
+  pub found : IsListedInside image s.file file
   pub packets : List Packet
-  pub has : HasPackets image file packets
+  pub has : HasStrictPackets image file packets
   pub in_order : Ordered (wanted (channels_of s.channel) s.from s.to (file_entries packets)) entries
 
 -- ---- refusals, in order
@@ -68,30 +68,30 @@ abbrev pub IsAtFaultOn : Image → Listed → Type 0
 IsAtFaultOn image f = (offset : ℕ) × (fault : FileFault) × IsAtFault (bytes_on image f.entry) (is_closed f.entry) offset fault
 
 abbrev pub IsPlayRefusal : Image → Selection → PlayRefusal → Type 0
-IsPlayRefusal image s refusals.CountRange = HasCounts s → ⊥
-IsPlayRefusal image s (refusals.BadDirectory n) = HasCounts s × IsBadBlock image s.file n
-IsPlayRefusal image s refusals.NoSuchFile = HasCounts s × HasNoFile image s.file
-IsPlayRefusal image s refusals.NotStrict = HasCounts s × ((f : Listed) × IsFound image s.file f × IsAtFaultOn image f)
+IsPlayRefusal image s play_refusals.CountRange = HasCounts s → ⊥
+IsPlayRefusal image s (play_refusals.BadDirectory n) = HasCounts s × IsBadBlock image s.file n
+IsPlayRefusal image s play_refusals.NoSuchFile = HasCounts s × HasNoFile image s.file
+IsPlayRefusal image s play_refusals.NotStrict = HasCounts s × ((f : Listed) × IsListedInside image s.file f × IsAtFaultOn image f)
 
 abbrev pub IsPlayFault : Image → Selection → PlayFault → Type 0
-IsPlayFault image s (faults.Refused refusal) = IsPlayRefusal image s refusal
-IsPlayFault image s faults.Medium = Unit {0}
-IsPlayFault image s faults.OutOfMemory = Unit {0}
+IsPlayFault image s (play_faults.Refused refusal) = IsPlayRefusal image s refusal
+IsPlayFault image s play_faults.Medium = Unit {0}
+IsPlayFault image s play_faults.OutOfMemory = Unit {0}
 
 -- of a file's number alone
-abbrev pub IsFileRefusal : Image → ℕ → PlayRefusal → Type 0
-IsFileRefusal image number refusals.CountRange = ⊥
-IsFileRefusal image number (refusals.BadDirectory n) = IsBadBlock image number n
-IsFileRefusal image number refusals.NoSuchFile = HasNoFile image number
-IsFileRefusal image number refusals.NotStrict = ⊥
+abbrev pub IsPlayFileRefusal : Image → ℕ → PlayRefusal → Type 0
+IsPlayFileRefusal image number play_refusals.CountRange = ⊥
+IsPlayFileRefusal image number (play_refusals.BadDirectory n) = IsBadBlock image number n
+IsPlayFileRefusal image number play_refusals.NoSuchFile = HasNoFile image number
+IsPlayFileRefusal image number play_refusals.NotStrict = ⊥
 
 abbrev pub IsFileFault : Image → ℕ → PlayFault → Type 0
-IsFileFault image number (faults.Refused refusal) = IsFileRefusal image number refusal
-IsFileFault image number faults.Medium = Unit {0}
-IsFileFault image number faults.OutOfMemory = Unit {0}
+IsFileFault image number (play_faults.Refused refusal) = IsPlayFileRefusal image number refusal
+IsFileFault image number play_faults.Medium = Unit {0}
+IsFileFault image number play_faults.OutOfMemory = Unit {0}
 
 -- of a file's bytes alone
 abbrev pub IsJudgeFault : Image → Listed → PlayFault → Type 0
-IsJudgeFault image f (faults.Refused refusal) = (refusal ≡ refusals.NotStrict) × IsAtFaultOn image f
-IsJudgeFault image f faults.Medium = Unit {0}
-IsJudgeFault image f faults.OutOfMemory = Unit {0}
+IsJudgeFault image f (play_faults.Refused refusal) = (refusal ≡ play_refusals.NotStrict) × IsAtFaultOn image f
+IsJudgeFault image f play_faults.Medium = Unit {0}
+IsJudgeFault image f play_faults.OutOfMemory = Unit {0}

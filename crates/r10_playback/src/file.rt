@@ -3,10 +3,10 @@
 ghost use Rattle.std.specs.Prelude.{◌≡◌, ◌≤◌, ℕ, length, slice_get, IfOk, IfErr, IfNone};
 ghost use Rattle.r10_medium.specs.Disk.{Image, Unchanged};
 ghost use Rattle.r10_dirchain.specs.Bad.{IsChainError};
-ghost use Rattle.r10_judge.specs.Judged.{IsKept};
+ghost use Rattle.r10_judge.specs.Judged.{TracksStrictFile};
 ghost use Rattle.r10_dirblock.specs.Block.{is_closed};
 ghost use Rattle.r10_checker.specs.Place.{bytes_on, IsPlaced};
-ghost use Rattle.r10_playback.specs.Played.{IsFound, IsFileFault, IsJudgeFault};
+ghost use Rattle.r10_playback.specs.Played.{IsListedInside, IsFileFault, IsJudgeFault};
 
 use crate::selection::{PlayFault, PlayRefusal};
 use r10_blockout::ReadFault;
@@ -23,7 +23,7 @@ pub(crate) fn find_file<M: BlockMedium>(
     medium: &mut M,
     number: usize,
 ) -> Result<Listed, PlayFault>
-    ensures found { IfOk result (λ file. IsFound (M.disk medium.old).blocks number file × IsPlaced (M.disk medium.old).blocks file) }
+    ensures found { IfOk result (λ file. IsListedInside (M.disk medium.old).blocks number file × IsPlaced (M.disk medium.old).blocks file) }
     ensures refused { IfErr result (IsFileFault (M.disk medium.old).blocks number) }
     ensures same { Unchanged (M.disk medium.old) (M.disk medium.new) }
 {
@@ -70,7 +70,7 @@ pub(crate) fn strict_tracks<M: BlockMedium>(
     buffer: &mut Vec<u8>,
 ) -> Result<Tracks, PlayFault>
     requires { IsPlaced (M.disk medium.old).blocks file.now }
-    ensures kept { IfOk result (λ tracks. IsKept (is_closed file.now.entry) tracks (bytes_on (M.disk medium.old).blocks file.now.entry)) }
+    ensures kept { IfOk result (λ tracks. TracksStrictFile (is_closed file.now.entry) tracks (bytes_on (M.disk medium.old).blocks file.now.entry)) }
     ensures refused { IfErr result (IsJudgeFault (M.disk medium.old).blocks file.now) }
     ensures same { Unchanged (M.disk medium.old) (M.disk medium.new) }
 {

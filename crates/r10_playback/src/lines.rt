@@ -3,7 +3,7 @@
 ghost use Rattle.std.specs.Prelude.{◌≡◌, OnOk};
 ghost use Rattle.std.specs.Io.KnownBytes.{Appends};
 ghost use Rattle.r10_lines.specs.Line.{entry_line};
-ghost use Rattle.r10_playback.specs.Lines.{entry_lines, refusal_text};
+ghost use Rattle.r10_playback.specs.Lines.{entry_lines, play_refusal_text};
 
 use crate::selection::PlayRefusal;
 use r10_body::Entry;
@@ -41,7 +41,7 @@ pub(crate) fn write_reason<W: Write>(
     refusal: PlayRefusal,
     writer: &mut W,
 ) -> Result<(), StreamFault>
-    ensures { OnOk result (Appends (W.contents writer.old) (W.contents writer.new) (refusal_text refusal)) }
+    ensures { OnOk result (Appends (W.contents writer.old) (W.contents writer.new) (play_refusal_text refusal)) }
 {
     match refusal {
         PlayRefusal::CountRange => write(b"refused 10 CountRange\n", writer),

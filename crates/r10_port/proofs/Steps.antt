@@ -10,8 +10,8 @@ use Rattle.r10_machine.specs.Machine.{saturated}
 use Rattle.r10_machine.specs.SoundParts.{count_or_0}
 use Rattle.r10_port.specs.declared.item.Item.{Item}
 use Rattle.r10_port.specs.declared.item.Item.TheVariants.{Announce, Entry}
-use Rattle.r10_port.specs.Items.{samples, last_count, MayFollow}
-use Rattle.r10_port.specs.Ends.{Ring, Sending, Receiving, Offered, Took}
+use Rattle.r10_port.specs.Items.{samples, last_count_or, ItemMayFollow}
+use Rattle.r10_port.specs.Ends.{Ring, Sending, Receiving, Offered, TookReceived}
 use Rattle.r10_port.proofs.Items.{samples_joined, last_pushed, joins}
 
 -- ---- the sending end
@@ -52,12 +52,12 @@ abbrev pub receiving : Ring → ChannelSpec → List Item → List Item → Rece
 receiving ring spec items ahead = record { ring = ring; spec = spec; received = samples items; ahead = ahead }
 
 -- the count that is reached by a sample
-pub reaches : (items items2 : List Item) (x : Sample) → items2 ≡ items ++ Entry x ∷ [] → count_or_0 (last_count None (samples items2)) ≡ x.count
-reaches items items2 x grown = ap (λ (l : List Item). count_or_0 (last_count None (samples l))) grown ∙ ap count_or_0 (last_pushed items x)
+pub reaches : (items items2 : List Item) (x : Sample) → items2 ≡ items ++ Entry x ∷ [] → count_or_0 (last_count_or None (samples items2)) ≡ x.count
+reaches items items2 x grown = ap (λ (l : List Item). count_or_0 (last_count_or None (samples l))) grown ∙ ap count_or_0 (last_pushed items x)
 
 pub takes : (ring ring2 : Ring) (spec : ChannelSpec) (items items2 ahead ahead2 : List Item) (x : Sample)
-    → ring2 ≡ ring → items2 ≡ items ++ Entry x ∷ [] → slice_get items 0 ≡ Some (Announce spec) → MayFollow items (Entry x)
-    → Took (receiving ring spec items ahead) (x ∷ []) (receiving ring2 spec items2 ahead2)
+    → ring2 ≡ ring → items2 ≡ items ++ Entry x ∷ [] → slice_get items 0 ≡ Some (Announce spec) → ItemMayFollow items (Entry x)
+    → TookReceived (receiving ring spec items ahead) (x ∷ []) (receiving ring2 spec items2 ahead2)
 takes ring ring2 spec items items2 ahead ahead2 x same grown first may = record {
   same = (same, refl);
   received = ap samples grown ∙ samples_joined items (Entry x ∷ []);

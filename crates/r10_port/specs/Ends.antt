@@ -17,7 +17,7 @@ use Rattle.r10_machine.specs.SoundParts.{count_or_0}
 use Rattle.r10_port.specs.declared.item.Item.{Item}
 use Rattle.r10_port.specs.declared.item.Item.TheVariants.{Announce, Entry}
 use Rattle.r10_port.specs.declared.rule.InOrder.{InOrder}
-use Rattle.r10_port.specs.Items.{last_count}
+use Rattle.r10_port.specs.Items.{last_count_or}
 
 -- ---- rings
 
@@ -69,11 +69,11 @@ next_known [] = None
 next_known (item ∷ items) = sample_in item
 
 -- the count that the end has reached: of the last sample that was received
-abbrev pub reached : Receiving → ℕ
-reached outlet = count_or_0 (last_count None outlet.received)
+abbrev pub reached_by_outlet : Receiving → ℕ
+reached_by_outlet outlet = count_or_0 (last_count_or None outlet.received)
 
 -- these samples were received, over the same ring
-pub record Took (old : Receiving) (samples : List Sample) (new : Receiving) : Type 0 where
+pub record TookReceived (old : Receiving) (samples : List Sample) (new : Receiving) : Type 0 where
   pub same : (new.ring ≡ old.ring) × (new.spec ≡ old.spec)
   pub received : new.received ≡ old.received ++ samples
-  pub rises : reached old ≤ reached new
+  pub rises : reached_by_outlet old ≤ reached_by_outlet new

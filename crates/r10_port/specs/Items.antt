@@ -13,18 +13,18 @@ samples (Announce spec ∷ items) = samples items
 samples (Entry x ∷ items) = x ∷ samples items
 
 -- the count of the last sample, or this one
-abbrev pub last_count : Option ℕ → List Sample → Option ℕ
-last_count last [] = last
-last_count last (x ∷ xs) = last_count (Some x.count) xs
+abbrev pub last_count_or : Option ℕ → List Sample → Option ℕ
+last_count_or last [] = last
+last_count_or last (x ∷ xs) = last_count_or (Some x.count) xs
 
 -- what may come after items that begin so and have these samples
 abbrev pub MayJoin : Option Item → List Sample → Item → Type 0
 MayJoin None before (Announce spec) = Unit {0}
 MayJoin None before (Entry x) = ⊥
 MayJoin (Some (Announce spec)) before (Announce other) = ⊥
-MayJoin (Some (Announce spec)) before (Entry x) = first_broken (taking_checks spec (last_count None before) x.count x.message) ≡ None
+MayJoin (Some (Announce spec)) before (Entry x) = first_broken (taking_checks spec (last_count_or None before) x.count x.message) ≡ None
 MayJoin (Some (Entry y)) before item = ⊥
 
 -- a channel's settings come first, and then what passes the checks of an offer on that channel
-abbrev pub MayFollow : List Item → Item → Type 0
-MayFollow before item = MayJoin (slice_get before 0) (samples before) item
+abbrev pub ItemMayFollow : List Item → Item → Type 0
+ItemMayFollow before item = MayJoin (slice_get before 0) (samples before) item

@@ -9,8 +9,8 @@ use Rattle.r10_body.specs.declared.refusal.Refusal.TheVariants.{WrongKind, BadMe
 use Rattle.r10_body.specs.declared.spec.ChannelSpec.{ChannelSpec}
 use Rattle.r10_machine.specs.Machine.{fresh_lane}
 use Rattle.r10_port.specs.declared.item.Item.TheVariants.{Announce, Entry}
-use Rattle.r10_port.specs.Items.{MayFollow}
-use Rattle.r10_port.specs.Ends.{Ring, Sending, Receiving, Offered, Took, reached, next_known}
+use Rattle.r10_port.specs.Items.{ItemMayFollow}
+use Rattle.r10_port.specs.Ends.{Ring, Sending, Receiving, Offered, TookReceived, reached_by_outlet, next_known}
 
 abbrev channel : ChannelSpec
 channel = record { id = 5; kind = kinds.Uart; capacity = 2; check = 0; bytes = 524288; number = 65535; bits = 0 }
@@ -55,13 +55,13 @@ module _ (ring : Ring) where
   a_third_is_lost = (refl, refl, refl)
 
   -- one is taken, and the next that is sent has a gap
-  one_is_taken : Took (outlet ring []) (first ∷ []) (outlet ring (first ∷ []))
+  one_is_taken : TookReceived (outlet ring []) (first ∷ []) (outlet ring (first ∷ []))
   one_is_taken = record { same = (refl, refl); received = refl; rises = lit≤ tt }
 
   a_gap_is_marked : Offered (port ring (first ∷ second ∷ []) (Some 2) 1 1 0) 4 (text 0x44) (Ok tt) (port ring (first ∷ second ∷ fourth ∷ []) (Some 4) 0 1 0)
   a_gap_is_marked = (refl, lit≤ tt)
 
-  two_are_taken : Took (outlet ring (first ∷ [])) (second ∷ fourth ∷ []) (outlet ring (first ∷ second ∷ fourth ∷ []))
+  two_are_taken : TookReceived (outlet ring (first ∷ [])) (second ∷ fourth ∷ []) (outlet ring (first ∷ second ∷ fourth ∷ []))
   two_are_taken = record { same = (refl, refl); received = refl; rises = lit≤ tt }
 
   -- the kind is looked at before the message, the message before its length, and the count last; none of them is a loss
@@ -79,26 +79,26 @@ module _ (ring : Ring) where
   losses_stay = (refl, refl, refl)
 
   -- what has been reached: nothing, the last that was received
-  nothing_reached : reached (outlet ring []) ≡ 0
+  nothing_reached : reached_by_outlet (outlet ring []) ≡ 0
   nothing_reached = refl
 
-  last_reached : reached (outlet ring (first ∷ second ∷ [])) ≡ 2
+  last_reached : reached_by_outlet (outlet ring (first ∷ second ∷ [])) ≡ 2
   last_reached = refl
 
 -- a channel is announced first, and then takes what it takes
-announced : MayFollow [] (Announce channel)
+announced : ItemMayFollow [] (Announce channel)
 announced = tt
 
-one_may_follow : MayFollow (Announce channel ∷ []) (Entry first)
+one_may_follow : ItemMayFollow (Announce channel ∷ []) (Entry first)
 one_may_follow = refl
 
-two_may_follow : MayFollow (Announce channel ∷ Entry first ∷ []) (Entry second)
+two_may_follow : ItemMayFollow (Announce channel ∷ Entry first ∷ []) (Entry second)
 two_may_follow = refl
 
-back_may_not : MayFollow (Announce channel ∷ Entry second ∷ []) (Entry first) → ⊥
+back_may_not : ItemMayFollow (Announce channel ∷ Entry second ∷ []) (Entry first) → ⊥
 back_may_not may = absurd (cc)
 
-unannounced_may_not : MayFollow [] (Entry first) → ⊥
+unannounced_may_not : ItemMayFollow [] (Entry first) → ⊥
 unannounced_may_not may = may
 
 -- what is known to come next

@@ -39,16 +39,16 @@ impl Model for Outlet {
 
 impl LaneOut for Outlet {
     ghost use Rattle.std.specs.Prelude.{◌≡◌, None, Some};
-    ghost use Rattle.r10_port.specs.Ends.{Took, next_known, reached};
-    ghost use Rattle.r10_port.specs.Laws.{took_joins, took_nothing, took_stays, took_keeps_spec, took_rises, never_quiet};
+    ghost use Rattle.r10_port.specs.Ends.{TookReceived, next_known, reached_by_outlet};
+    ghost use Rattle.r10_port.specs.Laws.{port_took_joins, port_took_nothing, port_took_stays, port_took_keeps_spec, port_took_rises, never_quiet};
 
     ghost spec_of = { λ outlet. outlet.spec };
 
-    ghost took = { Took };
+    ghost took = { TookReceived };
 
     ghost shows = { λ outlet first. next_known outlet.ahead ≡ Some first };
 
-    ghost reached = { reached };
+    ghost reached = { reached_by_outlet };
 
     ghost quiet = { λ outlet. None };
 
@@ -75,15 +75,15 @@ impl LaneOut for Outlet {
         self.consumer.slots()
     }
 
-    ghost joins = { took_joins };
+    ghost joins = { port_took_joins };
 
-    ghost took_none = { took_nothing };
+    ghost took_none = { port_took_nothing };
 
-    ghost stays = { took_stays };
+    ghost stays = { port_took_stays };
 
-    ghost keeps_spec = { took_keeps_spec };
+    ghost keeps_spec = { port_took_keeps_spec };
 
-    ghost rises = { took_rises };
+    ghost rises = { port_took_rises };
 
     ghost stays_quiet = { never_quiet };
 }

@@ -29,7 +29,7 @@ impl Model for Port {
     ghost use Rattle.rtrb.specs.Ring.{sent as pushed, known_free};
     ghost use Rattle.r10_machine.specs.Machine.{saturated};
     ghost use Rattle.r10_port.specs.declared.item.Item.TheVariants.{Announce};
-    ghost use Rattle.r10_port.specs.Items.{samples, last_count};
+    ghost use Rattle.r10_port.specs.Items.{samples, last_count_or};
     ghost use Rattle.r10_port.specs.Ends.{Sending, ring_of};
 
     ghost Value = { Sending };
@@ -49,7 +49,7 @@ impl Model for Port {
 
     ghost invariant = { λ p. record {
       announced : slice_get (pushed p.producer) 0 ≡ Some (Announce p.spec);
-      last : last_count None (samples (pushed p.producer)) ≡ p.last;
+      last : last_count_or None (samples (pushed p.producer)) ≡ p.last;
       counted : p.sent ≡ saturated (length (samples (pushed p.producer)));
     } };
 }

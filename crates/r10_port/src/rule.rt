@@ -8,7 +8,7 @@ use rtrb::Protocol;
 pub(crate) struct InOrder;
 
 impl Protocol<Item> for InOrder {
-    ghost use Rattle.r10_port.specs.Items.{MayFollow};
+    ghost use Rattle.r10_port.specs.Items.{ItemMayFollow};
 
-    ghost allows = { MayFollow };
+    ghost allows = { ItemMayFollow };
 }

@@ -10,17 +10,17 @@ use Rattle.r10_body.specs.declared.entry.Entry.{Entry}
 use Rattle.r10_body.specs.declared.entry.Sample.{Sample}
 use Rattle.r10_builder.specs.Packing.{entry_on}
 use Rattle.r10_packetout.specs.Carries.{Recording, packets_of}
-use Rattle.r10_machine.specs.Calls.{Pumps as PumpsIn, without}
+use Rattle.r10_machine.specs.Calls.{Pumps, without}
 use Rattle.r10_machine.specs.Config.{Config}
 use Rattle.r10_machine.specs.Machine.{File, Lane, Machine, change_first, is_channel, last_file, lane_of, waiting_entries, with_entries, with_lane, with_last}
 use Rattle.r10_machine.specs.Room.{TakesIn, area, cost_of, fitting, may_fill_index, room_for}
-use Rattle.r10_machine.specs.Step.{Lacks as StepLacks, LanesAfter, MayLackIndex, entry_has_room, has_room, needed}
-use Rattle.r10_machine.specs.declared.event.Event.{Event as Asked}
-use Rattle.r10_machine.specs.declared.event.Event.TheVariants as ask
+use Rattle.r10_machine.specs.Step.{Lacks, LanesAfter, MayLackIndex, entry_has_room, has_room, needed}
+use Rattle.r10_machine.specs.declared.event.Event.{Event as EventValue}
+use Rattle.r10_machine.specs.declared.event.Event.TheVariants as events
 use Rattle.r10_mux.specs.declared.fault.Full.{Full}
-use Rattle.r10_mux.specs.declared.fault.Full.TheVariants as full
-use Rattle.r10_pump.specs.Pumping.{Ends, Lacks, entries_on}
-use Rattle.r10_pump.specs.Machines.{IsMoved, refusal_of}
+use Rattle.r10_mux.specs.declared.fault.Full.TheVariants as lacking
+use Rattle.r10_pump.specs.Pumping.{PumpEnds, SampleLacks, entries_on}
+use Rattle.r10_pump.specs.Machines.{IsPumpedInto, refusal_of_full}
 
 -- ---- how many fit
 
@@ -96,7 +96,7 @@ asked channel (suc most) (x ∷ xs) ys le =
 
 -- why it ended, in the machine's words
 pub why_ended : (s : Config) (f : File) (r : Recording) (channel most n : ℕ) (front : List Entry) (rest : List Sample) (ended : Option Full) → packets_of r ≤ 1 + length (f.entries ++ front)
-    → n ≤ most → Ends r channel s.nodes (area s f) most n rest ended
+    → n ≤ most → PumpEnds r channel s.nodes (area s f) most n rest ended
     → (take (most - n) (entries_on channel rest) ≡ []) ⊎ IsSomeAnd (slice_get (take (most - n) (entries_on channel rest)) 0) (λ e. (area s f < r.cost + entry_cost e) ⊎ (100 * s.nodes ≤ 1 + length (f.entries ++ front)))
 why_ended s f r channel most n front rest None few le ends = inl (none (most - n) refl rest ends)
   where
@@ -104,15 +104,15 @@ why_ended s f r channel most n front rest None few le ends = inl (none (most - n
     none zero is rest ends = refl
     none (suc k) is rest ends = ap (λ (xs : List Sample). take (suc k) (entries_on channel xs)) (ends (omega (arith, is)))
 why_ended s f r channel most n front [] (Some ended) few le (lt, ends) = absurd ends
-why_ended s f r channel most n front (x ∷ rest) (Some full.Index) few le (lt, ends) =
+why_ended s f r channel most n front (x ∷ rest) (Some lacking.Index) few le (lt, ends) =
     let some : most - n ≡ suc (most - n - 1) = omega (arith, lt) in
     rw some (inr (inr (omega (arith, few, ends.1))))
-why_ended s f r channel most n front (x ∷ rest) (Some full.Medium) few le (lt, ends) =
+why_ended s f r channel most n front (x ∷ rest) (Some lacking.Medium) few le (lt, ends) =
     let some : most - n ≡ suc (most - n - 1) = omega (arith, lt) in
     rw some (inr (inl (omega (arith, ends.1))))
 
 -- what a pump moved is what the machine's pump takes in, and what it leaves
-pub moved_in : (s : Config) (f : File) (lane : Lane) (most n : ℕ) (samples rest : List Sample) (ended : Option Full) (r : Recording) → IsMoved s f lane most n samples rest ended r
+pub moved_in : (s : Config) (f : File) (lane : Lane) (most n : ℕ) (samples rest : List Sample) (ended : Option Full) (r : Recording) → IsPumpedInto s f lane most n samples rest ended r
     → TakesIn s f (take most (waiting_entries lane)) n × (take n (waiting_entries lane) ≡ entries_on lane.spec.id samples) × (drop n lane.waiting ≡ rest)
 moved_in s f lane most n samples rest ended r moved =
     let id : ℕ = lane.spec.id in
@@ -121,7 +121,7 @@ moved_in s f lane most n samples rest ended r moved =
     let le : length samples ≤ most = omega (arith, moved.number, moved.within) in
     let number : n ≡ length front = moved.number ∙ sym (length-map samples (entry_on id)) in
     let all : take most (waiting_entries lane) ≡ front ++ back = ap (λ (xs : List Sample). take most (map (entry_on id) xs)) moved.waits ∙ asked id most samples rest le in
-    let ends : Ends r id s.nodes (area s f) most (length samples) rest ended = subst (λ (k : ℕ). Ends r id s.nodes (area s f) most k rest ended) moved.number moved.ends in
+    let ends : PumpEnds r id s.nodes (area s f) most (length samples) rest ended = subst (λ (k : ℕ). PumpEnds r id s.nodes (area s f) most k rest ended) moved.number moved.ends in
     let goes : TakesIn s f (front ++ back) (length front) =
     takes_in s f front back r.cost moved.cost (λ some. moved.fits (omega (arith, some, number))) (why_ended s f r id most (length samples) front rest ended moved.few le ends) in (
       subst (λ (es : List Entry). TakesIn s f es n) (sym all) (subst (λ (k : ℕ). TakesIn s f (front ++ back) k) (sym number) goes),
@@ -135,18 +135,18 @@ none_asked : (channel most : ℕ) (xs : List Sample) → (0 < most → xs ≡ []
 none_asked channel zero xs none = refl
 none_asked channel (suc most) xs none = ap (λ (ys : List Sample). length (take (suc most) (entries_on channel ys))) (none (omega arith))
 
-some_moved : (s : Config) (f : File) (lane : Lane) (most n k : ℕ) (samples rest : List Sample) (ended : Option Full) (r : Recording) → IsMoved s f lane most n samples rest ended r → n ≡ k → (n ≡ 0 → ended ≡ None)
+some_moved : (s : Config) (f : File) (lane : Lane) (most n k : ℕ) (samples rest : List Sample) (ended : Option Full) (r : Recording) → IsPumpedInto s f lane most n samples rest ended r → n ≡ k → (n ≡ 0 → ended ≡ None)
     → 0 < length (take most (waiting_entries lane)) → 0 < n
 some_moved s f lane most n (suc k) samples rest ended r moved is some asked = omega (arith, is)
 some_moved s f lane most n zero (x ∷ samples) rest ended r moved is some asked = omega (arith, is, moved.number)
 some_moved s f lane most n zero [] rest ended r moved is some asked =
-    let ends : n < most → rest ≡ [] = subst (Ends r lane.spec.id s.nodes (area s f) most n rest) (some is) moved.ends in
+    let ends : n < most → rest ≡ [] = subst (PumpEnds r lane.spec.id s.nodes (area s f) most n rest) (some is) moved.ends in
     let all : length (take most (waiting_entries lane)) ≡ 0 = ap (λ (xs : List Sample). length (take most (map (entry_on lane.spec.id) xs))) moved.waits ∙ none_asked lane.spec.id most rest (λ lt. ends (omega (arith, lt, is))) in
     omega (arith, asked, all)
 
 pub pumps_in : (s : Config) (m : Machine) (f : File) (channel : ℕ) (lane : Lane) (most n : ℕ) (samples rest : List Sample) (ended : Option Full) (r : Recording) → lane_of channel m ≡ Some lane → last_file m ≡ Some f
-    → IsMoved s f lane most n samples rest ended r → (n ≡ 0 → ended ≡ None)
-    → PumpsIn s m channel most n (with_last (with_entries (entries_on lane.spec.id samples)) (with_lane channel (without n) m))
+    → IsPumpedInto s f lane most n samples rest ended r → (n ≡ 0 → ended ≡ None)
+    → Pumps s m channel most n (with_last (with_entries (entries_on lane.spec.id samples)) (with_lane channel (without n) m))
 pumps_in s m f channel lane most n samples rest ended r there last moved some =
     let goes : TakesIn s f (take most (waiting_entries lane)) n × (take n (waiting_entries lane) ≡ entries_on lane.spec.id samples) × (drop n lane.waiting ≡ rest) = moved_in s f lane most n samples rest ended r moved in
     rw (there, last) (goes.0, some_moved s f lane most n n samples rest ended r moved refl some, ap (λ (es : List Entry). with_last (with_entries es) (with_lane channel (without n) m)) (sym goes.1))
@@ -154,8 +154,8 @@ pumps_in s m f channel lane most n samples rest ended r there last moved some =
 -- ---- a larger number asked for
 
 pub more_asked : (waits : Option (List Sample)) (samples rest : List Sample) (r : Recording) (channel nodes room most larger n : ℕ) (ended : Option Full) → IfSome waits (λ waiting. waiting ≡ samples ++ rest)
-    → IfSome waits (λ waiting. most ≡ min larger (length waiting)) → most ≤ larger → n ≡ length samples → Ends r channel nodes room most n rest ended
-    → (later : List Sample) × IfSome waits (λ waiting. waiting ≡ samples ++ later) × Ends r channel nodes room larger n later ended
+    → IfSome waits (λ waiting. most ≡ min larger (length waiting)) → most ≤ larger → n ≡ length samples → PumpEnds r channel nodes room most n rest ended
+    → (later : List Sample) × IfSome waits (λ waiting. waiting ≡ samples ++ later) × PumpEnds r channel nodes room larger n later ended
 more_asked None samples rest r channel nodes room most larger n None waits least le number ends = ([], tt, λ lt. refl)
 more_asked None samples rest r channel nodes room most larger n (Some ended) waits least le number ends = (rest, tt, (omega (arith, le, ends.0), ends.1))
 more_asked (Some waiting) samples rest r channel nodes room most larger n (Some ended) waits least le number ends = (rest, waits, (omega (arith, le, ends.0), ends.1))
@@ -171,15 +171,15 @@ more_asked (Some waiting) samples rest r channel nodes room most larger n None w
 -- ---- a first sample without room
 
 lacks_at : (s : Config) (m : Machine) (f : File) (channel most k : ℕ) (lane : Lane) (waiting : List Sample) (ended : Full) (r : Recording) → lane_of channel m ≡ Some lane → last_file m ≡ Some f
-    → lane.waiting ≡ waiting → most ≡ suc k → r.cost ≡ cost_of f → packets_of r ≤ 1 + length f.entries → IsSomeAnd (slice_get waiting 0) (Lacks r lane.spec.id s.nodes (area s f) ended) → StepLacks s m (ask.Pump channel most) (refusal_of ended)
+    → lane.waiting ≡ waiting → most ≡ suc k → r.cost ≡ cost_of f → packets_of r ≤ 1 + length f.entries → IsSomeAnd (slice_get waiting 0) (SampleLacks r lane.spec.id s.nodes (area s f) ended) → Lacks s m (events.Pump channel most) (refusal_of_full ended)
 lacks_at s m f channel most k lane [] ended r there last waits some cost few lacks = absurd lacks
-lacks_at s m f channel most k lane (x ∷ waiting) full.Medium r there last waits some cost few lacks =
+lacks_at s m f channel most k lane (x ∷ waiting) lacking.Medium r there last waits some cost few lacks =
     rw (has_room, entry_has_room, needed, there, last, waits, some) (no_more (cost_of f + entry_cost (entry_on lane.spec.id x)) (area s f) (omega (arith, cost, lacks.1)))
-lacks_at s m f channel most k lane (x ∷ waiting) full.Index r there last waits some cost few lacks =
+lacks_at s m f channel most k lane (x ∷ waiting) lacking.Index r there last waits some cost few lacks =
     rw (MayLackIndex, needed, there, last, waits, some) (le-leb (100 * s.nodes) (1 + length f.entries) (omega (arith, few, lacks.1)))
 
 pub lacks_first : (s : Config) (m : Machine) (f : File) (channel : ℕ) (lane : Lane) (most : ℕ) (samples rest : List Sample) (ended : Full) (r : Recording) → lane_of channel m ≡ Some lane → last_file m ≡ Some f
-    → IsMoved s f lane most 0 samples rest (Some ended) r → StepLacks s m (ask.Pump channel most) (refusal_of ended)
+    → IsPumpedInto s f lane most 0 samples rest (Some ended) r → Lacks s m (events.Pump channel most) (refusal_of_full ended)
 lacks_first s m f channel lane zero samples rest ended r there last moved = absurd (omega (arith, moved.ends.0))
 lacks_first s m f channel lane (suc most) (x ∷ samples) rest ended r there last moved = absurd (omega (arith, moved.number))
 lacks_first s m f channel lane (suc most) [] rest ended r there last moved =
@@ -187,15 +187,15 @@ lacks_first s m f channel lane (suc most) [] rest ended r there last moved =
 
 -- ---- a failure
 
-still_there : (event : Asked) (lanes : List Lane) → LanesAfter event lanes lanes lanes
+still_there : (event : EventValue) (lanes : List Lane) → LanesAfter event lanes lanes lanes
 still_there event [] = tt
 still_there event (x ∷ xs) = ((0, omega arith, refl), still_there event xs)
 
-pub pump_fails : (channel most n : ℕ) (lanes : List Lane) → n ≤ most → LanesAfter (ask.Pump channel most) lanes lanes (change_first (is_channel channel) (without n) lanes)
+pub pump_fails : (channel most n : ℕ) (lanes : List Lane) → n ≤ most → LanesAfter (events.Pump channel most) lanes lanes (change_first (is_channel channel) (without n) lanes)
 pump_fails channel most n [] le = tt
 pump_fails channel most n (x ∷ xs) le = by (x.spec.id == channel) refl (pump_fails channel most n xs le)
   where
-    by : (b : Bool) → (x.spec.id == channel) ≡ b → LanesAfter (ask.Pump channel most) xs xs (change_first (is_channel channel) (without n) xs)
-        → LanesAfter (ask.Pump channel most) (x ∷ xs) (x ∷ xs) (cond b (without n x ∷ xs) (x ∷ change_first (is_channel channel) (without n) xs))
-    by true same rest = ((n, rw same le, refl), still_there (ask.Pump channel most) xs)
+    by : (b : Bool) → (x.spec.id == channel) ≡ b → LanesAfter (events.Pump channel most) xs xs (change_first (is_channel channel) (without n) xs)
+        → LanesAfter (events.Pump channel most) (x ∷ xs) (x ∷ xs) (cond b (without n x ∷ xs) (x ∷ change_first (is_channel channel) (without n) xs))
+    by true same rest = ((n, rw same le, refl), still_there (events.Pump channel most) xs)
     by false same rest = ((0, omega arith, refl), rest)

@@ -6,7 +6,7 @@ use Rattle.std.proofs.lemmas.Bool.{eq-eqb, eqb-true}
 use Rattle.std.proofs.lemmas.List.{append-nil}
 use Rattle.std.proofs.lemmas.List.Sums.{sum_by-append, sum_by-cons}
 use Rattle.r10_body.specs.Cost.{entry_cost}
-use Rattle.r10_body.specs.Rules.{entry_on as is_on}
+use Rattle.r10_body.specs.Rules.{is_entry_on}
 use Rattle.r10_body.specs.declared.entry.Entry.{Entry}
 use Rattle.r10_body.specs.declared.entry.Sample.{Sample}
 use Rattle.r10_body.specs.declared.spec.ChannelSpec.{ChannelSpec}
@@ -18,11 +18,11 @@ use Rattle.r10_machine.specs.Machine.{File, Lane, lane_in}
 use Rattle.r10_machine.specs.Room.{TakesIn, area}
 use Rattle.r10_mux.specs.declared.fault.Full.{Full}
 use Rattle.r10_machine.specs.Step.{LanesAfter}
-use Rattle.r10_machine.specs.declared.event.Event.TheVariants as ask
+use Rattle.r10_machine.specs.declared.event.Event.TheVariants as events
 use Rattle.r10_pump.specs.Machines.{AreMoved, HasWaiting}
-use Rattle.r10_pump.specs.Pumping.{Ends, Lacks, entries_on}
-use Rattle.r10_pump.specs.Stopping.{GoesOn, GoesThrough, Part, entries_of, most_of, samples_on}
-use Rattle.r10_pump.proofs.AllLanes.{none_of as none_left}
+use Rattle.r10_pump.specs.Pumping.{PumpEnds, SampleLacks, entries_on}
+use Rattle.r10_pump.specs.Stopping.{OthersGoOn, GoesThrough, Part, entries_of, most_of, samples_on}
+use Rattle.r10_pump.proofs.AllLanes.{none_of as none_of_lanes}
 use Rattle.r10_pump.proofs.Fitting.{asked, take_front, takes_in, why_ended}
 
 -- ---- the front of a channel
@@ -82,13 +82,13 @@ split_parts s f r front lanes (p ∷ parts) few waits within through =
     cut none =
         ap (λ (es : List Entry). es ++ others) here ∙ append_assoc own left others ∙ ap (λ (es : List Entry). es ++ (left ++ others)) (sym (append-nil own) ∙ ap (λ (es : List Entry). own ++ es) (sym (none_of parts none)))
 
-    no_lack : (o : List Sample) (full : Full) → IsSomeAnd (slice_get o 0) (Lacks r p.channel s.nodes (area s f) full) → length p.samples < most → p.rest ≡ o → left ≡ [] → ⊥
+    no_lack : (o : List Sample) (full : Full) → IsSomeAnd (slice_get o 0) (SampleLacks r p.channel s.nodes (area s f) full) → length p.samples < most → p.rest ≡ o → left ≡ [] → ⊥
     no_lack [] full lacks less is none = lacks
     no_lack (x ∷ o) full lacks less is none =
         let some : most - length p.samples ≡ suc (most - length p.samples - 1) = omega (arith, less) in
         omega (arith, ap (λ (es : List Entry). length es) (ap (λ (xs : List Sample). take (suc (most - length p.samples - 1)) (entries_on p.channel xs)) (sym is) ∙ ap (λ (k : ℕ). take k (entries_on p.channel p.rest)) (sym some) ∙ none))
 
-    by : (ended : Option Full) → Ends r p.channel s.nodes (area s f) most (length p.samples) p.rest ended → GoesOn ended (GoesThrough (most_of (map (λ (l : Lane). l.spec) lanes)) r s.nodes (area s f) parts) parts
+    by : (ended : Option Full) → PumpEnds r p.channel s.nodes (area s f) most (length p.samples) p.rest ended → OthersGoOn ended (GoesThrough (most_of (map (λ (l : Lane). l.spec) lanes)) r s.nodes (area s f) parts) parts
         → (GoesThrough (most_of (map (λ (l : Lane). l.spec) lanes)) r s.nodes (area s f) parts → (back : List Entry) × (others ≡ entries_of parts ++ back) × ((back ≡ []) ⊎ IsSomeAnd (slice_get back 0) (Why s f r front)))
         → (back : List Entry) × (front_of (lane_in p.channel lanes) ++ others ≡ (own ++ entries_of parts) ++ back) × ((back ≡ []) ⊎ IsSomeAnd (slice_get back 0) (Why s f r front))
     by None ends on rest =
@@ -120,7 +120,7 @@ stop_takes_in s f lanes parts n r moved =
 
 -- ---- what each lane gave
 
-on_one : (channel other : ℕ) (samples : List Sample) (t u : Bool) → (other == channel) ≡ t → (channel == other) ≡ u → count_by (is_on channel) (entries_on other samples) ≡ length (cond u samples [])
+on_one : (channel other : ℕ) (samples : List Sample) (t u : Bool) → (other == channel) ≡ t → (channel == other) ≡ u → count_by (is_entry_on channel) (entries_on other samples) ≡ length (cond u samples [])
 on_one channel other samples true false is differs = absurd (no (sym (eq-eqb channel other (sym (eqb-true other channel is))) ∙ differs))
   where
     no : true ≡ false → ⊥
@@ -140,7 +140,7 @@ on_one channel other (x ∷ samples) false false is same =
     let one : weight (entry_on other x) ≡ 0 = ap (λ (t : Bool). cond t 1 0) is in
     omega (arith, sum_by-cons weight (entry_on other x) (entries_on other samples), one, on_one channel other samples false false is same)
 
-gave : (channel : ℕ) (parts : List Part) → count_by (is_on channel) (entries_of parts) ≡ length (samples_on channel parts)
+gave : (channel : ℕ) (parts : List Part) → count_by (is_entry_on channel) (entries_of parts) ≡ length (samples_on channel parts)
 gave channel [] = refl
 gave channel (p ∷ parts) =
     let weight : Entry → ℕ = λ e. cond (e.channel == channel) 1 0 in
@@ -172,7 +172,7 @@ few_on specs (p ∷ parts) channel once within =
     by : (t : Bool) → (p.channel == channel) ≡ t → (u : Bool) → (channel == p.channel) ≡ u → cond t 1 0 + count_by (λ c. c == channel) (map (λ (q : Part). q.channel) parts) ≤ 1
         → (count_by (λ c. c == channel) (map (λ (q : Part). q.channel) parts) ≤ 1 → length (samples_on channel parts) ≤ most_of specs channel) → length (cond u p.samples [] ++ samples_on channel parts) ≤ most_of specs channel
     by true is true same once rest =
-        let none : samples_on channel parts ≡ [] = none_left channel parts (omega (arith, once)) in
+        let none : samples_on channel parts ≡ [] = none_of_lanes channel parts (omega (arith, once)) in
         let all : p.samples ++ samples_on channel parts ≡ p.samples = ap (λ (xs : List Sample). p.samples ++ xs) none ∙ append-nil p.samples in
         let own : length p.samples ≤ most_of specs channel = subst (λ (c : ℕ). length p.samples ≤ most_of specs c) (eqb-true p.channel channel is) within.0 in
         omega (arith, own, ap (λ (xs : List Sample). length xs) all)
@@ -181,6 +181,6 @@ few_on specs (p ∷ parts) channel once within =
     by false is false same once rest = rest (omega (arith, once))
 
 pub stop_fails : (parts : List Part) (lanes : List Lane) → AllByRecursion (λ (lane : Lane). length (samples_on lane.spec.id parts) ≤ lane.spec.capacity) lanes
-    → LanesAfter ask.Stop lanes lanes (map (λ (lane : Lane). without (length (samples_on lane.spec.id parts)) lane) lanes)
+    → LanesAfter events.Stop lanes lanes (map (λ (lane : Lane). without (length (samples_on lane.spec.id parts)) lane) lanes)
 stop_fails parts [] few = tt
 stop_fails parts (x ∷ lanes) few = ((length (samples_on x.spec.id parts), few.0, refl), stop_fails parts lanes few.1)

@@ -10,24 +10,24 @@ use Rattle.r10_machine.specs.Config.{Config}
 use Rattle.r10_machine.specs.Machine.{File, Lane, rising}
 use Rattle.r10_machine.specs.Room.{area, cost_of}
 use Rattle.r10_mux.specs.declared.fault.Full.{Full}
-use Rattle.r10_mux.specs.declared.fault.Full.TheVariants as full
-use Rattle.r10_pump.specs.Pumping.{Ends, entries_on}
+use Rattle.r10_mux.specs.declared.fault.Full.TheVariants as lacking
+use Rattle.r10_pump.specs.Pumping.{PumpEnds, entries_on}
 use Rattle.r10_pump.specs.Stopping.{GoesThrough, Part, entries_of, most_of}
 
 -- Of all that waits in a lane, a pump moved the first samples, so many, into a file. Behind them the file costs what the machine's file with them costs, and has at most a packet for the setup and one for each entry.
-pub record IsMoved (s : Config) (f : File) (lane : Lane) (most n : ℕ) (samples rest : List Sample) (full : Option Full) (r : Recording) : Type 0 where
+pub record IsPumpedInto (s : Config) (f : File) (lane : Lane) (most n : ℕ) (samples rest : List Sample) (full : Option Full) (r : Recording) : Type 0 where
   pub waits : lane.waiting ≡ samples ++ rest
   pub number : n ≡ length samples
   pub within : n ≤ most
   pub fits : 0 < n → r.cost ≤ area s f
   pub cost : r.cost ≡ cost_of f + sum_by entry_cost (entries_on lane.spec.id samples)
   pub few : packets_of r ≤ 1 + length (f.entries ++ entries_on lane.spec.id samples)
-  pub ends : Ends r lane.spec.id s.nodes (area s f) most n rest full
+  pub ends : PumpEnds r lane.spec.id s.nodes (area s f) most n rest full
 
 -- the refusal for want of room
-abbrev pub refusal_of : Full → Refusal
-refusal_of full.Index = IndexFull
-refusal_of full.Medium = MediumFull
+abbrev pub refusal_of_full : Full → Refusal
+refusal_of_full lacking.Index = IndexFull
+refusal_of_full lacking.Medium = MediumFull
 
 -- what waits in the lane of a part's channel are its samples and its rest
 abbrev pub HasWaiting : List Lane → Part → Type 0

@@ -8,10 +8,10 @@ use Rattle.r10_body.specs.declared.entry.Entry.{Entry}
 use Rattle.r10_body.specs.declared.entry.Sample.{Sample}
 use Rattle.r10_body.specs.declared.spec.ChannelSpec.{ChannelSpec}
 use Rattle.r10_machine.specs.declared.mode.Stopped.{Stopped}
-use Rattle.r10_packetout.specs.Carries.{Carries, Recording}
+use Rattle.r10_packetout.specs.Carries.{Records, Recording}
 use Rattle.r10_mux.specs.Writes.{Writes}
 use Rattle.r10_mux.specs.declared.fault.Full.{Full}
-use Rattle.r10_pump.specs.Pumping.{Ends, EndsBy, HasBuilder, KeepsRoom, Moves, TakenIn, entries_on}
+use Rattle.r10_pump.specs.Pumping.{PumpEnds, EndsBy, HasBuilder, KeepsRoom, MovesSamples, TakenIn, entries_on}
 
 -- ---- lanes
 
@@ -24,9 +24,9 @@ abbrev pub room_of : List ChannelSpec → List ℕ → ℕ
 room_of specs order = sum_by (most_of specs) order
 
 -- no two are of one channel
-abbrev pub AreApart : List ChannelSpec → Type 0
-AreApart [] = Unit {0}
-AreApart (spec ∷ specs) = AllByRecursion (λ (other : ChannelSpec). other.id ≡ spec.id → ⊥) specs × AreApart specs
+abbrev pub ChannelsAreApart : List ChannelSpec → Type 0
+ChannelsAreApart [] = Unit {0}
+ChannelsAreApart (spec ∷ specs) = AllByRecursion (λ (other : ChannelSpec). other.id ≡ spec.id → ⊥) specs × ChannelsAreApart specs
 
 -- on the channel of each lane no entry is later than what the lane has reached
 abbrev pub AllEnd : {Lane : Type 0} → (Lane → ChannelSpec) → (Lane → ℕ) → List Lane → List Entry → Type 0
@@ -36,10 +36,10 @@ AllEnd spec_of reached lanes entries = AllByRecursion (λ lane. EndsBy (spec_of 
 pub record IsOpenToAll {Lane : Type 0} (spec_of : Lane → ChannelSpec) (reached : Lane → ℕ) (r : Recording) (image : Image) (lanes : List Lane) (area : ℕ) : Type 0 where
   pub text : List ℕ
   pub entries : List Entry
-  pub carries : Carries r image text entries
+  pub carries : Records r image text entries
   pub ends : AllEnd spec_of reached lanes entries
   pub builders : AllByRecursion (λ spec. HasBuilder spec r.builders) (map spec_of lanes)
-  pub apart : AreApart (map spec_of lanes)
+  pub apart : ChannelsAreApart (map spec_of lanes)
   pub within : 512 * first_of r.out.blocks + area ≤ 512 * length image
   pub small : area < 2 ^ 63
 
@@ -65,18 +65,18 @@ TookAll took spec_of parts (a ∷ lanes) (b ∷ lanes') = took a (samples_on (sp
 TookAll took spec_of parts lanes lanes' = ⊥
 
 -- the samples and the rest of a part are all that waited in its channel's lane, where that is quiet
-abbrev pub Tells : {Lane : Type 0} → (Lane → Option (List Sample)) → (Lane → ChannelSpec) → List Lane → Part → Type 0
-Tells quiet spec_of lanes p = AllByRecursion (λ lane. (spec_of lane).id ≡ p.channel → IfSome (quiet lane) (λ waiting. waiting ≡ p.samples ++ p.rest)) lanes
+abbrev pub TellsWaiting : {Lane : Type 0} → (Lane → Option (List Sample)) → (Lane → ChannelSpec) → List Lane → Part → Type 0
+TellsWaiting quiet spec_of lanes p = AllByRecursion (λ lane. (spec_of lane).id ≡ p.channel → IfSome (quiet lane) (λ waiting. waiting ≡ p.samples ++ p.rest)) lanes
 
 -- the others go on, or nothing was taken of them where a sample had no room
-abbrev pub GoesOn : Option Full → Type 0 → List Part → Type 0
-GoesOn None others parts = others
-GoesOn (Some full) others parts = AllByRecursion (λ q. q.samples ≡ []) parts
+abbrev pub OthersGoOn : Option Full → Type 0 → List Part → Type 0
+OthersGoOn None others parts = others
+OthersGoOn (Some full) others parts = AllByRecursion (λ q. q.samples ≡ []) parts
 
 -- channel by channel all went in that may, up to the first sample that has no room; behind it none did
 abbrev pub GoesThrough : (ℕ → ℕ) → Recording → ℕ → ℕ → List Part → Type 0
 GoesThrough most r nodes area [] = Unit {0}
-GoesThrough most r nodes area (p ∷ parts) = Ends r p.channel nodes area (most p.channel) (length p.samples) p.rest p.full × GoesOn p.full (GoesThrough most r nodes area parts) parts
+GoesThrough most r nodes area (p ∷ parts) = PumpEnds r p.channel nodes area (most p.channel) (length p.samples) p.rest p.full × OthersGoOn p.full (GoesThrough most r nodes area parts) parts
 
 -- From all lanes, in the order of these channels, so many samples of each were taken, no more of a channel than may be, so many in all, and so many are left. They were taken into the file, which has room for them.
 pub record PumpsAll {Lane : Type 0} (took : Lane → List Sample → Lane → Type 0) (quiet : Lane → Option (List Sample)) (reached : Lane → ℕ) (spec_of : Lane → ChannelSpec) (order shares : List ℕ) (nodes area : ℕ)
@@ -85,7 +85,7 @@ pub record PumpsAll {Lane : Type 0} (took : Lane → List Sample → Lane → Ty
   pub order_is : map (λ p. p.channel) parts ≡ order
   pub shares_are : map (λ p. length p.samples) parts ≡ shares
   pub taken : TookAll took spec_of parts lanes lanes'
-  pub tells : AllByRecursion (Tells quiet spec_of lanes) parts
+  pub tells : AllByRecursion (TellsWaiting quiet spec_of lanes) parts
   pub within : AllByRecursion (λ p. length p.samples ≤ most_of (map spec_of lanes) p.channel) parts
   pub number : stopped.taken ≡ length (entries_of parts)
   pub left : stopped.left ≡ min (sum_by (λ p. length p.rest) parts) (2 ^ 64 - 1)
@@ -101,7 +101,7 @@ pub record FailsAll {Lane : Type 0} (took : Lane → List Sample → Lane → Ty
   pub within : AllByRecursion (λ p. length p.samples ≤ most_of (map spec_of lanes) p.channel) parts
   pub later : List ℕ
   pub order_is : map (λ p. p.channel) parts ++ later ≡ order
-  pub writes : (text : List ℕ) (entries : List Entry) (carried : Carries old before.blocks text entries) → AllEnd spec_of reached lanes entries → Writes (first_of old.out.blocks) (file_bytes carried.packets) before after
+  pub writes : (text : List ℕ) (entries : List Entry) (carried : Records old before.blocks text entries) → AllEnd spec_of reached lanes entries → Writes (first_of old.out.blocks) (file_bytes carried.packets) before after
   pub rose : Rose before.failures after.failures
 
 -- ---- one channel of them
@@ -109,7 +109,7 @@ pub record FailsAll {Lane : Type 0} (took : Lane → List Sample → Lane → Ty
 -- samples were moved, and so many are left
 abbrev pub MovesLeaving : {Lane : Type 0} → (Lane → List Sample → Lane → Type 0) → (Lane → Option (List Sample)) → (Lane → ℕ) → ℕ → ℕ → ℕ → ℕ → Lane → Lane → Recording → Disk → Recording → Disk → ℕ → Option Full → ℕ → Type 0
 MovesLeaving took quiet reached channel most nodes area lane lane' old before new after n full left =
-    (moves : Moves took quiet reached channel most nodes area lane lane' old before new after n full) × (left ≡ length moves.rest)
+    (moves : MovesSamples took quiet reached channel most nodes area lane lane' old before new after n full) × (left ≡ length moves.rest)
 
 -- the lanes of a channel gave these samples, and the others none
 abbrev pub OneTook : {Lane : Type 0} → (Lane → List Sample → Lane → Type 0) → (Lane → ChannelSpec) → ℕ → List Sample → List Lane → List Lane → Type 0
@@ -123,18 +123,18 @@ pub record PumpsOne {Lane : Type 0} (took : Lane → List Sample → Lane → Ty
   pub samples : List Sample
   pub rest : List Sample
   pub taken : OneTook took spec_of channel samples lanes lanes'
-  pub tells : Tells quiet spec_of lanes (record { channel = channel; samples = samples; rest = rest; full = full })
+  pub tells : TellsWaiting quiet spec_of lanes (record { channel = channel; samples = samples; rest = rest; full = full })
   pub number : n ≡ length samples
   pub left_is : left ≡ length rest
   pub within : n ≤ most
   pub fits : 0 < n → new.cost ≤ area
   pub packets : KeepsRoom nodes old new
   pub taken_in : TakenIn (AllEnd spec_of reached lanes) (AllEnd spec_of reached lanes') (entries_on channel samples) old before new after
-  pub ends : Ends new channel nodes area most n rest full
+  pub ends : PumpEnds new channel nodes area most n rest full
 
 pub record FailsOne {Lane : Type 0} (took : Lane → List Sample → Lane → Type 0) (reached : Lane → ℕ) (spec_of : Lane → ChannelSpec) (channel most : ℕ) (lanes lanes' : List Lane) (old : Recording) (before after : Disk) : Type 0 where
   pub samples : List Sample
   pub taken : OneTook took spec_of channel samples lanes lanes'
   pub within : length samples ≤ most
-  pub writes : (text : List ℕ) (entries : List Entry) (carried : Carries old before.blocks text entries) → AllEnd spec_of reached lanes entries → Writes (first_of old.out.blocks) (file_bytes carried.packets) before after
+  pub writes : (text : List ℕ) (entries : List Entry) (carried : Records old before.blocks text entries) → AllEnd spec_of reached lanes entries → Writes (first_of old.out.blocks) (file_bytes carried.packets) before after
   pub rose : Rose before.failures after.failures

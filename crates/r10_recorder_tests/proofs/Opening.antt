@@ -5,19 +5,19 @@ use Rattle.std.specs.List.{AllByRecursion, sum_by}
 use Rattle.std.proofs.lemmas.List.{append-nil}
 use Rattle.std.proofs.lemmas.List.Sums.{sum_by-cons}
 use Rattle.r10_medium.specs.Disk.{Disk, Image}
-use Rattle.r10_blockout.specs.Output.{HasRoom, first_of}
+use Rattle.r10_blockout.specs.Output.{HasRoomOnMedium, first_of}
 use Rattle.r10_body.specs.Cost.{entry_cost}
 use Rattle.r10_body.specs.Files.{on_channel}
 use Rattle.r10_body.specs.Rules.{Rise}
 use Rattle.r10_body.specs.declared.entry.Entry.{Entry}
 use Rattle.r10_body.specs.Sequence.{last_count}
 use Rattle.r10_body.specs.Packets.{file_bytes}
-use Rattle.r10_builder.specs.Grows.{is_open}
+use Rattle.r10_builder.specs.Grows.{is_open_builder}
 use Rattle.r10_builder.proofs.Rising.{rise_join}
 use Rattle.r10_packetout.specs.Output.{IsReady, Writing}
 use Rattle.r10_packetout.proofs.Having.{ready_fewer}
-use Rattle.r10_packetout.specs.Carries.{Carries, Recording, packets_of}
-use Rattle.r10_mux.specs.Writes.{IsSame, IsSameFile, Leads, MayCome, MayGrow}
+use Rattle.r10_packetout.specs.Carries.{Records, Recording, packets_of}
+use Rattle.r10_mux.specs.Writes.{IsSame, IsSameFile, LeadsToRecords, MayCome, MayGrow}
 use Rattle.r10_recorder_tests.specs.Open.{IsOpen}
 
 -- on no channel is the last entry later
@@ -29,7 +29,7 @@ on_ends channel n last (e ∷ entries) le ends = by (e.channel == channel) (λ (
     by true rest = rest e.count ends.0
     by false rest = rest n le
 
-may_come : (r : Recording) (image : Image) (text : List ℕ) (entries : List Entry) (last : ℕ) (e : Entry) → Carries r image text entries → AllByRecursion (λ e. e.count ≤ last) entries → last ≤ e.count → MayCome entries (e ∷ [])
+may_come : (r : Recording) (image : Image) (text : List ℕ) (entries : List Entry) (last : ℕ) (e : Entry) → Records r image text entries → AllByRecursion (λ e. e.count ≤ last) entries → last ≤ e.count → MayCome entries (e ∷ [])
 may_come r image text entries last e carried ends le channel = by (e.channel == channel)
   where
     rises : Rise 0 (on_channel channel entries)
@@ -69,7 +69,7 @@ all_later last next [] e le lt ends = (lt, tt)
 all_later last next (x ∷ entries) e le lt ends = (omega (arith, ends.0, le), all_later last next entries e le lt ends.1)
 
 -- it stays so where memory was asked for
-pub readied : (old new : Recording) (image : Image) (last area : ℕ) → IsOpen old image last area → IsSame old new → ((image : Image) (text : List ℕ) (entries : List Entry) → Carries old image text entries → Carries new image text entries) → IsOpen new image last area
+pub readied : (old new : Recording) (image : Image) (last area : ℕ) → IsOpen old image last area → IsSame old new → ((image : Image) (text : List ℕ) (entries : List Entry) → Records old image text entries → Records new image text entries) → IsOpen new image last area
 readied old new image last area open_now same carries = record {
   text = open_now.text;
   entries = open_now.entries;
@@ -81,7 +81,7 @@ readied old new image last area open_now same carries = record {
 
 -- it goes on behind an entry that was taken
 pub taken : (old new : Recording) (before after : Disk) (last area : ℕ) (e : Entry) (open_now : IsOpen old before.blocks last area) → last ≤ e.count → IsSameFile old new → length after.blocks ≡ length before.blocks
-    → (MayCome open_now.entries (e ∷ []) → Leads old before open_now.text open_now.entries open_now.carries new after (open_now.entries ++ e ∷ [])) → IsOpen new after.blocks e.count area
+    → (MayCome open_now.entries (e ∷ []) → LeadsToRecords old before open_now.text open_now.entries open_now.carries new after (open_now.entries ++ e ∷ [])) → IsOpen new after.blocks e.count area
 taken old new before after last area e open_now le same blocks leads =
     let led = leads (may_come old before.blocks open_now.text open_now.entries last e open_now.carries open_now.ends le) in
     record {
@@ -95,7 +95,7 @@ taken old new before after last area e open_now le same blocks leads =
 
 -- and where nothing was
 pub flushed : (old new : Recording) (before after : Disk) (last area : ℕ) (open_now : IsOpen old before.blocks last area) → IsSameFile old new → length after.blocks ≡ length before.blocks
-    → Leads old before open_now.text open_now.entries open_now.carries new after open_now.entries → IsOpen new after.blocks last area
+    → LeadsToRecords old before open_now.text open_now.entries open_now.carries new after open_now.entries → IsOpen new after.blocks last area
 flushed old new before after last area open_now same blocks led = record {
   text = open_now.text;
   entries = open_now.entries;
@@ -106,16 +106,16 @@ flushed old new before after last area open_now same blocks led = record {
 }
 
 -- there is memory for the packets that are open
-pub few_open : (r : Recording) (n : ℕ) → IsReady r.out 1000 → n ≡ min (packets_of r) (2 ^ 64 - 1) → n ≤ 1000 → IsReady r.out (count_by is_open r.builders)
-few_open r n ready is few = ready_fewer r.out 1000 (count_by is_open r.builders) (omega (arith, is, few)) ready
+pub few_open : (r : Recording) (n : ℕ) → IsReady r.out 1000 → n ≡ min (packets_of r) (2 ^ 64 - 1) → n ≤ 1000 → IsReady r.out (count_by is_open_builder r.builders)
+few_open r n ready is few = ready_fewer r.out 1000 (count_by is_open_builder r.builders) (omega (arith, is, few)) ready
 
 -- what is shown has room
-pub has_room : (r : Recording) (image : Image) (last area cost : ℕ) (open_now : IsOpen r image last area) → length (file_bytes open_now.carries.packets) ≤ cost → cost ≤ area → HasRoom r.out.blocks 0 (length image)
+pub has_room : (r : Recording) (image : Image) (last area cost : ℕ) (open_now : IsOpen r image last area) → length (file_bytes open_now.carries.packets) ≤ cost → cost ≤ area → HasRoomOnMedium r.out.blocks 0 (length image)
 has_room r image last area cost open_now covers le = omega (arith, open_now.carries.has.bytes.size, covers, le, open_now.within)
 
 -- the last block was written
 pub committed : (r : Recording) (before after : Image) (last area : ℕ) (open_now : IsOpen r before last area) → length after ≡ length before
-    → Carries r after open_now.text open_now.entries → IsOpen r after last area
+    → Records r after open_now.text open_now.entries → IsOpen r after last area
 committed r before after last area open_now blocks carries = record {
   text = open_now.text;
   entries = open_now.entries;

@@ -6,13 +6,13 @@ use Rattle.r10_blockout.specs.Output.{first_of}
 use Rattle.r10_body.specs.declared.entry.Entry.{Entry}
 use Rattle.r10_body.specs.declared.message.Kind.TheVariants as kinds
 use Rattle.r10_body.specs.declared.spec.ChannelSpec.{ChannelSpec}
-use Rattle.r10_packetout.specs.Carries.{Carries, Recording}
+use Rattle.r10_packetout.specs.Carries.{Records, Recording}
 
 -- no entry of the file is later than a count, and so many bytes of it lie on the medium behind its first block
 pub record IsOpen (r : Recording) (image : Image) (last area : ℕ) : Type 0 where
   pub text : List ℕ
   pub entries : List Entry
-  pub carries : Carries r image text entries
+  pub carries : Records r image text entries
   pub ends : AllByRecursion (λ e. e.count ≤ last) entries
   pub within : 512 * first_of r.out.blocks + area ≤ 512 * length image
   pub small : area < 2 ^ 63

@@ -5,8 +5,8 @@ use Rattle.std.specs.Io.KnownBytes.{Appends}
 use Rattle.hex.specs.Hex.{encode_lower}
 use Rattle.r10_images.specs.declared.listing.Outcome.{Outcome}
 use Rattle.r10_playback.specs.Checked.{Judges}
-use Rattle.r10_command.specs.Command.{Does}
-use Rattle.r10_command.specs.Status.{outcome_status, Ends}
+use Rattle.r10_command.specs.Command.{DoesCommand}
+use Rattle.r10_command.specs.Status.{outcome_status, EndsWithStatus}
 use Rattle.r10_rows.specs.Case.{case_length, head_text, spelled, IsCase, IsInput}
 use Rattle.r10_rows.specs.declared.answer.Answer.{Answer}
 use Rattle.r10_rows.specs.declared.case.Case.{Case}
@@ -23,22 +23,22 @@ AsksJudge closing (name ∷ word ∷ other ∷ []) = AreBoth closing word other
 AsksJudge closing (name ∷ word ∷ other ∷ more ∷ words) = ⊥
 
 -- the first fault of the input was printed, as of a file whose directory entry is closed or not
-abbrev pub IsJudged : Bool → List ℕ → Answer → Type 0
-IsJudged closed input answer = (outcome : Outcome) × (answer.status ≡ outcome_status outcome) × Judges input closed outcome (Some []) (Some answer.lines.items)
+abbrev pub PrintsJudgement : Bool → List ℕ → Answer → Type 0
+PrintsJudgement closed input answer = (outcome : Outcome) × (answer.status ≡ outcome_status outcome) × Judges input closed outcome (Some []) (Some answer.lines.items)
 
 -- the command ended so, and did its work on the input, or failed
 abbrev pub IsCommanded : List (List ℕ) → List ℕ → Answer → Type 0
-IsCommanded words input answer = Ends answer.status (Does words (Some input) (Some []) (Some answer.lines.items))
+IsCommanded words input answer = EndsWithStatus answer.status (DoesCommand words (Some input) (Some []) (Some answer.lines.items))
 
 -- what a case with these words and this input came to
-pub record Answers (words : List (List ℕ)) (input : List ℕ) (answer : Answer) : Type 0 where
-  pub closed : AsksJudge (codes "closed") words → IsJudged true input answer
-  pub unclosed : (AsksJudge (codes "closed") words → ⊥) → AsksJudge (codes "unclosed") words → IsJudged false input answer
+pub record AnswersCase (words : List (List ℕ)) (input : List ℕ) (answer : Answer) : Type 0 where
+  pub closed : AsksJudge (codes "closed") words → PrintsJudgement true input answer
+  pub unclosed : (AsksJudge (codes "closed") words → ⊥) → AsksJudge (codes "unclosed") words → PrintsJudgement false input answer
   pub command : (AsksJudge (codes "closed") words → ⊥) → (AsksJudge (codes "unclosed") words → ⊥) → IsCommanded words input answer
 
 -- the case came to this
 abbrev pub IsAnswer : Case → Answer → Type 0
-IsAnswer case answer = (input : List ℕ) × IsInput case input × Answers (map string_bytes case.words.items) input answer
+IsAnswer case answer = (input : List ℕ) × IsInput case input × AnswersCase (map string_bytes case.words.items) input answer
 
 -- the line of the words, and the line of the status: with the wanted one where that is another
 abbrev pub front_text : List (List ℕ) → ℕ → ℕ → List ℕ
@@ -47,13 +47,13 @@ front_text words status wanted =
     else (head_text words ++ (10 ∷ decimal status ++ (codes ", not " ++ (decimal wanted ++ (10 ∷ [])))))
 
 -- the bytes from a place up to another, where there are so many
-abbrev pub between : ℕ → ℕ → List ℕ → List ℕ
-between from to bytes = if nat_le from to && nat_le to (length bytes) then take (to - from) (drop from bytes) else []
+abbrev pub bytes_between : ℕ → ℕ → List ℕ → List ℕ
+bytes_between from to bytes = if nat_le from to && nat_le to (length bytes) then take (to - from) (drop from bytes) else []
 
 -- what the command printed, or those of its bytes that are shown, as a line of hex digits
 abbrev pub shown : Option (ℕ × ℕ) → List ℕ → List ℕ
 shown None bytes = bytes
-shown (Some (from, to)) bytes = encode_lower (between from to bytes) ++ (10 ∷ [])
+shown (Some (from, to)) bytes = encode_lower (bytes_between from to bytes) ++ (10 ∷ [])
 
 -- these two lines, what the command printed, and its fault
 abbrev pub printed : Case → Answer → List ℕ

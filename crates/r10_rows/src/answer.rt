@@ -3,7 +3,7 @@
 ghost use Rattle.std.specs.Prelude.{◌≡◌, ◌↔◌, ◌++◌, ◌∷◌, [], IsTrue, IfOk, OnOk, map, string_bytes};
 ghost use Rattle.hex.specs.Hex.{encode_lower};
 ghost use Rattle.std.specs.Io.KnownBytes.{Appends};
-ghost use Rattle.r10_rows.specs.Answer.{Answers, AreBoth, AsksJudge, IsAnswer, IsCommanded, IsJudged, between, front_text, printed, shown};
+ghost use Rattle.r10_rows.specs.Answer.{AnswersCase, AreBoth, AsksJudge, IsAnswer, IsCommanded, PrintsJudgement, bytes_between, front_text, printed, shown};
 
 use crate::case::{Case, head_line};
 use crate::fault::RowsFault;
@@ -33,7 +33,7 @@ pub fn answer_case(alloc: Global, at: usize, case: &Case) -> Result<Answer, Rows
 }
 
 fn answer_words(alloc: Global, words: &[String], input: &[u8]) -> Result<Answer, RowsFault>
-    ensures { IfOk result (λ a. Answers (map string_bytes words.now) input.now a) }
+    ensures { IfOk result (λ a. AnswersCase (map string_bytes words.now) input.now a) }
 {
     if asks_judge(words, "closed") {
         return judge(alloc, input, true);
@@ -80,7 +80,7 @@ fn are_both(first: &String, second: &String, closing: &str) -> bool
 
 /// What the first fault of these bytes comes to, which should be a strict file with this closing.
 fn judge(alloc: Global, bytes: &[u8], closed: bool) -> Result<Answer, RowsFault>
-    ensures { IfOk result (λ a. IsJudged closed bytes.now a) }
+    ensures { IfOk result (λ a. PrintsJudgement closed bytes.now a) }
 {
     let mut lines = Vec::new(alloc);
     let status = match judge_closing(alloc, bytes, closed, &mut lines)? {
@@ -131,7 +131,7 @@ fn write_shown<W: Write>(
 
 /// The bytes from a place up to another, none where there are not so many.
 fn between(from: usize, to: usize, bytes: &[u8]) -> &[u8]
-    ensures { result.now ≡ between from to bytes.now }
+    ensures { result.now ≡ bytes_between from to bytes.now }
 {
     if from <= to && to <= bytes.len() {
         &bytes[from..to]

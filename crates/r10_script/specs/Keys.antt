@@ -31,13 +31,13 @@ abbrev pub flag_or_false_at : Members → List ℕ → Option Bool
 flag_or_false_at table key = if is_some (get_member key table) then option_and_then as_bool (get_member key table) else Some false
 
 -- the items of an array in a list
-abbrev pub listed : Items → List Data
-listed no_items = []
-listed (item d ds) = d ∷ listed ds
+abbrev pub list_of_items : Items → List Data
+list_of_items no_items = []
+list_of_items (item d ds) = d ∷ list_of_items ds
 
 abbrev pub listed_array : Option Items → List Data
 listed_array None = []
-listed_array (Some ds) = listed ds
+listed_array (Some ds) = list_of_items ds
 
 -- the items of an array, none where there is no such key
 abbrev pub items_at : Members → List ℕ → List Data

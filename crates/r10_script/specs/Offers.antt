@@ -7,34 +7,34 @@ use Rattle.r10_body.specs.declared.message.Kind.{Kind}
 use Rattle.r10_body.specs.declared.spec.ChannelSpec.{ChannelSpec}
 use Rattle.r10_body.specs.declared.message.Message.{Message}
 use Rattle.r10_body.specs.declared.message.Message.TheVariants as messages
-use Rattle.r10_lines.specs.Line.{words_bytes}
+use Rattle.r10_lines.specs.Line.{words_high_first}
 use Rattle.r10_script.specs.Keys.{integer_or_zero_at, text_at, bytes_or_none_at, flag_or_false_at, HasOnly}
 use Rattle.r10_script.specs.Kinds.{kind_word, offer_keys}
 
 -- the keys of a message of each kind; no step gives a time or an event
-abbrev pub IsMessage : Members → Message → Type 0
-IsMessage table (messages.Uart parity sub bytes) =
+abbrev pub AreMessageKeys : Members → Message → Type 0
+AreMessageKeys table (messages.Uart parity sub bytes) =
     (flag_or_false_at table (codes "parity") ≡ Some parity)
     × (integer_or_zero_at table (codes "sub") ≡ Some (pos sub))
     × (bytes_or_none_at table (codes "bytes") ≡ Some bytes)
-IsMessage table (messages.Bus1553 status gap words) =
+AreMessageKeys table (messages.Bus1553 status gap words) =
     (integer_or_zero_at table (codes "status") ≡ Some (pos status))
     × (integer_or_zero_at table (codes "gap") ≡ Some (pos gap))
-    × (bytes_or_none_at table (codes "words") ≡ Some (words_bytes words))
-IsMessage table (messages.Arinc bus format parity high word) =
+    × (bytes_or_none_at table (codes "words") ≡ Some (words_high_first words))
+AreMessageKeys table (messages.Arinc bus format parity high word) =
     (integer_or_zero_at table (codes "bus") ≡ Some (pos bus))
     × (flag_or_false_at table (codes "format") ≡ Some format)
     × (flag_or_false_at table (codes "parity") ≡ Some parity)
     × (flag_or_false_at table (codes "high") ≡ Some high)
     × (integer_or_zero_at table (codes "data") ≡ Some (pos word))
-IsMessage table (messages.Discrete states) = integer_or_zero_at table (codes "states") ≡ Some (pos states)
-IsMessage table (messages.Message data_error format sub bytes) =
+AreMessageKeys table (messages.Discrete states) = integer_or_zero_at table (codes "states") ≡ Some (pos states)
+AreMessageKeys table (messages.Message data_error format sub bytes) =
     (flag_or_false_at table (codes "data") ≡ Some data_error)
     × (flag_or_false_at table (codes "format") ≡ Some format)
     × (integer_or_zero_at table (codes "sub") ≡ Some (pos sub))
     × (bytes_or_none_at table (codes "bytes") ≡ Some bytes)
-IsMessage table (messages.Time civil) = ⊥
-IsMessage table (messages.Event number count) = ⊥
+AreMessageKeys table (messages.Time civil) = ⊥
+AreMessageKeys table (messages.Event number count) = ⊥
 
 -- the word of the kind of an offered message: the one that the step has, or else that of its channel
 abbrev pub offered_word : List ChannelSpec → ℕ → Members → Option (List ℕ)
@@ -44,7 +44,7 @@ offered_word channels channel table =
 
 -- a message of this kind, under no keys but those of the kind
 abbrev pub IsOfKind : Kind → Members → Message → Type 0
-IsOfKind kind table message = (is_kind kind message ≡ true) × HasOnly (offer_keys kind) table × IsMessage table message
+IsOfKind kind table message = (is_kind kind message ≡ true) × HasOnly (offer_keys kind) table × AreMessageKeys table message
 
 abbrev pub IsOffered : List ChannelSpec → ℕ → Members → Message → Type 0
 IsOffered channels channel table message = (kind : Kind) × (offered_word channels channel table ≡ Some (kind_word kind)) × IsOfKind kind table message

@@ -32,8 +32,8 @@ IsChannelTable table spec =
     × IsBits spec.kind table spec.bits
     × HasOnly (channel_keys spec.kind) table
 
-abbrev pub AreSettings : Members → Config → Type 0
-AreSettings table s =
+abbrev pub AreScriptSettings : Members → Config → Type 0
+AreScriptSettings table s =
     (integer_at table (codes "blocks") ≡ Some (pos s.blocks))
     × (integer_at table (codes "directory") ≡ Some (pos s.directory))
     × (text_at table (codes "volume") ≡ Some s.volume)

@@ -5,7 +5,7 @@ ghost use Rattle.toml.specs.Data.{Members};
 ghost use Rattle.toml.specs.Parse.{parse_document};
 ghost use Rattle.toml.specs.View.{table_view};
 ghost use Rattle.r10_script.specs.Keys.{HasOnly};
-ghost use Rattle.r10_script.specs.Script.{AreSettings, AreSteps, script_keys};
+ghost use Rattle.r10_script.specs.Script.{AreScriptSettings, AreSteps, script_keys};
 
 use crate::settings::settings_of;
 use crate::step::event_of;
@@ -25,7 +25,7 @@ pub struct Script {
 /// The script that the text spells, in UTF-8: the settings, the channels and the steps under their keys.
 pub fn read_script(alloc: Global, text: &[u8]) -> Result<Script, ScriptFault>
     ensures text { IfOk result (λ _. IsUtf8 text.now) }
-    ensures script { IfOk result (λ script. (table : Members) × (parse_document text.now ≡ Some table) × HasOnly script_keys table × AreSettings table script.settings × AreSteps script.settings.channels table script.events.items) }
+    ensures script { IfOk result (λ script. (table : Members) × (parse_document text.now ≡ Some table) × HasOnly script_keys table × AreScriptSettings table script.settings × AreSteps script.settings.channels table script.events.items) }
 {
     match script_of(alloc, text) {
         Ok(script) => Ok(script),
@@ -36,7 +36,7 @@ pub fn read_script(alloc: Global, text: &[u8]) -> Result<Script, ScriptFault>
 /// The script that the text spells. A fault behind the text's form names no line.
 fn script_of(alloc: Global, text: &[u8]) -> Result<Script, ScriptFault>
     ensures text { IfOk result (λ _. IsUtf8 text.now) }
-    ensures script { IfOk result (λ script. (table : Members) × (parse_document text.now ≡ Some table) × HasOnly script_keys table × AreSettings table script.settings × AreSteps script.settings.channels table script.events.items) }
+    ensures script { IfOk result (λ script. (table : Members) × (parse_document text.now ≡ Some table) × HasOnly script_keys table × AreScriptSettings table script.settings × AreSteps script.settings.channels table script.events.items) }
 {
     let table = match toml::table_from_slice(alloc, text) {
         Ok(table) => table,

@@ -4,7 +4,7 @@ ghost use Rattle.std.specs.Prelude.{◌≡◌, Some, codes, IfOk};
 ghost use Rattle.toml.specs.View.{table_view};
 ghost use Rattle.r10_script.specs.Keys.{items_at, text_at, HasOnly};
 ghost use Rattle.r10_script.specs.Kinds.{channel_keys, kind_word};
-ghost use Rattle.r10_script.specs.Script.{AreSettings, EachAsks, IsBits, IsChannelTable};
+ghost use Rattle.r10_script.specs.Script.{AreScriptSettings, EachAsks, IsBits, IsChannelTable};
 
 use crate::limits::{
     BITS, BLOCKS, BYTES, CAPACITY, CHECK, DIRECTORY, ID, NODES, NUMBER, VOLUME, limit_fault,
@@ -19,7 +19,7 @@ const KINDS: &str = "one of: uart, 1553, arinc, discrete, message";
 
 /// The settings that the keys of a script spell.
 pub fn settings_of(alloc: Global, top: Fields<'_>) -> Result<Settings, ScriptFault>
-    ensures { IfOk result (λ settings. AreSettings (table_view top.entry.table.now) settings) }
+    ensures { IfOk result (λ settings. AreScriptSettings (table_view top.entry.table.now) settings) }
 {
     let channels = channels_of(alloc, top)?;
     let volume = top.text_bytes("volume", VOLUME)?;

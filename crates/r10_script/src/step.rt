@@ -3,7 +3,7 @@
 ghost use Rattle.std.specs.Prelude.{◌≡◌, pos, Some, codes, IfOk, IfSome, List, [], ◌∷◌};
 ghost use Rattle.toml.specs.Data.{Members};
 ghost use Rattle.toml.specs.View.{table_view};
-ghost use Rattle.r10_body.specs.declared.spec.ChannelSpec.{ChannelSpec as Spec};
+ghost use Rattle.r10_body.specs.declared.spec.ChannelSpec.{ChannelSpec as ChannelSpecValue};
 ghost use Rattle.r10_lines.specs.Civil.{civil_text};
 ghost use Rattle.r10_script.specs.Keys.{integer_at, text_at, HasOnly};
 ghost use Rattle.r10_script.specs.Steps.{IsBareStep, IsStep};
@@ -57,7 +57,7 @@ pub fn event_of(channels: &[ChannelSpec], fields: Fields<'_>) -> Result<Event, S
 
 /// The event that this word alone spells.
 fn bare_of(word: &str) -> Option<Event>
-    ensures { IfSome result (λ event. (channels : List Spec) → (table : Members) → IsBareStep word.now table → IsStep channels table event) }
+    ensures { IfSome result (λ event. (channels : List ChannelSpecValue) → (table : Members) → IsBareStep word.now table → IsStep channels table event) }
 {
     match word {
         "mount" => Some(Event::Mount),
@@ -73,7 +73,7 @@ fn bare_of(word: &str) -> Option<Event>
 }
 
 fn tick_of(fields: Fields<'_>) -> Result<Event, ScriptFault>
-    ensures { IfOk result (λ event. (channels : List Spec) → text_at (table_view fields.entry.table.now) (codes "do") ≡ Some (codes "tick") → IsStep channels (table_view fields.entry.table.now) event) }
+    ensures { IfOk result (λ event. (channels : List ChannelSpecValue) → text_at (table_view fields.entry.table.now) (codes "do") ≡ Some (codes "tick") → IsStep channels (table_view fields.entry.table.now) event) }
 {
     fields.only(&["do", "count", "civil"])?;
     let count = fields.count("count")?;
@@ -92,7 +92,7 @@ fn civil_of(fields: Fields<'_>) -> Result<Parts, ScriptFault>
 }
 
 fn start_of(fields: Fields<'_>) -> Result<Event, ScriptFault>
-    ensures { IfOk result (λ event. (channels : List Spec) → text_at (table_view fields.entry.table.now) (codes "do") ≡ Some (codes "start") → IsStep channels (table_view fields.entry.table.now) event) }
+    ensures { IfOk result (λ event. (channels : List ChannelSpecValue) → text_at (table_view fields.entry.table.now) (codes "do") ≡ Some (codes "start") → IsStep channels (table_view fields.entry.table.now) event) }
 {
     fields.only(&["do", "name", "setup"])?;
     let name = fields.text_bytes("name", "a text")?;
@@ -117,7 +117,7 @@ fn offer_of(channels: &[ChannelSpec], fields: Fields<'_>) -> Result<Event, Scrip
 }
 
 fn pump_of(fields: Fields<'_>) -> Result<Event, ScriptFault>
-    ensures { IfOk result (λ event. (channels : List Spec) → text_at (table_view fields.entry.table.now) (codes "do") ≡ Some (codes "pump") → IsStep channels (table_view fields.entry.table.now) event) }
+    ensures { IfOk result (λ event. (channels : List ChannelSpecValue) → text_at (table_view fields.entry.table.now) (codes "do") ≡ Some (codes "pump") → IsStep channels (table_view fields.entry.table.now) event) }
 {
     fields.only(&["do", "channel", "k"])?;
     let channel = fields.short("channel")?;
@@ -127,7 +127,7 @@ fn pump_of(fields: Fields<'_>) -> Result<Event, ScriptFault>
 
 /// A recording event.
 fn recorded_of(fields: Fields<'_>) -> Result<Event, ScriptFault>
-    ensures { IfOk result (λ event. (channels : List Spec) → text_at (table_view fields.entry.table.now) (codes "do") ≡ Some (codes "event") → IsStep channels (table_view fields.entry.table.now) event) }
+    ensures { IfOk result (λ event. (channels : List ChannelSpecValue) → text_at (table_view fields.entry.table.now) (codes "do") ≡ Some (codes "event") → IsStep channels (table_view fields.entry.table.now) event) }
 {
     fields.only(&["do", "number", "count"])?;
     let number = fields.short("number")?;
@@ -136,7 +136,7 @@ fn recorded_of(fields: Fields<'_>) -> Result<Event, ScriptFault>
 }
 
 fn cursor_of(fields: Fields<'_>) -> Result<Event, ScriptFault>
-    ensures { IfOk result (λ event. (channels : List Spec) → text_at (table_view fields.entry.table.now) (codes "do") ≡ Some (codes "cursor") → IsStep channels (table_view fields.entry.table.now) event) }
+    ensures { IfOk result (λ event. (channels : List ChannelSpecValue) → text_at (table_view fields.entry.table.now) (codes "do") ≡ Some (codes "cursor") → IsStep channels (table_view fields.entry.table.now) event) }
 {
     fields.only(&["do", "file", "channels", "from", "to"])?;
     let file = fields.size("file")?;
@@ -160,7 +160,7 @@ fn id_of(fields: Fields<'_>) -> Result<usize, ScriptFault>
 }
 
 fn find_of(fields: Fields<'_>) -> Result<Event, ScriptFault>
-    ensures { IfOk result (λ event. (channels : List Spec) → text_at (table_view fields.entry.table.now) (codes "do") ≡ Some (codes "find") → IsStep channels (table_view fields.entry.table.now) event) }
+    ensures { IfOk result (λ event. (channels : List ChannelSpecValue) → text_at (table_view fields.entry.table.now) (codes "do") ≡ Some (codes "find") → IsStep channels (table_view fields.entry.table.now) event) }
 {
     fields.only(&["do", "file", "channel", "count"])?;
     let file = fields.size("file")?;
@@ -174,7 +174,7 @@ fn find_of(fields: Fields<'_>) -> Result<Event, ScriptFault>
 }
 
 fn count_at_of(fields: Fields<'_>) -> Result<Event, ScriptFault>
-    ensures { IfOk result (λ event. (channels : List Spec) → text_at (table_view fields.entry.table.now) (codes "do") ≡ Some (codes "count_at") → IsStep channels (table_view fields.entry.table.now) event) }
+    ensures { IfOk result (λ event. (channels : List ChannelSpecValue) → text_at (table_view fields.entry.table.now) (codes "do") ≡ Some (codes "count_at") → IsStep channels (table_view fields.entry.table.now) event) }
 {
     fields.only(&["do", "file", "civil"])?;
     let file = fields.size("file")?;

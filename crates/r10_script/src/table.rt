@@ -6,7 +6,7 @@ ghost use Rattle.std.specs.List.{All, list_any};
 ghost use Rattle.std.specs.Str.{bytes_eq};
 ghost use Rattle.toml.specs.Data.{get_member, as_table};
 ghost use Rattle.toml.specs.View.{view, table_view};
-ghost use Rattle.r10_lines.specs.Line.{words_bytes};
+ghost use Rattle.r10_lines.specs.Line.{words_high_first};
 ghost use Rattle.r10_script.specs.Keys.{integer_at, integer_or_zero_at, integers_at, text_at, bytes_at, bytes_or_none_at, flag_or_false_at, items_at, HasOnly};
 
 use crate::found::{cut, found_of, listed};
@@ -341,7 +341,7 @@ impl<'a> Fields<'a> {
 
     /// The 16-bit words that a text of four hex digits each stands for, none where the key is absent.
     pub fn words_or_none(&self, key: &'static str) -> Result<Vec<u16>, ScriptFault>
-        ensures { IfOk result (λ v. bytes_or_none_at (table_view self.now.table.now) key.now ≡ Some (words_bytes v.items)) }
+        ensures { IfOk result (λ v. bytes_or_none_at (table_view self.now.table.now) key.now ≡ Some (words_high_first v.items)) }
     {
         if !self.has(key) {
             return Ok(Vec::new(self.alloc));
@@ -381,7 +381,7 @@ fn unknown_key<'a>(table: &'a Table, known: &[&str]) -> Option<&'a String>
 
 /// The words that these bytes are, the high byte of each first, or none where their number is odd.
 fn words_of(alloc: Global, bytes: &[u8]) -> Result<Option<Vec<u16>>, AllocError>
-    ensures { IfOk result (λ found. IfSome found (λ words. bytes.now ≡ words_bytes words.items)) }
+    ensures { IfOk result (λ found. IfSome found (λ words. bytes.now ≡ words_high_first words.items)) }
 {
     let mut words = Vec::new(alloc);
     let mut rest = bytes;

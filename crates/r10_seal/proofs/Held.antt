@@ -19,13 +19,13 @@ use Rattle.r10_body.specs.declared.entry.Entry.{Entry}
 use Rattle.r10_packetout.proofs.Closing.{index_says}
 use Rattle.r10_dirblock.specs.Block.{is_closed}
 use Rattle.r10_dirblock.specs.Texts.{digits, time_text}
-use Rattle.r10_dirblock.specs.declared.entry.Entry.{Entry as Listed}
-use Rattle.r10_dirchain.specs.Chain.{files as listed_files}
+use Rattle.r10_dirblock.specs.declared.entry.Entry.{Entry as DirectoryEntry}
+use Rattle.r10_dirchain.specs.Chain.{listed_files}
 use Rattle.r10_dirchain.specs.OnMedium.{Turned}
 use Rattle.r10_dirchain.specs.Steps.{updated}
 use Rattle.r10_dirchain.specs.declared.chain.ChainBlock.{ChainBlock}
 use Rattle.r10_dirchain.proofs.Turning.{on_ok}
-use Rattle.r10_volume.specs.Holding.{Holds, OthersAreFound}
+use Rattle.r10_volume.specs.Holding.{HoldsFiles, OthersAreFound}
 use Rattle.r10_volume.proofs.Ends.{all_front, all_with}
 use Rattle.r10_volume.proofs.Found.{found_stays}
 use Rattle.r10_volume.proofs.Relisting.{Relists, made_bytes, made_found, made_says, reserved, written_in}
@@ -43,7 +43,7 @@ use Rattle.r10_volume.proofs.Turning.{keep_both}
 use Rattle.r10_seal.specs.Judging.{IsSealable}
 use Rattle.r10_seal.specs.declared.judging.Sealable.{Sealable}
 use Rattle.r10_seal.specs.Leftover.{IsEither, IsLeftOpen, SealsLast, StaysOpen, shown_cost}
-use Rattle.r10_seal.specs.Sealing.{IsClosed, IsPartlySealed, IsSealing, IsUnsealed, Seals, sealed, sealed_bytes, sealed_entry}
+use Rattle.r10_seal.specs.Sealing.{ListsSealed, IsPartlySealed, IsSealing, IsUnsealed, SealsFile, sealed, sealed_bytes, sealed_entry}
 use Rattle.r10_seal.proofs.Left.{area_is, cost, its_packets, lists, long, packets, put_below, put_bytes, put_says, put_whole, said, say, unsealed, usable}
 use Rattle.r10_seal.proofs.Placing.{directory_stays, last_place}
 use Rattle.r10_seal.proofs.Sealed.{sealed_length, sealed_say}
@@ -56,7 +56,7 @@ first_apart x y xs ys apart = by (x == y) (ne_eqb x y apart)
     by : (b : Bool) → b ≡ false → not (b && bytes_eq xs ys) ≡ true
     by b is = rw is refl
 
-time_closed : (p : Parts) (e : Listed) → is_closed (record e { close_time = time_text p }) ≡ true
+time_closed : (p : Parts) (e : DirectoryEntry) → is_closed (record e { close_time = time_text p }) ≡ true
 time_closed p e =
     first_apart (48 + p.hour / 10 % 10) 45 ((48 + p.hour % 10) ∷ (digits p.minute ++ digits p.second ++ digits p.centi)) (replicate 7 45) (λ is. omega (arith, is))
 
@@ -76,7 +76,7 @@ entries_with found ps = flat_map-append packet_entries found (index_of ps) ∙ a
 
 -- ---- closed
 
-module _ (s : Config) (old : Image) (chain : List ChainBlock) (nodes : ℕ) (files : List File) (f : File) (left : IsLeftOpen s old chain nodes files f) (whole : IsWhole old) (e : Listed) (last : last_or None (listed_files chain) ≡ Some e) where
+module _ (s : Config) (old : Image) (chain : List ChainBlock) (nodes : ℕ) (files : List File) (f : File) (left : IsLeftOpen s old chain nodes files f) (whole : IsWhole old) (e : DirectoryEntry) (last : last_or None (listed_files chain) ≡ Some e) where
   abbrev ps : List Packet
   ps = packets s old chain nodes files f left whole
 
@@ -104,8 +104,8 @@ module _ (s : Config) (old : Image) (chain : List ChainBlock) (nodes : ℕ) (fil
       let there = here image put in
       growing_kept s old image files f whole left.held.says 0 (put_below s files f ps old image whole size has there) (put_bytes s files f ps old image whole size has there ∙ sym has)
 
-  module _ (made : List ChainBlock) (image : Image) (closed : IsClosed e ps chain made old image) where
-    abbrev entry : Listed
+  module _ (made : List ChainBlock) (image : Image) (closed : ListsSealed e ps chain made old image) where
+    abbrev entry : DirectoryEntry
     entry = sealed_entry ps closed.time.civil e
 
     abbrev mid : Image
@@ -180,7 +180,7 @@ module _ (s : Config) (old : Image) (chain : List ChainBlock) (nodes : ℕ) (fil
           own = own;
         }
 
-    pub closed_holds : Holds s image made None (files ++ g ∷ [])
+    pub closed_holds : HoldsFiles s image made None (files ++ g ∷ [])
     closed_holds = record {
       says = closed_says;
       directory = closed.turned.directory;
@@ -199,33 +199,33 @@ module _ (s : Config) (old : Image) (chain : List ChainBlock) (nodes : ℕ) (fil
         both (h ∷ fs) (one, ones) (two, twos) = (two ∙ one, both fs ones twos)
 
   -- two images that are closed have the same bytes
-  pub closed_as : (made other : List ChainBlock) (new image : Image) → IsClosed e ps chain made old new → IsClosed e ps chain other old image → SaysAs s (files ++ g ∷ []) new image
+  pub closed_as : (made other : List ChainBlock) (new image : Image) → ListsSealed e ps chain made old new → ListsSealed e ps chain other old image → SaysAs s (files ++ g ∷ []) new image
   closed_as made other new image one two = record {
     says = closed_says other image two;
     bytes = all_with (λ (h : File). bytes_from image h.first_block h.size ≡ bytes_from new h.first_block h.size) files g (keep_both old new image files (others made new one) (others other image two))
         (closed_shows other image two ∙ sym (closed_shows made new one));
   }
     where
-      others : (made : List ChainBlock) (image : Image) → IsClosed e ps chain made old image → KeepBytes old image files
+      others : (made : List ChainBlock) (image : Image) → ListsSealed e ps chain made old image → KeepBytes old image files
       others made image closed = (all_front (λ (h : File). bytes_from image h.first_block h.size ≡ bytes_from old h.first_block h.size) files f (closed_keeps made image closed)).0
 
 -- ---- a seal
 
 -- what was sealed is held
-pub seals_hold : (s : Config) (old new : Image) (chain made : List ChainBlock) (nodes : ℕ) (files : List File) (f : File) (e : Listed) → IsWhole old → IsLeftOpen s old chain nodes files f → last_or None (listed_files chain) ≡ Some e
-    → Seals old chain e nodes (512 * (length old - e.first_block)) new made → (size : ℕ) × Holds s new made None (files ++ closed_in size f ∷ [])
+pub seals_hold : (s : Config) (old new : Image) (chain made : List ChainBlock) (nodes : ℕ) (files : List File) (f : File) (e : DirectoryEntry) → IsWhole old → IsLeftOpen s old chain nodes files f → last_or None (listed_files chain) ≡ Some e
+    → SealsFile old chain e nodes (512 * (length old - e.first_block)) new made → (size : ℕ) × HoldsFiles s new made None (files ++ closed_in size f ∷ [])
 seals_hold s old new chain made nodes files f e whole left last seals =
     let ps = packets s old chain nodes files f left whole in
-    let closed : IsClosed e ps chain made old new = subst (λ (qs : List Packet). IsClosed e qs chain made old new) (its_packets s old chain nodes files f left whole e seals.text seals.packets last seals.unsealed) seals.closed in
+    let closed : ListsSealed e ps chain made old new = subst (λ (qs : List Packet). ListsSealed e qs chain made old new) (its_packets s old chain nodes files f left whole e seals.text seals.packets last seals.unsealed) seals.closed in
     (length (sealed_bytes ps), closed_holds s old chain nodes files f left whole e last made new closed)
 
-pub seals_cost : (s : Config) (old new : Image) (chain made : List ChainBlock) (nodes : ℕ) (files : List File) (f : File) (e : Listed) → IsWhole old → IsLeftOpen s old chain nodes files f → last_or None (listed_files chain) ≡ Some e
-    → Seals old chain e nodes (512 * (length old - e.first_block)) new made → shown_cost f ≤ area s f
+pub seals_cost : (s : Config) (old new : Image) (chain made : List ChainBlock) (nodes : ℕ) (files : List File) (f : File) (e : DirectoryEntry) → IsWhole old → IsLeftOpen s old chain nodes files f → last_or None (listed_files chain) ≡ Some e
+    → SealsFile old chain e nodes (512 * (length old - e.first_block)) new made → shown_cost f ≤ area s f
 seals_cost s old new chain made nodes files f e whole left last seals =
     omega (arith, seals.room, cost s old chain nodes files f left whole e seals.text seals.packets last seals.unsealed, area_is s old chain nodes files f left whole e last)
 
 -- what may be closed has room
-pub sealable_costs : (s : Config) (old : Image) (chain : List ChainBlock) (nodes area' : ℕ) (v : Sealable) (files : List File) (f : File) (e : Listed) → IsWhole old → IsLeftOpen s old chain nodes files f → last_or None (listed_files chain) ≡ Some e
+pub sealable_costs : (s : Config) (old : Image) (chain : List ChainBlock) (nodes area' : ℕ) (v : Sealable) (files : List File) (f : File) (e : DirectoryEntry) → IsWhole old → IsLeftOpen s old chain nodes files f → last_or None (listed_files chain) ≡ Some e
     → IsSealable (bytes_from old e.first_block e.size) nodes area' v → area' ≡ 512 * (length old - e.first_block) → shown_cost f ≤ area s f
 sealable_costs s old chain nodes area' v files f e whole left last is all =
     omega (arith, is.room, all, cost s old chain nodes files f left whole e is.text is.packets last is.unsealed, area_is s old chain nodes files f left whole e last)
@@ -237,7 +237,7 @@ still_open s old new chain nodes files f left same = record {
   left = λ settled. stayed (λ image. MediumSays s image (files ++ f ∷ [])) old new same (λ image may. (settled image may).says);
 }
 
-module _ {T E : Type 0} (s : Config) (old new : Disk) (chain made : List ChainBlock) (nodes : ℕ) (files : List File) (f : File) (left : IsLeftOpen s old.blocks chain nodes files f) (e : Listed) (last : last_or None (listed_files chain) ≡ Some e)
+module _ {T E : Type 0} (s : Config) (old new : Disk) (chain made : List ChainBlock) (nodes : ℕ) (files : List File) (f : File) (left : IsLeftOpen s old.blocks chain nodes files f) (e : DirectoryEntry) (last : last_or None (listed_files chain) ≡ Some e)
     (result : Result T E) where
   abbrev all : List Packet
   all = packets s old.blocks chain nodes files f left (whole_reads old)
@@ -245,15 +245,15 @@ module _ {T E : Type 0} (s : Config) (old new : Disk) (chain made : List ChainBl
   abbrev g' : File
   g' = sealed all f
 
-  pub seals_last : IsPartlySealed e all chain old.blocks new.blocks → Leaves (IsSealing e all chain old) old new → OnOk result (Settled (IsClosed e all chain made old.blocks) new) → SealsLast s files f old new made result
+  pub seals_last : IsPartlySealed e all chain old.blocks new.blocks → Leaves (IsSealing e all chain old) old new → OnOk result (Settled (ListsSealed e all chain made old.blocks) new) → SealsLast s files f old new made result
   seals_last reads moments sure =
       let whole = whole_reads old in
-      let Closed : Image → Type 0 = IsClosed e all chain made old.blocks in
+      let Closed : Image → Type 0 = ListsSealed e all chain made old.blocks in
       record {
         packets = all;
         unsealed = unsealed s old.blocks chain nodes files f left whole;
         grows = omega (arith, sealed_length all, long s old.blocks chain nodes files f left whole);
-        holds = on_ok result (Settled Closed new) (Holds s new.blocks made None (files ++ g' ∷ []))
+        holds = on_ok result (Settled Closed new) (HoldsFiles s new.blocks made None (files ++ g' ∷ []))
             (λ settled. closed_holds s old.blocks chain nodes files f left whole e last made new.blocks (settled_reads Closed new settled)) sure;
         bytes = ⊎_elim (λ put. partly_keeps s old.blocks chain nodes files f left whole e last new.blocks put) (λ closed. closed_keeps s old.blocks chain nodes files f left whole e last closed.0 new.blocks closed.1) reads;
         reads = ⊎_elim
@@ -276,7 +276,7 @@ module _ {T E : Type 0} (s : Config) (old new : Disk) (chain made : List ChainBl
 
 -- ---- as laws
 
-module _ (s : Config) (old : Image) (chain : List ChainBlock) (nodes : ℕ) (files : List File) (f : File) (e : Listed) (qs : List Packet) (whole : IsWhole old) (left : IsLeftOpen s old chain nodes files f)
+module _ (s : Config) (old : Image) (chain : List ChainBlock) (nodes : ℕ) (files : List File) (f : File) (e : DirectoryEntry) (qs : List Packet) (whole : IsWhole old) (left : IsLeftOpen s old chain nodes files f)
     (last : last_or None (listed_files chain) ≡ Some e) (is : IsUnsealed (bytes_from old e.first_block e.size) f.setup qs) where
   same : qs ≡ packets s old chain nodes files f left whole
   same = its_packets s old chain nodes files f left whole e f.setup qs last is
@@ -286,16 +286,16 @@ module _ (s : Config) (old : Image) (chain : List ChainBlock) (nodes : ℕ) (fil
   left_says from image whole_from says bytes put =
       partly_says s old chain nodes files f left whole e last from image whole_from says bytes (subst (λ (l : List Packet). PutsSome e.first_block (file_blocks (sealed_bytes l)) from image) same put)
 
-  closed_said : (new image : Image) (made other : List ChainBlock) → IsClosed e qs chain made old new → IsClosed e qs chain other old image → SaysAs s (files ++ sealed qs f ∷ []) new image
+  closed_said : (new image : Image) (made other : List ChainBlock) → ListsSealed e qs chain made old new → ListsSealed e qs chain other old image → SaysAs s (files ++ sealed qs f ∷ []) new image
   closed_said new image made other one two =
       subst (λ (l : List Packet). SaysAs s (files ++ sealed l f ∷ []) new image) (sym same)
-      (closed_as s old chain nodes files f left whole e last made other new image (subst (λ (l : List Packet). IsClosed e l chain made old new) same one) (subst (λ (l : List Packet). IsClosed e l chain other old image) same two))
+      (closed_as s old chain nodes files f left whole e last made other new image (subst (λ (l : List Packet). ListsSealed e l chain made old new) same one) (subst (λ (l : List Packet). ListsSealed e l chain other old image) same two))
 
-pub files_left : (s : Config) (old from image : Image) (chain : List ChainBlock) (nodes : ℕ) (files : List File) (f : File) (e : Listed) (qs : List Packet) → IsWhole old → IsLeftOpen s old chain nodes files f → last_or None (listed_files chain) ≡ Some e
+pub files_left : (s : Config) (old from image : Image) (chain : List ChainBlock) (nodes : ℕ) (files : List File) (f : File) (e : DirectoryEntry) (qs : List Packet) → IsWhole old → IsLeftOpen s old chain nodes files f → last_or None (listed_files chain) ≡ Some e
     → IsUnsealed (bytes_from old e.first_block e.size) f.setup qs → IsWhole from → MediumSays s from (files ++ f ∷ []) → bytes_from from f.first_block f.size ≡ bytes_from old f.first_block f.size
     → PutsSome e.first_block (file_blocks (sealed_bytes qs)) from image → MediumSays s image (files ++ f ∷ [])
 files_left s old from image chain nodes files f e qs whole left last is = left_says s old chain nodes files f e qs whole left last is from image
 
-pub files_closed : (s : Config) (old new image : Image) (chain made other : List ChainBlock) (nodes : ℕ) (files : List File) (f : File) (e : Listed) (qs : List Packet) → IsWhole old → IsLeftOpen s old chain nodes files f
-    → last_or None (listed_files chain) ≡ Some e → IsUnsealed (bytes_from old e.first_block e.size) f.setup qs → IsClosed e qs chain made old new → IsClosed e qs chain other old image → SaysAs s (files ++ sealed qs f ∷ []) new image
+pub files_closed : (s : Config) (old new image : Image) (chain made other : List ChainBlock) (nodes : ℕ) (files : List File) (f : File) (e : DirectoryEntry) (qs : List Packet) → IsWhole old → IsLeftOpen s old chain nodes files f
+    → last_or None (listed_files chain) ≡ Some e → IsUnsealed (bytes_from old e.first_block e.size) f.setup qs → ListsSealed e qs chain made old new → ListsSealed e qs chain other old image → SaysAs s (files ++ sealed qs f ∷ []) new image
 files_closed s old new image chain made other nodes files f e qs whole left last is = closed_said s old chain nodes files f e qs whole left last is new image made other

@@ -20,12 +20,12 @@ use Rattle.r10_body.specs.Packets.{Packet, file_bytes, file_entries, packet_byte
 use Rattle.r10_body.specs.declared.entry.Entry.{Entry}
 use Rattle.r10_machine.specs.Cuts.{Agree}
 use Rattle.r10_machine.proofs.Replays.{agree-permutation}
-use Rattle.r10_dirblock.specs.declared.entry.Entry.{Entry as Listed}
-use Rattle.r10_dirchain.specs.Chain.{files as listed_files}
+use Rattle.r10_dirblock.specs.declared.entry.Entry.{Entry as DirectoryEntry}
+use Rattle.r10_dirchain.specs.Chain.{listed_files}
 use Rattle.r10_dirchain.specs.Mount.{mount_rules}
 use Rattle.r10_dirchain.specs.declared.chain.ChainBlock.{ChainBlock}
 use Rattle.r10_dirchain.proofs.Unique.{one_directory}
-use Rattle.r10_volume.specs.Holding.{Holds, Open}
+use Rattle.r10_volume.specs.Holding.{HoldsFiles, Open}
 use Rattle.r10_volume.proofs.Ends.{all_front}
 use Rattle.r10_volume.proofs.Counting.{packets_some}
 use Rattle.r10_volume.proofs.Relisting.{last_file_listed, last_file_said}
@@ -62,8 +62,8 @@ module _ (s : Config) (image : Image) (chain : List ChainBlock) (nodes : ℕ) (f
   pub said : SaysFile image f
   said = last_file_said image (listed_files chain) files f each
 
-  pub lists : (e : Listed) → last_or None (listed_files chain) ≡ Some e → Lists f e
-  lists e is = subst (λ (o : Option Listed). IsSomeAnd o (Lists f)) is (last_file_listed image None (listed_files chain) files f each)
+  pub lists : (e : DirectoryEntry) → last_or None (listed_files chain) ≡ Some e → Lists f e
+  lists e is = subst (λ (o : Option DirectoryEntry). IsSomeAnd o (Lists f)) is (last_file_listed image None (listed_files chain) files f each)
 
   pub packets : List Packet
   packets = said.says.0
@@ -77,20 +77,20 @@ module _ (s : Config) (image : Image) (chain : List ChainBlock) (nodes : ℕ) (f
   unsealed = record { bytes_are = said.says.1; say = record { file = say.file; setup_is = say.setup_is; entries_are = λ channel. refl; closed_is = say.closed_is } }
 
   -- the same by its entry
-  same_bytes : (e : Listed) → last_or None (listed_files chain) ≡ Some e → bytes_from image e.first_block e.size ≡ bytes_from image f.first_block f.size
+  same_bytes : (e : DirectoryEntry) → last_or None (listed_files chain) ≡ Some e → bytes_from image e.first_block e.size ≡ bytes_from image f.first_block f.size
   same_bytes e is = ap (λ (n : ℕ). bytes_from image n e.size) (lists e is).first_block ∙ ap (bytes_from image f.first_block) (lists e is).size
 
-  pub unsealed_by : (e : Listed) → last_or None (listed_files chain) ≡ Some e → IsUnsealed (bytes_from image e.first_block e.size) f.setup packets
+  pub unsealed_by : (e : DirectoryEntry) → last_or None (listed_files chain) ≡ Some e → IsUnsealed (bytes_from image e.first_block e.size) f.setup packets
   unsealed_by e is = subst (λ (l : List ℕ). IsUnsealed l f.setup packets) (sym (same_bytes e is)) unsealed
 
-  pub its_packets : (e : Listed) (text : List ℕ) (others : List Packet) → last_or None (listed_files chain) ≡ Some e → IsUnsealed (bytes_from image e.first_block e.size) text others → others ≡ packets
+  pub its_packets : (e : DirectoryEntry) (text : List ℕ) (others : List Packet) → last_or None (listed_files chain) ≡ Some e → IsUnsealed (bytes_from image e.first_block e.size) text others → others ≡ packets
   its_packets e text others is u = one_unsealed (bytes_from image e.first_block e.size) text f.setup others packets u (unsealed_by e is)
 
   pub long : length (file_bytes packets) ≡ f.size
   unfolding packets said
   long = ap (λ (l : List ℕ). length l) (sym said.says.1) ∙ length-read_front f.size f.first_block image whole (omega (arith, said.inside))
 
-  pub cost : (e : Listed) (text : List ℕ) (others : List Packet) → last_or None (listed_files chain) ≡ Some e → IsUnsealed (bytes_from image e.first_block e.size) text others → cost_of_packets text others ≡ shown_cost f
+  pub cost : (e : DirectoryEntry) (text : List ℕ) (others : List Packet) → last_or None (listed_files chain) ≡ Some e → IsUnsealed (bytes_from image e.first_block e.size) text others → cost_of_packets text others ≡ shown_cost f
   cost e text others is u =
       let same : others ≡ packets = its_packets e text others is u in
       let say_so : PacketsSay packets text (file_entries others) false = subst (λ (ps : List Packet). PacketsSay ps text (file_entries others) false) same u.say in
@@ -108,12 +108,12 @@ module _ (s : Config) (image : Image) (chain : List ChainBlock) (nodes : ℕ) (f
         length-take f.shown f.entries,
       )
 
-  pub area_is : (e : Listed) → last_or None (listed_files chain) ≡ Some e → 512 * (length image - e.first_block) ≡ area s f
+  pub area_is : (e : DirectoryEntry) → last_or None (listed_files chain) ≡ Some e → 512 * (length image - e.first_block) ≡ area s f
   area_is e is = omega (arith, left.held.says.blocks, (lists e is).first_block)
 
   -- ---- faults
 
-  pub left_fault : (e : Listed) (fault : SealFault) → last_or None (listed_files chain) ≡ Some e → IsSealFault (bytes_from image e.first_block e.size) nodes (512 * (length image - e.first_block)) fault → IsLeftFault s f fault
+  pub left_fault : (e : DirectoryEntry) (fault : SealFault) → last_or None (listed_files chain) ≡ Some e → IsSealFault (bytes_from image e.first_block e.size) nodes (512 * (length image - e.first_block)) fault → IsLeftFault s f fault
   left_fault e (BadFile at) is wrong = strict_apart (bytes_from image e.first_block e.size) false at.offset at.fault wrong (f.setup, file_entries packets, (packets, (unsealed_by e is).bytes_are, (unsealed_by e is).say))
   left_fault e IndexFull is wrong = omega (arith, wrong.many, left.nodes_are, few, ap (λ (ps : List Packet). length ps) (its_packets e wrong.text wrong.packets is wrong.unsealed))
   left_fault e MediumFull is wrong = omega (arith, wrong.much, cost e wrong.text wrong.packets is wrong.unsealed, area_is e is)
@@ -166,15 +166,15 @@ most_cost f = omega (arith, sum_front f.shown f.entries)
 pub whole_cost : (f : File) → f.shown ≡ length f.entries → shown_cost f ≡ cost_of f
 whole_cost f whole = ap (file_cost f.setup) (take_all f.shown f.entries (omega (arith, whole)))
 
-pub others_cost : (s : Config) (image : Image) (chain : List ChainBlock) (written : Option Open) (files : List File) (f : File) → Holds s image chain written (files ++ f ∷ []) → f.own ≡ false → shown_cost f ≡ cost_of f
+pub others_cost : (s : Config) (image : Image) (chain : List ChainBlock) (written : Option Open) (files : List File) (f : File) → HoldsFiles s image chain written (files ++ f ∷ []) → f.own ≡ false → shown_cost f ≡ cost_of f
 others_cost s image chain written files f held own = whole_cost f ((all_front (λ (h : File). h.own ≡ false → IsFound image h) files f held.found).1 own).shown
 
 -- ---- as laws
 
-pub left_unsealed : (s : Config) (image : Image) (chain : List ChainBlock) (nodes : ℕ) (files : List File) (f : File) (e : Listed) → IsWhole image → IsLeftOpen s image chain nodes files f → last_or None (listed_files chain) ≡ Some e
+pub left_unsealed : (s : Config) (image : Image) (chain : List ChainBlock) (nodes : ℕ) (files : List File) (f : File) (e : DirectoryEntry) → IsWhole image → IsLeftOpen s image chain nodes files f → last_or None (listed_files chain) ≡ Some e
     → (packets : List Packet) × IsUnsealed (bytes_from image e.first_block e.size) f.setup packets × (length packets ≤ 1 + length f.entries)
 left_unsealed s image chain nodes files f e whole left last = (packets s image chain nodes files f left whole, unsealed_by s image chain nodes files f left whole e last, few s image chain nodes files f left whole)
 
-pub fault_left : (s : Config) (image : Image) (chain : List ChainBlock) (nodes : ℕ) (files : List File) (f : File) (e : Listed) (fault : SealFault) → IsWhole image → IsLeftOpen s image chain nodes files f → last_or None (listed_files chain) ≡ Some e
+pub fault_left : (s : Config) (image : Image) (chain : List ChainBlock) (nodes : ℕ) (files : List File) (f : File) (e : DirectoryEntry) (fault : SealFault) → IsWhole image → IsLeftOpen s image chain nodes files f → last_or None (listed_files chain) ≡ Some e
     → IsSealFault (bytes_from image e.first_block e.size) nodes (512 * (length image - e.first_block)) fault → IsLeftFault s f fault
 fault_left s image chain nodes files f e fault whole left last = left_fault s image chain nodes files f left whole e fault last

@@ -11,7 +11,7 @@ use Rattle.r10_blockout.specs.Blocks.{Shows}
 use Rattle.r10_dirblock.specs.Block.{IsBlock}
 use Rattle.r10_dirblock.specs.declared.entry.Entry.{Entry}
 use Rattle.r10_dirchain.specs.declared.chain.ChainBlock.{ChainBlock}
-use Rattle.r10_dirchain.specs.Chain.{Holds, IsDirectory, at, files}
+use Rattle.r10_dirchain.specs.Chain.{HoldsBlock, IsDirectory, at, listed_files}
 use Rattle.r10_dirchain.specs.Mount.{place_rules, stands}
 use Rattle.r10_dirchain.specs.OnMedium.{Turned}
 use Rattle.r10_dirchain.specs.Steps.{last_listing}
@@ -45,21 +45,21 @@ last_placed blocks reserved n d [] less here stand = here
 last_placed blocks reserved n d (e ∷ entries) less here stand =
     last_placed blocks reserved (n + e.block_count) (Some e) entries (omega (arith, less)) (placed_at blocks reserved n e less stand.0) stand.1
 
-pub last_place : (reserved : ℕ) (image : Image) (chain : List ChainBlock) (e : Entry) → IsUsable reserved image chain → last_or None (files chain) ≡ Some e → Placed (length image) reserved e
+pub last_place : (reserved : ℕ) (image : Image) (chain : List ChainBlock) (e : Entry) → IsUsable reserved image chain → last_or None (listed_files chain) ≡ Some e → Placed (length image) reserved e
 last_place reserved image chain e usable is =
     subst (λ (o : Option Entry). IfSome o (Placed (length image) reserved)) is
-    (last_placed (length image) reserved (reserved + 1) None (files chain) (omega arith) tt (usable_of reserved (length image) chain usable.rules).stand)
+    (last_placed (length image) reserved (reserved + 1) None (listed_files chain) (omega arith) tt (usable_of reserved (length image) chain usable.rules).stand)
 
 -- ---- the directory, while blocks behind it are written
 
-holds_stay : (old new : Image) (reserved n first : ℕ) (chain : List ChainBlock) → SameBelow first 0 old new → reserved < first → first_broken (place_rules reserved n chain) ≡ None → All (Holds old) chain → All (Holds new) chain
-holds_stay old new reserved n first [] same less places all = All-nil (Holds new)
+holds_stay : (old new : Image) (reserved n first : ℕ) (chain : List ChainBlock) → SameBelow first 0 old new → reserved < first → first_broken (place_rules reserved n chain) ≡ None → All (HoldsBlock old) chain → All (HoldsBlock new) chain
+holds_stay old new reserved n first [] same less places all = All-nil (HoldsBlock new)
 holds_stay old new reserved n first (b ∷ chain) same less places all =
     let at = placed reserved n (b ∷ chain) places 0 (omega arith) in
-    let holds : Holds old b = All-head (Holds old) b chain all in
-    All-cons (Holds new) b chain
+    let holds : HoldsBlock old b = All-head (HoldsBlock old) b chain all in
+    All-cons (HoldsBlock new) b chain
     (record { within = omega (arith, holds.within, same.size); is = subst (λ (c : Block). IsBlock c b.block) (sym (same.blocks b.number (omega (arith, at.0, at.1, less)))) holds.is })
-    (holds_stay old new reserved (n + 1) first chain same less (none_broken (b.number == n && nat_le n reserved) b.number (place_rules reserved (n + 1) chain) places).1 (All-tail (Holds old) b chain all))
+    (holds_stay old new reserved (n + 1) first chain same less (none_broken (b.number == n && nat_le n reserved) b.number (place_rules reserved (n + 1) chain) places).1 (All-tail (HoldsBlock old) b chain all))
 
 pub directory_stays : (old new : Image) (reserved first : ℕ) (chain : List ChainBlock) → IsUsable reserved old chain → SameBelow first 0 old new → reserved < first → IsDirectory new chain
 directory_stays old new reserved first chain usable same less =
@@ -71,17 +71,17 @@ some_files : (entries : List Entry) (e : Entry) → last_or None entries ≡ Som
 some_files [] e is = absurd (cc)
 some_files (x ∷ entries) e is = omega arith
 
-listing_reserved : (reserved : ℕ) (image : Image) (chain : List ChainBlock) (e : Entry) → IsUsable reserved image chain → last_or None (files chain) ≡ Some e → (at chain (last_listing chain)).number ≤ reserved
+listing_reserved : (reserved : ℕ) (image : Image) (chain : List ChainBlock) (e : Entry) → IsUsable reserved image chain → last_or None (listed_files chain) ≡ Some e → (at chain (last_listing chain)).number ≤ reserved
 listing_reserved reserved image chain e usable is =
-    let found = last_of chain (some_files (files chain) e is) in
+    let found = last_of chain (some_files (listed_files chain) e is) in
     let place = placed reserved 1 chain (place_rules_hold reserved (length image) chain usable.rules) found.0 found.1.within in
     let number : (at chain (last_listing chain)).number ≡ 1 + found.0 = ap (λ (i : ℕ). (at chain i).number) (last_listing_is chain found.0 found.1) ∙ place.0 in
     omega (arith, number, place.1)
 
-pub some_listed : (chain : List ChainBlock) (e : Entry) → last_or None (files chain) ≡ Some e → 0 < length (files chain)
-some_listed chain e is = some_files (files chain) e is
+pub some_listed : (chain : List ChainBlock) (e : Entry) → last_or None (listed_files chain) ≡ Some e → 0 < length (listed_files chain)
+some_listed chain e is = some_files (listed_files chain) e is
 
-pub shown_still : (reserved : ℕ) (before old new : Image) (chain made : List ChainBlock) (e : Entry) (bytes : List ℕ) → IsUsable reserved before chain → last_or None (files chain) ≡ Some e → reserved < e.first_block
+pub shown_still : (reserved : ℕ) (before old new : Image) (chain made : List ChainBlock) (e : Entry) (bytes : List ℕ) → IsUsable reserved before chain → last_or None (listed_files chain) ≡ Some e → reserved < e.first_block
     → Turned made ((at chain (last_listing chain)).number ∷ []) old new → Shows old e.first_block bytes → Shows new e.first_block bytes
 shown_still reserved before old new chain made e bytes usable is less turned shows =
     let number = (at chain (last_listing chain)).number in

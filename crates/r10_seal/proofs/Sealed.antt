@@ -9,7 +9,7 @@ use Rattle.r10_body.specs.Rules.{is_data, last_time, node_entries}
 use Rattle.r10_packetout.proofs.Closing.{index_says, named_length}
 use Rattle.r10_index.proofs.Behind.{all_data, index_closes}
 use Rattle.r10_index.specs.Written.{FitsIndex, first_nodes, index_of, node_count, root_packet}
-use Rattle.r10_judge.specs.Judged.{IsKept}
+use Rattle.r10_judge.specs.Judged.{TracksStrictFile}
 use Rattle.r10_body.proofs.Lengths.{file_covered}
 use Rattle.r10_body.proofs.OneMeaning.{one_list}
 use Rattle.r10_body.proofs.Rules.{bytes_more}
@@ -19,7 +19,7 @@ use Rattle.r10_seal.specs.Sealing.{IsUnsealed, cost_of_packets, sealed_bytes}
 use Rattle.r10_tracks.specs.declared.tracks.Tracks.{Tracks}
 
 -- what is judged strict and open
-pub kept_unsealed : (tracks : Tracks) (bytes : List ℕ) (kept : IsKept false tracks bytes) → IsUnsealed bytes kept.text kept.packets
+pub kept_unsealed : (tracks : Tracks) (bytes : List ℕ) (kept : TracksStrictFile false tracks bytes) → IsUnsealed bytes kept.text kept.packets
 kept_unsealed tracks bytes kept = record {
   bytes_are = kept.bytes_are;
   say = record { file = kept.say.file; setup_is = kept.say.setup_is; entries_are = λ channel. refl; closed_is = kept.say.closed_is };

@@ -4,7 +4,7 @@ use Rattle.r10_blockout.specs.Blocks.{bytes_from}
 use Rattle.r10_body.specs.Cost.{file_cost}
 use Rattle.r10_body.specs.Packets.{Packet}
 use Rattle.r10_dirchain.specs.declared.chain.ChainBlock.{ChainBlock}
-use Rattle.r10_volume.specs.Holding.{Holds}
+use Rattle.r10_volume.specs.Holding.{HoldsFiles}
 use Rattle.r10_machine.specs.Config.{Config}
 use Rattle.r10_machine.specs.Machine.{File, shown_entries}
 use Rattle.r10_machine.specs.Room.{area}
@@ -20,7 +20,7 @@ use Rattle.r10_seal.specs.declared.fault.SealFault.TheVariants.{BadFile, IndexFu
 
 -- a recorder with so many nodes holds these files, of which the last was left open
 pub record IsLeftOpen (s : Config) (image : Image) (chain : List ChainBlock) (nodes : ℕ) (files : List File) (f : File) : Type 0 where
-  pub held : Holds s image chain None (files ++ f ∷ [])
+  pub held : HoldsFiles s image chain None (files ++ f ∷ [])
   pub unclosed : f.closed ≡ false
   pub nodes_are : nodes ≡ s.nodes
 
@@ -50,7 +50,7 @@ pub record SealsLast {T E : Type 0} (s : Config) (files : List File) (f : File) 
   pub packets : List Packet
   pub unsealed : IsUnsealed (bytes_from old.blocks f.first_block f.size) f.setup packets
   pub grows : f.size ≤ (sealed packets f).size
-  pub holds : OnOk result (Holds s new.blocks made None (files ++ sealed packets f ∷ []))
+  pub holds : OnOk result (HoldsFiles s new.blocks made None (files ++ sealed packets f ∷ []))
   pub bytes : KeepBytes old.blocks new.blocks (files ++ f ∷ [])
   pub reads : IsEither s files f packets new.blocks
   pub moments : IsSettled s (files ++ f ∷ []) old → Leaves (IsEither s files f packets) old new

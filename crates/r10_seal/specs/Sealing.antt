@@ -9,7 +9,7 @@ use Rattle.r10_body.specs.Files.{PacketsSay}
 use Rattle.r10_body.specs.Packets.{Packet, file_bytes, file_entries}
 use Rattle.r10_dirblock.specs.Block.{sized}
 use Rattle.r10_dirblock.specs.Texts.{time_text}
-use Rattle.r10_dirblock.specs.declared.entry.Entry.{Entry as Listed}
+use Rattle.r10_dirblock.specs.declared.entry.Entry.{Entry as DirectoryEntry}
 use Rattle.r10_dirchain.specs.Steps.{last_listing, updated}
 use Rattle.r10_dirchain.specs.Chain.{at}
 use Rattle.r10_dirchain.specs.OnMedium.{Turned}
@@ -34,7 +34,7 @@ abbrev pub sealed_bytes : List Packet → List ℕ
 sealed_bytes packets = file_bytes (packets ++ index_of packets)
 
 -- the entry of the file with its index, closed at a time
-abbrev pub sealed_entry : List Packet → Parts → Listed → Listed
+abbrev pub sealed_entry : List Packet → Parts → DirectoryEntry → DirectoryEntry
 sealed_entry packets civil e = record (sized (length (sealed_bytes packets)) e) { close_time = time_text civil }
 
 -- the file with its index
@@ -46,7 +46,7 @@ abbrev pub listing_block : List ChainBlock → List ℕ
 listing_block chain = (at chain (last_listing chain)).number ∷ []
 
 -- over an image that shows the file with its index, and where nothing but blocks of that was put, the directory is this one: it lists the file closed at its last time
-pub record IsClosed (e : Listed) (packets : List Packet) (chain made : List ChainBlock) (old image : Image) : Type 0 where
+pub record ListsSealed (e : DirectoryEntry) (packets : List Packet) (chain made : List ChainBlock) (old image : Image) : Type 0 where
   pub fits : FitsIndex packets
   pub time : TimeMark
   pub last : last_mark None packets ≡ Some time
@@ -58,23 +58,23 @@ pub record IsClosed (e : Listed) (packets : List Packet) (chain made : List Chai
 
 -- The last file, with this entry, has few packets for an index of so many nodes, and costs no more than its part of the medium has; the medium shows it with its index then, and the
 -- directory lists it closed at its last time.
-pub record Seals (old : Image) (chain : List ChainBlock) (e : Listed) (nodes area : ℕ) (new : Image) (made : List ChainBlock) : Type 0 where
+pub record SealsFile (old : Image) (chain : List ChainBlock) (e : DirectoryEntry) (nodes area : ℕ) (new : Image) (made : List ChainBlock) : Type 0 where
   pub text : List ℕ
   pub packets : List Packet
   pub unsealed : IsUnsealed (bytes_from old e.first_block e.size) text packets
   pub few : length packets ≤ 100 * nodes
   pub room : cost_of_packets text packets ≤ area
   pub shows : Shows new e.first_block (sealed_bytes packets)
-  pub closed : IsClosed e packets chain made old new
+  pub closed : ListsSealed e packets chain made old new
 
 -- blocks of the file with its index were put over these, or the file is closed
-abbrev pub IsPartlySealed : Listed → List Packet → List ChainBlock → Image → Image → Type 0
+abbrev pub IsPartlySealed : DirectoryEntry → List Packet → List ChainBlock → Image → Image → Type 0
 IsPartlySealed e packets chain old image =
     PutsSome e.first_block (file_blocks (sealed_bytes packets)) old image
-    ⊎ ((made : List ChainBlock) × IsClosed e packets chain made old image)
+    ⊎ ((made : List ChainBlock) × ListsSealed e packets chain made old image)
 
 -- at a moment of a seal: blocks of the file with its index are put over those that could be left, or the file is closed
-abbrev pub IsSealing : Listed → List Packet → List ChainBlock → Disk → Image → Type 0
+abbrev pub IsSealing : DirectoryEntry → List Packet → List ChainBlock → Disk → Image → Type 0
 IsSealing e packets chain old image =
     ComesBy (PutsSome e.first_block (file_blocks (sealed_bytes packets))) old image
-    ⊎ ((made : List ChainBlock) × IsClosed e packets chain made old.blocks image)
+    ⊎ ((made : List ChainBlock) × ListsSealed e packets chain made old.blocks image)

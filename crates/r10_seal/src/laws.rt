@@ -6,10 +6,10 @@ ghost use Rattle.r10_medium.specs.Disk.{Image, IsWhole};
 ghost use Rattle.r10_medium.specs.Stop.{PutsSome};
 ghost use Rattle.r10_blockout.specs.Blocks.{bytes_from, file_blocks};
 ghost use Rattle.r10_body.specs.Packets.{Packet};
-ghost use Rattle.r10_dirblock.specs.declared.entry.Entry.{Entry as Listed};
-ghost use Rattle.r10_dirchain.specs.Chain.{files as listed_files};
+ghost use Rattle.r10_dirblock.specs.declared.entry.Entry.{Entry as DirectoryEntry};
+ghost use Rattle.r10_dirchain.specs.Chain.{listed_files};
 ghost use Rattle.r10_dirchain.specs.declared.chain.ChainBlock.{ChainBlock};
-ghost use Rattle.r10_volume.specs.Holding.{Holds, Open};
+ghost use Rattle.r10_volume.specs.Holding.{HoldsFiles, Open};
 ghost use Rattle.r10_machine.specs.Config.{Config};
 ghost use Rattle.r10_machine.specs.Machine.{File};
 ghost use Rattle.r10_machine.specs.Room.{area, cost_of};
@@ -18,15 +18,15 @@ ghost use Rattle.r10_machine.specs.Says.{MediumSays};
 ghost use Rattle.r10_volume.specs.Settling.{SaysAs};
 ghost use Rattle.r10_seal.specs.Judging.{IsSealFault};
 ghost use Rattle.r10_seal.specs.Leftover.{IsLeftFault, IsLeftOpen, shown_cost};
-ghost use Rattle.r10_seal.specs.Sealing.{IsClosed, IsUnsealed, Seals, sealed, sealed_bytes};
-ghost use Rattle.r10_seal.specs.declared.fault.SealFault.{SealFault as Fault};
+ghost use Rattle.r10_seal.specs.Sealing.{ListsSealed, IsUnsealed, SealsFile, sealed, sealed_bytes};
+ghost use Rattle.r10_seal.specs.declared.fault.SealFault.{SealFault as SealFaultValue};
 
 /// Of the last file that is held, and was left open, the medium has strict packets, no more of them than one and one
 /// for each entry. So a fault of its bytes does not come, and the others are the machine's.
 pub fn left_files_are_strict()
-    ensures unsealed { (s : Config) (image : Image) (chain : List ChainBlock) (nodes : ℕ) (files : List File) (f : File) (e : Listed) → IsWhole image → IsLeftOpen s image chain nodes files f → last_or None (listed_files chain) ≡ Some e
+    ensures unsealed { (s : Config) (image : Image) (chain : List ChainBlock) (nodes : ℕ) (files : List File) (f : File) (e : DirectoryEntry) → IsWhole image → IsLeftOpen s image chain nodes files f → last_or None (listed_files chain) ≡ Some e
         → (packets : List Packet) × IsUnsealed (bytes_from image e.first_block e.size) f.setup packets × (length packets ≤ 1 + length f.entries) }
-    ensures fault { (s : Config) (image : Image) (chain : List ChainBlock) (nodes : ℕ) (files : List File) (f : File) (e : Listed) (fault : Fault) → IsWhole image → IsLeftOpen s image chain nodes files f → last_or None (listed_files chain) ≡ Some e
+    ensures fault { (s : Config) (image : Image) (chain : List ChainBlock) (nodes : ℕ) (files : List File) (f : File) (e : DirectoryEntry) (fault : SealFaultValue) → IsWhole image → IsLeftOpen s image chain nodes files f → last_or None (listed_files chain) ≡ Some e
         → IsSealFault (bytes_from image e.first_block e.size) nodes (512 * (length image - e.first_block)) fault → IsLeftFault s f fault }
 {}
 
@@ -35,24 +35,24 @@ pub fn left_files_are_strict()
 pub fn shown_files_cost()
     ensures most { (f : File) → shown_cost f ≤ cost_of f }
     ensures whole { (f : File) → f.shown ≡ length f.entries → shown_cost f ≡ cost_of f }
-    ensures others { (s : Config) (image : Image) (chain : List ChainBlock) (written : Option Open) (files : List File) (f : File) → Holds s image chain written (files ++ f ∷ []) → f.own ≡ false → shown_cost f ≡ cost_of f }
+    ensures others { (s : Config) (image : Image) (chain : List ChainBlock) (written : Option Open) (files : List File) (f : File) → HoldsFiles s image chain written (files ++ f ∷ []) → f.own ≡ false → shown_cost f ≡ cost_of f }
 {}
 
 /// A last file that is sealed is held closed, and it had room.
 pub fn sealed_files_are_held()
-    ensures held { (s : Config) (old new : Image) (chain made : List ChainBlock) (nodes : ℕ) (files : List File) (f : File) (e : Listed) → IsWhole old → IsLeftOpen s old chain nodes files f → last_or None (listed_files chain) ≡ Some e
-        → Seals old chain e nodes (512 * (length old - e.first_block)) new made → (size : ℕ) × Holds s new made None (files ++ closed_in size f ∷ []) }
-    ensures room { (s : Config) (old new : Image) (chain made : List ChainBlock) (nodes : ℕ) (files : List File) (f : File) (e : Listed) → IsWhole old → IsLeftOpen s old chain nodes files f → last_or None (listed_files chain) ≡ Some e
-        → Seals old chain e nodes (512 * (length old - e.first_block)) new made → shown_cost f ≤ area s f }
+    ensures held { (s : Config) (old new : Image) (chain made : List ChainBlock) (nodes : ℕ) (files : List File) (f : File) (e : DirectoryEntry) → IsWhole old → IsLeftOpen s old chain nodes files f → last_or None (listed_files chain) ≡ Some e
+        → SealsFile old chain e nodes (512 * (length old - e.first_block)) new made → (size : ℕ) × HoldsFiles s new made None (files ++ closed_in size f ∷ []) }
+    ensures room { (s : Config) (old new : Image) (chain made : List ChainBlock) (nodes : ℕ) (files : List File) (f : File) (e : DirectoryEntry) → IsWhole old → IsLeftOpen s old chain nodes files f → last_or None (listed_files chain) ≡ Some e
+        → SealsFile old chain e nodes (512 * (length old - e.first_block)) new made → shown_cost f ≤ area s f }
 {}
 
 /// While blocks of it with its index are put, the files are said as they were; and where it is closed, with it closed,
 /// and all images say them so with the same bytes.
 pub fn seals_leave_files()
-    ensures left { (s : Config) (old from image : Image) (chain : List ChainBlock) (nodes : ℕ) (files : List File) (f : File) (e : Listed) (packets : List Packet) → IsWhole old → IsLeftOpen s old chain nodes files f → last_or None (listed_files chain) ≡ Some e
+    ensures left { (s : Config) (old from image : Image) (chain : List ChainBlock) (nodes : ℕ) (files : List File) (f : File) (e : DirectoryEntry) (packets : List Packet) → IsWhole old → IsLeftOpen s old chain nodes files f → last_or None (listed_files chain) ≡ Some e
         → IsUnsealed (bytes_from old e.first_block e.size) f.setup packets → IsWhole from → MediumSays s from (files ++ f ∷ []) → bytes_from from f.first_block f.size ≡ bytes_from old f.first_block f.size
         → PutsSome e.first_block (file_blocks (sealed_bytes packets)) from image → MediumSays s image (files ++ f ∷ []) }
-    ensures closed { (s : Config) (old new image : Image) (chain made other : List ChainBlock) (nodes : ℕ) (files : List File) (f : File) (e : Listed) (packets : List Packet) → IsWhole old → IsLeftOpen s old chain nodes files f
-        → last_or None (listed_files chain) ≡ Some e → IsUnsealed (bytes_from old e.first_block e.size) f.setup packets → IsClosed e packets chain made old new → IsClosed e packets chain other old image
+    ensures closed { (s : Config) (old new image : Image) (chain made other : List ChainBlock) (nodes : ℕ) (files : List File) (f : File) (e : DirectoryEntry) (packets : List Packet) → IsWhole old → IsLeftOpen s old chain nodes files f
+        → last_or None (listed_files chain) ≡ Some e → IsUnsealed (bytes_from old e.first_block e.size) f.setup packets → ListsSealed e packets chain made old new → ListsSealed e packets chain other old image
         → SaysAs s (files ++ sealed packets f ∷ []) new image }
 {}

@@ -28,5 +28,5 @@ IsText text Lenient = ⊥
 IsText text Neither = ⊥
 
 -- there is a word, and it says that the text is XML, which isn't read
-abbrev pub is_opaque : List ℕ → Bool
-is_opaque body = nat_le 4 (length body) && bit_of 9 (u32_at body 0)
+abbrev pub is_opaque_setup : List ℕ → Bool
+is_opaque_setup body = nat_le 4 (length body) && bit_of 9 (u32_at body 0)

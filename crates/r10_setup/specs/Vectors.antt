@@ -1,7 +1,7 @@
 -- Setup texts written out.
 use Rattle.std.specs.Prelude.{◌≡◌, ℕ, true, false, List, [], ◌∷◌, length, map, refl}
 use Rattle.std.proofs.Common.{arith, lit≤}
-use Rattle.r10_setup.specs.Setup.{FitsSetup, IsForeignSetup, setup_body, is_opaque}
+use Rattle.r10_setup.specs.Setup.{FitsSetup, IsForeignSetup, setup_body, is_opaque_setup}
 
 -- the text `ABCD`
 pub four_letters : setup_body (0x41 ∷ 0x42 ∷ 0x43 ∷ 0x44 ∷ []) ≡ 0x0C ∷ 0x00 ∷ 0x00 ∷ 0x00 ∷ 0x41 ∷ 0x42 ∷ 0x43 ∷ 0x44 ∷ []
@@ -11,7 +11,7 @@ pub no_text : setup_body [] ≡ 0x0C ∷ 0x00 ∷ 0x00 ∷ 0x00 ∷ []
 no_text = refl
 
 -- bit 9 is set in the first alone; the last has no whole word
-pub opaque_words : map is_opaque ((0x0C ∷ 0x02 ∷ 0x00 ∷ 0x00 ∷ []) ∷ (0x0C ∷ 0x00 ∷ 0x00 ∷ 0x00 ∷ []) ∷ (0x0C ∷ 0x01 ∷ 0x02 ∷ 0x00 ∷ 0x09 ∷ []) ∷ (0x0C ∷ 0x02 ∷ 0x00 ∷ []) ∷ []) ≡ true ∷ false ∷ false ∷ false ∷ []
+pub opaque_words : map is_opaque_setup ((0x0C ∷ 0x02 ∷ 0x00 ∷ 0x00 ∷ []) ∷ (0x0C ∷ 0x00 ∷ 0x00 ∷ 0x00 ∷ []) ∷ (0x0C ∷ 0x01 ∷ 0x02 ∷ 0x00 ∷ 0x09 ∷ []) ∷ (0x0C ∷ 0x02 ∷ 0x00 ∷ []) ∷ []) ≡ true ∷ false ∷ false ∷ false ∷ []
 opaque_words = refl
 
 -- the longest text, and a longer one

@@ -2,7 +2,7 @@
 
 ghost use Rattle.std.specs.Prelude.{◌≡◌, ◌↔◌, ℕ, List, length, IsTrue, IfOk};
 ghost use Rattle.r10_count.specs.Append.{Appends};
-ghost use Rattle.r10_count.specs.Reading.{Reads};
+ghost use Rattle.r10_count.specs.Reading.{ReadsBody};
 
 use r10_count::{Reading, append_all, split_u32};
 use std::alloc::{AllocError, Global};
@@ -20,7 +20,7 @@ pub struct SetupBody<'a> {
 }
 
 impl<'a> SetupBody<'a> {
-    ghost use Rattle.r10_setup.specs.Setup.{FitsSetup, IsSetup, IsForeignSetup, IsText, setup_body, is_opaque};
+    ghost use Rattle.r10_setup.specs.Setup.{FitsSetup, IsSetup, IsForeignSetup, IsText, setup_body, is_opaque_setup};
 
     /// Whether a packet has room for the text: at most 524,260 bytes.
     pub fn check(&self) -> bool
@@ -55,7 +55,7 @@ impl<'a> SetupBody<'a> {
     /// Reads a body: the text that this recorder writes as these bytes, or whether another
     /// recorder may have written them. Another recorder's word is not judged.
     pub fn decode(body: &'a [u8]) -> Reading<SetupBody<'a>>
-        ensures found { Reads (λ setup. IsSetup setup.text.now body.now) (IsForeignSetup body.now) result }
+        ensures found { ReadsBody (λ setup. IsSetup setup.text.now body.now) (IsForeignSetup body.now) result }
         ensures only { (text : List ℕ) → IsSetup text body.now → IsText text result }
     {
         match split_u32(body) {
@@ -67,7 +67,7 @@ impl<'a> SetupBody<'a> {
 
     /// Whether the word of a body says that its text is XML. Such a body isn't read.
     pub fn is_opaque(body: &[u8]) -> bool
-        ensures { result ≡ is_opaque body.now }
+        ensures { result ≡ is_opaque_setup body.now }
     {
         match split_u32(body) {
             Some((word, _)) => word / 0x200 % 2 == 1,

@@ -15,7 +15,7 @@ use Rattle.r10_machine.specs.Machine.{saturated}
 use Rattle.r10_port.specs.Ends.{Sending, Offered, sent}
 use Rattle.r10_port.proofs.Offers.{offered_same}
 use Rattle.r10_source.specs.declared.pump.Pumped.{Pumped}
-use Rattle.r10_source.specs.Pumps.{Tried, Offers, Pumps, is_accepted, is_refused, is_overflow, gap_after, accepted_with, accepted_of}
+use Rattle.r10_source.specs.Pumps.{Tried, OffersAll, PumpsSource, is_accepted, is_refused, is_overflow, gap_after, accepted_with, accepted_of}
 
 -- ---- one offer
 
@@ -68,11 +68,11 @@ became old item answer new offered = by (first_broken (offer_checks (Some old.la
 
 -- ---- offers
 
-pub offers_join : (a b c : Sending) (xs ys : List Tried) → Offers a xs b → Offers b ys c → Offers a (xs ++ ys) c
-offers_join a b c [] ys first second = subst (λ (p : Sending). Offers p ys c) first second
+pub offers_join : (a b c : Sending) (xs ys : List Tried) → OffersAll a xs b → OffersAll b ys c → OffersAll a (xs ++ ys) c
+offers_join a b c [] ys first second = subst (λ (p : Sending). OffersAll p ys c) first second
 offers_join a b c (x ∷ xs) ys (next, offered, rest) second = (next, offered, offers_join next b c xs ys rest second)
 
-pub offers_sent : (old new : Sending) (tried : List Tried) → Offers old tried new → sent new ≡ sent old ++ accepted_of (has_gap old) tried
+pub offers_sent : (old new : Sending) (tried : List Tried) → OffersAll old tried new → sent new ≡ sent old ++ accepted_of (has_gap old) tried
 offers_sent old new [] same = ap sent same ∙ sym (append-nil (sent old))
 offers_sent old new (t ∷ tried) (next, offered, rest) =
     let one = became old t.item t.answer next offered in
@@ -80,7 +80,7 @@ offers_sent old new (t ∷ tried) (next, offered, rest) =
     λ i. one.0 i ++ accepted_of (one.1 i) tried in
     offers_sent next new tried rest ∙ more ∙ append_assoc (sent old) (accepted_with (has_gap old) t.item t.answer) (accepted_of (gap_after (has_gap old) t.answer) tried)
 
-pub offers_same : (old new : Sending) (tried : List Tried) → Offers old tried new → (new.ring ≡ old.ring) × (new.lane.spec ≡ old.lane.spec)
+pub offers_same : (old new : Sending) (tried : List Tried) → OffersAll old tried new → (new.ring ≡ old.ring) × (new.lane.spec ≡ old.lane.spec)
 offers_same old new [] is = (ap (λ (p : Sending). p.ring) is, ap (λ (p : Sending). p.lane.spec) is)
 offers_same old new (t ∷ tried) (next, offered, rest) =
     let one = offered_same old t.item.count t.item.message t.answer next offered in
@@ -102,12 +102,12 @@ accepted_or_refused (t ∷ tried) =
     one (Err r) = refl
 
 -- no more is accepted and refused than there are turns
-pub in_turns : (turns : ℕ) (a b : List Timed) (p q : Sending) (pumped : Pumped) → Pumps turns a b p q pumped → pumped.accepted + pumped.refused ≤ turns
+pub in_turns : (turns : ℕ) (a b : List Timed) (p q : Sending) (pumped : Pumped) → PumpsSource turns a b p q pumped → pumped.accepted + pumped.refused ≤ turns
 in_turns turns a b p q pumped pumps = omega (arith, pumps.accepted, pumps.refused, accepted_or_refused pumps.tried, pumps.turns)
 
 -- turns, and then more
-pub pumps_join : (n m : ℕ) (a b c : List Timed) (p q r : Sending) (x y : Pumped) → Pumps n a b p q x → Pumps m b c q r y
-    → Pumps (n + m) a c p r (record { accepted = x.accepted + y.accepted; refused = x.refused + y.refused; ended = y.ended })
+pub pumps_join : (n m : ℕ) (a b c : List Timed) (p q r : Sending) (x y : Pumped) → PumpsSource n a b p q x → PumpsSource m b c q r y
+    → PumpsSource (n + m) a c p r (record { accepted = x.accepted + y.accepted; refused = x.refused + y.refused; ended = y.ended })
 pumps_join n m a b c p q r x y first second =
     let tried = first.tried ++ second.tried in
     let offers = offers_join p q r first.tried second.tried first.offers second.offers in
@@ -125,7 +125,7 @@ pumps_join n m a b c p q r x y first second =
     }
 
 -- a turn without a message
-pub pumps_nothing : (turns : ℕ) (a b : List Timed) (p : Sending) (ended : Bool) → b ≡ a → (ended ≡ true → b ≡ []) → Pumps turns a b p p (record { accepted = 0; refused = 0; ended = ended })
+pub pumps_nothing : (turns : ℕ) (a b : List Timed) (p : Sending) (ended : Bool) → b ≡ a → (ended ≡ true → b ≡ []) → PumpsSource turns a b p p (record { accepted = 0; refused = 0; ended = ended })
 pumps_nothing turns a b p ended same none = record {
   tried = [];
   given = sym same;
@@ -139,7 +139,7 @@ pumps_nothing turns a b p ended same none = record {
 }
 
 -- more turns may be made
-pub pumps_most : (n m : ℕ) (a b : List Timed) (p q : Sending) (x : Pumped) → n ≤ m → Pumps n a b p q x → Pumps m a b p q x
+pub pumps_most : (n m : ℕ) (a b : List Timed) (p q : Sending) (x : Pumped) → n ≤ m → PumpsSource n a b p q x → PumpsSource m a b p q x
 pumps_most n m a b p q x less pumps = record {
   tried = pumps.tried;
   given = pumps.given;
@@ -158,10 +158,10 @@ one_if false = refl
 
 -- a turn with one
 pub pumps_one : (item : Timed) (answer : Result (Unit {0}) Refusal) (after : List Timed) (p q : Sending) (taken : ℕ) → Offered p item.count item.message answer q → taken ≡ cond (is_ok answer) 1 0
-    → Pumps 1 (item ∷ after) after p q (record { accepted = taken; refused = 1 - taken; ended = false })
+    → PumpsSource 1 (item ∷ after) after p q (record { accepted = taken; refused = 1 - taken; ended = false })
 pumps_one item answer after p q taken offered is =
     let t : Tried = record { item = item; answer = answer } in
-    let offers : Offers p (t ∷ []) q = (q, offered, refl) in
+    let offers : OffersAll p (t ∷ []) q = (q, offered, refl) in
     record {
       tried = t ∷ [];
       given = refl;

@@ -13,9 +13,9 @@ pub record Tried : Type 0 where
   pub answer : Result (Unit {0}) Refusal
 
 -- all of them were offered, one after the other
-abbrev pub Offers : Sending → List Tried → Sending → Type 0
-Offers old [] new = new ≡ old
-Offers old (t ∷ tried) new = (next : Sending) × Offered old t.item.count t.item.message t.answer next × Offers next tried new
+abbrev pub OffersAll : Sending → List Tried → Sending → Type 0
+OffersAll old [] new = new ≡ old
+OffersAll old (t ∷ tried) new = (next : Sending) × Offered old t.item.count t.item.message t.answer next × OffersAll next tried new
 
 abbrev pub is_accepted : Tried → Bool
 is_accepted t = is_ok t.answer
@@ -42,10 +42,10 @@ accepted_of gap (t ∷ tried) = accepted_with gap t.item t.answer ++ accepted_of
 
 -- so many turns: what was tried, accepted and refused, is the front of what the source had, and the source has the rest;
 -- the port stays on its ring and on its channel
-pub record Pumps (most : ℕ) (before after : List Timed) (old new : Sending) (pumped : Pumped) : Type 0 where
+pub record PumpsSource (most : ℕ) (before after : List Timed) (old new : Sending) (pumped : Pumped) : Type 0 where
   pub tried : List Tried
   pub given : before ≡ map (λ t. t.item) tried ++ after
-  pub offers : Offers old tried new
+  pub offers : OffersAll old tried new
   pub same : (new.ring ≡ old.ring) × (new.lane.spec ≡ old.lane.spec)
   pub sent : sent new ≡ sent old ++ accepted_of (nat_lt 0 old.lane.missed) tried
   pub accepted : pumped.accepted ≡ count_by is_accepted tried

@@ -10,8 +10,8 @@ use Rattle.r10_body.specs.declared.refusal.Refusal.TheVariants.{BadMessage, Over
 use Rattle.r10_body.specs.declared.spec.ChannelSpec.{ChannelSpec}
 use Rattle.r10_port.specs.Ends.{Ring, Sending}
 use Rattle.r10_source.specs.declared.source.Given.TheVariants.{Item, Later, End}
-use Rattle.r10_source.specs.Given.{Gives}
-use Rattle.r10_source.specs.Pumps.{Tried, Pumps, accepted_of}
+use Rattle.r10_source.specs.Given.{GivesNext}
+use Rattle.r10_source.specs.Pumps.{Tried, PumpsSource, accepted_of}
 
 abbrev channel : ChannelSpec
 channel = record { id = 5; kind = kinds.Uart; capacity = 2; check = 0; bytes = 524288; number = 65535; bits = 0 }
@@ -33,17 +33,17 @@ abbrev tried : ℕ → Result (Unit {0}) Refusal → Tried
 tried count answer = record { item = timed count; answer = answer }
 
 -- the first of what is left; nothing yet; nothing at all
-an_item : Gives (Item 1 (Uart false 0 [])) (timed 1 ∷ timed 2 ∷ []) (timed 2 ∷ [])
+an_item : GivesNext (Item 1 (Uart false 0 [])) (timed 1 ∷ timed 2 ∷ []) (timed 2 ∷ [])
 an_item = refl
 
-not_yet : Gives Later (timed 2 ∷ []) (timed 2 ∷ [])
+not_yet : GivesNext Later (timed 2 ∷ []) (timed 2 ∷ [])
 not_yet = refl
 
-the_end : Gives End [] []
+the_end : GivesNext End [] []
 the_end = (refl, refl)
 
 -- in two turns two are accepted
-two_turns : (ring : Ring) → Pumps 2 (timed 1 ∷ timed 2 ∷ timed 3 ∷ []) (timed 3 ∷ []) (port ring [] None 0 2) (port ring (sample 1 false ∷ sample 2 false ∷ []) (Some 2) 0 0) (record { accepted = 2; refused = 0; ended = false })
+two_turns : (ring : Ring) → PumpsSource 2 (timed 1 ∷ timed 2 ∷ timed 3 ∷ []) (timed 3 ∷ []) (port ring [] None 0 2) (port ring (sample 1 false ∷ sample 2 false ∷ []) (Some 2) 0 0) (record { accepted = 2; refused = 0; ended = false })
 two_turns ring = record {
   tried = tried 1 (Ok tt) ∷ tried 2 (Ok tt) ∷ [];
   given = refl;
@@ -57,7 +57,7 @@ two_turns ring = record {
 }
 
 -- and in ten the third is refused, and the source ends
-ten_turns : (ring : Ring) → Pumps 10 (timed 3 ∷ []) [] (port ring (sample 1 false ∷ sample 2 false ∷ []) (Some 2) 0 0) (port ring (sample 1 false ∷ sample 2 false ∷ []) (Some 2) 1 0) (record { accepted = 0; refused = 1; ended = true })
+ten_turns : (ring : Ring) → PumpsSource 10 (timed 3 ∷ []) [] (port ring (sample 1 false ∷ sample 2 false ∷ []) (Some 2) 0 0) (port ring (sample 1 false ∷ sample 2 false ∷ []) (Some 2) 1 0) (record { accepted = 0; refused = 1; ended = true })
 ten_turns ring = record {
   tried = tried 3 (Err Overflow) ∷ [];
   given = refl;

@@ -1,9 +1,9 @@
 //! The pump.
 
 ghost use Rattle.std.specs.Prelude.{◌≡◌, ◌+◌, ◌<◌, ◌^◌, List};
-ghost use Rattle.r10_body.specs.declared.entry.Timed.{Timed as One};
-ghost use Rattle.r10_source.specs.Given.{Gives};
-ghost use Rattle.r10_source.specs.Pumps.{Pumps};
+ghost use Rattle.r10_body.specs.declared.entry.Timed.{Timed as TimedValue};
+ghost use Rattle.r10_source.specs.Given.{GivesNext};
+ghost use Rattle.r10_source.specs.Pumps.{PumpsSource};
 
 use crate::source::{ChannelSource, Given};
 use r10_port::Port;
@@ -33,7 +33,7 @@ type AnySource = Box<dyn ChannelSource + Send>;
 
 /// Offers what was given, if it is a message.
 fn offer_given(given: Given, port: &mut Port) -> Pumped
-    ensures { (before after : List One) → Gives given before after → Pumps 1 before after port.old port.new result }
+    ensures { (before after : List TimedValue) → GivesNext given before after → PumpsSource 1 before after port.old port.new result }
 {
     match given {
         Given::Item(count, message) => {
@@ -54,7 +54,7 @@ fn offer_given(given: Given, port: &mut Port) -> Pumped
 
 /// Makes one turn.
 fn turn(source: &mut AnySource, port: &mut Port) -> Pumped
-    ensures { Pumps 1 (rest source.old) (rest source.new) port.old port.new result }
+    ensures { PumpsSource 1 (rest source.old) (rest source.new) port.old port.new result }
 {
     offer_given(source.next(), port)
 }
@@ -68,7 +68,7 @@ pub fn pump_source(
     port: &mut Port,
     turns: u64,
 ) -> Pumped
-    ensures { Pumps turns (rest source.old) (rest source.new) port.old port.new result }
+    ensures { PumpsSource turns (rest source.old) (rest source.new) port.old port.new result }
 {
     let mut pumped = Pumped::default();
     for _ in 0..turns {

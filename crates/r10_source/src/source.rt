@@ -1,8 +1,8 @@
 //! Sources of messages.
 
 ghost use Rattle.std.specs.Prelude.{List};
-ghost use Rattle.r10_body.specs.declared.entry.Timed.{Timed as One};
-ghost use Rattle.r10_source.specs.Given.{Gives};
+ghost use Rattle.r10_body.specs.declared.entry.Timed.{Timed as TimedValue};
+ghost use Rattle.r10_source.specs.Given.{GivesNext};
 
 use r10_body::Message;
 use r10_count::Count;
@@ -23,9 +23,9 @@ pub enum Given {
 /// A source that has no memory for its next message gives `Later` and keeps the message.
 pub trait ChannelSource: Drop {
     /// What the source will still give.
-    ghost rest: { Self → List One };
+    ghost rest: { Self → List TimedValue };
 
     /// One turn: the next message, if there is one yet.
     fn next(&mut self) -> Given
-        ensures { Gives result (rest self.old) (rest self.new) };
+        ensures { GivesNext result (rest self.old) (rest self.new) };
 }

@@ -7,12 +7,12 @@ use Rattle.r10_machine.specs.Config.{Config}
 use Rattle.r10_machine.specs.Machine.{File, Machine}
 use Rattle.r10_machine.specs.Needs.{shown_part}
 use Rattle.r10_machine.specs.Says.{MediumSays}
-use Rattle.r10_machine.specs.declared.event.Event.{Event as Asked}
+use Rattle.r10_machine.specs.declared.event.Event.{Event as EventValue}
 use Rattle.r10_machine.specs.declared.mode.Mode.TheVariants as modes
-use Rattle.r10_machine.specs.declared.reply.Reply.{Reply as Answered}
+use Rattle.r10_machine.specs.declared.reply.Reply.{Reply as ReplyValue}
 use Rattle.r10_machine.specs.declared.reply.Reply.TheVariants.{Refused}
 use Rattle.r10_means.specs.Kept.{Kept, Work, mode_of, unmounted, idle, recording, failed}
-use Rattle.r10_means.specs.Means.{HasFiles, LeadsTo, Means}
+use Rattle.r10_means.specs.Means.{HasFiles, KeptStepsTo, KeptStandsFor}
 use Rattle.r10_medium.proofs.Stops.{stayed, weakened}
 use Rattle.r10_medium.specs.Disk.{Disk, Image, IsSynced, Unchanged}
 use Rattle.r10_medium.specs.Stop.{Leaves, Settled}
@@ -44,14 +44,14 @@ still_safe k later m machine old new config same alike shows safe =
     (subst (λ (s : Config). IsSafe s later.work m.files new) (sym config) (safe_unchanged k.config k.work later.work m.files old new same alike safe)))
 
 -- the medium stays, so that a stop leaves what it left
-alone_left : (known : Machine → Type 0) (k : Kept) (event : Asked) (old new : Disk) → Unchanged old new
-    → (m : Machine) → Means k old.blocks old.failures m → known m → IsSafe k.config k.work m.files old → Leaves (IsEither k.config m event) old new
+alone_left : (known : Machine → Type 0) (k : Kept) (event : EventValue) (old new : Disk) → Unchanged old new
+    → (m : Machine) → KeptStandsFor k old.blocks old.failures m → known m → IsSafe k.config k.work m.files old → Leaves (IsEither k.config m event) old new
 alone_left known k event old new same m means is safe = stayed (IsEither k.config m event) old new same (λ image may. inl (safe_says k.config k.work m.files old safe image may))
 
 -- ---- the calls, by what they leave
 
 -- a call is refused, and nothing changed on the medium
-pub refused_safely : (known : Machine → Type 0) (k later : Kept) (event : Asked) (r : Refusal) (old new : Disk) → later.config ≡ k.config → Unchanged old new → StaysSafe known k event (Refused r) old later new
+pub refused_safely : (known : Machine → Type 0) (k later : Kept) (event : EventValue) (r : Refusal) (old new : Disk) → later.config ≡ k.config → Unchanged old new → StaysSafe known k event (Refused r) old later new
 refused_safely known k later event r old new config same = record {
   left = alone_left known k event old new same;
   behind = λ m machine means safe led. ⊎_elim
@@ -61,20 +61,20 @@ refused_safely known k later event r old new config same = record {
 }
 
 -- the recorder failed
-pub failed_safely : (known : Machine → Type 0) (k later : Kept) (event : Asked) (reply : Answered) (old new : Disk) → later.work ≡ failed
-    → ((m : Machine) → Means k old.blocks old.failures m → known m → IsSafe k.config k.work m.files old → Leaves (IsEither k.config m event) old new) → StaysSafe known k event reply old later new
+pub failed_safely : (known : Machine → Type 0) (k later : Kept) (event : EventValue) (reply : ReplyValue) (old new : Disk) → later.work ≡ failed
+    → ((m : Machine) → KeptStandsFor k old.blocks old.failures m → known m → IsSafe k.config k.work m.files old → Leaves (IsEither k.config m event) old new) → StaysSafe known k event reply old later new
 failed_safely known k later event reply old new fails leaves = record { left = leaves; behind = λ m machine means safe led. inl fails }
 
 -- the medium is synced
-pub synced_safely : (known : Machine → Type 0) (k later : Kept) (event : Asked) (reply : Answered) (old new : Disk) → IsSynced new
-    → ((m : Machine) → Means k old.blocks old.failures m → known m → IsSafe k.config k.work m.files old → Leaves (IsEither k.config m event) old new) → StaysSafe known k event reply old later new
+pub synced_safely : (known : Machine → Type 0) (k later : Kept) (event : EventValue) (reply : ReplyValue) (old new : Disk) → IsSynced new
+    → ((m : Machine) → KeptStandsFor k old.blocks old.failures m → known m → IsSafe k.config k.work m.files old → Leaves (IsEither k.config m event) old new) → StaysSafe known k event reply old later new
 synced_safely known k later event reply old new synced leaves = record {
   left = leaves;
   behind = λ m machine means safe led. safe_synced later.config later.work machine.files new synced (files_said later.config later.work new.blocks machine.files led.means.files);
 }
 
 -- nothing changed on the medium, by an event that makes nothing, and the recorder does what it did
-pub quiet_safely : (known : Machine → Type 0) (k later : Kept) (event : Asked) (reply : Answered) (old new : Disk) → later.config ≡ k.config → mode_of later.work ≡ mode_of k.work → may_make event ≡ false → IsNoFailure reply
+pub quiet_safely : (known : Machine → Type 0) (k later : Kept) (event : EventValue) (reply : ReplyValue) (old new : Disk) → later.config ≡ k.config → mode_of later.work ≡ mode_of k.work → may_make event ≡ false → IsNoFailure reply
     → Unchanged old new → StaysSafe known k event reply old later new
 quiet_safely known k later event reply old new config alike plain fine same = record {
   left = alone_left known k event old new same;
@@ -82,9 +82,9 @@ quiet_safely known k later event reply old new config alike plain fine same = re
 }
 
 -- a file is recorded before and behind it, and a stop leaves what was shown
-pub shown_safely : (known : Machine → Type 0) (k later : Kept) (event : Asked) (reply : Answered) (old new : Disk) (chain made : List ChainBlock) (o p : Open) → k.work ≡ recording chain o → later.work ≡ recording made p
+pub shown_safely : (known : Machine → Type 0) (k later : Kept) (event : EventValue) (reply : ReplyValue) (old new : Disk) (chain made : List ChainBlock) (o p : Open) → k.work ≡ recording chain o → later.work ≡ recording made p
     → later.config ≡ k.config → may_make event ≡ false → IsNoFailure reply
-    → ((m : Machine) → Means k old.blocks old.failures m → Settled (SaysLast k.config m.files old.blocks) old → Leaves (SaysLast k.config m.files old.blocks) old new) → StaysSafe known k event reply old later new
+    → ((m : Machine) → KeptStandsFor k old.blocks old.failures m → Settled (SaysLast k.config m.files old.blocks) old → Leaves (SaysLast k.config m.files old.blocks) old new) → StaysSafe known k event reply old later new
 shown_safely known k later event reply old new chain made o p at then config plain fine leaves = record {
   left = λ m means is safe. weakened (SaysLast k.config m.files old.blocks) (IsEither k.config m event) old new (λ image says. inl says.says) (leaves m means (was m safe));
   behind = λ m machine means safe led.
@@ -98,14 +98,14 @@ shown_safely known k later event reply old new chain made o p at then config pla
 -- ---- calls that leave what is kept, and the medium
 
 -- what is kept stays
-pub still_safely : (known : Machine → Type 0) (k : Kept) (event : Asked) (reply : Answered) (old new : Disk) → may_make event ≡ false → Unchanged old new → StaysSafe known k event reply old k new
+pub still_safely : (known : Machine → Type 0) (k : Kept) (event : EventValue) (reply : ReplyValue) (old new : Disk) → may_make event ≡ false → Unchanged old new → StaysSafe known k event reply old k new
 still_safely known k event (Refused r) old new plain same = refused_safely known k k event r old new refl same
 still_safely known k event reply old new plain same = quiet_safely known k k event reply old new refl refl plain tt same
 
 -- a call that only reads: what is kept stays where it is not refused
-pub reads_safely : {T : Type 0} (known : Machine → Type 0) (k later : Kept) (event : Asked) (reply : T → Answered) (result : Result T Refusal) (said : Answered) (old new : Disk) → later.config ≡ k.config → may_make event ≡ false
+pub reads_safely : {T : Type 0} (known : Machine → Type 0) (k later : Kept) (event : EventValue) (reply : T → ReplyValue) (result : Result T Refusal) (said : ReplyValue) (old new : Disk) → later.config ≡ k.config → may_make event ≡ false
     → OnOk result (later ≡ k) → Unchanged old new → said ≡ elim result [ Ok v ↦ reply v | Err r ↦ Refused r ] → StaysSafe known k event said old later new
 reads_safely known k later event reply (Ok v) said old new config plain kept same is =
     subst (λ (l : Kept). StaysSafe known k event said old l new) (sym kept) (still_safely known k event said old new plain same)
 reads_safely known k later event reply (Err r) said old new config plain kept same is =
-    subst (λ (a : Answered). StaysSafe known k event a old later new) (sym is) (refused_safely known k later event r old new config same)
+    subst (λ (a : ReplyValue). StaysSafe known k event a old later new) (sym is) (refused_safely known k later event r old new config same)

@@ -6,7 +6,7 @@ use Rattle.r10_blockout.specs.Blocks.{bytes_from}
 use Rattle.r10_body.specs.Files.{FileSays, on_channel}
 use Rattle.r10_body.specs.Packets.{file_entries}
 use Rattle.r10_body.specs.declared.entry.Entry.{Entry}
-use Rattle.r10_dirblock.specs.declared.entry.Entry.{Entry as Listed}
+use Rattle.r10_dirblock.specs.declared.entry.Entry.{Entry as DirectoryEntry}
 use Rattle.r10_machine.specs.Config.{Config}
 use Rattle.r10_machine.specs.Machine.{File, shown_entries}
 use Rattle.r10_machine.specs.Room.{blocks_of}
@@ -18,13 +18,13 @@ use Rattle.r10_stops.specs.Again.{AreAgain, FindsAgain, IsAgain}
 abbrev found_of : (f : File) → List Entry → File
 found_of f entries = record f { entries = entries; shown = length entries; own = false }
 
-record Found (image : Image) (entries : List Listed) (files : List File) : Type 0 where
+record Found (image : Image) (entries : List DirectoryEntry) (files : List File) : Type 0 where
   again : List File
   says : SaysEach image entries again
   found : AreFound image again
   same : AreAgain files again
 
-one_found : (image : Image) (e : Listed) (f : File) → Lists f e → (says : SaysFile image f)
+one_found : (image : Image) (e : DirectoryEntry) (f : File) → Lists f e → (says : SaysFile image f)
     → Lists (found_of f (file_entries says.says.0)) e × SaysFile image (found_of f (file_entries says.says.0)) × IsFound image (found_of f (file_entries says.says.0)) × IsAgain f (found_of f (file_entries says.says.0))
 one_found image e f lists says =
     let packets = says.says.0 in
@@ -48,7 +48,7 @@ one_found image e f lists says =
       record { name = refl; setup = refl; first_block = refl; size = refl; closed = refl; entries = says.says.2.entries_are; shown = refl; own = refl },
     )
 
-each_found : (image : Image) (entries : List Listed) (files : List File) → SaysEach image entries files → Found image entries files
+each_found : (image : Image) (entries : List DirectoryEntry) (files : List File) → SaysEach image entries files → Found image entries files
 each_found image [] [] says = record { again = []; says = tt; found = tt; same = tt }
 each_found image (e ∷ entries) (f ∷ files) (lists, said, rest) =
     let more = each_found image entries files rest in
@@ -72,7 +72,7 @@ found_again s image files says =
 
 -- ---- what says files says them as they are found again
 
-again_one : (image : Image) (e : Listed) (f again : File) → IsAgain f again → Lists f e → SaysFile image f → Lists again e × SaysFile image again
+again_one : (image : Image) (e : DirectoryEntry) (f again : File) → IsAgain f again → Lists f e → SaysFile image f → Lists again e × SaysFile image again
 again_one image e f again is lists said =
     let all : shown_entries again ≡ again.entries = take_all again.shown again.entries (omega (arith, is.shown)) in (
       record {
@@ -97,7 +97,7 @@ again_one image e f again is lists said =
       },
     )
 
-again_each : (image : Image) (entries : List Listed) (files again : List File) → AreAgain files again → SaysEach image entries files → SaysEach image entries again
+again_each : (image : Image) (entries : List DirectoryEntry) (files again : List File) → AreAgain files again → SaysEach image entries files → SaysEach image entries again
 again_each image [] [] [] are says = tt
 again_each image (e ∷ entries) (f ∷ files) (g ∷ again) (is, are) (lists, said, rest) =
     let one = again_one image e f g is lists said in
@@ -113,7 +113,7 @@ again_said s image files again are says =
 
 -- ---- what is shown
 
-same_said : (image : Image) (e : Listed) (f g : File) → shown_part f ≡ shown_part g → Lists f e × SaysFile image f → Lists g e × SaysFile image g
+same_said : (image : Image) (e : DirectoryEntry) (f g : File) → shown_part f ≡ shown_part g → Lists f e × SaysFile image f → Lists g e × SaysFile image g
 same_said image e f g same (lists, said) = (
   record {
     name = lists.name ∙ ap (λ (p : File). p.name) same;
@@ -131,7 +131,7 @@ same_said image e f g same (lists, said) = (
 heads : (f g : File) (files others : List File) → map shown_part (f ∷ files) ≡ map shown_part (g ∷ others) → (shown_part f ≡ shown_part g) × (map shown_part files ≡ map shown_part others)
 heads f g files others same = (cc, cc)
 
-each_said : (image : Image) (entries : List Listed) (files others : List File) → map shown_part files ≡ map shown_part others → SaysEach image entries files → SaysEach image entries others
+each_said : (image : Image) (entries : List DirectoryEntry) (files others : List File) → map shown_part files ≡ map shown_part others → SaysEach image entries files → SaysEach image entries others
 each_said image [] [] [] same says = tt
 each_said image [] [] (g ∷ others) same says = cc
 each_said image (e ∷ entries) (f ∷ files) [] same says = cc

@@ -8,8 +8,8 @@ use Rattle.r10_medium.specs.Stop.{Leaves, Settled}
 use Rattle.r10_medium.proofs.Stops.{joined, settled_now, started, stayed, weakened}
 use Rattle.r10_machine.specs.Says.{MediumSays}
 use Rattle.r10_machine.specs.Step.{Run}
-use Rattle.r10_machine.specs.declared.event.Event.{Event as Asked}
-use Rattle.r10_machine.specs.declared.reply.Reply.{Reply as Answered}
+use Rattle.r10_machine.specs.declared.event.Event.{Event as EventValue}
+use Rattle.r10_machine.specs.declared.reply.Reply.{Reply as ReplyValue}
 use Rattle.r10_stops.specs.Left.{IsEither, IsLeft, Makes}
 
 -- ---- lists
@@ -23,14 +23,14 @@ get_end : {A : Type 0} (xs : List A) (x : A) (P : A → Type 0) → P x → IsSo
 get_end [] x P is = is
 get_end (y ∷ xs) x P is = get_end xs x P is
 
-run_long : (s : Config) (old new : Machine) (es : List Asked) (rs : List Answered) (images : List Image) → Run s old es rs images new → length rs ≡ length es
+run_long : (s : Config) (old new : Machine) (es : List EventValue) (rs : List ReplyValue) (images : List Image) → Run s old es rs images new → length rs ≡ length es
 run_long s old new [] [] [] run = refl
 run_long s old new (e ∷ es) (r ∷ rs) (i ∷ images) (mid, step, says, rest) = omega (arith, run_long s mid new es rs images rest)
 run_long s old new es rs images run = absurd run
 
 -- ---- one event more
 
-left_more : (s : Config) (m : Machine) (es : List Asked) (rs : List Answered) (event : Asked) (reply : Answered) (image : Image) → IsLeft s m es rs image → IsLeft s m (es ++ event ∷ []) (rs ++ reply ∷ []) image
+left_more : (s : Config) (m : Machine) (es : List EventValue) (rs : List ReplyValue) (event : EventValue) (reply : ReplyValue) (image : Image) → IsLeft s m es rs image → IsLeft s m (es ++ event ∷ []) (rs ++ reply ∷ []) image
 left_more s m es rs event reply image left = record {
   done = left.done;
   told = omega (arith, left.told, length-append es (event ∷ []));
@@ -41,7 +41,7 @@ left_more s m es rs event reply image left = record {
   says = ⊎_elim (λ says. inl says) (λ next. inr (get_more es event (λ e. Makes s left.at e image) left.done next)) left.says;
 }
 
-left_next : (s : Config) (m mid : Machine) (es : List Asked) (rs : List Answered) (images : List Image) (event : Asked) (reply : Answered) (image : Image) → Run s m es rs images mid → IsEither s mid event image
+left_next : (s : Config) (m mid : Machine) (es : List EventValue) (rs : List ReplyValue) (images : List Image) (event : EventValue) (reply : ReplyValue) (image : Image) → Run s m es rs images mid → IsEither s mid event image
     → IsLeft s m (es ++ event ∷ []) (rs ++ reply ∷ []) image
 left_next s m mid es rs images event reply image run either =
     let long : length rs ≡ length es = run_long s m mid es rs images run in
@@ -70,14 +70,14 @@ leaves_begun s m disk settled = started (IsLeft s m [] []) disk (λ image may. r
   says = inl (settled image may);
 })
 
-pub leaves_more : (s : Config) (m mid : Machine) (es : List Asked) (rs : List Answered) (images : List Image) (event : Asked) (reply : Answered) (old before now : Disk)
+pub leaves_more : (s : Config) (m mid : Machine) (es : List EventValue) (rs : List ReplyValue) (images : List Image) (event : EventValue) (reply : ReplyValue) (old before now : Disk)
     → Run s m es rs images mid → Leaves (IsLeft s m es rs) old before → Leaves (IsEither s mid event) before now → Leaves (IsLeft s m (es ++ event ∷ []) (rs ++ reply ∷ [])) old now
 leaves_more s m mid es rs images event reply old before now run first next =
     joined (IsLeft s m (es ++ event ∷ []) (rs ++ reply ∷ [])) old before now
     (weakened (IsLeft s m es rs) (IsLeft s m (es ++ event ∷ []) (rs ++ reply ∷ [])) old before (left_more s m es rs event reply) first)
     (weakened (IsEither s mid event) (IsLeft s m (es ++ event ∷ []) (rs ++ reply ∷ [])) before now (λ image either. left_next s m mid es rs images event reply image run either) next)
 
-pub leaves_still : (s : Config) (m : Machine) (es : List Asked) (rs : List Answered) (event : Asked) (reply : Answered) (old before now : Disk)
+pub leaves_still : (s : Config) (m : Machine) (es : List EventValue) (rs : List ReplyValue) (event : EventValue) (reply : ReplyValue) (old before now : Disk)
     → Leaves (IsLeft s m es rs) old before → Unchanged before now → Leaves (IsLeft s m (es ++ event ∷ []) (rs ++ reply ∷ [])) old now
 leaves_still s m es rs event reply old before now first same =
     let more = weakened (IsLeft s m es rs) (IsLeft s m (es ++ event ∷ []) (rs ++ reply ∷ [])) old before (left_more s m es rs event reply) first in

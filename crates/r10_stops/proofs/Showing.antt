@@ -7,7 +7,7 @@ use Rattle.r10_body.specs.declared.entry.Entry.{Entry}
 use Rattle.r10_body.specs.declared.refusal.Refusal.{Refusal}
 use Rattle.r10_body.specs.declared.refusal.Refusal.TheVariants.{Medium, OutOfMemory}
 use Rattle.r10_machine.specs.Config.{Config}
-use Rattle.r10_machine.specs.Machine.{Cursor as Reader, File, Machine, SetsCursor, Tick as Ticked, change_last, cursor_of, lane_of, last_file, waiting_entries, with_entries, with_lane}
+use Rattle.r10_machine.specs.Machine.{Cursor as MachineCursor, File, Machine, SetsCursor, Tick as MachineTick, change_last, cursor_of, lane_of, last_file, waiting_entries, with_entries, with_lane}
 use Rattle.r10_machine.specs.Calls.{TicksIn, overflowed, time_entry}
 use Rattle.r10_machine.specs.Checks.{is_recording, offer_checks}
 use Rattle.r10_machine.specs.Needs.{shown_part}
@@ -15,9 +15,9 @@ use Rattle.r10_machine.specs.EventChecks.{refusal}
 use Rattle.r10_machine.specs.Sound.{IsSound}
 use Rattle.r10_machine.specs.Step.{Does, GivesUp, Refuses, Replies, Step, after_refusal}
 use Rattle.r10_machine.specs.declared.mode.Mode.TheVariants.{Failed}
-use Rattle.r10_machine.specs.declared.event.Event.{Event as Asked}
+use Rattle.r10_machine.specs.declared.event.Event.{Event as EventValue}
 use Rattle.r10_machine.specs.declared.event.Event.TheVariants.{Mount, Dismount, Tick, Start, Offer, Pump, Event, Commit, Stop, Seal, Erase, Files, Status, Cursor, Advance, Next, Close, Find, CountAt}
-use Rattle.r10_machine.specs.declared.reply.Reply.{Reply as Answered}
+use Rattle.r10_machine.specs.declared.reply.Reply.{Reply as ReplyValue}
 use Rattle.r10_machine.specs.declared.reply.Reply.TheVariants as replies
 use Rattle.r10_stops.specs.Quiet.{IsNoFailure, may_make}
 
@@ -33,7 +33,7 @@ last_shows more [] all = refl
 last_shows more (f ∷ []) all = ap (λ (p : File). p ∷ []) (part_same f more all.0)
 last_shows more (f ∷ g ∷ files) all = ap (λ (ps : List File). shown_part f ∷ ps) (last_shows more (g ∷ files) all.1)
 
-ticks_show : (b : Bool) (s : Config) (old new : Machine) (tick : Ticked) → AllByRecursion (λ f. f.shown ≤ length f.entries) old.files → TicksIn b s old tick new → shows new.files ≡ shows old.files
+ticks_show : (b : Bool) (s : Config) (old new : Machine) (tick : MachineTick) → AllByRecursion (λ f. f.shown ≤ length f.entries) old.files → TicksIn b s old tick new → shows new.files ≡ shows old.files
 ticks_show false s old new tick all is = ap (λ (m : Machine). shows m.files) is
 ticks_show true s old new tick all (room, is) = ap (λ (m : Machine). shows m.files) is ∙ last_shows (time_entry s tick ∷ []) old.files all
 
@@ -41,10 +41,10 @@ some_of : {A : Type 0} (o : Option A) (P : A → Type 0) (Q : Type 0) → ((a : 
 some_of None P Q gives is = absurd is
 some_of (Some a) P Q gives is = gives a is
 
-sets_show : (old new : Machine) (id : ℕ) (cursor : Option Reader) → SetsCursor old new id cursor → shows new.files ≡ shows old.files
+sets_show : (old new : Machine) (id : ℕ) (cursor : Option MachineCursor) → SetsCursor old new id cursor → shows new.files ≡ shows old.files
 sets_show old new id cursor (sets, is) = ap (λ (m : Machine). shows m.files) is
 
-does_show : (s : Config) (old : Machine) (event : Asked) (reply : Answered) (new : Machine) → AllByRecursion (λ f. f.shown ≤ length f.entries) old.files → may_make event ≡ false → Does s old event reply new → shows new.files ≡ shows old.files
+does_show : (s : Config) (old : Machine) (event : EventValue) (reply : ReplyValue) (new : Machine) → AllByRecursion (λ f. f.shown ≤ length f.entries) old.files → may_make event ≡ false → Does s old event reply new → shows new.files ≡ shows old.files
 does_show s old Mount replies.Done new all plain is = ap (λ (m : Machine). shows m.files) is
 does_show s old Dismount replies.Done new all plain is = ap (λ (m : Machine). shows m.files) is
 does_show s old (Tick count parts) replies.Done new all plain does = ticks_show (is_recording old.mode) s old new (record { count = count; civil = parts }) all does
@@ -71,7 +71,7 @@ does_show s old Seal reply new all plain does = cc
 does_show s old Erase reply new all plain does = cc
 does_show s old event reply new all plain does = absurd does
 
-refused_shows : (event : Asked) (old : Machine) → shows (after_refusal event old).files ≡ shows old.files
+refused_shows : (event : EventValue) (old : Machine) → shows (after_refusal event old).files ≡ shows old.files
 refused_shows (Offer channel count message) old = by (is_none (first_broken (offer_checks (lane_of channel old) count message)))
   where
     by : (b : Bool) → shows (cond b (with_lane channel overflowed old) old).files ≡ shows old.files
@@ -79,12 +79,12 @@ refused_shows (Offer channel count message) old = by (is_none (first_broken (off
     by false = refl
 refused_shows event old = refl
 
-gives_up_shows : (s : Config) (before : ℕ) (old : Machine) (event : Asked) (r : Refusal) (new : Machine) → GivesUp s before old event r new → IsNoFailure (replies.Refused r) → shows new.files ≡ shows old.files
+gives_up_shows : (s : Config) (before : ℕ) (old : Machine) (event : EventValue) (r : Refusal) (new : Machine) → GivesUp s before old event r new → IsNoFailure (replies.Refused r) → shows new.files ≡ shows old.files
 gives_up_shows s before old event Medium new given fine = absurd fine
 gives_up_shows s before old event OutOfMemory new (asks, room, is) fine = ap (λ (m : Machine). shows m.files) is
 gives_up_shows s before old event r new given fine = ap (λ (m : Machine). shows m.files) given.1
 
-replies_show : (s : Config) (before : ℕ) (old : Machine) (event : Asked) (reply : Answered) (new : Machine) → AllByRecursion (λ f. f.shown ≤ length f.entries) old.files → may_make event ≡ false → IsNoFailure reply → Replies s before old event reply new
+replies_show : (s : Config) (before : ℕ) (old : Machine) (event : EventValue) (reply : ReplyValue) (new : Machine) → AllByRecursion (λ f. f.shown ≤ length f.entries) old.files → may_make event ≡ false → IsNoFailure reply → Replies s before old event reply new
     → shows new.files ≡ shows old.files
 replies_show s before old event (replies.Refused r) new all plain fine refuses = by (refusal s old event) refuses
   where
@@ -93,20 +93,20 @@ replies_show s before old event (replies.Refused r) new all plain fine refuses =
     by (Some first) (same, after) = ap (λ (m : Machine). shows m.files) after ∙ refused_shows event old
 replies_show s before old event reply new all plain fine (passed, does) = does_show s old event reply new all plain does
 
-pub step_shows : (s : Config) (m : Machine) (event : Asked) (reply : Answered) (later : Machine) → IsSound s m → Step s m event reply later → may_make event ≡ false → IsNoFailure reply → shows later.files ≡ shows m.files
+pub step_shows : (s : Config) (m : Machine) (event : EventValue) (reply : ReplyValue) (later : Machine) → IsSound s m → Step s m event reply later → may_make event ≡ false → IsNoFailure reply → shows later.files ≡ shows m.files
 step_shows s m event reply later sound (more, replied) plain fine = replies_show s m.failures (record m { failures = later.failures }) event reply later sound.shown plain fine replied
 
 -- ---- where a call is refused
 
 -- a refusal leaves what is shown, or the machine failed
-pub refused_shows_or_fails : (s : Config) (m : Machine) (event : Asked) (r : Refusal) (later : Machine) → Step s m event (replies.Refused r) later
+pub refused_shows_or_fails : (s : Config) (m : Machine) (event : EventValue) (r : Refusal) (later : Machine) → Step s m event (replies.Refused r) later
     → (later.mode ≡ Failed) ⊎ ((later.mode ≡ m.mode) × (shows later.files ≡ shows m.files))
 refused_shows_or_fails s m event r later (more, refuses) = by (refusal s old event) refuses
   where
     old : Machine
     old = record m { failures = later.failures }
 
-    mode_after : (event : Asked) (old : Machine) → (after_refusal event old).mode ≡ old.mode
+    mode_after : (event : EventValue) (old : Machine) → (after_refusal event old).mode ≡ old.mode
     mode_after (Offer channel count message) old = at (is_none (first_broken (offer_checks (lane_of channel old) count message)))
       where
         at : (b : Bool) → (cond b (with_lane channel overflowed old) old).mode ≡ old.mode

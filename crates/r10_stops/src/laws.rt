@@ -5,13 +5,13 @@ ghost use Rattle.r10_machine.specs.Config.{Config};
 ghost use Rattle.r10_machine.specs.Machine.{File, Machine};
 ghost use Rattle.r10_machine.specs.Needs.{shown_part};
 ghost use Rattle.r10_means.specs.Kept.{Kept};
-ghost use Rattle.r10_means.specs.Means.{Means};
+ghost use Rattle.r10_means.specs.Means.{KeptStandsFor};
 ghost use Rattle.r10_medium.specs.Disk.{Image, IsSynced};
 ghost use Rattle.r10_machine.specs.Says.{MediumSays};
 ghost use Rattle.r10_machine.specs.Sound.{IsSound};
 ghost use Rattle.r10_machine.specs.Step.{Step};
-ghost use Rattle.r10_machine.specs.declared.event.Event.{Event as Asked};
-ghost use Rattle.r10_machine.specs.declared.reply.Reply.{Reply as Answered};
+ghost use Rattle.r10_machine.specs.declared.event.Event.{Event as EventValue};
+ghost use Rattle.r10_machine.specs.declared.reply.Reply.{Reply as ReplyValue};
 ghost use Rattle.r10_stops.specs.Again.{FindsAgain};
 ghost use Rattle.r10_stops.specs.Quiet.{IsNoFailure, may_make};
 ghost use Rattle.r10_stops.specs.Safe.{IsSafeOrFailed};
@@ -30,11 +30,11 @@ pub fn shown_parts_are_said()
 
 /// Only a start, a commit, a stop, a seal, an erase and a failure of the medium change what a machine's files show.
 pub fn other_events_show_no_more()
-    ensures { (s : Config) (m : Machine) (event : Asked) (reply : Answered) (later : Machine) → IsSound s m → Step s m event reply later → may_make event ≡ false → IsNoFailure reply
+    ensures { (s : Config) (m : Machine) (event : EventValue) (reply : ReplyValue) (later : Machine) → IsSound s m → Step s m event reply later → may_make event ≡ false → IsNoFailure reply
         → map shown_part later.files ≡ map shown_part m.files }
 {}
 
 /// A synced medium is safe for each machine that a recorder over it stands for, whatever was before: a stop leaves what is read.
 pub fn synced_media_are_safe<M: BlockMedium>(medium: &M)
-    ensures { (k : Kept) (m : Machine) → Means k (M.disk medium.now).blocks (M.disk medium.now).failures m → IsSynced (M.disk medium.now) → IsSafeOrFailed k.config k.work m.files (M.disk medium.now) }
+    ensures { (k : Kept) (m : Machine) → KeptStandsFor k (M.disk medium.now).blocks (M.disk medium.now).failures m → IsSynced (M.disk medium.now) → IsSafeOrFailed k.config k.work m.files (M.disk medium.now) }
 {}

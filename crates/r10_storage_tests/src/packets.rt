@@ -1,6 +1,6 @@
 // The first recording, put packet by packet and closed.
 ghost use Rattle.std.specs.Prelude.{◌≡◌, ◌+◌, ◌<◌, ◌≤◌, length, OnOk};
-ghost use Rattle.r10_medium.specs.MemoryDisk.{blocks_of};
+ghost use Rattle.r10_medium.specs.MemoryDisk.{memory_blocks};
 ghost use Rattle.r10_blockout.specs.Output.{first_of, size_of};
 ghost use Rattle.r10_packetout.specs.Output.{IsReady};
 
@@ -76,12 +76,12 @@ fn put(
     requires first { first_of out.old.blocks ≡ 1 }
     requires size { size_of out.old.blocks ≤ 1500 }
     requires body { length body.now ≤ 400 }
-    requires blocks { 5 ≤ length (blocks_of medium.old) }
+    requires blocks { 5 ≤ length (memory_blocks medium.old) }
     ensures first { first_of out.new.blocks ≡ 1 }
     ensures size { OnOk result (size_of out.new.blocks ≤ size_of out.old.blocks + 431) }
     ensures one { OnOk result (length out.new.entries ≡ length out.old.entries + 1) }
     ensures ready { OnOk result (IsReady out.new 0) }
-    ensures blocks { length (blocks_of medium.new) ≡ length (blocks_of medium.old) }
+    ensures blocks { length (memory_blocks medium.new) ≡ length (memory_blocks medium.old) }
 {
     let Ok(()) = out.ready(1) else {
         return Err(MediumFault);
@@ -97,7 +97,7 @@ fn record(
     counter: Count,
     flags: u8,
 ) -> Result<(u64, usize, u64, usize), MediumFault>
-    requires { 5 ≤ length (blocks_of medium.old) }
+    requires { 5 ≤ length (memory_blocks medium.old) }
 {
     let mut out = PacketOut::begin(alloc, 1);
     put(&mut out, medium, &header(0, 0x01, 0, counter), &SETUP, 0)?;

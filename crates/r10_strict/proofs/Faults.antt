@@ -6,7 +6,7 @@ use Rattle.r10_count.specs.Checks.{first_broken}
 use Rattle.r10_packet.specs.Framing.{header_at, body_at, has_data_checksum, header_rules, header_fault, framing_fault}
 use Rattle.r10_packet.specs.declared.header.Header.{Header}
 use Rattle.r10_packet.specs.declared.fault.PacketFault.{PacketFault}
-use Rattle.r10_packet.specs.declared.fault.PacketFault.TheVariants as framing
+use Rattle.r10_packet.specs.declared.fault.PacketFault.TheVariants as packet_faults
 use Rattle.r10_packet.proofs.Kept.{fault_in_header}
 use Rattle.r10_body.specs.Foreign.{opaque_at, IsForeignBody, IsForeignPacket}
 use Rattle.r10_body.specs.Faults.{HasFault}
@@ -18,16 +18,16 @@ use Rattle.r10_strict.proofs.Fronts.{stays, rules_front}
 -- ---- one fault
 
 pub framing_is : (bytes : List ℕ) (p : PacketFault) → framing_fault bytes ≡ Some p → HasFault bytes (named p)
-framing_is bytes framing.Truncated e = e
-framing_is bytes framing.Sync e = e
-framing_is bytes framing.HeaderSum e = e
-framing_is bytes framing.Length e = e
+framing_is bytes packet_faults.Truncated e = e
+framing_is bytes packet_faults.Sync e = e
+framing_is bytes packet_faults.HeaderSum e = e
+framing_is bytes packet_faults.Length e = e
 
 by_framing : (bytes : List ℕ) (p : PacketFault) (f : FileFault) → framing_fault bytes ≡ Some p → HasFault bytes f → named p ≡ f
-by_framing bytes p Truncated e h = let is : p ≡ framing.Truncated = cc in ap named is
-by_framing bytes p Sync e h = let is : p ≡ framing.Sync = cc in ap named is
-by_framing bytes p HeaderSum e h = let is : p ≡ framing.HeaderSum = cc in ap named is
-by_framing bytes p Length e h = let is : p ≡ framing.Length = cc in ap named is
+by_framing bytes p Truncated e h = let is : p ≡ packet_faults.Truncated = cc in ap named is
+by_framing bytes p Sync e h = let is : p ≡ packet_faults.Sync = cc in ap named is
+by_framing bytes p HeaderSum e h = let is : p ≡ packet_faults.HeaderSum = cc in ap named is
+by_framing bytes p Length e h = let is : p ≡ packet_faults.Length = cc in ap named is
 by_framing bytes p DataSum e h = let none : framing_fault bytes ≡ None = h.0 in absurd cc
 by_framing bytes p Body e h = let none : framing_fault bytes ≡ None = h.0 in absurd cc
 by_framing bytes p (Rule n) e h = absurd h
@@ -54,10 +54,10 @@ by_body bytes Body e h = refl
 by_body bytes (Rule n) e h = absurd h
 
 pub one_fault : (bytes : List ℕ) (f g : FileFault) → HasFault bytes f → HasFault bytes g → f ≡ g
-one_fault bytes Truncated g e h = by_framing bytes framing.Truncated g e h
-one_fault bytes Sync g e h = by_framing bytes framing.Sync g e h
-one_fault bytes HeaderSum g e h = by_framing bytes framing.HeaderSum g e h
-one_fault bytes Length g e h = by_framing bytes framing.Length g e h
+one_fault bytes Truncated g e h = by_framing bytes packet_faults.Truncated g e h
+one_fault bytes Sync g e h = by_framing bytes packet_faults.Sync g e h
+one_fault bytes HeaderSum g e h = by_framing bytes packet_faults.HeaderSum g e h
+one_fault bytes Length g e h = by_framing bytes packet_faults.Length g e h
 one_fault bytes DataSum g e h = by_sum bytes g e h
 one_fault bytes Body g e h = by_body bytes g e h
 one_fault bytes (Rule n) g e h = absurd e
@@ -97,19 +97,19 @@ not_last [] false fault f other e = absurd (other (cc))
 not_last ((true, g) ∷ rules) answer fault f other e = not_last rules answer fault f other e
 not_last ((false, g) ∷ rules) answer fault f other e = e
 
-framing_stays : (bytes rest : List ℕ) (f : PacketFault) → (f ≡ framing.Truncated → ⊥) → framing_fault bytes ≡ Some f → framing_fault (bytes ++ rest) ≡ Some f
+framing_stays : (bytes rest : List ℕ) (f : PacketFault) → (f ≡ packet_faults.Truncated → ⊥) → framing_fault bytes ≡ Some f → framing_fault (bytes ++ rest) ≡ Some f
 framing_stays bytes rest f other e =
-    let first = first_holds _ framing.Truncated _ f other e in
+    let first = first_holds _ packet_faults.Truncated _ f other e in
     let long : 24 ≤ length bytes = leb-true 24 (length bytes) first.0 in
-    let in_header : header_fault bytes ≡ Some f = not_last (header_rules bytes) _ framing.Truncated f other first.1 in
+    let in_header : header_fault bytes ≡ Some f = not_last (header_rules bytes) _ packet_faults.Truncated f other first.1 in
     let still : header_fault (bytes ++ rest) ≡ Some f = ap first_broken (rules_front bytes rest long) ∙ in_header in
     fault_in_header (bytes ++ rest) f (omega (arith, long, length-append bytes rest)) still
 
 pub fault_stays : (bytes rest : List ℕ) (f : FileFault) → HasFault bytes f → (f ≡ Truncated → ⊥) → HasFault (bytes ++ rest) f
 fault_stays bytes rest Truncated h other = absurd (other refl)
-fault_stays bytes rest Sync h other = framing_stays bytes rest framing.Sync (λ e. absurd cc) h
-fault_stays bytes rest HeaderSum h other = framing_stays bytes rest framing.HeaderSum (λ e. absurd cc) h
-fault_stays bytes rest Length h other = framing_stays bytes rest framing.Length (λ e. absurd cc) h
+fault_stays bytes rest Sync h other = framing_stays bytes rest packet_faults.Sync (λ e. absurd cc) h
+fault_stays bytes rest HeaderSum h other = framing_stays bytes rest packet_faults.HeaderSum (λ e. absurd cc) h
+fault_stays bytes rest Length h other = framing_stays bytes rest packet_faults.Length (λ e. absurd cc) h
 fault_stays bytes rest DataSum h other =
     let still = stays bytes rest h.0 in
     (still.framed, still.opaque ∙ h.1, still.sum ∙ h.2)

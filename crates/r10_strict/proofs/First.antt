@@ -11,7 +11,7 @@ use Rattle.r10_packet.proofs.Fields.{AreBytes, fields_fit, header_again, header_
 use Rattle.r10_packet.proofs.Kept.{whole_of, lengths_of, no_fault}
 use Rattle.r10_packet.proofs.Whole.{found_whole, read_whole, filler_at}
 use Rattle.r10_body.specs.Faults.{first_packet}
-use Rattle.r10_body.specs.Foreign.{IsForeignPacket, opaque_at, is_opaque}
+use Rattle.r10_body.specs.Foreign.{IsForeignPacket, opaque_at, is_opaque_packet}
 
 within : (t r : List ℕ) (a b : ℕ) → a ≤ b → b ≤ length t → slice_range (t ++ r) a b ≡ slice_range t a b
 within t r a b h g =
@@ -61,7 +61,7 @@ foreign_first bytes fits is =
     let own = first_bytes bytes n fits in
     let first = stands_first t r own is.framed in
     let opaque : opaque_at bytes ≡ opaque_at t =
-    ap opaque_at (sym all) ∙ ap (λ (g : Header). is_opaque g (body_at (t ++ r))) first.header ∙ ap (is_opaque (header_at t)) first.body_is in
+    ap opaque_at (sym all) ∙ ap (λ (g : Header). is_opaque_packet g (body_at (t ++ r))) first.header ∙ ap (is_opaque_packet (header_at t)) first.body_is in
     record {
       sound = ap framing_fault (sym all) ∙ first.sound;
       checked = λ read.

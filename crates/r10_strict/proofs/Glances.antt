@@ -3,14 +3,14 @@ use Rattle.std.proofs.Common.{◌≡◌, ℕ, ◌+◌, ◌/◌, ◌%◌, ◌^◌
 use Rattle.r10_count.specs.Bytes.{le_bytes}
 use Rattle.r10_count.specs.Count.{IsCount, stamp}
 use Rattle.r10_count.specs.Padding.{padded}
-use Rattle.r10_uart.specs.Entry.{uart_form, entry-size as uart_size}
+use Rattle.r10_uart.specs.Entry.{uart_form, uart_entry-size}
 use Rattle.r10_uart.specs.declared.entry.UartEntry.{UartEntry}
 use Rattle.r10_uart.proofs.Bodies.{is_body as is_uart, body_is as uart_is}
-use Rattle.r10_uart.proofs.Entries.{entry_of as uart_of, entry_read as uart_read}
-use Rattle.r10_message.specs.Entry.{message_form, entry-size as message_size}
+use Rattle.r10_uart.proofs.Entries.{entry_of as uart_entry_of, entry_read as uart_read}
+use Rattle.r10_message.specs.Entry.{message_form, message_entry-size}
 use Rattle.r10_message.specs.declared.entry.MessageEntry.{MessageEntry}
 use Rattle.r10_message.proofs.Bodies.{is_body as is_message, body_is as message_is}
-use Rattle.r10_message.proofs.Entries.{entry_of as message_of, entry_read as message_read}
+use Rattle.r10_message.proofs.Entries.{entry_of as message_entry_of, entry_read as message_read}
 use Rattle.r10_body.specs.Bodies.{IsBodyOf}
 use Rattle.r10_body.specs.Content.{Content, uart, message, timed}
 use Rattle.r10_body.specs.declared.message.Message.TheVariants as messages
@@ -22,9 +22,9 @@ pub uart_glimpse : (before : ℕ) (bytes rest behind text : List ℕ) (count hea
     → (e : UartEntry) × IsGlimpse uart_form (λ e. timed e.count (messages.Uart e.parity e.sub e.bytes)) before bytes (record { count = count; cost = 116 + length text }) e
 uart_glimpse before bytes rest behind text count header lc lt free e1 e2 e3 n =
     let is = uart_read bytes rest behind text count header lc lt free e1 e2 e3 n in
-    let e = uart_of count header text in (
+    let e = uart_entry_of count header text in (
       e,
-      record { fits = is.0; spelled = is.1; count = refl; same = refl; cost = omega arith; cheap = omega (arith, uart_size e, ap (λ (t : List ℕ). length t) is.1) },
+      record { fits = is.0; spelled = is.1; count = refl; same = refl; cost = omega arith; cheap = omega (arith, uart_entry-size e, ap (λ (t : List ℕ). length t) is.1) },
     )
 
 pub message_glimpse : (before : ℕ) (bytes rest behind text : List ℕ) (count header : ℕ) → IsCount count → header < 2 ^ 32
@@ -32,9 +32,9 @@ pub message_glimpse : (before : ℕ) (bytes rest behind text : List ℕ) (count 
     → (e : MessageEntry) × IsGlimpse message_form (λ e. timed e.count (messages.Message e.data_error e.format e.sub e.bytes)) before bytes (record { count = count; cost = 116 + length text }) e
 message_glimpse before bytes rest behind text count header lc lt e1 e2 e3 n =
     let is = message_read bytes rest behind text count header lc lt e1 e2 e3 n in
-    let e = message_of count header text in (
+    let e = message_entry_of count header text in (
       e,
-      record { fits = is.0; spelled = is.1; count = refl; same = refl; cost = omega arith; cheap = omega (arith, message_size e, ap (λ (t : List ℕ). length t) is.1) },
+      record { fits = is.0; spelled = is.1; count = refl; same = refl; cost = omega arith; cheap = omega (arith, message_entry-size e, ap (λ (t : List ℕ). length t) is.1) },
     )
 
 -- ---- bodies

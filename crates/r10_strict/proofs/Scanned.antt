@@ -11,7 +11,7 @@ use Rattle.r10_count.proofs.BodyParts.{entry_some}
 use Rattle.r10_count.proofs.Spelling.{behind_first}
 use Rattle.r10_body.specs.declared.entry.Timed.{Timed}
 use Rattle.r10_strict.specs.Glance.{IsGlimpse, IsPlain}
-use Rattle.r10_strict.specs.Tally.{nothing, tally_behind, tally_of, timed_cost, with_message}
+use Rattle.r10_strict.specs.Tally.{empty_tally, tally_behind, tally_of, timed_cost, with_message}
 use Rattle.r10_strict.specs.declared.scan.Glimpse.{Glimpse}
 use Rattle.r10_strict.specs.declared.tally.Tally.{Tally}
 
@@ -45,7 +45,7 @@ pub record Scanned {E : Type 0} (form : Form E) (said : E → Timed) (before : �
   pub few : tally.entries + length rest ≤ length bytes
   pub cheap : tally.cost + 29 * length rest ≤ 29 * length bytes
 
-pub scanned_none : {E : Type 0} (form : Form E) (said : E → Timed) (before : ℕ) (bytes : List ℕ) → Scanned form said before bytes before bytes nothing
+pub scanned_none : {E : Type 0} (form : Form E) (said : E → Timed) (before : ℕ) (bytes : List ℕ) → Scanned form said before bytes before bytes empty_tally
 scanned_none form said before bytes = record { some = λ tail s. (tail, s, refl); only = λ all s. (all, s); few = omega arith; cheap = omega arith }
 
 pub scanned_more : {E : Type 0} (form : Form E) (said : E → Timed) (before : ℕ) (bytes : List ℕ) (count : ℕ) (rest after : List ℕ) (tally : Tally) (g : Glimpse) (e : E)
@@ -92,7 +92,7 @@ number_from said t [] = omega arith
 number_from said t (e ∷ es) = omega (arith, number_from said (with_message t (said e)) es)
 
 pub number_is : {E : Type 0} (said : E → Timed) (t : Tally) (es : List E) → t ≡ tally_of (map said es) → t.entries ≡ length es
-number_is said t es is = omega (arith, number_from said nothing es, ap (λ (u : Tally). u.entries) is)
+number_is said t es is = omega (arith, number_from said empty_tally es, ap (λ (u : Tally). u.entries) is)
 
 pub plain_front : {E : Type 0} (form : Form E) (word : ℕ) (rest body : List ℕ) → word < 2 ^ 32 → body ≡ le_bytes 4 word ++ rest → (es : List E) → IsPlain form es body
     → (word ≡ form.word 0 (length es)) × IsSpelled form 0 es rest

@@ -10,7 +10,7 @@ use Rattle.r10_count.specs.Bytes.{flag_at, bit_of}
 use Rattle.r10_packet.specs.Sums.{data_checksum}
 use Rattle.r10_packet.specs.Header.{header_bytes, checksum_bits}
 use Rattle.r10_packet.specs.Packet.{filled, least_filler}
-use Rattle.r10_packet.specs.Framing.{framing_fault, header_at, body_at, has_lengths, has_room, is_right, has_data_checksum}
+use Rattle.r10_packet.specs.Framing.{framing_fault, header_at, body_at, has_lengths, has_room_for_checksum, is_right, has_data_checksum}
 use Rattle.r10_packet.specs.declared.header.Header.{Header}
 use Rattle.r10_packet.proofs.Fields.{AreBytes}
 use Rattle.r10_packet.proofs.Kept.{both, whole_of, lengths_of}
@@ -20,7 +20,7 @@ use Rattle.r10_body.specs.Bodies.{IsBodyOf}
 use Rattle.r10_body.specs.Content.{Content}
 use Rattle.r10_body.specs.Packets.{Packet, FitsPacket, packet_body, packet_rest, packet_bytes, header_of}
 use Rattle.r10_body.specs.Rules.{KeepsChecksums}
-use Rattle.r10_body.specs.Faults.{KeepsHeader, KeepsFiller, Reads}
+use Rattle.r10_body.specs.Faults.{KeepsHeader, KeepsFiller, ReadsPacket}
 use Rattle.r10_body.proofs.Sentences.{packet_sentence, rest_words}
 use Rattle.r10_strict.specs.Header.{packet_of}
 
@@ -101,7 +101,7 @@ pub record IsFramed (bytes : List ℕ) (p : Packet) : Type 0 where
   pub keeps : KeepsHeader bytes
   pub filler : KeepsFiller bytes
 
-pub framed : (bytes : List ℕ) (p : Packet) → Reads bytes p → IsFramed bytes p
+pub framed : (bytes : List ℕ) (p : Packet) → ReadsPacket bytes p → IsFramed bytes p
 framed bytes p (fits, sums, first) =
     let h = header_of p in
     let n = (header_at bytes).packet_len in
@@ -161,7 +161,7 @@ same_header h g a b c d e f i j =
 
 pub reads_made : (bytes : List ℕ) (content : Content) → AreBytes bytes → framing_fault bytes ≡ None → has_data_checksum bytes ≡ true → KeepsHeader bytes → KeepsFiller bytes
     → IsBodyOf (header_at bytes).data_type (header_at bytes).counter content (body_at bytes) → KeepsChecksums (packet_of (header_at bytes) content)
-    → Reads bytes (packet_of (header_at bytes) content)
+    → ReadsPacket bytes (packet_of (header_at bytes) content)
 unfolding packet_bytes
 reads_made bytes content fits sound checked keeps filler is sums =
     let h = header_at bytes in
@@ -202,7 +202,7 @@ pub record HasRoom (bytes : List ℕ) : Type 0 where
 pub room_of : (bytes : List ℕ) → framing_fault bytes ≡ None → has_data_checksum bytes ≡ true → HasRoom bytes
 room_of bytes sound checked =
     let h = header_at bytes in
-    record { room = leb-true (24 + h.data_len + checksum_bits h.flags / 8) h.packet_len (both (has_room h) (is_right h bytes) checked).0; whole = (whole_of bytes sound).whole }
+    record { room = leb-true (24 + h.data_len + checksum_bits h.flags / 8) h.packet_len (both (has_room_for_checksum h) (is_right h bytes) checked).0; whole = (whole_of bytes sound).whole }
 
 zeros_are : (n : ℕ) → n < 4 → take {A = ℕ} n (0 ∷ 0 ∷ 0 ∷ []) ≡ replicate n 0
 zeros_are zero lt = refl

@@ -6,12 +6,12 @@ use Rattle.std.proofs.lemmas.List.Sums.{sum_by-append, sum_by-cons}
 use Rattle.std.specs.List.{AllByRecursion, concat}
 use Rattle.r10_packet.specs.Framing.{framing_fault, header_at, body_at, has_data_checksum}
 use Rattle.r10_packet.proofs.Kept.{whole_of, lengths_of}
-use Rattle.r10_packet.specs.declared.fault.PacketFault.TheVariants as framing
+use Rattle.r10_packet.specs.declared.fault.PacketFault.TheVariants as packet_faults
 use Rattle.r10_body.specs.Foreign.{opaque_at, IsForeignBody, IsForeignPacket, IsForeignFile}
 use Rattle.r10_body.specs.Faults.{HasFault, IsFaulty}
 use Rattle.r10_body.specs.declared.fault.FileFault.{FileFault}
 use Rattle.r10_body.specs.declared.fault.FileFault.TheVariants.{Truncated}
-use Rattle.r10_strict.specs.Tracks.{IsFirst, Stands}
+use Rattle.r10_strict.specs.Tracks.{IsFirst, TracksForeign}
 use Rattle.r10_strict.specs.declared.file.ForeignTrack.{ForeignTrack}
 use Rattle.r10_strict.specs.declared.packet.ForeignPacket.{ForeignPacket}
 use Rattle.r10_strict.proofs.Fronts.{stays, is_foreign}
@@ -42,7 +42,7 @@ opaque_alone bytes packet is =
     is.opaque ∙ sym (ap opaque_at (take-append-drop packet.length bytes)) ∙ still.opaque
 
 pub stands_more : (old new : ForeignTrack) (before bytes : List ℕ) (packet : ForeignPacket) → IsFirst bytes packet
-    → new.offset ≡ old.offset + packet.length → new.opaque ≡ old.opaque + cond packet.opaque 1 0 → Stands old before → Stands new (before ++ take packet.length bytes)
+    → new.offset ≡ old.offset + packet.length → new.opaque ≡ old.opaque + cond packet.opaque 1 0 → TracksForeign old before → TracksForeign new (before ++ take packet.length bytes)
 stands_more old new before bytes packet is offset opaque so_far =
     let first = take packet.length bytes in
     let size : length first ≡ packet.length = length-take-le packet.length bytes is.inside in
@@ -63,11 +63,11 @@ no_packets : (packets : List (List ℕ)) → AllByRecursion IsForeignPacket pack
 no_packets [] all e = refl
 no_packets (p ∷ ps) all e = absurd (omega (arith, e, packet_long p all.0, length-append p (concat ps)))
 
-at_start : (track : ForeignTrack) (before rest : List ℕ) (so_far : Stands track before) → (0 < length rest) ⊎ (track.offset ≡ 0) → (0 < length rest) ⊎ (length so_far.packets ≡ 0)
+at_start : (track : ForeignTrack) (before rest : List ℕ) (so_far : TracksForeign track before) → (0 < length rest) ⊎ (track.offset ≡ 0) → (0 < length rest) ⊎ (length so_far.packets ≡ 0)
 at_start track before rest so_far (inl some) = inl some
 at_start track before rest so_far (inr none) = inr (no_packets so_far.packets so_far.foreign (omega (arith, none, so_far.offset, ap length so_far.bytes_are)))
 
-pub stands_faulty : (track : ForeignTrack) (before rest : List ℕ) (offset : ℕ) (f : FileFault) → offset ≡ track.offset → HasFault rest f → Stands track before
+pub stands_faulty : (track : ForeignTrack) (before rest : List ℕ) (offset : ℕ) (f : FileFault) → offset ≡ track.offset → HasFault rest f → TracksForeign track before
     → (0 < length rest) ⊎ (track.offset ≡ 0) → IsFaulty (before ++ rest) offset f
 stands_faulty track before rest offset f is h so_far some = (
   so_far.packets,
@@ -83,15 +83,15 @@ some_packets : (packets : List (List ℕ)) → 0 < length (concat packets) → 0
 some_packets [] some = some
 some_packets (p ∷ ps) some = omega arith
 
-pub stands_file : (track : ForeignTrack) (bytes : List ℕ) → (track.offset ≡ 0 → ⊥) → Stands track bytes → IsForeignFile bytes track.opaque
+pub stands_file : (track : ForeignTrack) (bytes : List ℕ) → (track.offset ≡ 0 → ⊥) → TracksForeign track bytes → IsForeignFile bytes track.opaque
 stands_file track bytes some so_far =
     let long : length (concat so_far.packets) ≡ track.offset = sym (so_far.offset ∙ ap length so_far.bytes_are) in
     (so_far.packets, so_far.bytes_are, some_packets so_far.packets (omega (arith, some, long)), so_far.foreign, so_far.opaque)
 
-pub stands_empty : (track : ForeignTrack) (bytes : List ℕ) → track.offset ≡ 0 → Stands track bytes → IsFaulty bytes 0 Truncated
+pub stands_empty : (track : ForeignTrack) (bytes : List ℕ) → track.offset ≡ 0 → TracksForeign track bytes → IsFaulty bytes 0 Truncated
 stands_empty track bytes none so_far =
     let empty : bytes ≡ [] = nil_from_length bytes (omega (arith, none, so_far.offset)) in
-    ([], bytes, refl, refl, tt, inr refl, subst (λ t. framing_fault t ≡ Some framing.Truncated) (sym empty) refl)
+    ([], bytes, refl, refl, tt, inr refl, subst (λ t. framing_fault t ≡ Some packet_faults.Truncated) (sym empty) refl)
 
 -- a packet further on
 pub walked : (bytes before rest : List ℕ) (n : ℕ) → bytes ≡ before ++ rest → n ≤ length rest → bytes ≡ (before ++ take n rest) ++ take (length rest - n) (drop n rest)

@@ -4,13 +4,13 @@ use Rattle.std.specs.Prelude.{nat_le}
 use Rattle.std.specs.List.{AllByRecursion, fold, sum_by}
 use Rattle.std.proofs.lemmas.Bool.{leb-true, le-leb}
 use Rattle.std.proofs.lemmas.List.Sums.{sum_by-cons}
-use Rattle.r10_uart.specs.Uart.{entry_size as uart_size}
+use Rattle.r10_uart.specs.Uart.{uart_entry_size}
 use Rattle.r10_uart.proofs.Bodies.{body-length as uart_length}
-use Rattle.r10_b1553.specs.Bus.{entry_size as bus_size}
+use Rattle.r10_b1553.specs.Bus.{bus_entry_size}
 use Rattle.r10_b1553.proofs.Bodies.{body-length as bus_length}
 use Rattle.r10_a429.proofs.Bodies.{body-length as arinc_length}
 use Rattle.r10_discrete.proofs.Bodies.{body-length as discrete_length}
-use Rattle.r10_message.specs.Message.{entry_size as message_size}
+use Rattle.r10_message.specs.Message.{message_entry_size}
 use Rattle.r10_message.proofs.Bodies.{body-length as message_length}
 use Rattle.r10_body.specs.Content.{Content, setup, time, event, uart, bus, arinc, discrete, message, node, root, type_of, body_of, timed, messages_of}
 use Rattle.r10_body.specs.Cost.{entry_cost}
@@ -21,10 +21,10 @@ use Rattle.r10_body.specs.declared.message.Message.TheVariants as messages
 use Rattle.r10_body.specs.Sequence.{last_count}
 use Rattle.r10_count.specs.Bytes.{bit_of}
 use Rattle.r10_packet.specs.declared.header.Header.{Header}
-use Rattle.r10_strict.specs.Facts.{Tells, TellsCounts, kind_of}
+use Rattle.r10_strict.specs.Facts.{AreFactsOf, TellsCounts, kind_of}
 use Rattle.r10_strict.specs.Header.{packet_of}
 use Rattle.r10_strict.specs.declared.facts.PacketKind.{PacketKind}
-use Rattle.r10_strict.specs.Tally.{nothing, spread_behind, tally_of, timed_cost, with_message}
+use Rattle.r10_strict.specs.Tally.{empty_tally, spread_behind, tally_of, timed_cost, with_message}
 use Rattle.r10_strict.specs.declared.facts.Spread.{Spread}
 use Rattle.r10_strict.specs.declared.tally.Tally.{Tally}
 
@@ -35,7 +35,7 @@ entries_from t [] channel gap = omega arith
 entries_from t (m ∷ ms) channel gap = omega (arith, entries_from (with_message t m) ms channel false)
 
 pub entries_are : (ms : List Timed) (channel : ℕ) (gap : Bool) → (tally_of ms).entries ≡ length (with_gaps channel gap ms)
-entries_are ms channel gap = omega (arith, entries_from nothing ms channel gap)
+entries_are ms channel gap = omega (arith, entries_from empty_tally ms channel gap)
 
 cost_from : (t : Tally) (ms : List Timed) (channel : ℕ) (gap : Bool) → (fold with_message t ms).cost ≡ t.cost + sum_by entry_cost (with_gaps channel gap ms)
 cost_from t [] channel gap = omega arith
@@ -43,7 +43,7 @@ cost_from t (m ∷ ms) channel gap =
     omega (arith, cost_from (with_message t m) ms channel false, sum_by-cons entry_cost (record { channel = channel; count = m.count; message = m.message; gap = gap }) (with_gaps channel false ms))
 
 pub cost_is : (ms : List Timed) (channel : ℕ) (gap : Bool) → (tally_of ms).cost ≡ sum_by entry_cost (with_gaps channel gap ms)
-cost_is ms channel gap = omega (arith, cost_from nothing ms channel gap)
+cost_is ms channel gap = omega (arith, cost_from empty_tally ms channel gap)
 
 -- ---- counts
 
@@ -121,11 +121,11 @@ pub content_cheap : (counter : ℕ) (c : Content) → sum_by timed_cost (message
 content_cheap counter (setup text) = omega arith
 content_cheap counter (time civil) = omega arith
 content_cheap counter (event e) = omega arith
-content_cheap counter (uart es) = omega (arith, uart_length es, entries_cheap uart_size (λ e. timed e.count (messages.Uart e.parity e.sub e.bytes)) (λ e. omega arith) es)
-content_cheap counter (bus es) = omega (arith, bus_length es, entries_cheap bus_size (λ e. timed e.count (messages.Bus1553 e.status e.gap e.words)) (λ e. omega arith) es)
+content_cheap counter (uart es) = omega (arith, uart_length es, entries_cheap uart_entry_size (λ e. timed e.count (messages.Uart e.parity e.sub e.bytes)) (λ e. omega arith) es)
+content_cheap counter (bus es) = omega (arith, bus_length es, entries_cheap bus_entry_size (λ e. timed e.count (messages.Bus1553 e.status e.gap e.words)) (λ e. omega arith) es)
 content_cheap counter (arinc es) = omega (arith, arinc_length counter es, same_sizes 8 es, entries_cheap (λ e. 8) (λ e. timed e.count (messages.Arinc e.bus e.format e.parity e.high e.word)) (λ e. omega arith) es)
 content_cheap counter (discrete bits es) = omega (arith, discrete_length bits es, same_sizes 12 es, entries_cheap (λ e. 12) (λ e. timed e.count (messages.Discrete e.states)) (λ e. omega arith) es)
-content_cheap counter (message es) = omega (arith, message_length es, entries_cheap message_size (λ e. timed e.count (messages.Message e.data_error e.format e.sub e.bytes)) (λ e. omega arith) es)
+content_cheap counter (message es) = omega (arith, message_length es, entries_cheap message_entry_size (λ e. timed e.count (messages.Message e.data_error e.format e.sub e.bytes)) (λ e. omega arith) es)
 content_cheap counter (node es) = omega arith
 content_cheap counter (root es) = omega arith
 
@@ -133,7 +133,7 @@ content_cheap counter (root es) = omega arith
 
 pub facts_told : (h : Header) (kind : PacketKind) (t : Tally) (content : Content) → kind ≡ kind_of content → t ≡ tally_of (messages_of h.counter content)
     → h.data_type ≡ type_of content → h.packet_len ≡ length (packet_bytes (packet_of h content))
-    → Tells (record { channel = h.channel; sequence = h.sequence; flagged = bit_of 4 h.flags; counter = h.counter; data_type = h.data_type; kind = kind; length = h.packet_len; entries = t.entries; cost = t.cost; counts = t.counts }) (packet_of h content)
+    → AreFactsOf (record { channel = h.channel; sequence = h.sequence; flagged = bit_of 4 h.flags; counter = h.counter; data_type = h.data_type; kind = kind; length = h.packet_len; entries = t.entries; cost = t.cost; counts = t.counts }) (packet_of h content)
 facts_told h kind t content kinds sums type size =
     let ms = messages_of h.counter content in
     let gap = bit_of 4 h.flags in

@@ -12,15 +12,15 @@ use Rattle.r10_packet.specs.Packet.{least_filler}
 use Rattle.r10_packet.specs.Framing.{body_at, has_lengths}
 use Rattle.r10_packet.specs.declared.header.Header.{Header}
 use Rattle.r10_packet.proofs.Whole.{IsReadWhole, read_whole}
-use Rattle.r10_timebody.specs.Time as times
-use Rattle.r10_event.specs.Event as events
-use Rattle.r10_indexbody.specs.Index as indexes
-use Rattle.r10_message.specs.Message as messages
-use Rattle.r10_uart.specs.Uart as uarts
+use Rattle.r10_timebody.specs.Time as time_bodies
+use Rattle.r10_event.specs.Event as event_bodies
+use Rattle.r10_indexbody.specs.Index as index_bodies
+use Rattle.r10_message.specs.Message as message_bodies
+use Rattle.r10_uart.specs.Uart as uart_bodies
 use Rattle.r10_body.proofs.Lenient.{strict-lenient}
 use Rattle.r10_body.specs.Content.{Content, setup, time, event, uart, bus, arinc, discrete, message, node, root, type_of, body_of, messages_of, FitsContent}
 use Rattle.r10_body.specs.Files.{IsStrict}
-use Rattle.r10_body.specs.Foreign.{known_types, selects_other, is_opaque, opaque_at, IsForeignBody, IsForeignPacket, IsForeignFile}
+use Rattle.r10_body.specs.Foreign.{known_types, selects_other, is_opaque_packet, opaque_at, IsForeignBody, IsForeignPacket, IsForeignFile}
 use Rattle.r10_body.specs.Packets.{Packet, FitsPacket, packet_body, packet_rest, packet_bytes, header_of}
 use Rattle.r10_body.proofs.Sentences.{packet_sentence, rest_length, rest_words}
 use Rattle.r10_body.proofs.Rules.{follows_fit}
@@ -56,17 +56,17 @@ time_present : (leap : Bool) → bit_of 9 (cond leap 0x301 0x201) ≡ true
 time_present true = refl
 time_present false = refl
 
-node_clear : (n : ℕ) (rest : List ℕ) → n < 2 ^ 16 → indexes.is_opaque (le_bytes 4 (2 ^ 31 + n) ++ rest) ≡ false
+node_clear : (n : ℕ) (rest : List ℕ) → n < 2 ^ 16 → index_bodies.is_opaque_index (le_bytes 4 (2 ^ 31 + n) ++ rest) ≡ false
 node_clear n rest lt =
     let word = word_at (2 ^ 31 + n) rest (omega (arith, lt)) in
     off _ _ (neither _ _ (ap (bit_of 30) word ∙ bit_is 30 (2 ^ 31 + n) 2 (omega (arith, lt))) (ap (bit_of 29) word ∙ bit_is 29 (2 ^ 31 + n) 4 (omega (arith, lt))))
 
-root_clear : (n : ℕ) (rest : List ℕ) → n < 2 ^ 16 → indexes.is_opaque (le_bytes 4 n ++ rest) ≡ false
+root_clear : (n : ℕ) (rest : List ℕ) → n < 2 ^ 16 → index_bodies.is_opaque_index (le_bytes 4 n ++ rest) ≡ false
 root_clear n rest lt =
     let word = word_at n rest (omega (arith, lt)) in
     off _ _ (neither _ _ (ap (bit_of 30) word ∙ bit_is 30 n 0 (omega (arith, lt))) (ap (bit_of 29) word ∙ bit_is 29 n 0 (omega (arith, lt))))
 
-message_clear : (n : ℕ) (rest : List ℕ) → n < 2 ^ 16 → messages.is_opaque (le_bytes 4 n ++ rest) ≡ false
+message_clear : (n : ℕ) (rest : List ℕ) → n < 2 ^ 16 → message_bodies.is_opaque_message (le_bytes 4 n ++ rest) ≡ false
 message_clear n rest lt =
     let word = word_at n rest (omega (arith, lt)) in
     let none : n / 65536 ≡ 0 = omega (arith, lt) in
@@ -74,22 +74,22 @@ message_clear n rest lt =
 
 unselected : (counter : ℕ) (content : Content) → FitsContent counter content → selects_other (type_of content) (body_of counter content) ≡ false
 unselected counter (setup text) fits = none_of _ _ _ _ _ _ (off (type_of (setup text) == 1) _ (off (nat_le 4 (length (body_of counter (setup text)))) _ (ap (bit_of 9) (word_at 0x0C text (lit< tt))))) refl refl refl refl refl
-unselected counter (event e) fits = none_of _ _ _ _ _ _ refl (off (type_of (event e) == 2) _ (off (nat_le 4 (length (body_of counter (event e)))) _ (ap (bit_of 31) (word_at 1 (events.event_entry e) (lit< tt))))) refl refl refl refl
+unselected counter (event e) fits = none_of _ _ _ _ _ _ refl (off (type_of (event e) == 2) _ (off (nat_le 4 (length (body_of counter (event e)))) _ (ap (bit_of 31) (word_at 1 (event_bodies.event_entry_bytes e) (lit< tt))))) refl refl refl refl
 unselected counter (time civil) fits =
     let leap : Bool = is_leap civil.year in
-    let word : u32_at (times.time_body civil) 0 ≡ cond leap 0x301 0x201 = from_le_bytes-to_le_bytes_4 (cond leap 0x301 0x201) (time_small leap) in
+    let word : u32_at (time_bodies.time_body civil) 0 ≡ cond leap 0x301 0x201 = from_le_bytes-to_le_bytes_4 (cond leap 0x301 0x201) (time_small leap) in
     none_of _ _ _ _ _ _ refl refl refl (off (type_of (time civil) == 17) _ (off (nat_le 4 (length (body_of counter (time civil)))) _ (ap (λ w. not (bit_of 9 w)) word ∙ ap not (time_present leap)))) refl refl
 unselected counter (uart entries) fits =
-    none_of _ _ _ _ _ _ refl refl refl refl refl (off (type_of (uart entries) == 80) _ (off (nat_le 4 (length (body_of counter (uart entries)))) _ (ap (λ w. not (bit_of 31 w)) (word_at 0x80000000 (flat_map uarts.uart_entry entries) (lit< tt)))))
+    none_of _ _ _ _ _ _ refl refl refl refl refl (off (type_of (uart entries) == 80) _ (off (nat_le 4 (length (body_of counter (uart entries)))) _ (ap (λ w. not (bit_of 31 w)) (word_at 0x80000000 (flat_map uart_bodies.uart_entry entries) (lit< tt)))))
 unselected counter (bus entries) fits = refl
 unselected counter (arinc entries) fits = refl
 unselected counter (discrete bits entries) fits = refl
 unselected counter (message entries) fits =
-    none_of _ _ _ _ _ _ refl refl refl refl (off (type_of (message entries) == 48) _ (message_clear (length entries) (flat_map messages.message_entry entries) fits.counted)) refl
+    none_of _ _ _ _ _ _ refl refl refl refl (off (type_of (message entries) == 48) _ (message_clear (length entries) (flat_map message_bodies.message_entry entries) fits.counted)) refl
 unselected counter (node entries) fits =
-    none_of _ _ _ _ _ _ refl refl (off (type_of (node entries) == 3) _ (node_clear (length entries) (flat_map indexes.node_entry entries) fits.counted)) refl refl refl
+    none_of _ _ _ _ _ _ refl refl (off (type_of (node entries) == 3) _ (node_clear (length entries) (flat_map index_bodies.node_entry entries) fits.counted)) refl refl refl
 unselected counter (root entries) fits =
-    none_of _ _ _ _ _ _ refl refl (off (type_of (root entries) == 3) _ (root_clear (length entries) (flat_map indexes.root_entry entries) fits.counted)) refl refl refl
+    none_of _ _ _ _ _ _ refl refl (off (type_of (root entries) == 3) _ (root_clear (length entries) (flat_map index_bodies.root_entry entries) fits.counted)) refl refl refl
 
 known : (content : Content) → not (list_any (λ type. type == type_of content) known_types) ≡ false
 known (setup text) = refl
@@ -106,7 +106,7 @@ known (root entries) = refl
 four : (a b c d : Bool) → a ≡ false → b ≡ false → c ≡ false → d ≡ false → (a || b || c || d) ≡ false
 four a b c d p q r s = rw (p, q, r, s) refl
 
-header_clear : (p : Packet) → FitsPacket p → is_opaque (header_of p) (packet_body p) ≡ false
+header_clear : (p : Packet) → FitsPacket p → is_opaque_packet (header_of p) (packet_body p) ≡ false
 header_clear p fits =
     let flags = flags_clear p.flagged p.check fits.check in
     four _ _ _ _ flags.0 flags.1 (known p.content) (unselected p.counter p.content fits.content)
@@ -130,7 +130,7 @@ read_alone p fits =
 pub packet_clear : (p : Packet) → FitsPacket p → opaque_at (packet_bytes p) ≡ false
 packet_clear p fits =
     let read = read_alone p fits in
-    ap (λ (h : Header). is_opaque h (body_at (packet_bytes p))) read.header ∙ ap (is_opaque (header_of p)) read.body_is ∙ header_clear p fits
+    ap (λ (h : Header). is_opaque_packet h (body_at (packet_bytes p))) read.header ∙ ap (is_opaque_packet (header_of p)) read.body_is ∙ header_clear p fits
 
 body_foreign : (p : Packet) → FitsPacket p → IsForeignBody (type_of p.content) (packet_body p)
 body_foreign p fits =

@@ -34,7 +34,7 @@ TellsCounts None entries = entries ≡ []
 TellsCounts (Some s) entries = Spans s entries
 
 -- each is what the packet has
-pub record Tells (f : Facts) (p : Packet) : Type 0 where
+pub record AreFactsOf (f : Facts) (p : Packet) : Type 0 where
   pub channel : f.channel ≡ p.channel
   pub sequence : f.sequence ≡ p.sequence
   pub flagged : f.flagged ≡ p.flagged

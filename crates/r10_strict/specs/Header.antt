@@ -4,7 +4,7 @@ use Rattle.r10_count.specs.Bytes.{bit_of}
 use Rattle.r10_packet.specs.declared.header.Header.{Header}
 use Rattle.r10_body.specs.Content.{Content, type_of}
 use Rattle.r10_body.specs.Packets.{Packet, packet_bytes}
-use Rattle.r10_strict.specs.Facts.{Tells}
+use Rattle.r10_strict.specs.Facts.{AreFactsOf}
 use Rattle.r10_strict.specs.declared.facts.Facts.{Facts}
 
 -- this version and these flags, and not too long
@@ -23,5 +23,5 @@ abbrev pub packet_of : Header → Content → Packet
 packet_of h content = record { channel = h.channel; sequence = h.sequence; flagged = bit_of 4 h.flags; check = h.flags % 4; counter = h.counter; content = content }
 
 -- these are the facts of that packet, where it has the header's data type and length
-abbrev pub TellsOf : Facts → Header → Content → Type 0
-TellsOf f h content = h.data_type ≡ type_of content → h.packet_len ≡ length (packet_bytes (packet_of h content)) → Tells f (packet_of h content)
+abbrev pub AreFactsOfHeader : Facts → Header → Content → Type 0
+AreFactsOfHeader f h content = h.data_type ≡ type_of content → h.packet_len ≡ length (packet_bytes (packet_of h content)) → AreFactsOf f (packet_of h content)

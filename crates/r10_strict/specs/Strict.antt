@@ -2,18 +2,18 @@
 use Rattle.std.specs.Prelude.{ℕ, ◌≤◌, Bool, List}
 use Rattle.r10_body.specs.Packets.{Packet}
 use Rattle.r10_body.specs.Foreign.{IsForeignPacket}
-use Rattle.r10_body.specs.Faults.{Reads, BreaksRule, first_packet}
-use Rattle.r10_strict.specs.Facts.{Tells}
+use Rattle.r10_body.specs.Faults.{ReadsPacket, BreaksRule, first_packet}
+use Rattle.r10_strict.specs.Facts.{AreFactsOf}
 use Rattle.r10_strict.specs.declared.strict.StrictReading.{StrictReading}
 use Rattle.r10_strict.specs.declared.strict.StrictReading.TheVariants.{Strict, Breaks}
 
 -- whatever stands before it, the packet that stands first breaks this rule and none below it, and it is one of the first three
-pub record BreaksFirst (bytes : List ℕ) (n : ℕ) : Type 0 where
+pub record BreaksEarlyRuleFirst (bytes : List ℕ) (n : ℕ) : Type 0 where
   pub early : n ≤ 3
   pub broken : (before : List Packet) (closed : Bool) → BreaksRule before bytes closed n
   pub least : (before : List Packet) (closed : Bool) (m : ℕ) → BreaksRule before bytes closed m → n ≤ m
 
 -- the packet that stands first is one of the recorder's, and these are its facts; or it is none, and where it is a packet of any recorder's it breaks this rule first
-abbrev pub Finds : List ℕ → StrictReading → Type 0
-Finds bytes (Strict facts) = (p : Packet) × Reads bytes p × Tells facts p
-Finds bytes (Breaks n) = ((p : Packet) → Reads bytes p → ⊥) × (IsForeignPacket (first_packet bytes) → BreaksFirst bytes n)
+abbrev pub FindsPacket : List ℕ → StrictReading → Type 0
+FindsPacket bytes (Strict facts) = (p : Packet) × ReadsPacket bytes p × AreFactsOf facts p
+FindsPacket bytes (Breaks n) = ((p : Packet) → ReadsPacket bytes p → ⊥) × (IsForeignPacket (first_packet bytes) → BreaksEarlyRuleFirst bytes n)

@@ -25,12 +25,12 @@ tally_behind t count cost = record { entries = t.entries + 1; cost = t.cost + co
 abbrev pub with_message : Tally → Timed → Tally
 with_message t m = tally_behind t m.count (timed_cost m)
 
-abbrev pub nothing : Tally
-nothing = record { entries = 0; cost = 0; counts = None }
+abbrev pub empty_tally : Tally
+empty_tally = record { entries = 0; cost = 0; counts = None }
 
 -- what messages come to
 abbrev pub tally_of : List Timed → Tally
-tally_of messages = fold with_message nothing messages
+tally_of messages = fold with_message empty_tally messages
 
 -- what a packet with these messages is, where one without messages is told by its data type and by its word
 abbrev pub told_kind : ℕ → Bool → List Timed → PacketKind

@@ -3,7 +3,7 @@ use Rattle.std.specs.Prelude.{◌≡◌, ℕ, ◌≤◌, List, length, count_by,
 use Rattle.std.specs.List.{AllByRecursion, concat}
 use Rattle.r10_packet.specs.Framing.{header_at}
 use Rattle.r10_packet.specs.declared.fault.PacketFault.{PacketFault}
-use Rattle.r10_packet.specs.declared.fault.PacketFault.TheVariants as framing
+use Rattle.r10_packet.specs.declared.fault.PacketFault.TheVariants as packet_faults
 use Rattle.r10_body.specs.Foreign.{opaque_at, IsForeignPacket}
 use Rattle.r10_body.specs.declared.fault.FileFault.{FileFault}
 use Rattle.r10_body.specs.declared.fault.FileFault.TheVariants.{Truncated, Sync, HeaderSum, Length}
@@ -12,10 +12,10 @@ use Rattle.r10_strict.specs.declared.packet.ForeignPacket.{ForeignPacket}
 
 -- a file's fault, by a packet's fault of framing
 abbrev pub named : PacketFault → FileFault
-named framing.Truncated = Truncated
-named framing.Sync = Sync
-named framing.HeaderSum = HeaderSum
-named framing.Length = Length
+named packet_faults.Truncated = Truncated
+named packet_faults.Sync = Sync
+named packet_faults.HeaderSum = HeaderSum
+named packet_faults.Length = Length
 
 -- the packet that stands first, whoever wrote it: as long as its header tells, and opaque or read
 pub record IsFirst (bytes : List ℕ) (packet : ForeignPacket) : Type 0 where
@@ -26,7 +26,7 @@ pub record IsFirst (bytes : List ℕ) (packet : ForeignPacket) : Type 0 where
   pub opaque : packet.opaque ≡ opaque_at bytes
 
 -- the bytes so far are packets of any recorder, none or more, and the track has their length and the number of opaque ones
-pub record Stands (track : ForeignTrack) (bytes : List ℕ) : Type 0 where
+pub record TracksForeign (track : ForeignTrack) (bytes : List ℕ) : Type 0 where
   pub packets : List (List ℕ)
   pub bytes_are : bytes ≡ concat packets
   pub foreign : AllByRecursion IsForeignPacket packets

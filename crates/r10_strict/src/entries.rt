@@ -1,14 +1,14 @@
 //! Entries of any recorder, counted where they stand.
 
 ghost use Rattle.std.specs.Prelude.{◌≡◌, ◌++◌, ◌↔◌, ℕ, List, length, IfSome, IfNone, IsTrue};
-ghost use Rattle.r10_count.specs.Form.{IsEntry, IsSplit, IsForeign};
+ghost use Rattle.r10_count.specs.Form.{IsEntryBytes, IsSplit, IsForeign};
 
 use r10_count::{BodyEntry, split_u32};
 
 /// The bytes behind the entry that stands first.
 fn behind_entry<E: BodyEntry>(bytes: &[u8]) -> Option<&[u8]>
-    ensures some { IfSome result (λ rest. (entry : List ℕ) × IsEntry E.form.front E.form.told entry × (bytes.now ≡ entry ++ rest.now)) }
-    ensures none { IfNone result ((entry rest : List ℕ) → IsEntry E.form.front E.form.told entry → bytes.now ≡ entry ++ rest → ⊥) }
+    ensures some { IfSome result (λ rest. (entry : List ℕ) × IsEntryBytes E.form.front E.form.told entry × (bytes.now ≡ entry ++ rest.now)) }
+    ensures none { IfNone result ((entry rest : List ℕ) → IsEntryBytes E.form.front E.form.told entry → bytes.now ≡ entry ++ rest → ⊥) }
 {
     let front = E::front();
     if bytes.len() < front {

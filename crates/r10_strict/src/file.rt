@@ -27,11 +27,11 @@ pub struct ForeignTrack {
 }
 
 impl ForeignTrack {
-    ghost use Rattle.r10_strict.specs.Tracks.{IsFirst, Stands};
+    ghost use Rattle.r10_strict.specs.Tracks.{IsFirst, TracksForeign};
 
     /// The start of a file.
     pub fn new() -> ForeignTrack
-        ensures { Stands result [] }
+        ensures { TracksForeign result [] }
     {
         ForeignTrack {
             offset: 0,
@@ -44,9 +44,9 @@ impl ForeignTrack {
     pub fn take(&mut self, bytes: &[u8]) -> Result<ForeignPacket, Fault>
         requires { self.old.offset + length bytes.now < 2 ^ 64 }
         ensures found { IfOk result (IsFirst bytes.now) }
-        ensures taken { IfOk result (λ packet. (before : List ℕ) → Stands self.old before → Stands self.new (before ++ take packet.length bytes.now)) }
+        ensures taken { IfOk result (λ packet. (before : List ℕ) → TracksForeign self.old before → TracksForeign self.new (before ++ take packet.length bytes.now)) }
         ensures fault { IfErr result (λ at. (at.offset ≡ self.old.offset) × HasFault bytes.now at.fault) }
-        ensures faulty { IfErr result (λ at. (before : List ℕ) → Stands self.old before → (0 < length bytes.now) ⊎ (self.old.offset ≡ 0) → IsFaulty (before ++ bytes.now) at.offset at.fault) }
+        ensures faulty { IfErr result (λ at. (before : List ℕ) → TracksForeign self.old before → (0 < length bytes.now) ⊎ (self.old.offset ≡ 0) → IsFaulty (before ++ bytes.now) at.offset at.fault) }
         ensures kept { OnErr result (self.new ≡ self.old) }
     {
         let packet = match read_foreign(bytes) {
@@ -65,8 +65,8 @@ impl ForeignTrack {
 
     /// The number of opaque packets of a file that ends here; a file without a packet is at fault.
     pub fn end(&self) -> Result<u64, Fault>
-        ensures file { IfOk result (λ opaque. (bytes : List ℕ) → Stands self.now bytes → IsForeignFile bytes opaque) }
-        ensures faulty { IfErr result (λ at. (bytes : List ℕ) → Stands self.now bytes → IsFaulty bytes at.offset at.fault) }
+        ensures file { IfOk result (λ opaque. (bytes : List ℕ) → TracksForeign self.now bytes → IsForeignFile bytes opaque) }
+        ensures faulty { IfErr result (λ at. (bytes : List ℕ) → TracksForeign self.now bytes → IsFaulty bytes at.offset at.fault) }
     {
         let offset = self.offset;
         if offset == 0 {

@@ -2,7 +2,7 @@
 
 ghost use Rattle.std.specs.Prelude.{◌≡◌, ◌++◌, ◌≤◌, ℕ, List, map, IfSome, IfNone, length};
 ghost use Rattle.r10_count.specs.Form.{IsSpelled};
-ghost use Rattle.r10_body.specs.declared.entry.Timed.{Timed as Said};
+ghost use Rattle.r10_body.specs.declared.entry.Timed.{Timed as TimedValue};
 ghost use Rattle.r10_strict.specs.Glance.{IsGlimpse, IsPlain};
 ghost use Rattle.r10_strict.specs.Tally.{tally_of};
 
@@ -20,7 +20,7 @@ pub(crate) struct Glimpse {
 /// An entry of a body that is read where it stands.
 pub(crate) trait Glance: BodyEntry {
     /// The message of an entry, with its count.
-    ghost said: { Self → Said };
+    ghost said: { Self → TimedValue };
 
     /// What the entry comes to that the writer spells with these bytes behind an entry at a count, if
     /// there is one.

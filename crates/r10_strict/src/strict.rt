@@ -5,7 +5,7 @@ ghost use Rattle.r10_packet.specs.Framing.{framing_fault, has_data_checksum, hea
 ghost use Rattle.r10_body.specs.Faults.{KeepsFiller, first_packet};
 ghost use Rattle.r10_body.specs.Foreign.{IsForeignPacket};
 ghost use Rattle.r10_strict.specs.Header.{IsCheckedRight, IsOwnHeader, goes_unchecked as has_no_checksum};
-ghost use Rattle.r10_strict.specs.Strict.{Finds};
+ghost use Rattle.r10_strict.specs.Strict.{FindsPacket};
 
 use crate::body::read_body;
 use crate::facts::Facts;
@@ -87,7 +87,7 @@ fn find(
 ) -> Result<StrictReading, AllocError>
     requires short { length body.now ≤ header.now.packet_len }
     ensures { header.now ≡ header_at bytes.now → body.now ≡ body_at bytes.now → framing_fault bytes.now ≡ None
-        → (IsTrue filled ↔ ((has_data_checksum bytes.now ≡ true) × KeepsFiller bytes.now)) → IfOk result (Finds bytes.now) }
+        → (IsTrue filled ↔ ((has_data_checksum bytes.now ≡ true) × KeepsFiller bytes.now)) → IfOk result (FindsPacket bytes.now) }
 {
     if !is_own(header) {
         return Ok(StrictReading::Breaks(1));
@@ -109,7 +109,7 @@ fn find(
 /// recorder writes it, else the least of the first three rules that it breaks. Where the bytes begin
 /// with no packet of any recorder's, the number says nothing.
 pub fn read_strict(alloc: Global, bytes: &[u8]) -> Result<StrictReading, AllocError>
-    ensures { IfOk result (Finds bytes.now) }
+    ensures { IfOk result (FindsPacket bytes.now) }
 {
     match Packet::read(bytes) {
         Ok((view, _)) => {
@@ -123,7 +123,7 @@ pub fn read_strict(alloc: Global, bytes: &[u8]) -> Result<StrictReading, AllocEr
 /// Reads the packet that stands first in bytes and that any recorder may have written, as `read_strict` does. Where it
 /// isn't opaque its data checksum is known to be right, and isn't computed again.
 pub fn read_checked(alloc: Global, bytes: &[u8]) -> Result<StrictReading, AllocError>
-    ensures { IsForeignPacket (first_packet bytes.now) → IfOk result (Finds bytes.now) }
+    ensures { IsForeignPacket (first_packet bytes.now) → IfOk result (FindsPacket bytes.now) }
 {
     let Some((header, body)) = parts(bytes) else {
         return read_strict(alloc, bytes);

@@ -2,7 +2,7 @@
 
 ghost use Rattle.std.specs.Prelude.{◌≡◌, ◌+◌, ◌^◌, ◌<◌};
 ghost use Rattle.std.specs.List.{sum_by};
-ghost use Rattle.r10_strict.specs.Tally.{nothing, spread_behind, tally_behind, tally_of, timed_cost};
+ghost use Rattle.r10_strict.specs.Tally.{empty_tally, spread_behind, tally_behind, tally_of, timed_cost};
 
 use crate::facts::Spread;
 use r10_body::{ENTRY_COST, Timed, cost};
@@ -45,7 +45,7 @@ fn spread(before: Option<Spread>, count: Count) -> Spread
 impl Tally {
     /// Of no entries.
     pub(crate) fn new() -> Tally
-        ensures { result ≡ nothing }
+        ensures { result ≡ empty_tally }
     {
         Tally {
             entries: 0,

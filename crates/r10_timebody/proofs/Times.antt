@@ -4,17 +4,17 @@ use Rattle.std.proofs.lemmas.Grind.{common_steps}
 use Rattle.r10_count.specs.Bytes.{le_bytes}
 use Rattle.r10_count.specs.Civil.{IsCivil}
 use Rattle.r10_count.specs.declared.civil.Parts.{Parts}
-use Rattle.r10_timebody.specs.Time.{two_digits, digits_word, time_word, time_body, told_number, told_parts, IsTime}
+use Rattle.r10_timebody.specs.Time.{two_packed_digits, digits_word, time_word, time_body, told_number, told_parts, IsTime}
 
-pub told_number-two_digits : (n : ℕ) → n < 100 → told_number (two_digits n) ≡ n
+pub told_number-two_digits : (n : ℕ) → n < 100 → told_number (two_packed_digits n) ≡ n
 told_number-two_digits n small = omega arith
 
 -- the low number stands first
-digits_word_bytes : (high low : ℕ) → high < 100 → low < 100 → digits_word high low ≡ two_digits low ∷ two_digits high ∷ []
+digits_word_bytes : (high low : ℕ) → high < 100 → low < 100 → digits_word high low ≡ two_packed_digits low ∷ two_packed_digits high ∷ []
 digits_word_bytes high low h l =
-    let first : (256 * two_digits high + two_digits low) % 256 ≡ two_digits low = omega arith in
-    let second : (256 * two_digits high + two_digits low) / 256 % 256 ≡ two_digits high = omega arith in
-    ap (λ n. n ∷ (256 * two_digits high + two_digits low) / 256 % 256 ∷ []) first ∙ ap (λ n. two_digits low ∷ n ∷ []) second
+    let first : (256 * two_packed_digits high + two_packed_digits low) % 256 ≡ two_packed_digits low = omega arith in
+    let second : (256 * two_packed_digits high + two_packed_digits low) / 256 % 256 ≡ two_packed_digits high = omega arith in
+    ap (λ n. n ∷ (256 * two_packed_digits high + two_packed_digits low) / 256 % 256 ∷ []) first ∙ ap (λ n. two_packed_digits low ∷ n ∷ []) second
 
 -- each part of a civil time has two digits, and the year twice two
 pub record HasDigits (p : Parts) : Type 0 where
@@ -29,22 +29,22 @@ pub record HasDigits (p : Parts) : Type 0 where
 -- the bytes behind the word
 abbrev pub digit_bytes : Parts → List ℕ
 digit_bytes p =
-    two_digits p.centi ∷ two_digits p.second ∷ two_digits p.minute ∷ two_digits p.hour ∷ two_digits p.day
-    ∷ two_digits p.month ∷ two_digits (p.year % 100) ∷ two_digits (p.year / 100) ∷ []
+    two_packed_digits p.centi ∷ two_packed_digits p.second ∷ two_packed_digits p.minute ∷ two_packed_digits p.hour ∷ two_packed_digits p.day
+    ∷ two_packed_digits p.month ∷ two_packed_digits (p.year % 100) ∷ two_packed_digits (p.year / 100) ∷ []
 
 pub time_body-digit_bytes : (p : Parts) → HasDigits p → time_body p ≡ le_bytes 4 (time_word p) ++ digit_bytes p
 time_body-digit_bytes p h =
     let century : p.year / 100 < 100 = omega (arith, h.year) in
     let year : p.year % 100 < 100 = omega arith in
     ap (λ t. le_bytes 4 (time_word p) ++ t ++ digits_word p.hour p.minute ++ digits_word p.month p.day ++ digits_word (p.year / 100) (p.year % 100)) (digits_word_bytes p.second p.centi h.second h.centi)
-    ∙ ap (λ t. le_bytes 4 (time_word p) ++ two_digits p.centi ∷ two_digits p.second ∷ t ++ digits_word p.month p.day ++ digits_word (p.year / 100) (p.year % 100)) (digits_word_bytes p.hour p.minute h.hour h.minute)
-    ∙ ap (λ t. le_bytes 4 (time_word p) ++ two_digits p.centi ∷ two_digits p.second ∷ two_digits p.minute ∷ two_digits p.hour ∷ t ++ digits_word (p.year / 100) (p.year % 100)) (digits_word_bytes p.month p.day h.month h.day)
-    ∙ ap (λ t. le_bytes 4 (time_word p) ++ two_digits p.centi ∷ two_digits p.second ∷ two_digits p.minute ∷ two_digits p.hour ∷ two_digits p.day ∷ two_digits p.month ∷ t) (digits_word_bytes (p.year / 100) (p.year % 100) century year)
+    ∙ ap (λ t. le_bytes 4 (time_word p) ++ two_packed_digits p.centi ∷ two_packed_digits p.second ∷ t ++ digits_word p.month p.day ++ digits_word (p.year / 100) (p.year % 100)) (digits_word_bytes p.hour p.minute h.hour h.minute)
+    ∙ ap (λ t. le_bytes 4 (time_word p) ++ two_packed_digits p.centi ∷ two_packed_digits p.second ∷ two_packed_digits p.minute ∷ two_packed_digits p.hour ∷ t ++ digits_word (p.year / 100) (p.year % 100)) (digits_word_bytes p.month p.day h.month h.day)
+    ∙ ap (λ t. le_bytes 4 (time_word p) ++ two_packed_digits p.centi ∷ two_packed_digits p.second ∷ two_packed_digits p.minute ∷ two_packed_digits p.hour ∷ two_packed_digits p.day ∷ two_packed_digits p.month ∷ t) (digits_word_bytes (p.year / 100) (p.year % 100) century year)
 
 same_parts : (p q : Parts) → p.year ≡ q.year → p.month ≡ q.month → p.day ≡ q.day → p.hour ≡ q.hour → p.minute ≡ q.minute → p.second ≡ q.second → p.centi ≡ q.centi → p ≡ q
 same_parts p q y m d h n s c i = record { year = y i; month = m i; day = d i; hour = h i; minute = n i; second = s i; centi = c i }
 
-told_year : (year : ℕ) → year < 10000 → told_number (two_digits (year / 100)) * 100 + told_number (two_digits (year % 100)) ≡ year
+told_year : (year : ℕ) → year < 10000 → told_number (two_packed_digits (year / 100)) * 100 + told_number (two_packed_digits (year % 100)) ≡ year
 told_year year h = omega (arith, told_number-two_digits (year / 100) (omega arith), told_number-two_digits (year % 100) (omega arith))
 
 -- the digits tell the parts that they were written for

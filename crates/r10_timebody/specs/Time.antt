@@ -5,12 +5,12 @@ use Rattle.r10_count.specs.Civil.{is_leap, IsCivil}
 use Rattle.r10_count.specs.declared.civil.Parts.{Parts}
 
 -- a number below 100 as two packed decimal digits
-abbrev pub two_digits : ℕ → ℕ
-two_digits n = n / 10 * 16 + n % 10
+abbrev pub two_packed_digits : ℕ → ℕ
+two_packed_digits n = n / 10 * 16 + n % 10
 
 -- a word of two such numbers
 abbrev pub digits_word : ℕ → ℕ → List ℕ
-digits_word high low = le_bytes 2 (256 * two_digits high + two_digits low)
+digits_word high low = le_bytes 2 (256 * two_packed_digits high + two_packed_digits low)
 
 -- month and year are present (bit 9), the leap bit (8) is the year's, the format is 0 and the source 1
 abbrev pub time_word : Parts → ℕ
@@ -41,5 +41,5 @@ abbrev pub IsForeignTime : List ℕ → Type 0
 IsForeignTime body = length body ≡ 12
 
 -- there is a word, and it says that the time is a day of the year, which isn't read
-abbrev pub is_opaque : List ℕ → Bool
-is_opaque body = nat_le 4 (length body) && not (bit_of 9 (u32_at body 0))
+abbrev pub is_opaque_time : List ℕ → Bool
+is_opaque_time body = nat_le 4 (length body) && not (bit_of 9 (u32_at body 0))

@@ -2,7 +2,7 @@
 use Rattle.std.specs.Prelude.{◌≡◌, true, false, [], ◌∷◌, map, replicate, refl}
 use Rattle.std.proofs.Common.{arith}
 use Rattle.r10_count.specs.declared.civil.Parts.{Parts}
-use Rattle.r10_timebody.specs.Time.{IsForeignTime, time_body, is_opaque}
+use Rattle.r10_timebody.specs.Time.{IsForeignTime, time_body, is_opaque_time}
 
 abbrev leap_day : Parts
 leap_day = record { year = 2024; month = 2; day = 29; hour = 12; minute = 34; second = 56; centi = 78 }
@@ -17,7 +17,7 @@ pub common_century-body : time_body common_century ≡ 0x01 ∷ 0x02 ∷ 0x00 �
 common_century-body = refl
 
 -- bit 9 is clear in the first alone; the last has no whole word
-pub opaque_words : map is_opaque ((0x01 ∷ 0x01 ∷ 0x00 ∷ 0x00 ∷ []) ∷ (0x01 ∷ 0x03 ∷ 0x00 ∷ 0x00 ∷ []) ∷ (0x00 ∷ 0x02 ∷ 0x00 ∷ 0x00 ∷ 0x09 ∷ []) ∷ (0x01 ∷ 0x01 ∷ 0x00 ∷ []) ∷ []) ≡ true ∷ false ∷ false ∷ false ∷ []
+pub opaque_words : map is_opaque_time ((0x01 ∷ 0x01 ∷ 0x00 ∷ 0x00 ∷ []) ∷ (0x01 ∷ 0x03 ∷ 0x00 ∷ 0x00 ∷ []) ∷ (0x00 ∷ 0x02 ∷ 0x00 ∷ 0x00 ∷ 0x09 ∷ []) ∷ (0x01 ∷ 0x01 ∷ 0x00 ∷ []) ∷ []) ≡ true ∷ false ∷ false ∷ false ∷ []
 opaque_words = refl
 
 -- twelve bytes may be another recorder's, and eleven may not

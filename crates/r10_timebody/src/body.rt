@@ -2,11 +2,11 @@
 
 ghost use Rattle.std.specs.Prelude.{◌≡◌, ◌↔◌, length, IsTrue, SomeIff};
 ghost use Rattle.r10_count.specs.Civil.{IsCivil};
-ghost use Rattle.r10_count.specs.declared.civil.Parts.{Parts as Spoken};
+ghost use Rattle.r10_count.specs.declared.civil.Parts.{Parts as PartsValue};
 ghost use Rattle.r10_count.specs.Append.{Appends};
-ghost use Rattle.r10_count.specs.Reading.{Reads};
+ghost use Rattle.r10_count.specs.Reading.{ReadsBody};
 ghost use Rattle.r10_count.specs.declared.reading.Reading.TheVariants.{Strict};
-ghost use Rattle.r10_timebody.specs.Time.{IsTime, IsForeignTime, time_body, time_word as word_of, told_parts, is_opaque};
+ghost use Rattle.r10_timebody.specs.Time.{IsTime, IsForeignTime, time_body, time_word as told_time_word, told_parts, is_opaque_time};
 
 use crate::digits::{packed, unpacked};
 use r10_count::{Civil, Parts, Reading, append_all, split_u32};
@@ -68,7 +68,7 @@ impl TimeBody {
     /// The channel specific data word: month and year present, the leap bit, and format 0 and source
     /// 1, which are this recorder's own choice.
     fn word(&self) -> u32
-        ensures { result ≡ word_of self.now.civil }
+        ensures { result ≡ told_time_word self.now.civil }
     {
         if self.civil.in_leap_year() {
             0x301
@@ -109,8 +109,8 @@ impl TimeBody {
     /// Reads a body: the civil time that this recorder writes as these bytes, or whether another
     /// recorder may have written them. Another recorder's digits are not judged.
     pub fn decode(body: &[u8]) -> Reading<Civil>
-        ensures found { Reads (λ civil. IsTime civil body.now) (IsForeignTime body.now) result }
-        ensures only { (civil : Spoken) → IsTime civil body.now → result ≡ Strict civil }
+        ensures found { ReadsBody (λ civil. IsTime civil body.now) (IsForeignTime body.now) result }
+        ensures only { (civil : PartsValue) → IsTime civil body.now → result ≡ Strict civil }
     {
         let Ok(body) = <[u8; 12]>::try_from(body) else {
             return Reading::Neither;
@@ -127,7 +127,7 @@ impl TimeBody {
 
     /// Whether the word of a body says that its time is a day of the year. Such a body isn't read.
     pub fn is_opaque(body: &[u8]) -> bool
-        ensures { result ≡ is_opaque body.now }
+        ensures { result ≡ is_opaque_time body.now }
     {
         match split_u32(body) {
             Some((word, _)) => word / 0x200 % 2 == 0,

@@ -1,12 +1,12 @@
 //! Packed decimal digits: four bits for each digit.
 
 ghost use Rattle.std.specs.Prelude.{◌≡◌, ◌<◌, ◌+◌, ◌*◌, ◌/◌, ◌%◌};
-ghost use Rattle.r10_timebody.specs.Time.{two_digits};
+ghost use Rattle.r10_timebody.specs.Time.{two_packed_digits};
 
 /// A number below 100 as two packed decimal digits.
 pub(crate) fn packed(number: u16) -> u8
     requires { number < 100 }
-    ensures { result ≡ two_digits number }
+    ensures { result ≡ two_packed_digits number }
 {
     (number / 10 * 16 + number % 10) as u8
 }

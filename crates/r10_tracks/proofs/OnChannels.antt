@@ -9,15 +9,15 @@ use Rattle.std.proofs.lemmas.Bool.{eq-eqb, eqb-true}
 use Rattle.r10_body.specs.Content.{type_of}
 use Rattle.r10_body.specs.Files.{on_channel}
 use Rattle.r10_body.specs.Packets.{Packet, packet_entries, file_entries}
-use Rattle.r10_body.specs.Rules.{EachFollows, KeepsChannels, KeepsSequence, KeepsCounts, Rise, packet_on, entry_on}
+use Rattle.r10_body.specs.Rules.{EachFollows, KeepsChannels, KeepsSequence, KeepsCounts, Rise, packet_on, is_entry_on}
 use Rattle.r10_body.specs.declared.entry.Entry.{Entry}
 use Rattle.r10_body.specs.Sequence.{next_sequence, last_count}
 use Rattle.r10_body.proofs.ChannelLists.{packet_off_channel, channel_same, channel_other, sequence_same, sequence_other, rises}
 use Rattle.r10_body.proofs.Indexes.{counted, counted_first, counted_yes, counted_no}
-use Rattle.r10_strict.specs.Facts.{Tells, Spans, TellsCounts}
+use Rattle.r10_strict.specs.Facts.{AreFactsOf, Spans, TellsCounts}
 use Rattle.r10_strict.specs.declared.facts.Facts.{Facts}
 use Rattle.r10_strict.specs.declared.facts.Spread.{Spread}
-use Rattle.r10_tracks.specs.Channels.{HaveType, KeptOf, IsKept, AreKept}
+use Rattle.r10_tracks.specs.Channels.{HaveType, KeptOf, IsKeptOfChannel, AreKept}
 use Rattle.r10_tracks.specs.declared.channels.ChannelTrack.{ChannelTrack}
 
 no : false ≡ true → ⊥
@@ -61,7 +61,7 @@ nothing_on channel [] none = refl
 nothing_on channel (p ∷ ps) none =
     let off : on_channel channel (packet_entries p) ≡ [] = packet_off_channel channel p (none_at channel p ps (packet_on channel p) refl none) in
     let rest : on_channel channel (file_entries ps) ≡ [] = nothing_on channel ps (omega (arith, none, counted_first (packet_on channel) p ps)) in
-    filter-append (entry_on channel) (packet_entries p) (file_entries ps) ∙ ap (λ (es : List Entry). es ++ on_channel channel (file_entries ps)) off ∙ rest
+    filter-append (is_entry_on channel) (packet_entries p) (file_entries ps) ∙ ap (λ (es : List Entry). es ++ on_channel channel (file_entries ps)) off ∙ rest
 
 pub last_behind : (count : ℕ) (es fs : List Entry) → last_count count (es ++ fs) ≡ last_count (last_count count es) fs
 last_behind count [] fs = refl
@@ -120,7 +120,7 @@ go_none counter before rise = (tt, subst (λ (es : List Entry). Rise 0 es) (sym 
 -- ---- rules
 
 -- rule 5
-pub type_kept : (packets : List Packet) (p : Packet) (f : Facts) (track : ChannelTrack) → 0 < f.channel → KeptOf packets f.channel track → Tells f p
+pub type_kept : (packets : List Packet) (p : Packet) (f : Facts) (track : ChannelTrack) → 0 < f.channel → KeptOf packets f.channel track → AreFactsOf f p
     → IsTrue (track.data_type == f.data_type) ↔ (0 < p.channel → HaveType p.channel (type_of p.content) packets)
 type_kept packets p f track some kept tells = (
   λ e _. subst (λ n. HaveType n (type_of p.content) packets) tells.channel (subst (λ n. HaveType f.channel n packets) (eqb-true track.data_type f.data_type e ∙ tells.data_type) (kept.types some)),
@@ -129,7 +129,7 @@ type_kept packets p f track some kept tells = (
       (subst (λ n. HaveType n f.data_type packets) (sym tells.channel) (subst (λ n. HaveType p.channel n packets) (sym tells.data_type) (all (subst (λ n. 0 < n) tells.channel some))))),
 )
 
-pub no_type_kept : (packets : List Packet) (p : Packet) (f : Facts) → count_by (packet_on f.channel) packets ≡ 0 → Tells f p → IsTrue true ↔ (0 < p.channel → HaveType p.channel (type_of p.content) packets)
+pub no_type_kept : (packets : List Packet) (p : Packet) (f : Facts) → count_by (packet_on f.channel) packets ≡ 0 → AreFactsOf f p → IsTrue true ↔ (0 < p.channel → HaveType p.channel (type_of p.content) packets)
 no_type_kept packets p f none tells =
     let nowhere : count_by (packet_on p.channel) packets ≡ 0 = subst (λ n. count_by (packet_on n) packets ≡ 0) tells.channel none in
     (λ e some. types_none p.channel (type_of p.content) packets nowhere, λ all. refl)
@@ -138,14 +138,14 @@ pub last_none : (packets : List Packet) (channel : ℕ) → count_by (packet_on 
 last_none packets channel none = sym (ap (λ (es : List Entry). last_count 0 es) (nothing_on channel packets none))
 
 -- rule 6
-pub sequence_kept : (packets : List Packet) (p : Packet) (f : Facts) (next : ℕ) → next ≡ next_sequence f.channel packets → Tells f p → IsTrue (f.sequence == next) ↔ KeepsSequence packets p
+pub sequence_kept : (packets : List Packet) (p : Packet) (f : Facts) (next : ℕ) → next ≡ next_sequence f.channel packets → AreFactsOf f p → IsTrue (f.sequence == next) ↔ KeepsSequence packets p
 sequence_kept packets p f next is tells =
     let whole : next ≡ next_sequence p.channel packets = is ∙ ap (λ n. next_sequence n packets) tells.channel in
     (λ e. sym tells.sequence ∙ eqb-true f.sequence next e ∙ whole, λ keeps. eq-eqb f.sequence next (tells.sequence ∙ keeps ∙ sym whole))
 
 -- rule 7
 pub counts_kept : (packets : List Packet) (p : Packet) (f : Facts) (s : Spread) (last : ℕ) (b : Bool) → f.counts ≡ Some s → (IsTrue b ↔ Follow last f.counter s)
-    → last ≡ last_count 0 (on_channel f.channel (file_entries packets)) → EachFollows [] packets → Tells f p → IsTrue b ↔ KeepsCounts packets p
+    → last ≡ last_count 0 (on_channel f.channel (file_entries packets)) → EachFollows [] packets → AreFactsOf f p → IsTrue b ↔ KeepsCounts packets p
 counts_kept packets p f s last b is decides last_is each tells =
     let before : List Entry = on_channel p.channel (file_entries packets) in
     let spans : Spans s (packet_entries p) = subst (λ (o : Option Spread). TellsCounts o (packet_entries p)) is tells.counts in
@@ -155,7 +155,7 @@ counts_kept packets p f s last b is decides last_is each tells =
       λ keeps. decides.1 (go_to last f.counter s before (packet_entries p) spans at (subst (λ n. GoOn n before (packet_entries p)) (sym tells.counter) keeps)),
     )
 
-pub no_counts_kept : (packets : List Packet) (p : Packet) (f : Facts) → f.counts ≡ None → EachFollows [] packets → Tells f p → IsTrue true ↔ KeepsCounts packets p
+pub no_counts_kept : (packets : List Packet) (p : Packet) (f : Facts) → f.counts ≡ None → EachFollows [] packets → AreFactsOf f p → IsTrue true ↔ KeepsCounts packets p
 no_counts_kept packets p f is each tells =
     let before : List Entry = on_channel p.channel (file_entries packets) in
     let none : packet_entries p ≡ [] = subst (λ (o : Option Spread). TellsCounts o (packet_entries p)) is tells.counts in
@@ -163,13 +163,13 @@ no_counts_kept packets p f is each tells =
 
 -- ---- a channel with a packet more
 
-pub last_some : (packets : List Packet) (p : Packet) (f : Facts) (s : Spread) → f.counts ≡ Some s → Tells f p → s.last ≡ last_count 0 (on_channel p.channel (file_entries packets) ++ packet_entries p)
+pub last_some : (packets : List Packet) (p : Packet) (f : Facts) (s : Spread) → f.counts ≡ Some s → AreFactsOf f p → s.last ≡ last_count 0 (on_channel p.channel (file_entries packets) ++ packet_entries p)
 last_some packets p f s is tells =
     let before : List Entry = on_channel p.channel (file_entries packets) in
     let spans : Spans s (packet_entries p) = subst (λ (o : Option Spread). TellsCounts o (packet_entries p)) is tells.counts in
     last_spanned (last_count 0 before) s (packet_entries p) spans ∙ sym (last_behind 0 before (packet_entries p))
 
-pub last_same : (packets : List Packet) (p : Packet) (f : Facts) (last : ℕ) → f.counts ≡ None → last ≡ last_count 0 (on_channel f.channel (file_entries packets)) → Tells f p
+pub last_same : (packets : List Packet) (p : Packet) (f : Facts) (last : ℕ) → f.counts ≡ None → last ≡ last_count 0 (on_channel f.channel (file_entries packets)) → AreFactsOf f p
     → last ≡ last_count 0 (on_channel p.channel (file_entries packets) ++ packet_entries p)
 last_same packets p f last is last_is tells =
     let before : List Entry = on_channel p.channel (file_entries packets) in
@@ -177,7 +177,7 @@ last_same packets p f last is last_is tells =
     last_is ∙ ap (λ n. last_count 0 (on_channel n (file_entries packets))) tells.channel
     ∙ sym (ap (λ (es : List Entry). last_count 0 (before ++ es)) none ∙ ap (λ (es : List Entry). last_count 0 es) (append-nil before))
 
-pub kept_more : (packets : List Packet) (p : Packet) (f : Facts) (track : ChannelTrack) (next : ℕ) → next ≡ next_sequence f.channel packets → KeepsChannels packets p → Tells f p
+pub kept_more : (packets : List Packet) (p : Packet) (f : Facts) (track : ChannelTrack) (next : ℕ) → next ≡ next_sequence f.channel packets → KeepsChannels packets p → AreFactsOf f p
     → track.data_type ≡ f.data_type → track.sequence ≡ (next + 1) % 256 → track.last ≡ last_count 0 (on_channel p.channel (file_entries packets) ++ packet_entries p) → KeptOf (packets ++ p ∷ []) f.channel track
 kept_more packets p f track next next_is keeps tells type_is sequence_is last_is =
     let one : count_by (packet_on p.channel) (p ∷ []) ≡ 1 = counted_yes (packet_on p.channel) p (on_it p.channel p refl) in
@@ -192,7 +192,7 @@ kept_more packets p f track next next_is keeps tells type_is sequence_is last_is
 
 -- ---- all channels
 
-kept_other : (packets : List Packet) (p : Packet) (channel : ℕ) (o : Option ChannelTrack) → p.channel == channel ≡ false → IsKept packets channel o → IsKept (packets ++ p ∷ []) channel o
+kept_other : (packets : List Packet) (p : Packet) (channel : ℕ) (o : Option ChannelTrack) → p.channel == channel ≡ false → IsKeptOfChannel packets channel o → IsKeptOfChannel (packets ++ p ∷ []) channel o
 kept_other packets p channel None off kept = omega (arith, kept, counted (packet_on channel) packets p, counted_no (packet_on channel) p off)
 kept_other packets p channel (Some track) off kept = record {
   some = omega (arith, kept.some, counted (packet_on channel) packets p);
@@ -201,15 +201,15 @@ kept_other packets p channel (Some track) off kept = record {
   last = kept.last ∙ sym (ap (λ (es : List Entry). last_count 0 es) (channel_other channel packets p off));
 }
 
-kept_at : (packets : List Packet) (p : Packet) (f : Facts) (track : ChannelTrack) (channel : ℕ) (b : Bool) (o : Option ChannelTrack) → f.channel == channel ≡ b → Tells f p → IsKept packets channel o
-    → KeptOf (packets ++ p ∷ []) f.channel track → IsKept (packets ++ p ∷ []) channel (cond b (Some track) o)
+kept_at : (packets : List Packet) (p : Packet) (f : Facts) (track : ChannelTrack) (channel : ℕ) (b : Bool) (o : Option ChannelTrack) → f.channel == channel ≡ b → AreFactsOf f p → IsKeptOfChannel packets channel o
+    → KeptOf (packets ++ p ∷ []) f.channel track → IsKeptOfChannel (packets ++ p ∷ []) channel (cond b (Some track) o)
 kept_at packets p f track channel true o is tells kept new = subst (λ n. KeptOf (packets ++ p ∷ []) n track) (eqb-true f.channel channel is) new
 kept_at packets p f track channel false o is tells kept new = kept_other packets p channel o (subst (λ n. n == channel ≡ false) tells.channel is) kept
 
 pub are_kept : {S : Type 0} (packets : List Packet) (p : Packet) (f : Facts) (track : ChannelTrack) (old new : HashMap ℕ ChannelTrack S) → ((channel : ℕ) → get nat_eq new channel ≡ cond (nat_eq f.channel channel) (Some track) (get nat_eq old channel))
-    → AreKept old packets → Tells f p → KeptOf (packets ++ p ∷ []) f.channel track → AreKept new (packets ++ p ∷ [])
+    → AreKept old packets → AreFactsOf f p → KeptOf (packets ++ p ∷ []) f.channel track → AreKept new (packets ++ p ∷ [])
 are_kept packets p f track old new puts kept tells here =
-    λ channel. subst (λ (o : Option ChannelTrack). IsKept (packets ++ p ∷ []) channel o) (sym (puts channel)) (kept_at packets p f track channel (nat_eq f.channel channel) (get nat_eq old channel) refl tells (kept channel) here)
+    λ channel. subst (λ (o : Option ChannelTrack). IsKeptOfChannel (packets ++ p ∷ []) channel o) (sym (puts channel)) (kept_at packets p f track channel (nat_eq f.channel channel) (get nat_eq old channel) refl tells (kept channel) here)
 
 pub on_ok : {T E : Type 0} (P : Type 0) (r : Result T E) → IsOk r → OnOk r P → P
 on_ok P (Ok x) is p = p

@@ -13,14 +13,14 @@ use Rattle.r10_indexbody.proofs.Nodes.{one_node_body}
 use Rattle.r10_indexbody.proofs.Roots.{one_root_body}
 use Rattle.r10_body.specs.Content.{Content, FitsContent, setup, time, event, uart, bus, arinc, discrete, message, node, root, body_of}
 use Rattle.r10_body.specs.Packets.{Packet, FitsPacket, packet_body, packet_bytes, packet_entries, file_bytes}
-use Rattle.r10_body.specs.Rules.{MayFollow, EachFollows, KeepsIndex, IsNextNode, IsNextRoot, is_time, is_index, is_data, is_node, is_root, closed_from, node_entry, node_entries, root_entries, last_time}
+use Rattle.r10_body.specs.Rules.{MayFollow, EachFollows, KeepsIndex, IsNextNode, IsNextRoot, is_time, is_index, is_data, is_node, is_root, closed_from, node_entry_of, node_entries, root_entries, last_time}
 use Rattle.r10_body.proofs.Indexes.{Part, datum, node_here, root_here, part_of, counted, counted_yes, counted_no, index_long}
 use Rattle.r10_body.proofs.Rules.{bytes_more, follows_fit}
 use Rattle.r10_body.proofs.Sentences.{type_fits}
-use Rattle.r10_index.specs.Counted.{IsBookOf, IsCounted}
+use Rattle.r10_index.specs.Counted.{IsBookOf, CountsEntriesUpTo}
 use Rattle.r10_index.specs.Written.{names}
 use Rattle.r10_index.proofs.Behind.{part_fits, last_more}
-use Rattle.r10_strict.specs.Facts.{Tells, kind_of}
+use Rattle.r10_strict.specs.Facts.{AreFactsOf, kind_of}
 use Rattle.r10_strict.specs.declared.facts.Facts.{Facts}
 use Rattle.r10_strict.specs.declared.facts.PacketKind.TheVariants.{Node, Root}
 use Rattle.r10_tracks.specs.Index.{IsIndexed}
@@ -73,11 +73,11 @@ as_root (root es) e = record { entries = es; is = refl }
 
 -- ---- entries
 
-pub entries_more : (offset : ℕ) (ps : List Packet) (p : Packet) → node_entries offset (ps ++ p ∷ []) ≡ node_entries offset ps ++ node_entry (offset + length (file_bytes ps)) p ∷ []
-entries_more offset [] p = let same : offset ≡ offset + 0 = omega arith in ap (λ n. node_entry n p ∷ []) same
+pub entries_more : (offset : ℕ) (ps : List Packet) (p : Packet) → node_entries offset (ps ++ p ∷ []) ≡ node_entries offset ps ++ node_entry_of (offset + length (file_bytes ps)) p ∷ []
+entries_more offset [] p = let same : offset ≡ offset + 0 = omega arith in ap (λ n. node_entry_of n p ∷ []) same
 entries_more offset (q ∷ ps) p =
     let sum : offset + length (packet_bytes q) + length (file_bytes ps) ≡ offset + length (packet_bytes q ++ file_bytes ps) = omega (arith, length-append (packet_bytes q) (file_bytes ps)) in
-    ap (λ (es : List NodeEntry). node_entry offset q ∷ es) (entries_more (offset + length (packet_bytes q)) ps p ∙ ap (λ n. node_entries (offset + length (packet_bytes q)) ps ++ node_entry n p ∷ []) sum)
+    ap (λ (es : List NodeEntry). node_entry_of offset q ∷ es) (entries_more (offset + length (packet_bytes q)) ps p ∙ ap (λ n. node_entries (offset + length (packet_bytes q)) ps ++ node_entry_of n p ∷ []) sum)
 
 entries_length : (offset : ℕ) (ps : List Packet) → length (node_entries offset ps) ≡ length ps
 entries_length offset [] = refl
@@ -302,12 +302,12 @@ last_closed : (b : Bool) (ps : List Packet) (p : Packet) → closed_from b (ps +
 last_closed b [] p = refl
 last_closed b (q ∷ ps) p = last_closed (is_root q) ps p
 
-bytes_grown : (t : IndexTracks) (ps : List Packet) (p : Packet) (f : Facts) (bytes : ℕ) → IsIndexed t ps → Tells f p → length (file_bytes (ps ++ p ∷ [])) < 2 ^ 63 → bytes ≡ min (t.bytes + f.length) (2 ^ 64 - 1) → bytes ≡ length (file_bytes (ps ++ p ∷ []))
+bytes_grown : (t : IndexTracks) (ps : List Packet) (p : Packet) (f : Facts) (bytes : ℕ) → IsIndexed t ps → AreFactsOf f p → length (file_bytes (ps ++ p ∷ [])) < 2 ^ 63 → bytes ≡ min (t.bytes + f.length) (2 ^ 64 - 1) → bytes ≡ length (file_bytes (ps ++ p ∷ []))
 bytes_grown t ps p f bytes ix tells short is =
     let whole : length (file_bytes (ps ++ p ∷ [])) ≡ length (file_bytes ps) + length (packet_bytes p) = ap (λ (b : List ℕ). length b) (bytes_more ps p) ∙ length-append (file_bytes ps) (packet_bytes p) in
     omega (arith, is, ix.bytes, tells.length_is, whole, short)
 
-pub node_added : (t : IndexTracks) (ps : List Packet) (p : Packet) (f : Facts) (bytes nodes : ℕ) → IsIndexed t ps → Tells f p → MayFollow ps p → length (file_bytes (ps ++ p ∷ [])) < 2 ^ 63 → f.kind ≡ Node
+pub node_added : (t : IndexTracks) (ps : List Packet) (p : Packet) (f : Facts) (bytes nodes : ℕ) → IsIndexed t ps → AreFactsOf f p → MayFollow ps p → length (file_bytes (ps ++ p ∷ [])) < 2 ^ 63 → f.kind ≡ Node
     → bytes ≡ min (t.bytes + f.length) (2 ^ 64 - 1) → nodes ≡ min (t.nodes + 1) (2 ^ 64 - 1) → IsIndexed (record t { bytes = bytes; nodes = nodes }) (ps ++ p ∷ [])
 node_added t ps p f bytes nodes ix tells may short kind bytes_is nodes_is =
     let a = as_node p.content (sym kind ∙ tells.kind) in
@@ -318,7 +318,7 @@ node_added t ps p f bytes nodes ix tells may short kind bytes_is nodes_is =
     let most : count_by is_node (ps ++ p ∷ []) ≤ length (file_bytes (ps ++ p ∷ [])) = omega (arith, sym (length-filter is_node (ps ++ p ∷ [])), few (filter is_node (ps ++ p ∷ [])), fewer is_node (ps ++ p ∷ [])) in
     record {
       named = ix.named ∙ sym (ap (node_entries 0) (datas_no ps p i));
-      counted = subst (λ (qs : List Packet). IsCounted t.book.counted qs) (sym (datas_no ps p i)) ix.counted;
+      counted = subst (λ (qs : List Packet). CountsEntriesUpTo t.book.counted qs) (sym (datas_no ps p i)) ix.counted;
       end = ix.end ∙ sym (ap (λ (qs : List Packet). length (file_bytes qs)) (datas_no ps p i));
       bytes = bytes_grown t ps p f bytes ix tells short bytes_is;
       nodes = omega (arith, nodes_is, ix.nodes, counted is_node ps p, counted_yes is_node p n, most, short);
@@ -326,7 +326,7 @@ node_added t ps p f bytes nodes ix tells may short kind bytes_is nodes_is =
       roots = omega (arith, ix.roots, counted is_root ps p, counted_no is_root p r);
     }
 
-pub root_added : (t : IndexTracks) (ps : List Packet) (p : Packet) (f : Facts) (bytes : ℕ) → IsIndexed t ps → Tells f p → MayFollow ps p → length (file_bytes (ps ++ p ∷ [])) < 2 ^ 63 → f.kind ≡ Root
+pub root_added : (t : IndexTracks) (ps : List Packet) (p : Packet) (f : Facts) (bytes : ℕ) → IsIndexed t ps → AreFactsOf f p → MayFollow ps p → length (file_bytes (ps ++ p ∷ [])) < 2 ^ 63 → f.kind ≡ Root
     → bytes ≡ min (t.bytes + f.length) (2 ^ 64 - 1) → IsIndexed (record t { bytes = bytes; closed = true }) (ps ++ p ∷ [])
 root_added t ps p f bytes ix tells may short kind bytes_is =
     let a = as_root p.content (sym kind ∙ tells.kind) in
@@ -335,7 +335,7 @@ root_added t ps p f bytes ix tells may short kind bytes_is =
     let r : is_root p ≡ true = rw a.is refl in
     record {
       named = ix.named ∙ sym (ap (node_entries 0) (datas_no ps p i));
-      counted = subst (λ (qs : List Packet). IsCounted t.book.counted qs) (sym (datas_no ps p i)) ix.counted;
+      counted = subst (λ (qs : List Packet). CountsEntriesUpTo t.book.counted qs) (sym (datas_no ps p i)) ix.counted;
       end = ix.end ∙ sym (ap (λ (qs : List Packet). length (file_bytes qs)) (datas_no ps p i));
       bytes = bytes_grown t ps p f bytes ix tells short bytes_is;
       nodes = omega (arith, ix.nodes, counted is_node ps p, counted_no is_node p n);
@@ -344,15 +344,15 @@ root_added t ps p f bytes ix tells may short kind bytes_is =
     }
 
 -- a packet that is neither a node nor a root is none of the index
-plain : (p : Packet) (f : Facts) → Tells f p → (f.kind ≡ Node → ⊥) → (f.kind ≡ Root → ⊥) → Part p → (is_index p ≡ false) × (is_node p ≡ false) × (is_root p ≡ false)
+plain : (p : Packet) (f : Facts) → AreFactsOf f p → (f.kind ≡ Node → ⊥) → (f.kind ≡ Root → ⊥) → Part p → (is_index p ≡ false) × (is_node p ≡ false) × (is_root p ≡ false)
 plain p f tells not_node not_root (datum i n r len) = (i, n, r)
 plain p f tells not_node not_root (node_here es e i n r len) = absurd (not_node (tells.kind ∙ ap kind_of e))
 plain p f tells not_node not_root (root_here es e i n r len) = absurd (not_root (tells.kind ∙ ap kind_of e))
 
-pub datum_added : (t u : IndexTracks) (ps : List Packet) (p : Packet) (f : Facts) → IsIndexed t ps → Tells f p → MayFollow ps p → length (file_bytes (ps ++ p ∷ [])) < 2 ^ 63 → (f.kind ≡ Node → ⊥) → (f.kind ≡ Root → ⊥)
+pub datum_added : (t u : IndexTracks) (ps : List Packet) (p : Packet) (f : Facts) → IsIndexed t ps → AreFactsOf f p → MayFollow ps p → length (file_bytes (ps ++ p ∷ [])) < 2 ^ 63 → (f.kind ≡ Node → ⊥) → (f.kind ≡ Root → ⊥)
     → u.book.entries ≡ t.book.entries ++ record { counter = f.counter; data_type = f.data_type; channel = f.channel; offset = t.end } ∷ []
-    → ((packets : List Packet) (q : Packet) → IsBookOf t.book packets → record { counter = f.counter; data_type = f.data_type; channel = f.channel; offset = t.end } ≡ node_entry (length (file_bytes packets)) q
-    → f.entries ≡ length (packet_entries q) → IsCounted u.book.counted (packets ++ q ∷ []))
+    → ((packets : List Packet) (q : Packet) → IsBookOf t.book packets → record { counter = f.counter; data_type = f.data_type; channel = f.channel; offset = t.end } ≡ node_entry_of (length (file_bytes packets)) q
+    → f.entries ≡ length (packet_entries q) → CountsEntriesUpTo u.book.counted (packets ++ q ∷ []))
     → u.end ≡ min (t.end + f.length) (2 ^ 64 - 1)
     → u.bytes ≡ min (t.bytes + f.length) (2 ^ 64 - 1) → u.nodes ≡ t.nodes → u.closed ≡ t.closed → IsIndexed u (ps ++ p ∷ [])
 datum_added t u ps p f ix tells may short not_node not_root named_is counts end_is bytes_is nodes_is closed_is =
@@ -360,14 +360,14 @@ datum_added t u ps p f ix tells may short not_node not_root named_is counts end_
     let shut : t.closed ≡ false = open_is t.closed (count_by is_root ps) ix.roots may.index.0 in
     let datas = filter is_data ps in
     let more : filter is_data (ps ++ p ∷ []) ≡ datas ++ p ∷ [] = datas_yes ps p parts.0 in
-    let entry : record { counter = f.counter; data_type = f.data_type; channel = f.channel; offset = t.end } ≡ node_entry (length (file_bytes datas)) p = rw (tells.counter, tells.data_type, tells.channel, ix.end) refl in
+    let entry : record { counter = f.counter; data_type = f.data_type; channel = f.channel; offset = t.end } ≡ node_entry_of (length (file_bytes datas)) p = rw (tells.counter, tells.data_type, tells.channel, ix.end) refl in
     let none_first : 0 + length (file_bytes datas) ≡ length (file_bytes datas) = omega arith in
     let whole : length (file_bytes (datas ++ p ∷ [])) ≡ length (file_bytes datas) + length (packet_bytes p) = ap (λ (b : List ℕ). length b) (bytes_more datas p) ∙ length-append (file_bytes datas) (packet_bytes p) in
     let all : length (file_bytes (filter is_data (ps ++ p ∷ []))) ≡ length (file_bytes datas) + length (packet_bytes p) = ap (λ (qs : List Packet). length (file_bytes qs)) more ∙ whole in
     record {
       named = named_is ∙ ap (λ (es : List NodeEntry). es ++ record { counter = f.counter; data_type = f.data_type; channel = f.channel; offset = t.end } ∷ []) ix.named
-          ∙ ap (λ (e : NodeEntry). node_entries 0 datas ++ e ∷ []) entry ∙ sym (ap (node_entries 0) more ∙ entries_more 0 datas p ∙ ap (λ n. node_entries 0 datas ++ node_entry n p ∷ []) none_first);
-      counted = subst (λ (qs : List Packet). IsCounted u.book.counted qs) (sym more) (counts datas p (record { named = ix.named; counted = ix.counted }) entry tells.entries);
+          ∙ ap (λ (e : NodeEntry). node_entries 0 datas ++ e ∷ []) entry ∙ sym (ap (node_entries 0) more ∙ entries_more 0 datas p ∙ ap (λ n. node_entries 0 datas ++ node_entry_of n p ∷ []) none_first);
+      counted = subst (λ (qs : List Packet). CountsEntriesUpTo u.book.counted qs) (sym more) (counts datas p (record { named = ix.named; counted = ix.counted }) entry tells.entries);
       end = omega (arith, end_is, ix.end, tells.length_is, all, fewer is_data (ps ++ p ∷ []), short);
       bytes = bytes_grown t ps p f u.bytes ix tells short bytes_is;
       nodes = omega (arith, nodes_is, ix.nodes, counted is_node ps p, counted_no is_node p parts.1);

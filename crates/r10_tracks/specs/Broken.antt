@@ -14,6 +14,6 @@ pub data Breaks (before : List Packet) (p : Packet) : ℕ → Type 0 where
   events : ¬ KeepsEvents before p → Breaks before p 10
 
 -- it may come next, or this is the least rule that it breaks
-abbrev pub BreaksFirst : List Packet → Packet → Option ℕ → Type 0
-BreaksFirst before p None = MayFollow before p
-BreaksFirst before p (Some n) = Breaks before p n × ((m : ℕ) → Breaks before p m → n ≤ m)
+abbrev pub BreaksLaterRuleFirst : List Packet → Packet → Option ℕ → Type 0
+BreaksLaterRuleFirst before p None = MayFollow before p
+BreaksLaterRuleFirst before p (Some n) = Breaks before p n × ((m : ℕ) → Breaks before p m → n ≤ m)

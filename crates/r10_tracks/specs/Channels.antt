@@ -22,11 +22,11 @@ pub record KeptOf (packets : List Packet) (channel : ℕ) (track : ChannelTrack)
   pub last : track.last ≡ last_count 0 (on_channel channel (file_entries packets))
 
 -- what is kept of a channel, and nothing where it has no packets
-abbrev pub IsKept : List Packet → ℕ → Option ChannelTrack → Type 0
-IsKept packets channel None = count_by (packet_on channel) packets ≡ 0
-IsKept packets channel (Some track) = KeptOf packets channel track
+abbrev pub IsKeptOfChannel : List Packet → ℕ → Option ChannelTrack → Type 0
+IsKeptOfChannel packets channel None = count_by (packet_on channel) packets ≡ 0
+IsKeptOfChannel packets channel (Some track) = KeptOf packets channel track
 
 module _ {S : Type 0} where
   -- what is kept of each channel
   abbrev pub AreKept : HashMap ℕ ChannelTrack S → List Packet → Type 0
-  AreKept known packets = (channel : ℕ) → IsKept packets channel (get nat_eq known channel)
+  AreKept known packets = (channel : ℕ) → IsKeptOfChannel packets channel (get nat_eq known channel)

@@ -2,10 +2,10 @@
 use Rattle.std.specs.Prelude.{◌≡◌, ℕ, ◌^◌, ◌<◌, List, [], ◌∷◌, ◌++◌, length}
 use Rattle.r10_body.specs.Packets.{Packet, FitsPacket, packet_body, file_bytes}
 use Rattle.r10_body.specs.Rules.{KeepsChecksums, EachFollows, MayFollow}
-use Rattle.r10_strict.specs.Facts.{Tells}
+use Rattle.r10_strict.specs.Facts.{AreFactsOf}
 use Rattle.r10_strict.specs.declared.facts.Facts.{Facts}
 use Rattle.r10_tracks.specs.Channels.{AreKept}
-use Rattle.r10_tracks.specs.Events.{AreCounted}
+use Rattle.r10_tracks.specs.Events.{PacketEventsAreCounted}
 use Rattle.r10_tracks.specs.Times.{AreTimes}
 use Rattle.r10_tracks.specs.Index.{IsIndexed}
 use Rattle.r10_tracks.specs.Totals.{AreTotals}
@@ -17,7 +17,7 @@ pub record IsTracked (t : Tracks) (packets : List Packet) : Type 0 where
   pub short : length (file_bytes packets) < 2 ^ 63
   pub times : AreTimes t.times packets
   pub channels : AreKept t.channels.known packets
-  pub events : AreCounted t.events.counted packets
+  pub events : PacketEventsAreCounted t.events.counted packets
   pub index : IsIndexed t.index packets
   pub totals : AreTotals t.totals packets
 
@@ -26,7 +26,7 @@ pub record ComesNext (t : Tracks) (packets : List Packet) (p : Packet) (facts : 
   pub tracked : IsTracked t packets
   pub fits : FitsPacket p
   pub checksums : KeepsChecksums p
-  pub tells : Tells facts p
+  pub tells : AreFactsOf facts p
   pub body_is : body ≡ packet_body p
 
 -- this packet may follow these, the file stays below 2^63 bytes, and it says this
@@ -34,4 +34,4 @@ pub record MayBeAdded (t : Tracks) (packets : List Packet) (p : Packet) (facts :
   pub tracked : IsTracked t packets
   pub may : MayFollow packets p
   pub short : length (file_bytes (packets ++ p ∷ [])) < 2 ^ 63
-  pub tells : Tells facts p
+  pub tells : AreFactsOf facts p

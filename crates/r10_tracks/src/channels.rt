@@ -5,10 +5,10 @@ ghost use Rattle.std.specs.HashMap.{get, spare};
 ghost use Rattle.r10_body.specs.Content.{type_of};
 ghost use Rattle.r10_body.specs.Files.{on_channel};
 ghost use Rattle.r10_body.specs.Packets.{Packet, packet_entries, file_entries};
-ghost use Rattle.r10_body.specs.Rules.{EachFollows, KeepsChannels, KeepsSequence, KeepsCounts, is_setup, is_time, is_event, is_index};
-ghost use Rattle.r10_strict.specs.Facts.{Tells};
+ghost use Rattle.r10_body.specs.Rules.{EachFollows, KeepsChannels, KeepsSequence, KeepsCounts, is_setup_packet, is_time, is_event, is_index};
+ghost use Rattle.r10_strict.specs.Facts.{AreFactsOf};
 ghost use Rattle.r10_body.specs.Sequence.{next_sequence, last_count};
-ghost use Rattle.r10_tracks.specs.Channels.{HaveType, IsKept, AreKept};
+ghost use Rattle.r10_tracks.specs.Channels.{HaveType, IsKeptOfChannel, AreKept};
 
 use crate::kinds::{is_data_kind, is_index_kind, is_setup_kind};
 use r10_count::Count;
@@ -61,7 +61,7 @@ impl ChannelTracks {
     /// Adds a packet.
     pub(crate) fn add(&mut self, facts: &Facts)
         requires { 0 < spare self.old.known }
-        ensures { (packets : List Packet) (p : Packet) → AreKept self.old.known packets → Tells facts.now p → KeepsChannels packets p → AreKept self.new.known (packets ++ p ∷ []) }
+        ensures { (packets : List Packet) (p : Packet) → AreKept self.old.known packets → AreFactsOf facts.now p → KeepsChannels packets p → AreKept self.new.known (packets ++ p ∷ []) }
     {
         let track = grown(self.find(facts.channel), facts);
         let _ = self.known.insert(facts.channel, track);
@@ -70,7 +70,7 @@ impl ChannelTracks {
 
 /// What is kept of a packet's channel, with the packet.
 fn grown(track: Option<ChannelTrack>, facts: &Facts) -> ChannelTrack
-    ensures { (packets : List Packet) (p : Packet) → IsKept packets facts.now.channel track → Tells facts.now p → KeepsChannels packets p → IsKept (packets ++ p ∷ []) facts.now.channel (Some result) }
+    ensures { (packets : List Packet) (p : Packet) → IsKeptOfChannel packets facts.now.channel track → AreFactsOf facts.now p → KeepsChannels packets p → IsKeptOfChannel (packets ++ p ∷ []) facts.now.channel (Some result) }
 {
     ChannelTrack {
         data_type: facts.data_type,
@@ -81,7 +81,7 @@ fn grown(track: Option<ChannelTrack>, facts: &Facts) -> ChannelTrack
 
 /// The count of a channel's last entry with a packet more, or 0.
 fn last_with(track: Option<ChannelTrack>, facts: &Facts) -> u64
-    ensures { (packets : List Packet) (p : Packet) → IsKept packets facts.now.channel track → Tells facts.now p → result ≡ last_count 0 (on_channel p.channel (file_entries packets) ++ packet_entries p) }
+    ensures { (packets : List Packet) (p : Packet) → IsKeptOfChannel packets facts.now.channel track → AreFactsOf facts.now p → result ≡ last_count 0 (on_channel p.channel (file_entries packets) ++ packet_entries p) }
 {
     match facts.counts {
         Some(counts) => counts.last.get(),
@@ -91,7 +91,7 @@ fn last_with(track: Option<ChannelTrack>, facts: &Facts) -> u64
 
 /// The count of a channel's last entry, or 0.
 fn last_of(track: Option<ChannelTrack>) -> u64
-    ensures { (packets : List Packet) (channel : ℕ) → IsKept packets channel track → result ≡ last_count 0 (on_channel channel (file_entries packets)) }
+    ensures { (packets : List Packet) (channel : ℕ) → IsKeptOfChannel packets channel track → result ≡ last_count 0 (on_channel channel (file_entries packets)) }
 {
     match track {
         Some(track) => track.last,
@@ -101,7 +101,7 @@ fn last_of(track: Option<ChannelTrack>) -> u64
 
 /// The sequence number of a channel's next packet.
 fn next_of(track: Option<ChannelTrack>) -> u8
-    ensures { (packets : List Packet) (channel : ℕ) → IsKept packets channel track → result ≡ next_sequence channel packets }
+    ensures { (packets : List Packet) (channel : ℕ) → IsKeptOfChannel packets channel track → result ≡ next_sequence channel packets }
 {
     match track {
         Some(track) => track.sequence,
@@ -111,22 +111,22 @@ fn next_of(track: Option<ChannelTrack>) -> u8
 
 /// Rule 5: whether a packet may be on its channel.
 pub(crate) fn keeps_channels(track: Option<ChannelTrack>, facts: &Facts) -> bool
-    ensures { (packets : List Packet) (p : Packet) → IsKept packets facts.now.channel track → Tells facts.now p → (IsTrue result ↔ KeepsChannels packets p) }
+    ensures { (packets : List Packet) (p : Packet) → IsKeptOfChannel packets facts.now.channel track → AreFactsOf facts.now p → (IsTrue result ↔ KeepsChannels packets p) }
 {
     is_at_home(facts) && suits_channel(track, facts)
 }
 
 /// Whether a packet has the data type of its channel, and a flag only if it has data.
 fn suits_channel(track: Option<ChannelTrack>, facts: &Facts) -> bool
-    ensures { (packets : List Packet) (p : Packet) → IsKept packets facts.now.channel track → Tells facts.now p
-        → (IsTrue result ↔ ((0 < p.channel → HaveType p.channel (type_of p.content) packets) × (IsTrue (is_setup p || is_time p || is_event p || is_index p) → p.flagged ≡ false))) }
+    ensures { (packets : List Packet) (p : Packet) → IsKeptOfChannel packets facts.now.channel track → AreFactsOf facts.now p
+        → (IsTrue result ↔ ((0 < p.channel → HaveType p.channel (type_of p.content) packets) × (IsTrue (is_setup_packet p || is_time p || is_event p || is_index p) → p.flagged ≡ false))) }
 {
     keeps_type(track, facts) && may_have_flag(facts)
 }
 
 /// Whether channel 0 has the packet exactly where it is a setup or an index packet.
 fn is_at_home(facts: &Facts) -> bool
-    ensures { (p : Packet) → Tells facts.now p → (IsTrue result ↔ (IsTrue (is_setup p || is_index p) ↔ (p.channel ≡ 0))) }
+    ensures { (p : Packet) → AreFactsOf facts.now p → (IsTrue result ↔ (IsTrue (is_setup_packet p || is_index p) ↔ (p.channel ≡ 0))) }
 {
     if is_setup_kind(&facts.kind) || is_index_kind(&facts.kind) {
         facts.channel == 0
@@ -137,7 +137,7 @@ fn is_at_home(facts: &Facts) -> bool
 
 /// Whether a packet has the data type of its channel, where the channel has one.
 fn keeps_type(track: Option<ChannelTrack>, facts: &Facts) -> bool
-    ensures { (packets : List Packet) (p : Packet) → IsKept packets facts.now.channel track → Tells facts.now p → (IsTrue result ↔ (0 < p.channel → HaveType p.channel (type_of p.content) packets)) }
+    ensures { (packets : List Packet) (p : Packet) → IsKeptOfChannel packets facts.now.channel track → AreFactsOf facts.now p → (IsTrue result ↔ (0 < p.channel → HaveType p.channel (type_of p.content) packets)) }
 {
     match track {
         Some(track) => facts.channel == 0 || track.data_type == facts.data_type,
@@ -147,7 +147,7 @@ fn keeps_type(track: Option<ChannelTrack>, facts: &Facts) -> bool
 
 /// Whether only a packet of data is flagged.
 fn may_have_flag(facts: &Facts) -> bool
-    ensures { (p : Packet) → Tells facts.now p → (IsTrue result ↔ (IsTrue (is_setup p || is_time p || is_event p || is_index p) → p.flagged ≡ false)) }
+    ensures { (p : Packet) → AreFactsOf facts.now p → (IsTrue result ↔ (IsTrue (is_setup_packet p || is_time p || is_event p || is_index p) → p.flagged ≡ false)) }
 {
     if is_data_kind(&facts.kind) {
         true
@@ -158,14 +158,14 @@ fn may_have_flag(facts: &Facts) -> bool
 
 /// Rule 6: whether a packet has its channel's next sequence number.
 pub(crate) fn keeps_sequence(track: Option<ChannelTrack>, facts: &Facts) -> bool
-    ensures { (packets : List Packet) (p : Packet) → IsKept packets facts.now.channel track → Tells facts.now p → (IsTrue result ↔ KeepsSequence packets p) }
+    ensures { (packets : List Packet) (p : Packet) → IsKeptOfChannel packets facts.now.channel track → AreFactsOf facts.now p → (IsTrue result ↔ KeepsSequence packets p) }
 {
     facts.sequence == next_of(track)
 }
 
 /// Rule 7: whether a packet's counts go on from those of its channel.
 pub(crate) fn keeps_counts(track: Option<ChannelTrack>, facts: &Facts) -> bool
-    ensures { (packets : List Packet) (p : Packet) → IsKept packets facts.now.channel track → EachFollows [] packets → Tells facts.now p → (IsTrue result ↔ KeepsCounts packets p) }
+    ensures { (packets : List Packet) (p : Packet) → IsKeptOfChannel packets facts.now.channel track → EachFollows [] packets → AreFactsOf facts.now p → (IsTrue result ↔ KeepsCounts packets p) }
 {
     match facts.counts {
         Some(counts) => goes_on(last_of(track), facts.counter, counts),

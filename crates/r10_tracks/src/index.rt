@@ -3,11 +3,11 @@
 ghost use Rattle.std.specs.Prelude.{◌≡◌, ◌+◌, ◌-◌, ◌*◌, ◌^◌, ◌<◌, ◌≤◌, ◌↔◌, ◌∷◌, [], ◌++◌, List, length, min, take, drop, IsTrue, OnOk};
 ghost use Rattle.r10_count.specs.Count.{IsCount};
 ghost use Rattle.r10_body.specs.Packets.{Packet, FitsPacket, packet_body, packet_entries, file_bytes};
-ghost use Rattle.r10_body.specs.Rules.{KeepsIndex, EachFollows, MayFollow, last_time, node_entry};
-ghost use Rattle.r10_index.specs.Counted.{IsBookOf, IsCounted};
+ghost use Rattle.r10_body.specs.Rules.{KeepsIndex, EachFollows, MayFollow, last_time, node_entry_of};
+ghost use Rattle.r10_index.specs.Counted.{IsBookOf, CountsEntriesUpTo};
 ghost use Rattle.r10_index.specs.Written.{names};
 ghost use Rattle.r10_indexbody.specs.Index.{root_body};
-ghost use Rattle.r10_strict.specs.Facts.{Tells};
+ghost use Rattle.r10_strict.specs.Facts.{AreFactsOf};
 ghost use Rattle.r10_tracks.specs.Index.{IsIndexed, IsSameIndex};
 ghost use Rattle.r10_tracks.specs.Names.{root_at};
 
@@ -76,7 +76,7 @@ impl IndexTracks {
     pub(crate) fn keeps_index(&self, time: u64, facts: &Facts, body: &[u8]) -> bool
         requires { IsCount time }
         ensures { (packets : List Packet) (p : Packet) → IsIndexed self.now packets → EachFollows [] packets → length (file_bytes packets) < 2 ^ 63 → time ≡ last_time 0 packets
-            → Tells facts.now p → FitsPacket p → body.now ≡ packet_body p → (IsTrue result ↔ KeepsIndex packets p) }
+            → AreFactsOf facts.now p → FitsPacket p → body.now ≡ packet_body p → (IsTrue result ↔ KeepsIndex packets p) }
     {
         if self.closed {
             return false;
@@ -107,7 +107,7 @@ impl IndexTracks {
     /// Adds a packet.
     pub(crate) fn add(&mut self, facts: &Facts)
         requires { length self.old.book.entries < self.old.book.room }
-        ensures { (packets : List Packet) (p : Packet) → IsIndexed self.old packets → Tells facts.now p → MayFollow packets p → length (file_bytes (packets ++ p ∷ [])) < 2 ^ 63 → IsIndexed self.new (packets ++ p ∷ []) }
+        ensures { (packets : List Packet) (p : Packet) → IsIndexed self.old packets → AreFactsOf facts.now p → MayFollow packets p → length (file_bytes (packets ++ p ∷ [])) < 2 ^ 63 → IsIndexed self.new (packets ++ p ∷ []) }
     {
         let size = facts.length as u64;
         self.bytes = self.bytes.saturating_add(size);
@@ -123,8 +123,8 @@ impl IndexTracks {
         requires { length self.old.book.entries < self.old.book.room }
         ensures named { self.new.book.entries ≡ self.old.book.entries ++ record { counter = facts.now.counter; data_type = facts.now.data_type; channel = facts.now.channel; offset = self.old.end } ∷ [] }
         ensures counted { (packets : List Packet) (p : Packet) → IsBookOf self.old.book packets
-            → record { counter = facts.now.counter; data_type = facts.now.data_type; channel = facts.now.channel; offset = self.old.end } ≡ node_entry (length (file_bytes packets)) p
-            → facts.now.entries ≡ length (packet_entries p) → IsCounted self.new.book.counted (packets ++ p ∷ []) }
+            → record { counter = facts.now.counter; data_type = facts.now.data_type; channel = facts.now.channel; offset = self.old.end } ≡ node_entry_of (length (file_bytes packets)) p
+            → facts.now.entries ≡ length (packet_entries p) → CountsEntriesUpTo self.new.book.counted (packets ++ p ∷ []) }
         ensures end { self.new.end ≡ min (self.old.end + size) (2 ^ 64 - 1) }
         ensures same { (self.new.bytes ≡ self.old.bytes) × (self.new.nodes ≡ self.old.nodes) × (self.new.closed ≡ self.old.closed) }
     {

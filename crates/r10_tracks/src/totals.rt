@@ -2,7 +2,7 @@
 
 ghost use Rattle.std.specs.Prelude.{◌∷◌, [], ◌++◌, List};
 ghost use Rattle.r10_body.specs.Packets.{Packet};
-ghost use Rattle.r10_strict.specs.Facts.{Tells};
+ghost use Rattle.r10_strict.specs.Facts.{AreFactsOf};
 ghost use Rattle.r10_tracks.specs.Totals.{AreTotals};
 
 use r10_strict::Facts;
@@ -26,7 +26,7 @@ impl Totals {
 
     /// Adds a packet.
     pub(crate) fn add(&mut self, facts: &Facts)
-        ensures { (packets : List Packet) (p : Packet) → AreTotals self.old packets → Tells facts.now p → AreTotals self.new (packets ++ p ∷ []) }
+        ensures { (packets : List Packet) (p : Packet) → AreTotals self.old packets → AreFactsOf facts.now p → AreTotals self.new (packets ++ p ∷ []) }
     {
         *self = Totals {
             entries: self.entries.saturating_add(facts.entries as u64),

@@ -5,7 +5,7 @@ use Rattle.r10_count.specs.Count.{stamp, IsCount}
 use Rattle.r10_count.proofs.Fronts.{same_stamp, same_u32}
 use Rattle.r10_count.specs.Padding.{padded}
 use Rattle.r10_uart.specs.Uart.{FitsUart, uart_header, uart_entry, uart_of}
-use Rattle.r10_uart.specs.Entry.{header-fits}
+use Rattle.r10_uart.specs.Entry.{uart_header-fits}
 use Rattle.r10_uart.specs.declared.entry.UartEntry.{UartEntry}
 
 high_bit : (q : ℕ) → q < 2 → flag_at 31 (nat_eq q 1) ≡ 2147483648 * q
@@ -36,5 +36,5 @@ pub header_is : (bytes rest behind : List ℕ) (count header : ℕ) (e : UartEnt
     → (count ≡ e.count) × (header ≡ uart_header e) × (behind ≡ padded e.bytes)
 header_is bytes rest behind count header e lc lt e1 e2 fits is =
     let first = same_stamp count e.count rest (le_bytes 4 (uart_header e) ++ padded e.bytes) lc fits.count (sym e1 ∙ is) in
-    let second = same_u32 header (uart_header e) behind (padded e.bytes) lt (header-fits e.parity e.sub (length e.bytes) fits.sub fits.bytes) (sym e2 ∙ first.1) in
+    let second = same_u32 header (uart_header e) behind (padded e.bytes) lt (uart_header-fits e.parity e.sub (length e.bytes) fits.sub fits.bytes) (sym e2 ∙ first.1) in
     (first.0, second.0, second.1)

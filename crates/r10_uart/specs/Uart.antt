@@ -3,7 +3,7 @@ use Rattle.std.specs.Prelude.{◌≡◌, ℕ, ◌+◌, ◌*◌, ◌%◌, ◌^◌
 use Rattle.std.specs.List.{flat_map, AllByRecursion, concat}
 use Rattle.r10_count.specs.Bytes.{le_bytes, flag_at, u32_at, bit_of}
 use Rattle.r10_count.specs.Count.{IsCount, stamp}
-use Rattle.r10_count.specs.Form.{IsEntry}
+use Rattle.r10_count.specs.Form.{IsEntryBytes}
 use Rattle.r10_count.specs.Padding.{padded}
 use Rattle.r10_count.specs.Texts.{told_size}
 use Rattle.r10_uart.specs.declared.entry.UartEntry.{UartEntry}
@@ -21,8 +21,8 @@ abbrev pub uart_entry : UartEntry → List ℕ
 uart_entry e = stamp e.count ++ le_bytes 4 (uart_header e) ++ padded e.bytes
 
 -- the length of an entry in the body
-abbrev pub entry_size : UartEntry → ℕ
-entry_size e = 12 + length e.bytes + length e.bytes % 2
+abbrev pub uart_entry_size : UartEntry → ℕ
+uart_entry_size e = 12 + length e.bytes + length e.bytes % 2
 
 abbrev pub uart_body : List UartEntry → List ℕ
 uart_body entries = uart_word ++ flat_map uart_entry entries
@@ -48,8 +48,8 @@ IsUart entries body = FitsUartBody entries × (body ≡ uart_body entries)
 abbrev pub IsForeignUart : List ℕ → Type 0
 IsForeignUart body =
     (word : ℕ) × (entries : List (List ℕ)) × (word < 2 ^ 32)
-    × AllByRecursion (IsEntry 12 told_size) entries × (body ≡ le_bytes 4 word ++ concat entries)
+    × AllByRecursion (IsEntryBytes 12 told_size) entries × (body ≡ le_bytes 4 word ++ concat entries)
 
 -- there is a word, and it says that the entries have no stamps, which isn't read
-abbrev pub is_opaque : List ℕ → Bool
-is_opaque body = nat_le 4 (length body) && not (bit_of 31 (u32_at body 0))
+abbrev pub is_opaque_uart : List ℕ → Bool
+is_opaque_uart body = nat_le 4 (length body) && not (bit_of 31 (u32_at body 0))

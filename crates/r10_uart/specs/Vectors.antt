@@ -3,7 +3,7 @@ use Rattle.std.specs.Prelude.{◌≡◌, ℕ, Some, true, false, List, [], ◌�
 use Rattle.std.proofs.Common.{arith, lit<, lit≤}
 use Rattle.r10_uart.specs.declared.entry.UartEntry.{UartEntry}
 use Rattle.r10_count.specs.Texts.{told_size}
-use Rattle.r10_uart.specs.Uart.{FitsUart, IsForeignUart, uart_body, uart_entry, uart_of, is_opaque}
+use Rattle.r10_uart.specs.Uart.{FitsUart, IsForeignUart, uart_body, uart_entry, uart_of, is_opaque_uart}
 
 -- ABC at 1000 and an empty message at 1010
 abbrev pub two_messages : List UartEntry
@@ -17,13 +17,13 @@ pub greatest-entry : uart_entry (uart_of 281474976710655 true 16383 (0x5A ∷ 0x
     ≡ 0xFF ∷ 0xFF ∷ 0xFF ∷ 0xFF ∷ 0xFF ∷ 0xFF ∷ 0 ∷ 0 ∷ 2 ∷ 0 ∷ 0xFF ∷ 0xBF ∷ 0x5A ∷ 0xA5 ∷ []
 greatest-entry = refl
 
-pub with-stamps : is_opaque (0 ∷ 0 ∷ 0 ∷ 0x80 ∷ []) ≡ false
+pub with-stamps : is_opaque_uart (0 ∷ 0 ∷ 0 ∷ 0x80 ∷ []) ≡ false
 with-stamps = refl
 
-pub without-stamps : is_opaque (0 ∷ 0 ∷ 0 ∷ 0x7F ∷ 1 ∷ []) ≡ true
+pub without-stamps : is_opaque_uart (0 ∷ 0 ∷ 0 ∷ 0x7F ∷ 1 ∷ []) ≡ true
 without-stamps = refl
 
-pub no-word : is_opaque (0 ∷ 0 ∷ 0 ∷ []) ≡ false
+pub no-word : is_opaque_uart (0 ∷ 0 ∷ 0 ∷ []) ≡ false
 no-word = refl
 
 -- the last subchannel, and one behind it
@@ -34,15 +34,15 @@ pub subchannel-16384 : FitsUart (uart_of 0 false 16384 []) → ⊥
 subchannel-16384 fits = omega (arith, fits.sub)
 
 -- a front with any stamp, any upper half of the header, and this length
-abbrev pub front_of : ℕ → List ℕ
-front_of bytes = 0xFF ∷ 0xFF ∷ 0xFF ∷ 0xFF ∷ 0xFF ∷ 0xFF ∷ 0xFF ∷ 0xFF ∷ bytes ∷ 0 ∷ 0xFF ∷ 0xFF ∷ []
+abbrev pub uart_front : ℕ → List ℕ
+uart_front bytes = 0xFF ∷ 0xFF ∷ 0xFF ∷ 0xFF ∷ 0xFF ∷ 0xFF ∷ 0xFF ∷ 0xFF ∷ bytes ∷ 0 ∷ 0xFF ∷ 0xFF ∷ []
 
-pub four-bytes : told_size (front_of 4) ≡ Some 16
+pub four-bytes : told_size (uart_front 4) ≡ Some 16
 four-bytes = refl
 
-pub five-bytes : told_size (front_of 5) ≡ Some 18
+pub five-bytes : told_size (uart_front 5) ≡ Some 18
 five-bytes = refl
 
 -- any word, stamp and header, and any byte behind an odd number of bytes, may be another recorder's
-pub another-recorders : IsForeignUart ((1 ∷ 0 ∷ 0 ∷ 0 ∷ []) ++ front_of 1 ++ (0x41 ∷ 0x20 ∷ []) ++ front_of 0)
-another-recorders = (1, (front_of 1 ++ (0x41 ∷ 0x20 ∷ [])) ∷ front_of 0 ∷ [], lit< tt, ((lit≤ tt, refl), ((lit≤ tt, refl), tt)), refl)
+pub another-recorders : IsForeignUart ((1 ∷ 0 ∷ 0 ∷ 0 ∷ []) ++ uart_front 1 ++ (0x41 ∷ 0x20 ∷ []) ++ uart_front 0)
+another-recorders = (1, (uart_front 1 ++ (0x41 ∷ 0x20 ∷ [])) ∷ uart_front 0 ∷ [], lit< tt, ((lit≤ tt, refl), ((lit≤ tt, refl), tt)), refl)

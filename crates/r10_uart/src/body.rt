@@ -2,10 +2,10 @@
 
 ghost use Rattle.std.specs.Prelude.{◌≡◌, ◌↔◌, ◌^◌, ◌<◌, List, length, IsTrue, IfOk};
 ghost use Rattle.r10_count.specs.Append.{Appends};
-ghost use Rattle.r10_count.specs.Reading.{Reads};
+ghost use Rattle.r10_count.specs.Reading.{ReadsBody};
 ghost use Rattle.r10_count.specs.declared.reading.Reading.TheVariants.{Strict};
-ghost use Rattle.r10_uart.specs.Uart.{FitsUartBody, IsUart, IsForeignUart, uart_body, is_opaque};
-ghost use Rattle.r10_uart.specs.declared.entry.UartEntry.{UartEntry as Spoken};
+ghost use Rattle.r10_uart.specs.Uart.{FitsUartBody, IsUart, IsForeignUart, uart_body, is_opaque_uart};
+ghost use Rattle.r10_uart.specs.declared.entry.UartEntry.{UartEntry as UartEntryValue};
 
 use crate::entry::UartEntry;
 use r10_count::{BodyEntry, Items, Reading, read_body, split_u32, write_body};
@@ -50,8 +50,8 @@ impl UartBody {
     /// Reads a body: the entries that this recorder writes as these bytes, or whether another recorder may have
     /// written them.
     pub fn decode(alloc: Global, body: &[u8]) -> Result<Reading<UartBody>, AllocError>
-        ensures found { IfOk result (Reads (λ read. IsUart read.entries body.now) (IsForeignUart body.now)) }
-        ensures only { (entries : List Spoken) → IsUart entries body.now → IfOk result (λ reading. reading ≡ Strict (record { entries = entries })) }
+        ensures found { IfOk result (ReadsBody (λ read. IsUart read.entries body.now) (IsForeignUart body.now)) }
+        ensures only { (entries : List UartEntryValue) → IsUart entries body.now → IfOk result (λ reading. reading ≡ Strict (record { entries = entries })) }
     {
         match read_body(alloc, 0, 0, body)? {
             Reading::Strict(entries) => Ok(Reading::Strict(UartBody { entries })),
@@ -62,7 +62,7 @@ impl UartBody {
 
     /// Whether the word of a body says that its entries have no stamps. Such a body isn't read.
     pub fn is_opaque(body: &[u8]) -> bool
-        ensures { result ≡ is_opaque body.now }
+        ensures { result ≡ is_opaque_uart body.now }
     {
         match split_u32(body) {
             Some((word, _)) => word < 0x8000_0000,

@@ -4,7 +4,7 @@ use Rattle.std.specs.Prelude.{count_by, map, ◌==◌}
 use Rattle.std.proofs.lemmas.List.{length-map}
 use Rattle.r10_body.specs.Content.{Content, FitsContent, setup, time, event, uart, bus, arinc, discrete, message, node, root, messages_of, type_of}
 use Rattle.r10_body.specs.Packets.{Packet, file_entries, packet_entries, with_gaps}
-use Rattle.r10_body.specs.Rules.{EachFollows, MayFollow, is_index, is_setup}
+use Rattle.r10_body.specs.Rules.{EachFollows, MayFollow, is_index, is_setup_packet}
 use Rattle.r10_body.specs.declared.entry.Timed.{Timed}
 use Rattle.r10_body.proofs.Indexes.{none_at, part_of}
 use Rattle.r10_body.proofs.Lengths.{not_setup}
@@ -30,7 +30,7 @@ content_some (arinc es) counter other plain fits = map_some _ es fits.some
 content_some (discrete bits es) counter other plain fits = map_some _ es fits.some
 content_some (message es) counter other plain fits = map_some _ es fits.some
 
-entry_some : (before : List Packet) (p : Packet) → MayFollow before p → is_setup p ≡ false → is_index p ≡ false → 0 < length (packet_entries p)
+entry_some : (before : List Packet) (p : Packet) → MayFollow before p → is_setup_packet p ≡ false → is_index p ≡ false → 0 < length (packet_entries p)
 entry_some before p may other plain = omega (arith, content_some p.content p.counter other plain may.fits.content, gaps_length p.channel p.flagged (messages_of p.counter p.content))
 
 rest_some : (before ps : List Packet) → 0 < length before → EachFollows before ps → count_by is_index ps ≡ 0 → length ps ≤ length (file_entries ps)

@@ -10,11 +10,11 @@ use Rattle.r10_dirblock.specs.Block.{is_closed}
 use Rattle.r10_dirblock.specs.Texts.{stripped}
 use Rattle.r10_dirblock.specs.declared.entry.Entry.{Entry}
 use Rattle.r10_dirchain.specs.declared.chain.ChainBlock.{ChainBlock}
-use Rattle.r10_dirchain.specs.Chain.{files as listed_files}
+use Rattle.r10_dirchain.specs.Chain.{listed_files}
 use Rattle.r10_dirchain.specs.Mount.{stands}
 use Rattle.r10_dirchain.proofs.Standing.{Stand, usable_of}
 use Rattle.r10_dirchain.proofs.Unique.{one_directory}
-use Rattle.r10_volume.specs.Holding.{Holds, Open}
+use Rattle.r10_volume.specs.Holding.{HoldsFiles, Open}
 use Rattle.r10_machine.specs.Checks.{is_sealed, is_taken}
 use Rattle.r10_machine.specs.Config.{Config}
 use Rattle.r10_machine.specs.Machine.{File}
@@ -30,7 +30,7 @@ pub record IsListed (s : Config) (image : Image) (entries : List Entry) (files :
   pub stand : Stand s.blocks (s.directory + 1) entries
   pub blocks : length image ≡ s.blocks
 
-pub held_lists : (s : Config) (image : Image) (chain : List ChainBlock) (written : Option Open) (files : List File) → Holds s image chain written files → IsListed s image (listed_files chain) files
+pub held_lists : (s : Config) (image : Image) (chain : List ChainBlock) (written : Option Open) (files : List File) → HoldsFiles s image chain written files → IsListed s image (listed_files chain) files
 held_lists s image chain written files holds =
     let says = holds.says in
     let same : says.chain ≡ chain = one_directory image says.chain chain says.directory holds.directory in
@@ -139,28 +139,28 @@ behind_inside blocks reserved entries le stand = last_inside blocks (reserved + 
 -- ---- the whole
 
 module _ (s : Config) (image : Image) (chain : List ChainBlock) (written : Option Open) (files : List File) where
-  lists : Holds s image chain written files → IsListed s image (listed_files chain) files
+  lists : HoldsFiles s image chain written files → IsListed s image (listed_files chain) files
   lists = held_lists s image chain written files
 
-  pub infos_told : Holds s image chain written files → map info_in (listed_files chain) ≡ map info_of files
+  pub infos_told : HoldsFiles s image chain written files → map info_in (listed_files chain) ≡ map info_of files
   infos_told holds = same_infos image (listed_files chain) files (lists holds).each
 
-  pub count_told : Holds s image chain written files → length (listed_files chain) ≡ length files
+  pub count_told : HoldsFiles s image chain written files → length (listed_files chain) ≡ length files
   count_told holds = same_count image (listed_files chain) files (lists holds).each
 
-  pub few_told : Holds s image chain written files → s.directory < length image → length files ≤ length image
+  pub few_told : HoldsFiles s image chain written files → s.directory < length image → length files ≤ length image
   few_told holds less = let is = lists holds in omega (arith, is.blocks, count_told holds, few_files s.blocks (s.directory + 1) (listed_files chain) (omega (arith, less, is.blocks)) is.stand)
 
-  pub closed_told : Holds s image chain written files → is_last_closed (listed_files chain) ≡ is_sealed files
+  pub closed_told : HoldsFiles s image chain written files → is_last_closed (listed_files chain) ≡ is_sealed files
   closed_told holds = same_sealed image (listed_files chain) files (lists holds).each
 
-  pub behind_told : Holds s image chain written files → block_behind s.directory (listed_files chain) ≡ next_block s files
+  pub behind_told : HoldsFiles s image chain written files → block_behind s.directory (listed_files chain) ≡ next_block s files
   behind_told holds = same_next s image (listed_files chain) files (lists holds).each
 
-  pub inside_told : Holds s image chain written files → s.directory < length image → next_block s files ≤ length image
+  pub inside_told : HoldsFiles s image chain written files → s.directory < length image → next_block s files ≤ length image
   inside_told holds less = let is = lists holds in omega (arith, is.blocks, behind_told holds, behind_inside s.blocks s.directory (listed_files chain) (omega (arith, less, is.blocks)) is.stand)
 
-pub names_told : (s : Config) (image : Image) (chain : List ChainBlock) (written : Option Open) (files : List File) (name : List ℕ) → Holds s image chain written files → has_name name (listed_files chain) ≡ is_taken name files
+pub names_told : (s : Config) (image : Image) (chain : List ChainBlock) (written : Option Open) (files : List File) (name : List ℕ) → HoldsFiles s image chain written files → has_name name (listed_files chain) ≡ is_taken name files
 names_told s image chain written files name holds = same_names image (listed_files chain) files name (held_lists s image chain written files holds).each
 
 -- ---- lists behind one another

@@ -7,9 +7,9 @@ use Rattle.std.proofs.lemmas.List.Sums.{sum_by-cons}
 use Rattle.std.proofs.lemmas.Bool.{eqb-true, eq-eqb, ltb-true, lt-ltb, le-leb}
 use Rattle.r10_count.specs.Checks.{first_broken}
 use Rattle.r10_medium.specs.Disk.{Image, IsWhole}
-use Rattle.r10_dirblock.specs.declared.entry.Entry.{Entry as Listed}
+use Rattle.r10_dirblock.specs.declared.entry.Entry.{Entry as DirectoryEntry}
 use Rattle.r10_dirchain.specs.declared.chain.ChainBlock.{ChainBlock}
-use Rattle.r10_dirchain.specs.Chain.{IsDirectory, at, files as listed_files}
+use Rattle.r10_dirchain.specs.Chain.{IsDirectory, at, listed_files}
 use Rattle.r10_dirchain.specs.Mount.{blocks_in, mount_rules, stands}
 use Rattle.r10_dirchain.specs.OnMedium.{Turned}
 use Rattle.r10_dirchain.specs.Steps.{last_listing, updated}
@@ -32,11 +32,11 @@ use Rattle.r10_machine.specs.Says.{IsFound, Lists, MediumSays, SaysEach, SaysFil
 -- ---- files back to back
 
 -- what it is for a file to stand at a place
-pub record Place (blocks n : ℕ) (e : Listed) : Type 0 where
+pub record Place (blocks n : ℕ) (e : DirectoryEntry) : Type 0 where
   pub first : e.first_block ≡ n
   pub some : 0 < e.size
 
-pub place_of : (blocks n : ℕ) (e : Listed) → stands blocks n e ≡ true → Place blocks n e
+pub place_of : (blocks n : ℕ) (e : DirectoryEntry) → stands blocks n e ≡ true → Place blocks n e
 place_of blocks n e is =
     let parts = three (e.first_block == n) (nat_lt 0 e.size) (e.block_count == (e.size + 511) / 512) (nat_le (n + e.block_count) blocks) is in
     record { first = eqb-true e.first_block n parts.0; some = ltb-true 0 e.size parts.1 }
@@ -47,12 +47,12 @@ place_of blocks n e is =
     three false b c d is = absurd (cc)
 
 -- where the last file stands
-pub record LastStands (n : ℕ) (entries : List Listed) (f : File) : Type 0 where
+pub record LastStands (n : ℕ) (entries : List DirectoryEntry) (f : File) : Type 0 where
   pub listed : 0 < length entries
   pub first : f.first_block ≡ n + blocks_in (take (length entries - 1) entries)
   pub some : 0 < f.size
 
-pub last_stands : (image : Image) (blocks n : ℕ) (entries : List Listed) (files : List File) (f : File) → Stand blocks n entries → SaysEach image entries (files ++ f ∷ []) → LastStands n entries f
+pub last_stands : (image : Image) (blocks n : ℕ) (entries : List DirectoryEntry) (files : List File) (f : File) → Stand blocks n entries → SaysEach image entries (files ++ f ∷ []) → LastStands n entries f
 last_stands image blocks n [] [] f stand each = absurd each
 last_stands image blocks n [] (g ∷ files) f stand each = absurd each
 last_stands image blocks n (e ∷ []) [] f stand each =
@@ -64,21 +64,21 @@ last_stands image blocks n (e ∷ []) (g ∷ h ∷ files) f stand each = absurd 
 last_stands image blocks n (e ∷ d ∷ entries) (g ∷ files) f stand each =
     let rest = last_stands image blocks (n + e.block_count) (d ∷ entries) files f stand.1 each.2 in
     let front : blocks_in (take (length (e ∷ d ∷ entries) - 1) (e ∷ d ∷ entries)) ≡ e.block_count + blocks_in (take (length (d ∷ entries) - 1) (d ∷ entries)) =
-    ap (λ (k : ℕ). blocks_in (take k (e ∷ d ∷ entries))) (one_more e d entries) ∙ sum_by-cons (λ (c : Listed). c.block_count) e (take (length (d ∷ entries) - 1) (d ∷ entries)) in
+    ap (λ (k : ℕ). blocks_in (take k (e ∷ d ∷ entries))) (one_more e d entries) ∙ sum_by-cons (λ (c : DirectoryEntry). c.block_count) e (take (length (d ∷ entries) - 1) (d ∷ entries)) in
     record { listed = omega arith; first = omega (arith, rest.first, front); some = rest.some }
   where
-    one_more : (e d : Listed) (entries : List Listed) → length (e ∷ d ∷ entries) - 1 ≡ suc (length (d ∷ entries) - 1)
+    one_more : (e d : DirectoryEntry) (entries : List DirectoryEntry) → length (e ∷ d ∷ entries) - 1 ≡ suc (length (d ∷ entries) - 1)
     one_more e d entries = omega arith
 
 -- ---- the last file, as it is said and listed
 
-pub last_file_said : (image : Image) (entries : List Listed) (files : List File) (f : File) → SaysEach image entries (files ++ f ∷ []) → SaysFile image f
+pub last_file_said : (image : Image) (entries : List DirectoryEntry) (files : List File) (f : File) → SaysEach image entries (files ++ f ∷ []) → SaysFile image f
 last_file_said image [] [] f each = absurd each
 last_file_said image [] (g ∷ files) f each = absurd each
 last_file_said image (e ∷ entries) [] f each = each.1
 last_file_said image (e ∷ entries) (g ∷ files) f each = last_file_said image entries files f each.2
 
-pub last_file_listed : (image : Image) (d : Option Listed) (entries : List Listed) (files : List File) (f : File) → SaysEach image entries (files ++ f ∷ []) → IsSomeAnd (last_or d entries) (Lists f)
+pub last_file_listed : (image : Image) (d : Option DirectoryEntry) (entries : List DirectoryEntry) (files : List File) (f : File) → SaysEach image entries (files ++ f ∷ []) → IsSomeAnd (last_or d entries) (Lists f)
 last_file_listed image d [] [] f each = absurd each
 last_file_listed image d [] (g ∷ files) f each = absurd each
 last_file_listed image d (e ∷ []) [] f each = each.0
@@ -92,7 +92,7 @@ abbrev pub written_in : List ChainBlock → List ℕ
 written_in chain = (at chain (last_listing chain)).number ∷ []
 
 -- over an image that says the files, the last of them is shown anew: it is said, and an entry lists it
-pub record Relists (s : Config) (image : Image) (chain : List ChainBlock) (files : List File) (f g : File) (e : Listed) : Type 0 where
+pub record Relists (s : Config) (image : Image) (chain : List ChainBlock) (files : List File) (f g : File) (e : DirectoryEntry) : Type 0 where
   pub whole : IsWhole image
   pub there : IsDirectory image chain
   pub says : MediumSays s image (files ++ f ∷ [])
@@ -101,7 +101,7 @@ pub record Relists (s : Config) (image : Image) (chain : List ChainBlock) (files
   pub first : g.first_block ≡ f.first_block
   pub some : f.size ≤ g.size
 
-module _ (s : Config) (old : Image) (chain : List ChainBlock) (files : List File) (f g : File) (e : Listed) (makes : Relists s old chain files f g e) where
+module _ (s : Config) (old : Image) (chain : List ChainBlock) (files : List File) (f g : File) (e : DirectoryEntry) (makes : Relists s old chain files f g e) where
   pub same : makes.says.chain ≡ chain
   same = one_directory old makes.says.chain chain makes.says.directory makes.there
 
@@ -142,7 +142,7 @@ module _ (s : Config) (old : Image) (chain : List ChainBlock) (files : List File
   pub made_says : (new : Image) → Turned (updated e chain) (written_in chain) old new → MediumSays s new (files ++ g ∷ [])
   made_says new turned =
       let listed : SaysEach old (listed_files (updated e chain)) (files ++ g ∷ []) =
-      subst (λ (l : List Listed). SaysEach old l (files ++ g ∷ [])) (sym (files-updated e chain last.listed)) (last_said old (listed_files chain) files f e g each makes.lists makes.made) in
+      subst (λ (l : List DirectoryEntry). SaysEach old l (files ++ g ∷ [])) (sym (files-updated e chain last.listed)) (last_said old (listed_files chain) files f e g each makes.lists makes.made) in
       directory_turns s old new (updated e chain) (written_in chain) (files ++ g ∷ []) makes.whole makes.says.blocks turned reserved mounts_made listed
 
   -- others are found as they were

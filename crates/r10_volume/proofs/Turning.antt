@@ -6,9 +6,9 @@ use Rattle.r10_count.specs.Checks.{first_broken}
 use Rattle.r10_medium.specs.Disk.{Disk, Image, MayLeave, Unchanged, block_at}
 use Rattle.r10_medium.specs.Stop.{ComesBy, Leaves, Settled}
 use Rattle.r10_medium.proofs.Stops.{joined, settled_reads, stayed, weakened, whole_reads}
-use Rattle.r10_dirblock.specs.declared.entry.Entry.{Entry as Listed}
+use Rattle.r10_dirblock.specs.declared.entry.Entry.{Entry as DirectoryEntry}
 use Rattle.r10_dirchain.specs.declared.chain.ChainBlock.{ChainBlock}
-use Rattle.r10_dirchain.specs.Chain.{IsDirectory, at, files as listed_files, link, Linked}
+use Rattle.r10_dirchain.specs.Chain.{IsDirectory, at, listed_files, link, Linked}
 use Rattle.r10_dirchain.specs.Mount.{mount_rules}
 use Rattle.r10_dirchain.specs.OnMedium.{SameButIn, Turned, Turns}
 use Rattle.r10_dirchain.specs.Steps.{emptied, with_shutdown}
@@ -17,7 +17,7 @@ use Rattle.r10_dirchain.proofs.Staying.{usable-emptied, usable-with_shutdown}
 use Rattle.r10_dirchain.proofs.Turning.{on_ok, same_in, turns_of}
 use Rattle.r10_dirchain.proofs.Unique.{one_directory}
 use Rattle.r10_dirchain.proofs.Usable.{place_rules_hold, placed}
-use Rattle.r10_volume.specs.Holding.{Holds, OthersAreFound}
+use Rattle.r10_volume.specs.Holding.{HoldsFiles, OthersAreFound}
 use Rattle.r10_volume.proofs.Found.{found_stays}
 use Rattle.r10_machine.specs.Config.{Config}
 use Rattle.r10_machine.specs.Machine.{File}
@@ -64,7 +64,7 @@ marking s image chain shutdown files says is =
       says = says;
       reserved = one_reserved s (some_reserved s.directory s.blocks image chain is mounts);
       mounts = usable-with_shutdown s.directory s.blocks shutdown chain mounts;
-      each = subst (λ (l : List Listed). SaysEach image l files) (ap listed_files same ∙ sym (files-with_shutdown shutdown chain)) says.each;
+      each = subst (λ (l : List DirectoryEntry). SaysEach image l files) (ap listed_files same ∙ sym (files-with_shutdown shutdown chain)) says.each;
     }
 
 -- no files
@@ -151,7 +151,7 @@ leaves_still s old new chain made changed files result makes turns here =
 
 -- a directory with the same files
 pub held_still : (s : Config) (old : Disk) (new : Image) (made : List ChainBlock) (changed : List ℕ) (files : List File) → Makes s old.blocks made changed files files → OthersAreFound old.blocks files
-    → Turned made changed old.blocks new → Holds s new made None files
+    → Turned made changed old.blocks new → HoldsFiles s new made None files
 held_still s old new made changed files makes found turned = record {
   says = said s old new made changed files files makes turned;
   directory = turned.directory;
@@ -160,7 +160,7 @@ held_still s old new made changed files makes found turned = record {
 }
 
 -- a directory without files
-pub held_empty : (s : Config) (old : Disk) (new : Image) (made : List ChainBlock) (changed : List ℕ) (files : List File) → Makes s old.blocks made changed files [] → Turned made changed old.blocks new → Holds s new made None []
+pub held_empty : (s : Config) (old : Disk) (new : Image) (made : List ChainBlock) (changed : List ℕ) (files : List File) → Makes s old.blocks made changed files [] → Turned made changed old.blocks new → HoldsFiles s new made None []
 held_empty s old new made changed files makes turned = record { says = said s old new made changed files [] makes turned; directory = turned.directory; found = tt; last = tt }
 
 -- an Ok reads as what it made sure
@@ -217,17 +217,17 @@ on_both (Ok x) P Q R gives p q = gives p q
 on_both (Err e) P Q R gives p q = tt
 
 pub held_on : {T E : Type 0} (s : Config) (old new : Disk) (chain made now : List ChainBlock) (files : List File) (result : Result T E) → Makes s old.blocks made (1 ∷ []) files files → OthersAreFound old.blocks files
-    → Turns chain made [] (1 ∷ []) old new result → OnOk result (now ≡ made) → OnOk result (Holds s new.blocks now None files)
+    → Turns chain made [] (1 ∷ []) old new result → OnOk result (now ≡ made) → OnOk result (HoldsFiles s new.blocks now None files)
 held_on s old new chain made now files result makes found turns done =
-    on_both result (Settled (Turned made (1 ∷ []) old.blocks) new) (now ≡ made) (Holds s new.blocks now None files)
-    (λ turned is. subst (λ (l : List ChainBlock). Holds s new.blocks l None files) (sym is) (held_still s old new.blocks made (1 ∷ []) files makes found (settled_reads (Turned made (1 ∷ []) old.blocks) new turned)))
+    on_both result (Settled (Turned made (1 ∷ []) old.blocks) new) (now ≡ made) (HoldsFiles s new.blocks now None files)
+    (λ turned is. subst (λ (l : List ChainBlock). HoldsFiles s new.blocks l None files) (sym is) (held_still s old new.blocks made (1 ∷ []) files makes found (settled_reads (Turned made (1 ∷ []) old.blocks) new turned)))
     turns.settled done
 
 pub emptied_on : {T E : Type 0} (s : Config) (old new : Disk) (chain made now : List ChainBlock) (files : List File) (result : Result T E) → Makes s old.blocks made (1 ∷ []) files []
-    → Turns chain made [] (1 ∷ []) old new result → OnOk result (now ≡ made) → OnOk result (Holds s new.blocks now None [])
+    → Turns chain made [] (1 ∷ []) old new result → OnOk result (now ≡ made) → OnOk result (HoldsFiles s new.blocks now None [])
 emptied_on s old new chain made now files result makes turns done =
-    on_both result (Settled (Turned made (1 ∷ []) old.blocks) new) (now ≡ made) (Holds s new.blocks now None [])
-    (λ turned is. subst (λ (l : List ChainBlock). Holds s new.blocks l None []) (sym is) (held_empty s old new.blocks made (1 ∷ []) files makes (settled_reads (Turned made (1 ∷ []) old.blocks) new turned)))
+    on_both result (Settled (Turned made (1 ∷ []) old.blocks) new) (now ≡ made) (HoldsFiles s new.blocks now None [])
+    (λ turned is. subst (λ (l : List ChainBlock). HoldsFiles s new.blocks l None []) (sym is) (held_empty s old new.blocks made (1 ∷ []) files makes (settled_reads (Turned made (1 ∷ []) old.blocks) new turned)))
     turns.settled done
 
 -- another shutdown byte, behind calls that change nothing

@@ -9,7 +9,7 @@ use Rattle.r10_medium.specs.Disk.{Image}
 use Rattle.r10_dirblock.specs.Block.{is_closed}
 use Rattle.r10_dirblock.specs.declared.entry.Entry.{Entry}
 use Rattle.r10_dirchain.specs.declared.chain.ChainBlock.{ChainBlock}
-use Rattle.r10_dirchain.specs.Chain.{IsDirectory, files as listed_files}
+use Rattle.r10_dirchain.specs.Chain.{IsDirectory, listed_files}
 use Rattle.r10_dirchain.specs.Mount.{blocks_in, stands}
 use Rattle.r10_dirchain.specs.Steps.{added, updated}
 use Rattle.r10_dirchain.proofs.Standing.{ButLastClosed, Stand, usable_of}

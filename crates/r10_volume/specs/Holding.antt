@@ -6,7 +6,7 @@ use Rattle.r10_blockout.specs.Output.{first_of}
 use Rattle.r10_medium.specs.Disk.{Image}
 use Rattle.r10_body.specs.Packets.{file_bytes}
 use Rattle.r10_body.specs.declared.entry.Entry.{Entry}
-use Rattle.r10_packetout.specs.Carries.{Carries, Recording}
+use Rattle.r10_packetout.specs.Carries.{Records, Recording}
 use Rattle.r10_machine.specs.Cuts.{Cut}
 use Rattle.r10_dirchain.specs.Chain.{IsDirectory}
 use Rattle.r10_dirchain.specs.declared.chain.ChainBlock.{ChainBlock}
@@ -21,7 +21,7 @@ pub record Open : Type 0 where
 
 -- Whatever files the medium has: over the image the file carries this setup and these entries, and the first of its packets, as many as are shown, stand there.
 pub record IsCarried (image : Image) (o : Open) (text : List ℕ) (entries : List Entry) : Type 0 where
-  pub carries : Carries o.recording image text entries
+  pub carries : Records o.recording image text entries
   pub within : o.shown ≤ length carries.packets
   pub stands : Shows image (first_of o.recording.out.blocks) (file_bytes (take o.shown carries.packets))
 
@@ -33,7 +33,7 @@ pub record IsWritten (s : Config) (image : Image) (o : Open) (f : File) : Type 0
   pub first : first_of o.recording.out.blocks ≡ f.first_block
   pub unclosed : f.closed ≡ false
   pub own : f.own ≡ true
-  pub carries : Carries o.recording image f.setup f.entries
+  pub carries : Records o.recording image f.setup f.entries
   pub cut : Cut carries.packets f.entries f.size f.shown
   pub shown : cut.count ≡ o.shown
   pub stands : Shows image f.first_block (file_bytes (take o.shown carries.packets))
@@ -43,7 +43,7 @@ abbrev pub OthersAreFound : Image → List File → Type 0
 OthersAreFound image files = AllByRecursion (λ (f : File). f.own ≡ false → IsFound image f) files
 
 -- the medium says these files, by this directory, and the last of them is the one that is written, where one is
-pub record Holds (s : Config) (image : Image) (chain : List ChainBlock) (written : Option Open) (files : List File) : Type 0 where
+pub record HoldsFiles (s : Config) (image : Image) (chain : List ChainBlock) (written : Option Open) (files : List File) : Type 0 where
   pub says : MediumSays s image files
   pub directory : IsDirectory image chain
   pub found : OthersAreFound image files

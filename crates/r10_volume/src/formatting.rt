@@ -1,7 +1,7 @@
 //! A new directory.
 
 ghost use Rattle.std.specs.Prelude.{◌≡◌, ◌⊎◌, [], length, IfErr, OnOk};
-ghost use Rattle.r10_body.specs.declared.refusal.Refusal.TheVariants as refusal;
+ghost use Rattle.r10_body.specs.declared.refusal.Refusal.TheVariants as refusals;
 ghost use Rattle.r10_dirblock.specs.Block.{block_bytes};
 ghost use Rattle.r10_dirchain.specs.Chain.{at};
 ghost use Rattle.r10_dirchain.specs.Steps.{formatted};
@@ -33,7 +33,7 @@ pub fn format<M: BlockMedium>(medium: &mut M, settings: &Settings) -> Result<(),
     ensures moments { Leaves (λ image. MayLeave (M.disk medium.old) image ⊎ IsFormatted settings.now (M.disk medium.old).blocks image)
         (M.disk medium.old) (M.disk medium.new) }
     ensures blocks { length (M.disk medium.new).blocks ≡ length (M.disk medium.old).blocks }
-    ensures refused { IfErr result (λ r. r ≡ refusal.Medium) }
+    ensures refused { IfErr result (λ r. r ≡ refusals.Medium) }
     ensures counts { Counts (M.disk medium.old) (M.disk medium.new) result }
 {
     let _blocks = settings.blocks();

@@ -2,7 +2,7 @@
 
 ghost use Rattle.std.specs.Prelude.{◌≡◌, ◌-◌, ◌^◌, None, length, map, min, IfOk};
 ghost use Rattle.std.specs.List.{last_or};
-ghost use Rattle.r10_dirchain.specs.Chain.{files as listed_files};
+ghost use Rattle.r10_dirchain.specs.Chain.{listed_files};
 ghost use Rattle.r10_volume.specs.Listing.{block_behind, has_name, info_in, is_last_closed};
 
 use r10_count::Items;

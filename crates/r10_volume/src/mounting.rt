@@ -11,7 +11,7 @@ ghost use Rattle.r10_machine.specs.Config.{Config};
 ghost use Rattle.r10_machine.specs.Machine.{File};
 ghost use Rattle.r10_machine.specs.Bytes.{KeepBytes};
 ghost use Rattle.r10_machine.specs.Says.{MediumSays};
-ghost use Rattle.r10_volume.specs.Holding.{Holds, OthersAreFound};
+ghost use Rattle.r10_volume.specs.Holding.{HoldsFiles, OthersAreFound};
 ghost use Rattle.r10_volume.specs.Mounting.{IsLeft, IsMountError, IsMounted, IsNamed, IsUnusable, IsUsable};
 ghost use Rattle.r10_volume.specs.Settling.{IsSettled};
 
@@ -41,7 +41,7 @@ pub fn mount<M: BlockMedium>(
         → Turns chain (with_shutdown 0x00 chain) [] (1 ∷ []) (M.disk medium.old) (M.disk medium.new) result }
     // Where the medium says files, a recorder of its settings holds them.
     ensures holds { (s : Config) (files : List File) → MediumSays s (M.disk medium.old).blocks files → OthersAreFound (M.disk medium.old).blocks files → reserved ≡ s.directory
-        → MatchResult result (λ directory. Holds s (M.disk medium.new).blocks directory None files) IsNoFault }
+        → MatchResult result (λ directory. HoldsFiles s (M.disk medium.new).blocks directory None files) IsNoFault }
     ensures says { (s : Config) (files : List File) → MediumSays s (M.disk medium.old).blocks files → MediumSays s (M.disk medium.new).blocks files }
     ensures bytes { (s : Config) (files : List File) → MediumSays s (M.disk medium.old).blocks files → KeepBytes (M.disk medium.old).blocks (M.disk medium.new).blocks files }
     ensures moments { (s : Config) (files : List File) → Settled (λ image. MediumSays s image files) (M.disk medium.old)

@@ -10,7 +10,7 @@ ghost use Rattle.r10_machine.specs.Config.{Config};
 ghost use Rattle.r10_machine.specs.Machine.{File};
 ghost use Rattle.r10_machine.specs.Bytes.{KeepBytes};
 ghost use Rattle.r10_machine.specs.Says.{MediumSays};
-ghost use Rattle.r10_volume.specs.Holding.{Holds};
+ghost use Rattle.r10_volume.specs.Holding.{HoldsFiles};
 ghost use Rattle.r10_volume.specs.Mounting.{IsUsable};
 ghost use Rattle.r10_volume.specs.Settling.{IsSettled};
 
@@ -28,12 +28,12 @@ pub fn dismount<M: BlockMedium>(
     ensures directory { OnOk result (IsPublished directory.new (M.disk medium.new)) }
     ensures usable { (reserved : ℕ) → IsUsable reserved (M.disk medium.old).blocks directory.old → OnOk result (IsUsable reserved (M.disk medium.new).blocks directory.new) }
     ensures turns { Turns directory.old (with_shutdown 0xFF directory.old) [] (1 ∷ []) (M.disk medium.old) (M.disk medium.new) result }
-    ensures holds { (s : Config) (files : List File) → Holds s (M.disk medium.old).blocks directory.old None files → OnOk result (Holds s (M.disk medium.new).blocks directory.new None files) }
-    ensures says { (s : Config) (files : List File) → Holds s (M.disk medium.old).blocks directory.old None files → MediumSays s (M.disk medium.new).blocks files }
-    ensures bytes { (s : Config) (files : List File) → Holds s (M.disk medium.old).blocks directory.old None files → KeepBytes (M.disk medium.old).blocks (M.disk medium.new).blocks files }
-    ensures moments { (s : Config) (files : List File) → Holds s (M.disk medium.old).blocks directory.old None files → Settled (λ image. MediumSays s image files) (M.disk medium.old)
+    ensures holds { (s : Config) (files : List File) → HoldsFiles s (M.disk medium.old).blocks directory.old None files → OnOk result (HoldsFiles s (M.disk medium.new).blocks directory.new None files) }
+    ensures says { (s : Config) (files : List File) → HoldsFiles s (M.disk medium.old).blocks directory.old None files → MediumSays s (M.disk medium.new).blocks files }
+    ensures bytes { (s : Config) (files : List File) → HoldsFiles s (M.disk medium.old).blocks directory.old None files → KeepBytes (M.disk medium.old).blocks (M.disk medium.new).blocks files }
+    ensures moments { (s : Config) (files : List File) → HoldsFiles s (M.disk medium.old).blocks directory.old None files → Settled (λ image. MediumSays s image files) (M.disk medium.old)
         → Leaves (λ image. MediumSays s image files) (M.disk medium.old) (M.disk medium.new) }
-    ensures settled { (s : Config) (files : List File) → Holds s (M.disk medium.old).blocks directory.old None files → OnOk result (IsSettled s files (M.disk medium.new)) }
+    ensures settled { (s : Config) (files : List File) → HoldsFiles s (M.disk medium.old).blocks directory.old None files → OnOk result (IsSettled s files (M.disk medium.new)) }
     ensures blocks { length (M.disk medium.new).blocks ≡ length (M.disk medium.old).blocks }
     ensures counts { Counts (M.disk medium.old) (M.disk medium.new) result }
 {
@@ -48,13 +48,13 @@ pub fn erase<M: BlockMedium>(medium: &mut M, directory: &mut Directory) -> Resul
     ensures directory { OnOk result (IsPublished directory.new (M.disk medium.new)) }
     ensures usable { (reserved : ℕ) → IsUsable reserved (M.disk medium.old).blocks directory.old → OnOk result (IsUsable reserved (M.disk medium.new).blocks directory.new) }
     ensures turns { Turns directory.old (emptied directory.old) [] (1 ∷ []) (M.disk medium.old) (M.disk medium.new) result }
-    ensures holds { (s : Config) (files : List File) → Holds s (M.disk medium.old).blocks directory.old None files → OnOk result (Holds s (M.disk medium.new).blocks directory.new None []) }
-    ensures failed { (s : Config) (files : List File) → Holds s (M.disk medium.old).blocks directory.old None files
+    ensures holds { (s : Config) (files : List File) → HoldsFiles s (M.disk medium.old).blocks directory.old None files → OnOk result (HoldsFiles s (M.disk medium.new).blocks directory.new None []) }
+    ensures failed { (s : Config) (files : List File) → HoldsFiles s (M.disk medium.old).blocks directory.old None files
         → OnErr result (MediumSays s (M.disk medium.new).blocks files ⊎ MediumSays s (M.disk medium.new).blocks []) }
-    ensures bytes { (s : Config) (files : List File) → Holds s (M.disk medium.old).blocks directory.old None files → KeepBytes (M.disk medium.old).blocks (M.disk medium.new).blocks files }
-    ensures moments { (s : Config) (files : List File) → Holds s (M.disk medium.old).blocks directory.old None files → Settled (λ image. MediumSays s image files) (M.disk medium.old)
+    ensures bytes { (s : Config) (files : List File) → HoldsFiles s (M.disk medium.old).blocks directory.old None files → KeepBytes (M.disk medium.old).blocks (M.disk medium.new).blocks files }
+    ensures moments { (s : Config) (files : List File) → HoldsFiles s (M.disk medium.old).blocks directory.old None files → Settled (λ image. MediumSays s image files) (M.disk medium.old)
         → Leaves (λ image. MediumSays s image files ⊎ MediumSays s image []) (M.disk medium.old) (M.disk medium.new) }
-    ensures settled { (s : Config) (files : List File) → Holds s (M.disk medium.old).blocks directory.old None files → OnOk result (IsSettled s [] (M.disk medium.new)) }
+    ensures settled { (s : Config) (files : List File) → HoldsFiles s (M.disk medium.old).blocks directory.old None files → OnOk result (IsSettled s [] (M.disk medium.new)) }
     ensures blocks { length (M.disk medium.new).blocks ≡ length (M.disk medium.old).blocks }
     ensures counts { Counts (M.disk medium.old) (M.disk medium.new) result }
 {

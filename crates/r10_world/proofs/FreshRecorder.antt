@@ -7,8 +7,8 @@ use Rattle.r10_machine.specs.Config.{Config}
 use Rattle.r10_machine.specs.Machine.{File, fresh, fresh_lane}
 use Rattle.r10_machine.specs.SoundParts.{own_files}
 use Rattle.r10_medium.specs.Disk.{Image}
-use Rattle.r10_world.specs.Joined.{Joined, new_kept}
-use Rattle.r10_means.specs.Means.{AreCounted}
+use Rattle.r10_world.specs.Joined.{KeptAndSlotsStandFor, new_kept}
+use Rattle.r10_means.specs.Means.{LanesAreCounted}
 use Rattle.r10_machine.specs.EventChecks.{most_files}
 use Rattle.r10_machine.specs.Says.{AreFound, MediumHas}
 use Rattle.r10_machine.specs.Sound.{IsFoundFile, IsSound}
@@ -22,7 +22,7 @@ none_own : (image : Image) (files : List File) → AreFound image files → own_
 none_own image [] found = refl
 none_own image (f ∷ files) (first, found) = rw first.own (none_own image files found)
 
-none_taken : (files : List File) → own_files files ≡ [] → (specs : List ChannelSpec) → AreCounted files specs (replicate (length specs) 0) (replicate (length specs) 0) (map fresh_lane specs)
+none_taken : (files : List File) → own_files files ≡ [] → (specs : List ChannelSpec) → LanesAreCounted files specs (replicate (length specs) 0) (replicate (length specs) 0) (map fresh_lane specs)
 none_taken files none [] = tt
 none_taken files none (x ∷ specs) = (
   record { spec_is = refl; erased_is = refl; taken_is = rw none refl },
@@ -31,7 +31,7 @@ none_taken files none (x ∷ specs) = (
 
 pub begins : ((s : Config) (files : List File) (failures : ℕ) → AllByRecursion IsFoundFile files → length files ≤ most_files s → IsSound s (fresh s.channels files failures))
     → ((s : Config) (image : Image) (files : List File) → MediumHas s image files → AllByRecursion IsFoundFile files × (length files ≤ most_files s))
-    → (s : Config) (image : Image) (files : List File) (failures : ℕ) → MediumHas s image files → Joined (new_kept s) image failures [] (fresh s.channels files failures)
+    → (s : Config) (image : Image) (files : List File) (failures : ℕ) → MediumHas s image files → KeptAndSlotsStandFor (new_kept s) image failures [] (fresh s.channels files failures)
 begins sound are s image files failures has =
     let found = are s image files has in
     record {

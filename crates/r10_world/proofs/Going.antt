@@ -8,26 +8,26 @@ use Rattle.r10_machine.specs.Machine.{Lane, Machine}
 use Rattle.r10_means.specs.Kept.{Kept}
 use Rattle.r10_medium.specs.Disk.{Disk, Image}
 use Rattle.r10_cursor.specs.declared.cursor.Cursor.{Cursor}
-use Rattle.r10_world.specs.Standing.{Goes, Ran, Stands}
-use Rattle.r10_world.specs.State.{State}
-use Rattle.r10_world.specs.Telling.{Runs, Tells}
+use Rattle.r10_world.specs.Standing.{PartsStepTo, PartsRunTo, PartsStandFor}
+use Rattle.r10_world.specs.State.{WorldState}
+use Rattle.r10_world.specs.Telling.{WorldRuns, RecorderStepsTo}
 use Rattle.r10_machine.specs.Says.{MediumSays}
 use Rattle.r10_machine.specs.Step.{Run, Step}
-use Rattle.r10_machine.specs.declared.event.Event.{Event as Asked}
-use Rattle.r10_machine.specs.declared.reply.Reply.{Reply as Answered}
+use Rattle.r10_machine.specs.declared.event.Event.{Event as EventValue}
+use Rattle.r10_machine.specs.declared.reply.Reply.{Reply as ReplyValue}
 
 abbrev pub RunsJoin : Type 0
-RunsJoin = (s : Config) (old mid new : Machine) (es fs : List Asked) (rs qs : List Answered) (is ks : List Image) → Run s old es rs is mid → Run s mid fs qs ks new → Run s old (es ++ fs) (rs ++ qs) (is ++ ks) new
+RunsJoin = (s : Config) (old mid new : Machine) (es fs : List EventValue) (rs qs : List ReplyValue) (is ks : List Image) → Run s old es rs is mid → Run s mid fs qs ks new → Run s old (es ++ fs) (rs ++ qs) (is ++ ks) new
 
 -- no events are a run
-begins : {M : Type 0} (disk : M → Disk) (w : State M) → Runs disk w [] [] w
+begins : {M : Type 0} (disk : M → Disk) (w : WorldState M) → WorldRuns disk w [] [] w
 begins disk w = λ m stands. record { images = []; machine = m; run = refl; stands = stands; config = refl }
 
 pub none_behind : {A : Type 0} (xs : List A) → drop (length xs) xs ≡ []
 none_behind [] = refl
 none_behind (x ∷ xs) = none_behind xs
 
-pub begun : {M : Type 0} (disk : M → Disk) (w : State M) (n : ℕ) (xs : List Answered) → n ≡ length xs → Runs disk w [] (drop n xs) w
+pub begun : {M : Type 0} (disk : M → Disk) (w : WorldState M) (n : ℕ) (xs : List ReplyValue) → n ≡ length xs → WorldRuns disk w [] (drop n xs) w
 begun disk w n xs is = rw (is, none_behind xs) (begins disk w)
 
 whole : {A : Type 0} (xs : List A) → take (length xs) xs ≡ xs
@@ -38,9 +38,9 @@ pub all_of : {A : Type 0} (n : ℕ) (xs : List A) → n ≡ length xs → take n
 all_of n xs is = rw is (whole xs)
 
 -- and a run goes on with a step
-goes_on : RunsJoin → (k mid later : Kept) (m : Machine) (es : List Asked) (rs : List Answered) (event : Asked) (reply : Answered) (image new : Image) (failures now : ℕ) (lanes lanes' : List Lane) (slots after : List (Option Cursor))
-    → Ran k m es rs mid image failures lanes slots → ((machine : Machine) → Stands mid image failures lanes slots machine → Goes mid machine event reply later new now lanes' after)
-    → Ran k m (es ++ event ∷ []) (rs ++ reply ∷ []) later new now lanes' after
+goes_on : RunsJoin → (k mid later : Kept) (m : Machine) (es : List EventValue) (rs : List ReplyValue) (event : EventValue) (reply : ReplyValue) (image new : Image) (failures now : ℕ) (lanes lanes' : List Lane) (slots after : List (Option Cursor))
+    → PartsRunTo k m es rs mid image failures lanes slots → ((machine : Machine) → PartsStandFor mid image failures lanes slots machine → PartsStepTo mid machine event reply later new now lanes' after)
+    → PartsRunTo k m (es ++ event ∷ []) (rs ++ reply ∷ []) later new now lanes' after
 goes_on law k mid later m es rs event reply image new failures now lanes lanes' slots after ran go =
     let next = go ran.machine ran.stands in
     let step : Step k.config ran.machine event reply next.machine = subst (λ (s : Config). Step s ran.machine event reply next.machine) ran.config next.on.step in
@@ -66,11 +66,11 @@ pub take_one_more : {A : Type 0} (n : ℕ) (xs ys : List A) (x : A) → n ≤ le
 take_one_more n xs ys x within longer = rw longer (take-append-le n xs (x ∷ []) within)
 
 -- one event more, and its reply behind those before
-pub run_more : {M : Type 0} (disk : M → Disk) (start mid new : State M) (events : List Asked) (i n : ℕ) (event : Asked) (reply : Answered) (xs ys : List Answered) → RunsJoin
+pub run_more : {M : Type 0} (disk : M → Disk) (start mid new : WorldState M) (events : List EventValue) (i n : ℕ) (event : EventValue) (reply : ReplyValue) (xs ys : List ReplyValue) → RunsJoin
     → i < length events → event ≡ get_or events i event → n ≤ length xs → ys ≡ xs ++ reply ∷ []
-    → Runs disk start (take i events) (drop n xs) mid → Tells disk mid.recorder mid.slots event reply new.recorder new.slots → Runs disk start (take (i + 1) events) (drop n ys) new
+    → WorldRuns disk start (take i events) (drop n xs) mid → RecorderStepsTo disk mid.recorder mid.slots event reply new.recorder new.slots → WorldRuns disk start (take (i + 1) events) (drop n ys) new
 run_more disk start mid new events i n event reply xs ys law here is within longer runs tells = λ m stands.
-    let more : take (i + 1) events ≡ take i events ++ event ∷ [] = take_more events i event here ∙ ap (λ (e : Asked). take i events ++ e ∷ []) (sym is) in
+    let more : take (i + 1) events ≡ take i events ++ event ∷ [] = take_more events i event here ∙ ap (λ (e : EventValue). take i events ++ e ∷ []) (sym is) in
     let before = disk mid.recorder.medium in
     let after = disk new.recorder.medium in
     rw (more, drop_one_more n xs ys reply within longer)

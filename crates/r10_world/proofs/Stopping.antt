@@ -3,10 +3,10 @@ use Rattle.std.proofs.Common.{◌≡◌, ◌≤◌, ◌<◌, ◌+◌, ⊎_elim, 
 use Rattle.std.specs.Prelude.{IfErr, OnOk}
 use Rattle.std.proofs.lemmas.List.{take_more}
 use Rattle.r10_body.specs.declared.refusal.Refusal.{Refusal}
-use Rattle.r10_control.specs.Checks.{refusal}
+use Rattle.r10_control.specs.Checks.{recorder_refusal}
 use Rattle.r10_control.specs.Lanes.{AreLanes}
-use Rattle.r10_control.specs.Refused.{Refuses, RefusesOpen}
-use Rattle.r10_control.specs.State.{State as Recorded}
+use Rattle.r10_control.specs.Refused.{RefusesCall, RefusesOpen}
+use Rattle.r10_control.specs.State.{RecorderState}
 use Rattle.r10_control.specs.Taking.{RefusesReadied}
 use Rattle.r10_cursor.specs.declared.cursor.Cursor.{Cursor}
 use Rattle.r10_machine.specs.Config.{Config}
@@ -14,8 +14,8 @@ use Rattle.r10_machine.specs.Limits.{IsConfig}
 use Rattle.r10_machine.specs.Machine.{Lane, Machine}
 use Rattle.r10_machine.specs.Says.{MediumSays}
 use Rattle.r10_machine.specs.Step.{Step}
-use Rattle.r10_machine.specs.declared.event.Event.{Event as Asked}
-use Rattle.r10_machine.specs.declared.reply.Reply.{Reply as Answered}
+use Rattle.r10_machine.specs.declared.event.Event.{Event as EventValue}
+use Rattle.r10_machine.specs.declared.reply.Reply.{Reply as ReplyValue}
 use Rattle.r10_machine.specs.declared.reply.Reply.TheVariants as replies
 use Rattle.r10_means.specs.Kept.{Kept, failed}
 use Rattle.r10_medium.proofs.Stops.{unchanged}
@@ -33,25 +33,25 @@ use Rattle.r10_machine.specs.declared.event.Event.TheVariants.{Stop}
 use Rattle.r10_machine.specs.declared.mode.Stopped.{Stopped}
 use Rattle.r10_world.proofs.Taking.{waiting}
 use Rattle.r10_world.proofs.Telling.{told}
-use Rattle.r10_world.specs.Standing.{Goes, Ran, Stands}
-use Rattle.r10_world.specs.State.{State}
+use Rattle.r10_world.specs.Standing.{PartsStepTo, PartsRunTo, PartsStandFor}
+use Rattle.r10_world.specs.State.{WorldState}
 use Rattle.r10_world.specs.Stopping.{RanSafely, RunsSafely, Survives}
-use Rattle.r10_world.specs.Telling.{Tells}
+use Rattle.r10_world.specs.Telling.{RecorderStepsTo}
 
 -- no events
-begins : {M : Type 0} (disk : M → Disk) (w : State M) → RunsSafely disk w [] [] w
+begins : {M : Type 0} (disk : M → Disk) (w : WorldState M) → RunsSafely disk w [] [] w
 begins disk w m stands safe = record {
   ran = record { images = []; machine = m; run = refl; stands = stands; config = refl };
   left = leaves_begun w.recorder.kept.config m (disk w.recorder.medium) (safe_says w.recorder.kept.config w.recorder.kept.work m.files (disk w.recorder.medium) safe);
   held = inr safe;
 }
 
-pub begun_safely : {M : Type 0} (disk : M → Disk) (w : State M) (n : ℕ) (xs : List Answered) → n ≡ length xs → RunsSafely disk w [] (drop n xs) w
+pub begun_safely : {M : Type 0} (disk : M → Disk) (w : WorldState M) (n : ℕ) (xs : List ReplyValue) → n ≡ length xs → RunsSafely disk w [] (drop n xs) w
 begun_safely disk w n xs is = rw (is, none_behind xs) (begins disk w)
 
 -- one event more
-goes_from : RunsJoin → (k mid later : Kept) (m : Machine) (es : List Asked) (rs : List Answered) (event : Asked) (reply : Answered) (start old now : Disk) (lanes lanes' : List Lane) (slots after : List (Option Cursor))
-    → (so_far : RanSafely k m es rs mid start old lanes slots) → Goes mid so_far.ran.machine event reply later now.blocks now.failures lanes' after
+goes_from : RunsJoin → (k mid later : Kept) (m : Machine) (es : List EventValue) (rs : List ReplyValue) (event : EventValue) (reply : ReplyValue) (start old now : Disk) (lanes lanes' : List Lane) (slots after : List (Option Cursor))
+    → (so_far : RanSafely k m es rs mid start old lanes slots) → PartsStepTo mid so_far.ran.machine event reply later now.blocks now.failures lanes' after
     → StaysSafe (AreLanes lanes) mid event reply old later now → (mid.work ≡ failed → Unchanged old now × (later.work ≡ failed))
     → RanSafely k m (es ++ event ∷ []) (rs ++ reply ∷ []) later start now lanes' after
 goes_from law k mid later m es rs event reply start old now lanes lanes' slots after so_far go safe fails =
@@ -80,11 +80,11 @@ goes_from law k mid later m es rs event reply start old now lanes lanes' slots a
       held = ⊎_elim (λ failed. inl (fails failed).1) (λ was. safe.behind ran.machine go.machine means was (record { step = go.on.step; means = go.on.joined.means })) so_far.held;
     }
 
-pub run_more_safely : {M : Type 0} (disk : M → Disk) (start mid new : State M) (events : List Asked) (i n : ℕ) (event : Asked) (reply : Answered) (xs ys : List Answered) → RunsJoin
+pub run_more_safely : {M : Type 0} (disk : M → Disk) (start mid new : WorldState M) (events : List EventValue) (i n : ℕ) (event : EventValue) (reply : ReplyValue) (xs ys : List ReplyValue) → RunsJoin
     → i < length events → event ≡ get_or events i event → n ≤ length xs → ys ≡ xs ++ reply ∷ []
-    → RunsSafely disk start (take i events) (drop n xs) mid → Tells disk mid.recorder mid.slots event reply new.recorder new.slots → Survives disk mid.recorder event reply new.recorder → RunsSafely disk start (take (i + 1) events) (drop n ys) new
+    → RunsSafely disk start (take i events) (drop n xs) mid → RecorderStepsTo disk mid.recorder mid.slots event reply new.recorder new.slots → Survives disk mid.recorder event reply new.recorder → RunsSafely disk start (take (i + 1) events) (drop n ys) new
 run_more_safely disk start mid new events i n event reply xs ys law here is within longer runs tells survives = λ m stands safe.
-    let more : take (i + 1) events ≡ take i events ++ event ∷ [] = take_more events i event here ∙ ap (λ (e : Asked). take i events ++ e ∷ []) (sym is) in
+    let more : take (i + 1) events ≡ take i events ++ event ∷ [] = take_more events i event here ∙ ap (λ (e : EventValue). take i events ++ e ∷ []) (sym is) in
     let so_far = runs m stands safe in
     rw (more, drop_one_more n xs ys reply within longer)
     (goes_from law start.recorder.kept mid.recorder.kept new.recorder.kept m (take i events) (drop n xs) event reply (disk start.recorder.medium) (disk mid.recorder.medium) (disk new.recorder.medium)
@@ -93,7 +93,7 @@ run_more_safely disk start mid new events i n event reply xs ys law here is with
 -- ---- the recorder's calls
 
 -- a recorder that failed refuses, and leaves all
-pub alone_if : {M : Type 0} (disk : M → Disk) (first : Option Refusal) (lacks : Refusal → Type 0) (x : Refusal) (old new : Kept) (medium medium' : M) (r : Refusal) → first ≡ Some x → Refuses disk first lacks old new medium medium' r → (new ≡ old) × (medium' ≡ medium)
+pub alone_if : {M : Type 0} (disk : M → Disk) (first : Option Refusal) (lacks : Refusal → Type 0) (x : Refusal) (old new : Kept) (medium medium' : M) (r : Refusal) → first ≡ Some x → RefusesCall disk first lacks old new medium medium' r → (new ≡ old) × (medium' ≡ medium)
 alone_if disk (Some first) lacks x old new medium medium' r is refuses = (refuses.1, refuses.2)
 alone_if disk None lacks x old new medium medium' r is refuses = cc
 
@@ -106,7 +106,7 @@ alone_if_readied disk (Some first) lacks x old new medium medium' r is refuses =
 alone_if_readied disk None lacks x old new medium medium' r is refuses = cc
 
 -- so it is of what a call answers
-pub stays_failed : {M T : Type 0} (disk : M → Disk) (old new : Recorded M Lane) (first : Option Refusal) (x : Refusal) (refuses : Refusal → Type 0) (result : Result T Refusal) → (old.kept.work ≡ failed → first ≡ Some x) → OnOk result (first ≡ None) → IfErr result refuses
+pub stays_failed : {M T : Type 0} (disk : M → Disk) (old new : RecorderState M Lane) (first : Option Refusal) (x : Refusal) (refuses : Refusal → Type 0) (result : Result T Refusal) → (old.kept.work ≡ failed → first ≡ Some x) → OnOk result (first ≡ None) → IfErr result refuses
     → ((r : Refusal) → first ≡ Some x → refuses r → (new.kept ≡ old.kept) × (new.medium ≡ old.medium)) → old.kept.work ≡ failed → Unchanged (disk old.medium) (disk new.medium) × (new.kept.work ≡ failed)
 stays_failed disk old new first x refuses (Ok v) stops passed refused alone fails = let some = stops fails in let none : first ≡ None = passed in cc
 stays_failed disk old new first x refuses (Err r) stops passed refused alone fails =
@@ -114,20 +114,20 @@ stays_failed disk old new first x refuses (Err r) stops passed refused alone fai
     (subst (λ (m : _). Unchanged (disk old.medium) (disk m)) (sym same.1) (unchanged (disk old.medium)), ap (λ (k : Kept). k.work) same.0 ∙ fails)
 
 -- what is known of a machine may be more
-pub knowing : (known more : Machine → Type 0) (k : Kept) (event : Asked) (reply : Answered) (old : Disk) (later : Kept) (new : Disk) → ((m : Machine) → more m → known m) → StaysSafe known k event reply old later new → StaysSafe more k event reply old later new
+pub knowing : (known more : Machine → Type 0) (k : Kept) (event : EventValue) (reply : ReplyValue) (old : Disk) (later : Kept) (new : Disk) → ((m : Machine) → more m → known m) → StaysSafe known k event reply old later new → StaysSafe more k event reply old later new
 knowing known more k event reply old later new tells stays = record { left = λ m means is safe. stays.left m means (tells m is) safe; behind = stays.behind }
 
-pub survives_by : {M T : Type 0} (disk : M → Disk) (old new : Recorded M Lane) (event : Asked) (reply : T → Answered) (result : Result T Refusal) (said : Answered) → AnswersSafely old.kept (disk old.medium) event reply result new.kept (disk new.medium)
+pub survives_by : {M T : Type 0} (disk : M → Disk) (old new : RecorderState M Lane) (event : EventValue) (reply : T → ReplyValue) (result : Result T Refusal) (said : ReplyValue) → AnswersSafely old.kept (disk old.medium) event reply result new.kept (disk new.medium)
     → said ≡ elim result [ Ok v ↦ reply v | Err r ↦ replies.Refused r ] → (old.kept.work ≡ failed → Unchanged (disk old.medium) (disk new.medium) × (new.kept.work ≡ failed)) → Survives disk old event said new
 survives_by disk old new event reply result said answers is fails = record {
   safe = knowing whichever (AreLanes old.lanes) old.kept event said (disk old.medium) new.kept (disk new.medium) (λ m are. tt)
-      (told (λ (a : Answered). StaysSafe whichever old.kept event a (disk old.medium) new.kept (disk new.medium)) reply result said answers is);
+      (told (λ (a : ReplyValue). StaysSafe whichever old.kept event a (disk old.medium) new.kept (disk new.medium)) reply result said answers is);
   failed = fails;
 }
 
 -- ---- calls that leave what is kept, and the medium
 
-pub survives_same : {M : Type 0} (disk : M → Disk) (old new : Recorded M Lane) (event : Asked) (reply : Answered) → may_make event ≡ false → new.kept ≡ old.kept → new.medium ≡ old.medium → Survives disk old event reply new
+pub survives_same : {M : Type 0} (disk : M → Disk) (old new : RecorderState M Lane) (event : EventValue) (reply : ReplyValue) → may_make event ≡ false → new.kept ≡ old.kept → new.medium ≡ old.medium → Survives disk old event reply new
 survives_same disk old new event reply plain kept medium =
     let same : Unchanged (disk old.medium) (disk new.medium) = subst (λ (m : _). Unchanged (disk old.medium) (disk m)) (sym medium) (unchanged (disk old.medium)) in
     record {
@@ -137,17 +137,17 @@ survives_same disk old new event reply plain kept medium =
 
 -- ---- a stop
 
-pub survives_stop : {M : Type 0} (disk : M → Disk) (old new : Recorded M Lane) (result : Result Stopped Refusal) (said : Answered) → StopsSafely (λ (lane : Lane). Some lane.waiting) (λ (lane : Lane). lane.spec) old.lanes old.kept (disk old.medium) result new.kept (disk new.medium)
+pub survives_stop : {M : Type 0} (disk : M → Disk) (old new : RecorderState M Lane) (result : Result Stopped Refusal) (said : ReplyValue) → StopsSafely (λ (lane : Lane). Some lane.waiting) (λ (lane : Lane). lane.spec) old.lanes old.kept (disk old.medium) result new.kept (disk new.medium)
     → said ≡ elim result [ Ok v ↦ replies.Stopped v | Err r ↦ replies.Refused r ] → (old.kept.work ≡ failed → Unchanged (disk old.medium) (disk new.medium) × (new.kept.work ≡ failed)) → Survives disk old Stop said new
 survives_stop disk old new result said answers is fails = record {
   safe = knowing (WaitsAlike (λ (lane : Lane). Some lane.waiting) (λ (lane : Lane). lane.spec) old.lanes) (AreLanes old.lanes) old.kept Stop said (disk old.medium) new.kept (disk new.medium) (λ m are parts tells. waiting parts old.lanes m.lanes are tells)
-      (told (λ (a : Answered). StaysSafe (WaitsAlike (λ (lane : Lane). Some lane.waiting) (λ (lane : Lane). lane.spec) old.lanes) old.kept Stop a (disk old.medium) new.kept (disk new.medium)) (λ said. replies.Stopped said) result said answers is);
+      (told (λ (a : ReplyValue). StaysSafe (WaitsAlike (λ (lane : Lane). Some lane.waiting) (λ (lane : Lane). lane.spec) old.lanes) old.kept Stop a (disk old.medium) new.kept (disk new.medium)) (λ said. replies.Stopped said) result said answers is);
   failed = fails;
 }
 
 -- ---- calls that only read
 
-pub survives_read : {M T : Type 0} (disk : M → Disk) (old new : Recorded M Lane) (event : Asked) (reply : T → Answered) (result : Result T Refusal) (said : Answered) → may_make event ≡ false → new.kept.config ≡ old.kept.config → OnOk result (new.kept ≡ old.kept)
+pub survives_read : {M T : Type 0} (disk : M → Disk) (old new : RecorderState M Lane) (event : EventValue) (reply : T → ReplyValue) (result : Result T Refusal) (said : ReplyValue) → may_make event ≡ false → new.kept.config ≡ old.kept.config → OnOk result (new.kept ≡ old.kept)
     → Unchanged (disk old.medium) (disk new.medium) → said ≡ elim result [ Ok v ↦ reply v | Err r ↦ replies.Refused r ] → (old.kept.work ≡ failed → Unchanged (disk old.medium) (disk new.medium) × (new.kept.work ≡ failed)) → Survives disk old event said new
 survives_read disk old new event reply result said plain config kept same is fails = record {
   safe = reads_safely (AreLanes old.lanes) old.kept new.kept event reply result said (disk old.medium) (disk new.medium) config plain kept same is;
@@ -155,14 +155,14 @@ survives_read disk old new event reply result said plain config kept same is fai
 }
 
 -- what is kept stays
-pub survives_kept : {M : Type 0} (disk : M → Disk) (old new : Recorded M Lane) (event : Asked) (reply : Answered) → may_make event ≡ false → new.kept ≡ old.kept → Unchanged (disk old.medium) (disk new.medium) → Survives disk old event reply new
+pub survives_kept : {M : Type 0} (disk : M → Disk) (old new : RecorderState M Lane) (event : EventValue) (reply : ReplyValue) → may_make event ≡ false → new.kept ≡ old.kept → Unchanged (disk old.medium) (disk new.medium) → Survives disk old event reply new
 survives_kept disk old new event reply plain kept same = record {
   safe = subst (λ (k : Kept). StaysSafe (AreLanes old.lanes) old.kept event reply (disk old.medium) k (disk new.medium)) (sym kept) (still_safely (AreLanes old.lanes) old.kept event reply (disk old.medium) (disk new.medium) plain same);
   failed = λ fails. (same, ap (λ (k : Kept). k.work) kept ∙ fails);
 }
 
 -- or the call is refused
-pub survives_refused : {M : Type 0} (disk : M → Disk) (old new : Recorded M Lane) (event : Asked) (r : Refusal) → new.kept.config ≡ old.kept.config → Unchanged (disk old.medium) (disk new.medium) → (old.kept.work ≡ failed → new.kept.work ≡ failed)
+pub survives_refused : {M : Type 0} (disk : M → Disk) (old new : RecorderState M Lane) (event : EventValue) (r : Refusal) → new.kept.config ≡ old.kept.config → Unchanged (disk old.medium) (disk new.medium) → (old.kept.work ≡ failed → new.kept.work ≡ failed)
     → Survives disk old event (replies.Refused r) new
 survives_refused disk old new event r config same fails = record {
   safe = refused_safely (AreLanes old.lanes) old.kept new.kept event r (disk old.medium) (disk new.medium) config same;

@@ -2,28 +2,28 @@
 use Rattle.std.proofs.Common.{◌≡◌, ℕ, List, [], ◌∷◌, map, Option, Result, Ok, Err, MatchResult, refl, sym, ap, ◌∙◌, subst}
 use Rattle.r10_body.specs.declared.refusal.Refusal.{Refusal}
 use Rattle.r10_cursor.specs.Read.{KeepsBytes}
-use Rattle.r10_world.specs.Joined.{Joined, StepsOn}
+use Rattle.r10_world.specs.Joined.{KeptAndSlotsStandFor, KeptAndSlotsStepTo}
 use Rattle.r10_machine.specs.Machine.{File, Lane, Machine}
 use Rattle.r10_means.specs.Kept.{Kept}
-use Rattle.r10_means.specs.Means.{LeadsTo}
+use Rattle.r10_means.specs.Means.{KeptStepsTo}
 use Rattle.r10_medium.specs.Disk.{Disk, Image}
 use Rattle.r10_cursor.specs.Staying.{NoneShrinks}
 use Rattle.r10_cursor.specs.declared.cursor.Cursor.{Cursor}
 use Rattle.r10_control.specs.Lanes.{AnswersWith, AreLanes, LeadsWith, unerased}
-use Rattle.r10_control.specs.Leading.{Answers, AreLeft, KeepsShown, Leads, none_taken}
-use Rattle.r10_control.specs.State.{State as Recorded}
-use Rattle.r10_world.specs.Standing.{Goes, Stands}
-use Rattle.r10_world.specs.Telling.{StandsWith, TellsOf}
+use Rattle.r10_control.specs.Leading.{CallStepsTaking, AreLeft, MachinesKeepShown, KeptStepsTaking, none_taken}
+use Rattle.r10_control.specs.State.{RecorderState}
+use Rattle.r10_world.specs.Standing.{PartsStepTo, PartsStandFor}
+use Rattle.r10_world.specs.Telling.{RecorderStandsFor, RecorderStepsAlone}
 use Rattle.r10_machine.specs.Bytes.{KeepBytes}
-use Rattle.r10_machine.specs.declared.event.Event.{Event as Asked}
-use Rattle.r10_machine.specs.declared.reply.Reply.{Reply as Answered}
+use Rattle.r10_machine.specs.declared.event.Event.{Event as EventValue}
+use Rattle.r10_machine.specs.declared.reply.Reply.{Reply as ReplyValue}
 use Rattle.r10_machine.specs.declared.reply.Reply.TheVariants as replies
 
 -- the law of a recorder's calls
 abbrev pub Moves : Type 0
-Moves = (k : Kept) (later : Kept) (old : Image) (new : Image) (before : ℕ) (now : ℕ) (m : Machine) (machine : Machine) (event : Asked) (reply : Answered) (slots : List (Option Cursor))
-    → Joined k old before slots m → LeadsTo k m event reply later new now machine → machine.cursors ≡ m.cursors → later.config ≡ k.config
-    → (machine.generation ≡ m.generation → NoneShrinks m.files machine.files × KeepsBytes old new m.files) → StepsOn k m event reply machine later new now slots
+Moves = (k : Kept) (later : Kept) (old : Image) (new : Image) (before : ℕ) (now : ℕ) (m : Machine) (machine : Machine) (event : EventValue) (reply : ReplyValue) (slots : List (Option Cursor))
+    → KeptAndSlotsStandFor k old before slots m → KeptStepsTo k m event reply later new now machine → machine.cursors ≡ m.cursors → later.config ≡ k.config
+    → (machine.generation ≡ m.generation → NoneShrinks m.files machine.files × KeepsBytes old new m.files) → KeptAndSlotsStepTo k m event reply machine later new now slots
 
 -- ---- lanes
 
@@ -43,9 +43,9 @@ lanes_stay lanes lanes' m machine same left are = same ∙ are ∙ none_left m.l
 -- ---- steps
 
 -- where a call leads, from machines that have these lanes to machines that have those
-pub leads_on : Moves → (taken : ℕ → ℕ) (k later : Kept) (old new : Image) (before now : ℕ) (m : Machine) (event : Asked) (reply : Answered) (slots : List (Option Cursor)) (lanes lanes' : List Lane) → Stands k old before lanes slots m
-    → Leads taken k m event reply later new now → KeepBytes old new m.files → later.config ≡ k.config → ((machine : Machine) → AreLeft taken m.lanes machine.lanes → AreLanes lanes' machine)
-    → Goes k m event reply later new now lanes' slots
+pub leads_on : Moves → (taken : ℕ → ℕ) (k later : Kept) (old new : Image) (before now : ℕ) (m : Machine) (event : EventValue) (reply : ReplyValue) (slots : List (Option Cursor)) (lanes lanes' : List Lane) → PartsStandFor k old before lanes slots m
+    → KeptStepsTaking taken k m event reply later new now → KeepBytes old new m.files → later.config ≡ k.config → ((machine : Machine) → AreLeft taken m.lanes machine.lanes → AreLanes lanes' machine)
+    → PartsStepTo k m event reply later new now lanes' slots
 leads_on law taken k later old new before now m event reply slots lanes lanes' stands leads keeps config has = record {
   machine = leads.machine;
   on = law k later old new before now m leads.machine event reply slots stands.joined leads.led leads.cursors config (λ again. (leads.sizes again, keeps));
@@ -53,22 +53,22 @@ leads_on law taken k later old new before now m event reply slots lanes lanes' s
 }
 
 -- what a call answered
-pub told : {T : Type 0} (C : Answered → Type 0) (reply : T → Answered) (result : Result T Refusal) (said : Answered) → MatchResult result (λ v. C (reply v)) (λ r. C (replies.Refused r))
+pub told : {T : Type 0} (C : ReplyValue → Type 0) (reply : T → ReplyValue) (result : Result T Refusal) (said : ReplyValue) → MatchResult result (λ v. C (reply v)) (λ r. C (replies.Refused r))
     → said ≡ elim result [ Ok v ↦ reply v | Err r ↦ replies.Refused r ] → C said
 told C reply (Ok v) said answers is = rw is answers
 told C reply (Err r) said answers is = rw is answers
 
 -- a call that takes nothing from lanes
-pub telling : {M T : Type 0} (disk : M → Disk) (old new : Recorded M Lane) → Moves → (event : Asked) (reply : T → Answered) (result : Result T Refusal) (said : Answered)
-    → Answers none_taken old.kept (disk old.medium).blocks (disk old.medium).failures event reply result new.kept (disk new.medium).blocks (disk new.medium).failures
-    → KeepsShown old.kept (disk old.medium).blocks (disk old.medium).failures (disk new.medium).blocks → new.lanes ≡ old.lanes → new.kept.config ≡ old.kept.config → said ≡ elim result [ Ok v ↦ reply v | Err r ↦ replies.Refused r ]
-    → TellsOf disk old event said new
+pub telling : {M T : Type 0} (disk : M → Disk) (old new : RecorderState M Lane) → Moves → (event : EventValue) (reply : T → ReplyValue) (result : Result T Refusal) (said : ReplyValue)
+    → CallStepsTaking none_taken old.kept (disk old.medium).blocks (disk old.medium).failures event reply result new.kept (disk new.medium).blocks (disk new.medium).failures
+    → MachinesKeepShown old.kept (disk old.medium).blocks (disk old.medium).failures (disk new.medium).blocks → new.lanes ≡ old.lanes → new.kept.config ≡ old.kept.config → said ≡ elim result [ Ok v ↦ reply v | Err r ↦ replies.Refused r ]
+    → RecorderStepsAlone disk old event said new
 telling disk old new law event reply result said answers keeps same config is = λ slots m stands.
     let before = disk old.medium in
     let now = disk new.medium in
     let means = stands.joined.means in
-    let leads : Leads none_taken old.kept m event said new.kept now.blocks now.failures =
-    told (λ (r : Answered). Leads none_taken old.kept m event r new.kept now.blocks now.failures) reply result said (answers m means) is in
+    let leads : KeptStepsTaking none_taken old.kept m event said new.kept now.blocks now.failures =
+    told (λ (r : ReplyValue). KeptStepsTaking none_taken old.kept m event r new.kept now.blocks now.failures) reply result said (answers m means) is in
     leads_on law none_taken old.kept new.kept before.blocks now.blocks before.failures now.failures m event said slots old.lanes new.lanes stands leads (keeps m means) config
     (λ machine left. lanes_stay old.lanes new.lanes m machine same left stands.lanes_are)
 
@@ -78,41 +78,41 @@ bytes_stay : (image : Image) (files : List File) → KeepBytes image image files
 bytes_stay image [] = tt
 bytes_stay image (f ∷ files) = (refl, bytes_stay image files)
 
-pub keeps_same : (k : Kept) (image : Image) (failures : ℕ) → KeepsShown k image failures image
+pub keeps_same : (k : Kept) (image : Image) (failures : ℕ) → MachinesKeepShown k image failures image
 keeps_same k image failures = λ m means. bytes_stay image m.files
 
-pub keeps_read : (k : Kept) (old new : Image) (before : ℕ) → new ≡ old → KeepsShown k old before new
-keeps_read k old new before same = subst (KeepsShown k old before) (sym same) (keeps_same k old before)
+pub keeps_read : (k : Kept) (old new : Image) (before : ℕ) → new ≡ old → MachinesKeepShown k old before new
+keeps_read k old new before same = subst (MachinesKeepShown k old before) (sym same) (keeps_same k old before)
 
 -- ---- calls that leave what is kept, and the medium
 
 abbrev pub Stays : Type 0
-Stays = (k : Kept) (later : Kept) (old : Image) (new : Image) (before : ℕ) (now : ℕ) (m : Machine) (machine : Machine) (event : Asked) (reply : Answered) (slots : List (Option Cursor))
-    → Joined k old before slots m → LeadsTo k m event reply later new now machine → machine.cursors ≡ m.cursors → later.config ≡ k.config → machine.files ≡ m.files → new ≡ old
-    → StepsOn k m event reply machine later new now slots
+Stays = (k : Kept) (later : Kept) (old : Image) (new : Image) (before : ℕ) (now : ℕ) (m : Machine) (machine : Machine) (event : EventValue) (reply : ReplyValue) (slots : List (Option Cursor))
+    → KeptAndSlotsStandFor k old before slots m → KeptStepsTo k m event reply later new now machine → machine.cursors ≡ m.cursors → later.config ≡ k.config → machine.files ≡ m.files → new ≡ old
+    → KeptAndSlotsStepTo k m event reply machine later new now slots
 
-with_lanes : Stays → (k : Kept) (image : Image) (failures : ℕ) (m : Machine) (event : Asked) (reply : Answered) (slots : List (Option Cursor)) (lanes lanes' : List Lane) → Stands k image failures lanes slots m
-    → LeadsWith k m event reply image failures lanes' → Goes k m event reply k image failures lanes' slots
+with_lanes : Stays → (k : Kept) (image : Image) (failures : ℕ) (m : Machine) (event : EventValue) (reply : ReplyValue) (slots : List (Option Cursor)) (lanes lanes' : List Lane) → PartsStandFor k image failures lanes slots m
+    → LeadsWith k m event reply image failures lanes' → PartsStepTo k m event reply k image failures lanes' slots
 with_lanes law k image failures m event reply slots lanes lanes' stands leads = record {
   machine = leads.machine;
   on = law k k image image failures failures m leads.machine event reply slots stands.joined leads.led leads.cursors refl leads.files refl;
   lanes_are = leads.lanes_are;
 }
 
-pub telling_with : {M T : Type 0} (disk : M → Disk) (old new : Recorded M Lane) → Stays → (event : Asked) (reply : T → Answered) (result : Result T Refusal) (said : Answered)
+pub telling_with : {M T : Type 0} (disk : M → Disk) (old new : RecorderState M Lane) → Stays → (event : EventValue) (reply : T → ReplyValue) (result : Result T Refusal) (said : ReplyValue)
     → AnswersWith old.lanes old.kept (disk old.medium).blocks (disk old.medium).failures event reply result new.lanes → new.kept ≡ old.kept → new.medium ≡ old.medium
-    → said ≡ elim result [ Ok v ↦ reply v | Err r ↦ replies.Refused r ] → TellsOf disk old event said new
+    → said ≡ elim result [ Ok v ↦ reply v | Err r ↦ replies.Refused r ] → RecorderStepsAlone disk old event said new
 telling_with disk old new law event reply result said answers kept medium is = λ slots m stands.
     let now = disk old.medium in
     let leads : LeadsWith old.kept m event said now.blocks now.failures new.lanes =
-    told (λ (r : Answered). LeadsWith old.kept m event r now.blocks now.failures new.lanes) reply result said (answers m stands.joined.means stands.lanes_are) is in
+    told (λ (r : ReplyValue). LeadsWith old.kept m event r now.blocks now.failures new.lanes) reply result said (answers m stands.joined.means stands.lanes_are) is in
     rw (kept, medium) (with_lanes law old.kept now.blocks now.failures m event said slots old.lanes new.lanes stands leads)
 
 -- ---- a call that only reads, and is refused
 
-pub refused_on : {M : Type 0} (disk : M → Disk) (old new : Recorded M Lane) → Moves → (event : Asked) (r : Refusal) → (disk new.medium).blocks ≡ (disk old.medium).blocks → new.lanes ≡ old.lanes → new.kept.config ≡ old.kept.config
-    → (slots : List (Option Cursor)) (m : Machine) → StandsWith disk old slots m → Leads none_taken old.kept m event (replies.Refused r) new.kept (disk new.medium).blocks (disk new.medium).failures
-    → Goes old.kept m event (replies.Refused r) new.kept (disk new.medium).blocks (disk new.medium).failures new.lanes slots
+pub refused_on : {M : Type 0} (disk : M → Disk) (old new : RecorderState M Lane) → Moves → (event : EventValue) (r : Refusal) → (disk new.medium).blocks ≡ (disk old.medium).blocks → new.lanes ≡ old.lanes → new.kept.config ≡ old.kept.config
+    → (slots : List (Option Cursor)) (m : Machine) → RecorderStandsFor disk old slots m → KeptStepsTaking none_taken old.kept m event (replies.Refused r) new.kept (disk new.medium).blocks (disk new.medium).failures
+    → PartsStepTo old.kept m event (replies.Refused r) new.kept (disk new.medium).blocks (disk new.medium).failures new.lanes slots
 refused_on disk old new law event r reads left config slots m stands leads =
     let before = disk old.medium in
     let now = disk new.medium in

@@ -5,13 +5,13 @@ use Rattle.r10_machine.specs.Config.{Config}
 use Rattle.r10_machine.specs.Machine.{Machine}
 use Rattle.r10_machine.specs.Says.{MediumSays}
 use Rattle.r10_machine.specs.Step.{Step}
-use Rattle.r10_machine.specs.declared.event.Event.{Event as Asked}
-use Rattle.r10_machine.specs.declared.reply.Reply.{Reply as Answered}
+use Rattle.r10_machine.specs.declared.event.Event.{Event as EventValue}
+use Rattle.r10_machine.specs.declared.reply.Reply.{Reply as ReplyValue}
 use Rattle.r10_cursor.specs.declared.cursor.Cursor.{Cursor}
 use Rattle.r10_cursor.specs.Read.{HaveRead}
-use Rattle.r10_cursor.specs.Standing.{Stand}
+use Rattle.r10_cursor.specs.Standing.{SlotsStandFor}
 use Rattle.r10_means.specs.Kept.{Kept, unmounted}
-use Rattle.r10_means.specs.Means.{Means}
+use Rattle.r10_means.specs.Means.{KeptStandsFor}
 
 -- what a new recorder of these settings keeps
 abbrev pub new_kept : Config → Kept
@@ -27,20 +27,20 @@ new_kept s = record {
 
 -- what a recorder keeps, over a medium that reads as an image and has failed so often, stands for the machine, and so does the table for
 -- its cursors, which are as far in their files as the machine's
-pub record Joined (k : Kept) (image : Image) (failures : ℕ) (slots : List (Option Cursor)) (m : Machine) : Type 0 where
-  pub means : Means k image failures m
-  pub stand : Stand slots m.cursors
+pub record KeptAndSlotsStandFor (k : Kept) (image : Image) (failures : ℕ) (slots : List (Option Cursor)) (m : Machine) : Type 0 where
+  pub means : KeptStandsFor k image failures m
+  pub stand : SlotsStandFor slots m.cursors
   pub read : HaveRead image m.files m.generation slots m.cursors
 
 -- the step leads to this machine, for which both stand then, and whose files the medium says
-pub record StepsOn (k : Kept) (m : Machine) (event : Asked) (reply : Answered) (machine : Machine) (later : Kept) (image : Image) (failures : ℕ) (slots : List (Option Cursor)) : Type 0 where
+pub record KeptAndSlotsStepTo (k : Kept) (m : Machine) (event : EventValue) (reply : ReplyValue) (machine : Machine) (later : Kept) (image : Image) (failures : ℕ) (slots : List (Option Cursor)) : Type 0 where
   pub step : Step k.config m event reply machine
   pub says : MediumSays k.config image machine.files
-  pub joined : Joined later image failures slots machine
+  pub joined : KeptAndSlotsStandFor later image failures slots machine
   pub config : later.config ≡ k.config
 
 -- the step, which leaves what is kept, leads to a machine with the same lanes
-pub record SetsOn (k : Kept) (m : Machine) (event : Asked) (reply : Answered) (image : Image) (failures : ℕ) (slots : List (Option Cursor)) : Type 0 where
+pub record SlotsStepTo (k : Kept) (m : Machine) (event : EventValue) (reply : ReplyValue) (image : Image) (failures : ℕ) (slots : List (Option Cursor)) : Type 0 where
   pub machine : Machine
-  pub on : StepsOn k m event reply machine k image failures slots
+  pub on : KeptAndSlotsStepTo k m event reply machine k image failures slots
   pub lanes : machine.lanes ≡ m.lanes

@@ -2,8 +2,8 @@
 use Rattle.std.specs.Prelude.{List, Option}
 use Rattle.r10_machine.specs.Machine.{Lane}
 use Rattle.r10_cursor.specs.declared.cursor.Cursor.{Cursor}
-use Rattle.r10_control.specs.State.{State as Recorded}
+use Rattle.r10_control.specs.State.{RecorderState}
 
-pub record State (M : Type 0) : Type 0 where
-  pub recorder : Recorded M Lane
+pub record WorldState (M : Type 0) : Type 0 where
+  pub recorder : RecorderState M Lane
   pub slots : List (Option Cursor)

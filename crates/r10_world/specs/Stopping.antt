@@ -1,51 +1,51 @@
 -- What a stop of the medium leaves at events, and over runs.
 use Rattle.std.specs.Prelude.{◌≡◌, ℕ, List, Option}
 use Rattle.r10_control.specs.Lanes.{AreLanes}
-use Rattle.r10_control.specs.State.{State as Recorded}
+use Rattle.r10_control.specs.State.{RecorderState}
 use Rattle.r10_cursor.specs.declared.cursor.Cursor.{Cursor}
 use Rattle.r10_machine.specs.Machine.{File, Lane, Machine, fresh}
 use Rattle.r10_machine.specs.Config.{Config}
 use Rattle.r10_machine.specs.Says.{MediumSays}
 use Rattle.r10_machine.specs.Step.{Run}
-use Rattle.r10_machine.specs.declared.event.Event.{Event as Asked}
-use Rattle.r10_machine.specs.declared.reply.Reply.{Reply as Answered}
+use Rattle.r10_machine.specs.declared.event.Event.{Event as EventValue}
+use Rattle.r10_machine.specs.declared.reply.Reply.{Reply as ReplyValue}
 use Rattle.r10_means.specs.Kept.{Kept, failed}
 use Rattle.r10_medium.specs.Disk.{Disk, Image, Unchanged}
 use Rattle.r10_medium.specs.Stop.{Leaves, Settled}
 use Rattle.r10_stops.specs.Again.{AreAgain, FindsAgain}
 use Rattle.r10_stops.specs.Left.{IsLeft, StaysSafe}
 use Rattle.r10_stops.specs.Safe.{IsSafe, IsSafeOrFailed}
-use Rattle.r10_world.specs.Standing.{Ran}
-use Rattle.r10_world.specs.State.{State}
-use Rattle.r10_world.specs.Telling.{StandsFor}
+use Rattle.r10_world.specs.Standing.{PartsRunTo}
+use Rattle.r10_world.specs.State.{WorldState}
+use Rattle.r10_world.specs.Telling.{WorldStandsFor}
 
 -- an event with its reply: safe files stay safe, and a recorder that failed changes nothing any more
-pub record Survives {M : Type 0} (disk : M → Disk) (old : Recorded M Lane) (event : Asked) (reply : Answered) (new : Recorded M Lane) : Type 0 where
+pub record Survives {M : Type 0} (disk : M → Disk) (old : RecorderState M Lane) (event : EventValue) (reply : ReplyValue) (new : RecorderState M Lane) : Type 0 where
   pub safe : StaysSafe (AreLanes old.lanes) old.kept event reply (disk old.medium) new.kept (disk new.medium)
   pub failed : old.kept.work ≡ failed → Unchanged (disk old.medium) (disk new.medium) × (new.kept.work ≡ failed)
 
 -- The replies are a run; a stop at any moment of it left the files of a state of the run, or those that the next event makes of them; and behind the last event the machine's files are safe, unless the recorder failed.
-pub record RanSafely (k : Kept) (m : Machine) (events : List Asked) (replies : List Answered) (later : Kept) (old new : Disk) (lanes : List Lane) (slots : List (Option Cursor)) : Type 0 where
-  pub ran : Ran k m events replies later new.blocks new.failures lanes slots
+pub record RanSafely (k : Kept) (m : Machine) (events : List EventValue) (replies : List ReplyValue) (later : Kept) (old new : Disk) (lanes : List Lane) (slots : List (Option Cursor)) : Type 0 where
+  pub ran : PartsRunTo k m events replies later new.blocks new.failures lanes slots
   pub left : Leaves (IsLeft k.config m events replies) old new
   pub held : IsSafeOrFailed later.config later.work ran.machine.files new
 
 -- from each machine for which a world stands, and whose files are safe
-abbrev pub RunsSafely : {M : Type 0} → (M → Disk) → State M → List Asked → List Answered → State M → Type 0
+abbrev pub RunsSafely : {M : Type 0} → (M → Disk) → WorldState M → List EventValue → List ReplyValue → WorldState M → Type 0
 RunsSafely disk old events replies new =
-    (m : Machine) → StandsFor disk old m → IsSafe old.recorder.kept.config old.recorder.kept.work m.files (disk old.recorder.medium)
+    (m : Machine) → WorldStandsFor disk old m → IsSafe old.recorder.kept.config old.recorder.kept.work m.files (disk old.recorder.medium)
     → RanSafely old.recorder.kept m events replies new.recorder.kept (disk old.recorder.medium) (disk new.recorder.medium) new.recorder.lanes new.slots
 
 -- a new world stands for a new machine with the files that it finds again, which are safe where a stop leaves the files
-pub record Recovers {M : Type 0} (disk : M → Disk) (s : Config) (old : Disk) (files : List File) (w : State M) : Type 0 where
+pub record Recovers {M : Type 0} (disk : M → Disk) (s : Config) (old : Disk) (files : List File) (w : WorldState M) : Type 0 where
   pub finds : FindsAgain s old.blocks files
-  pub stands : StandsFor disk w (fresh s.channels finds.again old.failures)
+  pub stands : WorldStandsFor disk w (fresh s.channels finds.again old.failures)
   pub safe : Settled (λ image. MediumSays s image files) old → IsSafe w.recorder.kept.config w.recorder.kept.work finds.again (disk w.recorder.medium)
 
 -- ---- a whole recording, with no word of a recorder
 
 -- From a machine with files of which each is found again, on each channel with the same entries, the replies to the events are a run, and the medium says the files that it ends with. Where a stop left the files before, then at any moment a stop leaves those of a state of the run, or those that the next event makes of them.
-pub record Records (s : Config) (files : List File) (events : List Asked) (replies : List Answered) (old new : Disk) : Type 0 where
+pub record Records (s : Config) (files : List File) (events : List EventValue) (replies : List ReplyValue) (old new : Disk) : Type 0 where
   pub again : List File
   pub same : AreAgain files again
   pub images : List Image

@@ -9,17 +9,17 @@ ghost use Rattle.r10_machine.specs.Config.{Config};
 ghost use Rattle.r10_machine.specs.Machine.{File, Machine, SetsCursor, fresh};
 ghost use Rattle.r10_machine.specs.EventChecks.{refusal};
 ghost use Rattle.r10_machine.specs.Says.{MediumHas};
-ghost use Rattle.r10_machine.specs.declared.event.Event.{Event as Asked};
+ghost use Rattle.r10_machine.specs.declared.event.Event.{Event as EventValue};
 ghost use Rattle.r10_machine.specs.declared.event.Event.TheVariants as events;
-ghost use Rattle.r10_machine.specs.declared.reply.Reply.{Reply as Answered};
+ghost use Rattle.r10_machine.specs.declared.reply.Reply.{Reply as ReplyValue};
 ghost use Rattle.r10_machine.specs.declared.reply.Reply.TheVariants as replies;
 ghost use Rattle.r10_cursor.specs.declared.cursor.Cursor.{Cursor};
 ghost use Rattle.r10_cursor.specs.Staying.{NoneShrinks};
 ghost use Rattle.r10_cursor.specs.Read.{KeepsBytes};
 ghost use Rattle.r10_cursor.specs.Steps.{StepsTo};
 ghost use Rattle.r10_means.specs.Kept.{Kept};
-ghost use Rattle.r10_means.specs.Means.{LeadsTo, Means};
-ghost use Rattle.r10_world.specs.Joined.{Joined, SetsOn, StepsOn, new_kept};
+ghost use Rattle.r10_means.specs.Means.{KeptStepsTo, KeptStandsFor};
+ghost use Rattle.r10_world.specs.Joined.{KeptAndSlotsStandFor, SlotsStepTo, KeptAndSlotsStepTo, new_kept};
 
 use r10_cursor::cursors_stay_over_steps;
 use r10_machine::{a_new_recorder_is_sound, a_step_stays_sound, files_on_a_medium_are_found};
@@ -27,7 +27,7 @@ use r10_machine::{a_new_recorder_is_sound, a_step_stays_sound, files_on_a_medium
 /// A new recorder over a medium that has files, joined by an empty table, stands for a machine that is unmounted, with these files and empty
 /// lanes.
 pub fn a_new_recorder_stands()
-    ensures { (s : Config) (image : Image) (files : List File) (failures : ℕ) → MediumHas s image files → Joined (new_kept s) image failures [] (fresh s.channels files failures) }
+    ensures { (s : Config) (image : Image) (files : List File) (failures : ℕ) → MediumHas s image files → KeptAndSlotsStandFor (new_kept s) image failures [] (fresh s.channels files failures) }
 {
     a_new_recorder_is_sound();
     files_on_a_medium_are_found();
@@ -35,18 +35,18 @@ pub fn a_new_recorder_stands()
 
 /// A recorder that stands for a machine without cursors is joined by an empty table.
 pub fn a_recorder_without_readers()
-    ensures { (k : Kept) (image : Image) (failures : ℕ) (m : Machine) → Means k image failures m → m.cursors ≡ [] → Joined k image failures [] m }
+    ensures { (k : Kept) (image : Image) (failures : ℕ) (m : Machine) → KeptStandsFor k image failures m → m.cursors ≡ [] → KeptAndSlotsStandFor k image failures [] m }
 {}
 
 /// A recorder's call, which leaves the cursors, is a step of the machine that both stand for. In the same generation no file may have fewer
 /// bytes afterwards, and the medium shows those that it showed; a call that leaves files and medium needs nothing more.
 pub fn recorders_calls_are_steps()
-    ensures moves { (k : Kept) (later : Kept) (old : Image) (new : Image) (before : ℕ) (now : ℕ) (m : Machine) (machine : Machine) (event : Asked) (reply : Answered) (slots : List (Option Cursor))
-        → Joined k old before slots m → LeadsTo k m event reply later new now machine → machine.cursors ≡ m.cursors → later.config ≡ k.config
-        → (machine.generation ≡ m.generation → NoneShrinks m.files machine.files × KeepsBytes old new m.files) → StepsOn k m event reply machine later new now slots }
-    ensures stays { (k : Kept) (later : Kept) (old : Image) (new : Image) (before : ℕ) (now : ℕ) (m : Machine) (machine : Machine) (event : Asked) (reply : Answered) (slots : List (Option Cursor))
-        → Joined k old before slots m → LeadsTo k m event reply later new now machine → machine.cursors ≡ m.cursors → later.config ≡ k.config → machine.files ≡ m.files → new ≡ old
-        → StepsOn k m event reply machine later new now slots }
+    ensures moves { (k : Kept) (later : Kept) (old : Image) (new : Image) (before : ℕ) (now : ℕ) (m : Machine) (machine : Machine) (event : EventValue) (reply : ReplyValue) (slots : List (Option Cursor))
+        → KeptAndSlotsStandFor k old before slots m → KeptStepsTo k m event reply later new now machine → machine.cursors ≡ m.cursors → later.config ≡ k.config
+        → (machine.generation ≡ m.generation → NoneShrinks m.files machine.files × KeepsBytes old new m.files) → KeptAndSlotsStepTo k m event reply machine later new now slots }
+    ensures stays { (k : Kept) (later : Kept) (old : Image) (new : Image) (before : ℕ) (now : ℕ) (m : Machine) (machine : Machine) (event : EventValue) (reply : ReplyValue) (slots : List (Option Cursor))
+        → KeptAndSlotsStandFor k old before slots m → KeptStepsTo k m event reply later new now machine → machine.cursors ≡ m.cursors → later.config ≡ k.config → machine.files ≡ m.files → new ≡ old
+        → KeptAndSlotsStepTo k m event reply machine later new now slots }
 {
     cursors_stay_over_steps();
 }
@@ -54,18 +54,18 @@ pub fn recorders_calls_are_steps()
 /// A call on the table, which sets one cursor, is a step of the machine too, where the recorder's checks pass.
 pub fn tables_calls_are_steps()
     ensures opens { (k : Kept) (image : Image) (before : ℕ) (now : ℕ) (m : Machine) (file : ℕ) (channels : List ℕ) (from : ℕ) (to : ℕ) (id : ℕ) (slots : List (Option Cursor)) (later : List (Option Cursor))
-        → IsConfig k.config → Joined k image before slots m → before ≤ now → refusal k.config m (events.Cursor file channels from to) ≡ None
+        → IsConfig k.config → KeptAndSlotsStandFor k image before slots m → before ≤ now → refusal k.config m (events.Cursor file channels from to) ≡ None
         → StepsTo (Opens (record m { failures = now }) file channels from to id) (record m { failures = now }) image slots later
-        → SetsOn k m (events.Cursor file channels from to) (replies.Cursor id) image now later }
+        → SlotsStepTo k m (events.Cursor file channels from to) (replies.Cursor id) image now later }
     ensures advances { (k : Kept) (image : Image) (before : ℕ) (now : ℕ) (m : Machine) (id : ℕ) (n : ℕ) (slots : List (Option Cursor)) (later : List (Option Cursor))
-        → IsConfig k.config → Joined k image before slots m → before ≤ now → refusal k.config m (events.Advance id) ≡ None
-        → StepsTo (Advances (record m { failures = now }) id n) (record m { failures = now }) image slots later → SetsOn k m (events.Advance id) (replies.Advanced n) image now later }
+        → IsConfig k.config → KeptAndSlotsStandFor k image before slots m → before ≤ now → refusal k.config m (events.Advance id) ≡ None
+        → StepsTo (Advances (record m { failures = now }) id n) (record m { failures = now }) image slots later → SlotsStepTo k m (events.Advance id) (replies.Advanced n) image now later }
     ensures gives { (k : Kept) (image : Image) (before : ℕ) (now : ℕ) (m : Machine) (id : ℕ) (given : Option Entry) (slots : List (Option Cursor)) (later : List (Option Cursor))
-        → IsConfig k.config → Joined k image before slots m → before ≤ now → refusal k.config m (events.Next id) ≡ None
-        → StepsTo (Gives (record m { failures = now }) id given) (record m { failures = now }) image slots later → SetsOn k m (events.Next id) (replies.Next given) image now later }
+        → IsConfig k.config → KeptAndSlotsStandFor k image before slots m → before ≤ now → refusal k.config m (events.Next id) ≡ None
+        → StepsTo (Gives (record m { failures = now }) id given) (record m { failures = now }) image slots later → SlotsStepTo k m (events.Next id) (replies.Next given) image now later }
     ensures closes { (k : Kept) (image : Image) (before : ℕ) (now : ℕ) (m : Machine) (id : ℕ) (slots : List (Option Cursor)) (later : List (Option Cursor))
-        → IsConfig k.config → Joined k image before slots m → before ≤ now → refusal k.config m (events.Close id) ≡ None
-        → StepsTo (λ new. SetsCursor (record m { failures = now }) new id None) (record m { failures = now }) image slots later → SetsOn k m (events.Close id) replies.Done image now later }
+        → IsConfig k.config → KeptAndSlotsStandFor k image before slots m → before ≤ now → refusal k.config m (events.Close id) ≡ None
+        → StepsTo (λ new. SetsCursor (record m { failures = now }) new id None) (record m { failures = now }) image slots later → SlotsStepTo k m (events.Close id) replies.Done image now later }
 {
     a_step_stays_sound();
 }

@@ -4,9 +4,9 @@ ghost use Rattle.std.specs.Prelude.{◌≡◌, ℕ, List};
 ghost use Rattle.r10_machine.specs.Machine.{Lane, Machine};
 ghost use Rattle.r10_means.specs.Kept.{Kept};
 ghost use Rattle.r10_medium.specs.Disk.{Image};
-ghost use Rattle.r10_world.specs.Standing.{Goes, Stands};
+ghost use Rattle.r10_world.specs.Standing.{PartsStepTo, PartsStandFor};
 ghost use Rattle.r10_world.specs.Stopping.{Survives};
-ghost use Rattle.r10_world.specs.Telling.{Tells};
+ghost use Rattle.r10_world.specs.Telling.{RecorderStepsTo};
 ghost use Rattle.r10_machine.specs.declared.event.Event.TheVariants as events;
 ghost use Rattle.r10_machine.specs.declared.reply.Reply.TheVariants as replies;
 
@@ -34,7 +34,7 @@ pub(crate) fn open<M: BlockMedium>(
     from: u64,
     to: u64,
 ) -> Reply
-    ensures tells { Tells M.disk recorder.old cursors.old.slots (events.Cursor file channels.now from to) result recorder.new cursors.new.slots }
+    ensures tells { RecorderStepsTo M.disk recorder.old cursors.old.slots (events.Cursor file channels.now from to) result recorder.new cursors.new.slots }
     ensures stops { Survives M.disk recorder.old (events.Cursor file channels.now from to) result recorder.new }
     ensures config { recorder.new.kept.config ≡ recorder.old.kept.config }
 {
@@ -61,7 +61,7 @@ pub(crate) fn advance<M: BlockMedium>(
     cursors: &mut Slab<Cursor>,
     id: usize,
 ) -> Reply
-    ensures tells { Tells M.disk recorder.old cursors.old.slots (events.Advance id) result recorder.new cursors.new.slots }
+    ensures tells { RecorderStepsTo M.disk recorder.old cursors.old.slots (events.Advance id) result recorder.new cursors.new.slots }
     ensures stops { Survives M.disk recorder.old (events.Advance id) result recorder.new }
     ensures config { recorder.new.kept.config ≡ recorder.old.kept.config }
 {
@@ -88,7 +88,7 @@ pub(crate) fn advance<M: BlockMedium>(
 
 /// A cursor gives the first of its queue.
 pub(crate) fn next(cursors: &mut Slab<Cursor>, id: usize) -> Reply
-    ensures { (k : Kept) (image : Image) (failures : ℕ) (lanes : List Lane) (m : Machine) → Stands k image failures lanes cursors.old.slots m → Goes k m (events.Next id) result k image failures lanes cursors.new.slots }
+    ensures { (k : Kept) (image : Image) (failures : ℕ) (lanes : List Lane) (m : Machine) → PartsStandFor k image failures lanes cursors.old.slots m → PartsStepTo k m (events.Next id) result k image failures lanes cursors.new.slots }
 {
     recorders_calls_are_steps();
     tables_calls_are_steps();
@@ -101,7 +101,7 @@ pub(crate) fn next(cursors: &mut Slab<Cursor>, id: usize) -> Reply
 
 /// A cursor is closed.
 pub(crate) fn close(cursors: &mut Slab<Cursor>, id: usize) -> Reply
-    ensures { (k : Kept) (image : Image) (failures : ℕ) (lanes : List Lane) (m : Machine) → Stands k image failures lanes cursors.old.slots m → Goes k m (events.Close id) result k image failures lanes cursors.new.slots }
+    ensures { (k : Kept) (image : Image) (failures : ℕ) (lanes : List Lane) (m : Machine) → PartsStandFor k image failures lanes cursors.old.slots m → PartsStepTo k m (events.Close id) result k image failures lanes cursors.new.slots }
 {
     recorders_calls_are_steps();
     tables_calls_are_steps();

@@ -3,7 +3,7 @@
 ghost use Rattle.std.specs.Prelude.{◌≡◌, ◌<◌, ◌≤◌, ◌+◌, Ok, Err, IfOk, OnErr, length, take, drop, vec_len};
 ghost use Rattle.r10_world.specs.Copies.{IsCopy};
 ghost use Rattle.r10_world.specs.Stopping.{RunsSafely};
-ghost use Rattle.r10_world.specs.Telling.{Runs};
+ghost use Rattle.r10_world.specs.Telling.{WorldRuns};
 
 use crate::world::World;
 use r10_body::Message;
@@ -29,7 +29,7 @@ pub fn run<M: BlockMedium>(
     events: &[Event],
     replies: &mut Vec<Reply>,
 ) -> Result<usize, AllocError>
-    ensures run { IfOk result (λ n. Runs M.disk world.old (take n events.now) (drop (vec_len replies.old) replies.new.items) world.new) }
+    ensures run { IfOk result (λ n. WorldRuns M.disk world.old (take n events.now) (drop (vec_len replies.old) replies.new.items) world.new) }
     ensures stops { IfOk result (λ n. RunsSafely M.disk world.old (take n events.now) (drop (vec_len replies.old) replies.new.items) world.new) }
     ensures config { world.new.recorder.kept.config ≡ world.old.recorder.kept.config }
     ensures within { IfOk result (λ n. n ≤ length events.now) }

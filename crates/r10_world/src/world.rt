@@ -6,7 +6,7 @@ ghost use Rattle.r10_world.specs.Copies.{IsCopy};
 ghost use Rattle.r10_medium.specs.Stop.{Settled};
 ghost use Rattle.r10_stops.specs.Safe.{IsSafe};
 ghost use Rattle.r10_world.specs.Stopping.{Recovers, Survives};
-ghost use Rattle.r10_world.specs.Telling.{StandsFor, Tells};
+ghost use Rattle.r10_world.specs.Telling.{WorldStandsFor, RecorderStepsTo};
 ghost use Rattle.r10_machine.specs.Says.{MediumHas, MediumSays};
 
 use crate::a_new_recorder_stands;
@@ -34,9 +34,9 @@ pub struct World<M: BlockMedium> {
 }
 
 impl<M: BlockMedium> Model for World<M> {
-    ghost use Rattle.r10_world.specs.State.{State};
+    ghost use Rattle.r10_world.specs.State.{WorldState};
 
-    ghost Value = { State M };
+    ghost Value = { WorldState M };
 
     ghost view = { λ w. record { recorder = w.recorder; slots = w.cursors.slots } };
 }
@@ -57,7 +57,7 @@ impl<M: BlockMedium> World<M> {
     /// has them. Where memory is refused, settings and medium come back.
     pub fn new(alloc: Global, settings: Settings, medium: M) -> Result<World<M>, (Settings, M)>
         requires { length (M.disk medium).blocks ≡ settings.blocks }
-        ensures stands { (files : List File) → MediumHas settings (M.disk medium).blocks files → IfOk result (λ w. StandsFor M.disk w (fresh settings.channels files (M.disk medium).failures)) }
+        ensures stands { (files : List File) → MediumHas settings (M.disk medium).blocks files → IfOk result (λ w. WorldStandsFor M.disk w (fresh settings.channels files (M.disk medium).failures)) }
         // So it does over what a stop left of a medium that said files: it finds these again.
         ensures recovers { (files : List File) → MediumSays settings (M.disk medium).blocks files → IfOk result (Recovers M.disk settings (M.disk medium) files) }
         ensures safe { (files : List File) → Settled (λ image. MediumSays settings image files) (M.disk medium) → IfOk result (λ w. IsSafe w.recorder.kept.config w.recorder.kept.work files (M.disk w.recorder.medium)) }
@@ -99,7 +99,7 @@ impl<M: BlockMedium> World<M> {
     /// One event. An offer takes the copy of its message.
     pub(crate) fn step(&mut self, event: &Event, copy: &mut Option<Message>) -> Reply
         requires { IsCopy event.now copy.old }
-        ensures tells { Tells M.disk self.old.recorder self.old.slots event.now result self.new.recorder self.new.slots }
+        ensures tells { RecorderStepsTo M.disk self.old.recorder self.old.slots event.now result self.new.recorder self.new.slots }
         ensures stops { Survives M.disk self.old.recorder event.now result self.new.recorder }
         ensures config { self.new.recorder.kept.config ≡ self.old.recorder.kept.config }
     {
@@ -122,7 +122,7 @@ fn answer<M: BlockMedium>(
     copy: &mut Option<Message>,
 ) -> Reply
     requires { IsCopy event.now copy.old }
-    ensures tells { Tells M.disk recorder.old cursors.old.slots event.now result recorder.new cursors.new.slots }
+    ensures tells { RecorderStepsTo M.disk recorder.old cursors.old.slots event.now result recorder.new cursors.new.slots }
     ensures stops { Survives M.disk recorder.old event.now result recorder.new }
     ensures config { recorder.new.kept.config ≡ recorder.old.kept.config }
 {

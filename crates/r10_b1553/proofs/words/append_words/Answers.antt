@@ -1,5 +1,5 @@
 use Rattle.std.proofs.Common.{rules, arith, length, ap, drop, length-append, length-drop}
-use Rattle.r10_b1553.specs.Bus.{words_bytes}
+use Rattle.r10_b1553.specs.Bus.{words_low_first}
 use Rattle.r10_b1553.specs.Entry.{words-size}
 use Rattle.r10_b1553.proofs.words.append_words.Goals as goal
 
@@ -18,8 +18,8 @@ returns-in-Err c = record {
         c.loop-word-test.true,
         out.ok.0,
         ap length c.loop-word.invariant.written,
-        length-append out.items (words_bytes left),
-        length-append c.args.out.now.items (words_bytes words),
+        length-append out.items (words_low_first left),
+        length-append c.args.out.now.items (words_low_first words),
         words-size left,
         words-size words,
         length-drop c.loop-word.word-index words,

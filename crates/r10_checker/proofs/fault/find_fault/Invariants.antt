@@ -1,10 +1,10 @@
 use Rattle.std.proofs.Common.{◌≡◌, ℕ, ◌++◌, List, length}
-use Rattle.r10_strict.specs.Tracks.{Stands as StandsForeign}
-use Rattle.r10_judge.specs.Judged.{Stands}
+use Rattle.r10_strict.specs.Tracks.{TracksForeign}
+use Rattle.r10_judge.specs.Judged.{TracksJudged}
 use Rattle.r10_checker.proofs.fault.find_fault.Given as goal
 
 abbrev pub invariant-loop-rest : goal.invariant-loop-rest
-invariant-loop-rest l = (before : List ℕ) × (l.bytes ≡ before ++ l.rest) × StandsForeign l.track before × Stands l.judge before × (l.judge.closed ≡ l.closed)
+invariant-loop-rest l = (before : List ℕ) × (l.bytes ≡ before ++ l.rest) × TracksForeign l.track before × TracksJudged l.judge before × (l.judge.closed ≡ l.closed)
 
 abbrev pub decreases-loop-rest : goal.decreases-loop-rest
 decreases-loop-rest l = length l.rest

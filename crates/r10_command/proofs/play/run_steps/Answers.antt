@@ -1,6 +1,6 @@
 use Rattle.std.proofs.Common.{rules, arith, ◌≡◌, ◌+◌, ◌≤◌, ◌-◌, [], length, length-drop, take, drop, vec_len, refl}
 use Rattle.std.proofs.lemmas.List.{take_all}
-use Rattle.r10_world.specs.Telling.{Runs}
+use Rattle.r10_world.specs.Telling.{WorldRuns}
 use Rattle.r10_command.specs.Lines.{RunsAndWrites, WritesLines}
 use Rattle.r10_command.proofs.Rounds.{no_lines}
 use Rattle.r10_command.proofs.Running.{Done, round_more}
@@ -36,7 +36,7 @@ loop-done-preserved g c =
     let left = drop done events in
     let rest : take (length events - done) left ≡ left = take_all (length events - done) left (omega (arith, length-drop done events)) in
     let emptied : vec_len c.clear.new.self ≡ 0 = c.clear.ensures.len in
-    let ran : Runs disk c.loop-done.world (take n (drop done events)) new c.run.new.world = rw (rest, emptied) at c.in_ok-count.ensures.run in
+    let ran : WorldRuns disk c.loop-done.world (take n (drop done events)) new c.run.new.world = rw (rest, emptied) at c.in_ok-count.ensures.run in
     let wrote : WritesLines (contents c.loop-done.writer) (contents c.write_lines.new.writer) done new = search rules in
     record {
       within = within;

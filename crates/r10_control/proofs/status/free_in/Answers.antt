@@ -1,5 +1,5 @@
 use Rattle.std.proofs.Common.{◌≡◌, ℕ, sym, ap, ◌∙◌, arith, subst}
-use Rattle.r10_dirchain.specs.Chain.{files as listed_files}
+use Rattle.r10_dirchain.specs.Chain.{listed_files}
 use Rattle.r10_machine.specs.Machine.{Machine}
 use Rattle.r10_machine.specs.Room.{area_from}
 use Rattle.r10_means.specs.Kept.{mode_of}

@@ -3,7 +3,7 @@ use Rattle.r10_medium.proofs.Stops.{whole_reads}
 use Rattle.r10_judge.specs.Files.{file_at}
 use Rattle.r10_judge.specs.Judgements.{IsJudged}
 use Rattle.r10_judge.specs.declared.judgement.Judgement.TheVariants.{Strict}
-use Rattle.r10_judge.specs.Judged.{IsKept}
+use Rattle.r10_judge.specs.Judged.{TracksStrictFile}
 use Rattle.r10_cursor.specs.Files.{bytes_in}
 use Rattle.r10_cursor.proofs.books.tracks_of.Goals as goal
 
@@ -12,5 +12,5 @@ returns-in-Ok-Strict-clause-kept g c =
     let disk = g.M.BlockMedium.disk c.args.medium.now in
     let bytes = c.extent_of-extent.ensures.bytes disk.blocks (whole_reads disk) (sym c.blocks-2.ensures) in
     let kept : IsJudged (file_at disk.blocks c.extent_of-extent.result) c.is_closed.result (Strict c.in-Ok-Strict.tracks) = subst (IsJudged (file_at disk.blocks c.extent_of-extent.result) c.is_closed.result) c.in-Ok-Strict.field-0-is c.in-Ok-Strict.ensures.judged in
-    subst (λ (b : Bool). IsKept b c.in-Ok-Strict.tracks (bytes_in disk.blocks c.args.entry.now)) c.is_closed.ensures
-    (subst (λ (l : List ℕ). IsKept c.is_closed.result c.in-Ok-Strict.tracks l) bytes kept)
+    subst (λ (b : Bool). TracksStrictFile b c.in-Ok-Strict.tracks (bytes_in disk.blocks c.args.entry.now)) c.is_closed.ensures
+    (subst (λ (l : List ℕ). TracksStrictFile c.is_closed.result c.in-Ok-Strict.tracks l) bytes kept)

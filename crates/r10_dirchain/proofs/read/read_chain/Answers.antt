@@ -3,9 +3,9 @@ use Rattle.r10_medium.specs.Disk.{Image}
 use Rattle.r10_medium.proofs.Stops.{unchanged_twice}
 use Rattle.r10_dirchain.specs.declared.chain.ChainBlock.{ChainBlock}
 use Rattle.r10_dirchain.specs.declared.read.ChainError.TheVariants.{BadDirectory}
-use Rattle.r10_dirchain.specs.Chain.{link, Holds, IsDirectory, blank_block}
+use Rattle.r10_dirchain.specs.Chain.{link, HoldsBlock, IsDirectory, blank_block}
 use Rattle.std.specs.List.{All}
-use Rattle.r10_dirchain.specs.Bad.{IsTaken, IsTakeError, Leads, AreApart}
+use Rattle.r10_dirchain.specs.Bad.{LinksBack, IsTakeError, LinksLead, BlocksAreApart}
 use Rattle.r10_dirchain.proofs.Links.{bad_of, bad_at_end, holds_more, apart_more, goes_on, ends_here}
 use Rattle.r10_dirchain.proofs.Unique.{one_directory, no_fault}
 use Rattle.r10_dirchain.proofs.read.read_chain.Goals as goal
@@ -19,8 +19,8 @@ returns-in-Err-clause-bad g c =
 pub returns-then-next-number-clause-read : goal.returns-then-next-number-clause-read
 returns-then-next-number-clause-read g c =
     let image = (g.M.BlockMedium.disk c.args.medium.now).blocks in
-    let taken : IsTaken image c.loop.back c.loop.number c.in-Ok.block =
-    subst (λ (i : Image). IsTaken i c.loop.back c.loop.number c.in-Ok.block) c.loop.invariant.same.reads c.in-Ok.ensures.taken in
+    let taken : LinksBack image c.loop.back c.loop.number c.in-Ok.block =
+    subst (λ (i : Image). LinksBack i c.loop.back c.loop.number c.in-Ok.block) c.loop.invariant.same.reads c.in-Ok.ensures.taken in
     let pushed : c.push.new.self.items ≡ c.loop.chain.items ++ (record { number = c.loop.number; block = c.in-Ok.block }) ∷ [] = search rules in
     subst (IsDirectory image) (sym pushed)
     (ends_here image c.loop.chain.items c.loop.back c.loop.number c.loop.invariant.holds c.loop.invariant.leads c.in-Ok.block taken c.if-next-number.true)
@@ -30,17 +30,17 @@ loop-preserved g c =
     let disk = g.M.BlockMedium.disk in
     let image = (disk c.args.medium.now).blocks in
     let chain = c.loop.chain.items in
-    let taken : IsTaken image c.loop.back c.loop.number c.in-Ok.block =
-    subst (λ (i : Image). IsTaken i c.loop.back c.loop.number c.in-Ok.block) c.loop.invariant.same.reads c.in-Ok.ensures.taken in
+    let taken : LinksBack image c.loop.back c.loop.number c.in-Ok.block =
+    subst (λ (i : Image). LinksBack i c.loop.back c.loop.number c.in-Ok.block) c.loop.invariant.same.reads c.in-Ok.ensures.taken in
     let pushed : c.push.new.self.items ≡ chain ++ (record { number = c.loop.number; block = c.in-Ok.block }) ∷ [] = search rules in
     record {
       same = unchanged_twice (disk c.args.medium.now) (disk c.loop.medium) (disk c.take_block.new.medium) c.loop.invariant.same c.take_block.ensures.same;
       no_fewer = omega (arith, c.loop.invariant.no_fewer, c.take_block.ensures.no_fewer);
       size = ap (λ (l : List ChainBlock). length l) pushed ∙ length-append chain (record { number = c.loop.number; block = c.in-Ok.block } ∷ []) ∙ ap (λ (n : ℕ). n + 1) c.loop.invariant.size;
-      holds = subst (All (Holds image)) (sym pushed) (holds_more image chain c.loop.back c.loop.number c.loop.invariant.holds c.loop.invariant.leads c.in-Ok.block taken);
-      leads = subst (λ (l : List ChainBlock). Leads 1 1 (map link l) c.loop.number c.in-Ok.block.forward) (sym pushed)
+      holds = subst (All (HoldsBlock image)) (sym pushed) (holds_more image chain c.loop.back c.loop.number c.loop.invariant.holds c.loop.invariant.leads c.in-Ok.block taken);
+      leads = subst (λ (l : List ChainBlock). LinksLead 1 1 (map link l) c.loop.number c.in-Ok.block.forward) (sym pushed)
           (goes_on image chain c.loop.back c.loop.number c.loop.invariant.holds c.loop.invariant.leads c.in-Ok.block taken c.if-next-number.false);
-      apart = subst AreApart (sym pushed) (apart_more image chain c.loop.back c.loop.number c.loop.invariant.holds c.loop.invariant.leads c.in-Ok.block taken c.loop.invariant.apart);
+      apart = subst BlocksAreApart (sym pushed) (apart_more image chain c.loop.back c.loop.number c.loop.invariant.holds c.loop.invariant.leads c.in-Ok.block taken c.loop.invariant.apart);
     }
 
 pub returns-clause-bad : goal.returns-clause-bad
@@ -58,8 +58,8 @@ returns-in-Err-clause-only g c =
 pub returns-then-next-number-clause-only : goal.returns-then-next-number-clause-only
 returns-then-next-number-clause-only g c = λ chain is.
     let image = (g.M.BlockMedium.disk c.args.medium.now).blocks in
-    let taken : IsTaken image c.loop.back c.loop.number c.in-Ok.block =
-    subst (λ (i : Image). IsTaken i c.loop.back c.loop.number c.in-Ok.block) c.loop.invariant.same.reads c.in-Ok.ensures.taken in
+    let taken : LinksBack image c.loop.back c.loop.number c.in-Ok.block =
+    subst (λ (i : Image). LinksBack i c.loop.back c.loop.number c.in-Ok.block) c.loop.invariant.same.reads c.in-Ok.ensures.taken in
     let pushed : c.push.new.self.items ≡ c.loop.chain.items ++ (record { number = c.loop.number; block = c.in-Ok.block }) ∷ [] = search rules in
     pushed ∙ one_directory image (c.loop.chain.items ++ (record { number = c.loop.number; block = c.in-Ok.block }) ∷ []) chain
     (ends_here image c.loop.chain.items c.loop.back c.loop.number c.loop.invariant.holds c.loop.invariant.leads c.in-Ok.block taken c.if-next-number.true) is

@@ -2,7 +2,7 @@ use Rattle.std.proofs.Common.{◌≡◌, ◌+◌, ◌-◌, ◌≤◌, ◌∙◌,
 use Rattle.std.proofs.lemmas.Bool.{lt-ltb}
 use Rattle.r10_medium.proofs.Stops.{whole_reads}
 use Rattle.r10_judge.specs.Files.{file_at}
-use Rattle.r10_judge.specs.Walks.{Stands, Ends}
+use Rattle.r10_judge.specs.Walks.{TracksWalked, EndsWithFault}
 use Rattle.r10_judge.proofs.Parts.{fault_on, file_size, some_on, taken_more, window_is}
 use Rattle.r10_judge.proofs.window.take_window.Goals as goal
 
@@ -16,7 +16,7 @@ returns-clause-stands g c =
     let n = c.in-Ok-take.taken.length in
     let inside : at + count ≤ c.args.extent.size = omega (arith, c.min-count.ensures, c.requires.at) in
     let window : bytes ≡ take count (drop at file) = c.in-Ok.ensures.bytes ∙ window_is disk.blocks c.args.extent at count (whole_reads disk) c.requires.within inside in
-    subst (λ (l : List ℕ). Stands c.take.new.self l) (taken_more file bytes at count n window (omega (arith, c.in-Ok-take.ensures.inside, c.in-Ok.ensures.size)))
+    subst (λ (l : List ℕ). TracksWalked c.take.new.self l) (taken_more file bytes at count n window (omega (arith, c.in-Ok-take.ensures.inside, c.in-Ok.ensures.size)))
     (c.in-Ok-take.ensures.stands (take at file) c.requires.walked)
 
 pub returns-clause-fault : goal.returns-clause-fault
@@ -32,6 +32,6 @@ returns-clause-fault g c =
     let window : bytes ≡ take count (drop at file) = c.in-Ok.ensures.bytes ∙ window_is disk.blocks c.args.extent at count (whole_reads disk) c.requires.within inside in
     some_on c.fault_of.result (λ f told.
     fault_on file bytes at count n f window c.in-Ok-take.ensures.inside (omega (arith, inside, size))
-    (subst (λ o. Ends o (drop n bytes)) told.0 c.in-Ok-take.ensures.ends)
+    (subst (λ o. EndsWithFault o (drop n bytes)) told.0 c.in-Ok-take.ensures.ends)
     (λ less. told.1 (lt-ltb count (c.args.extent.size - at) (omega (arith, less, size)))))
     c.fault_of.ensures.some

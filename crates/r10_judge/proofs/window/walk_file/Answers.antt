@@ -3,14 +3,14 @@ use Rattle.std.proofs.lemmas.List.{length-drop, take-append-drop}
 use Rattle.r10_medium.specs.Disk.{Image}
 use Rattle.r10_medium.proofs.Stops.{unchanged_twice, whole_reads}
 use Rattle.r10_judge.specs.Files.{file_at}
-use Rattle.r10_judge.specs.Walks.{Stands, EndsAt}
+use Rattle.r10_judge.specs.Walks.{TracksWalked, EndsAt}
 use Rattle.r10_judge.proofs.Parts.{ends_some, falls, file_size, none_is}
 use Rattle.r10_judge.proofs.window.walk_file.Goals as goal
 
 pub take_window-requires-clause-walked : goal.take_window-requires-clause-walked
 take_window-requires-clause-walked g c =
     let now = c.loop-at.invariant in
-    subst (λ (i : Image). Stands c.loop-at.walk (take c.loop-at.at (file_at i c.args.extent))) (sym now.same.reads) now.stands
+    subst (λ (i : Image). TracksWalked c.loop-at.walk (take c.loop-at.at (file_at i c.args.extent))) (sym now.same.reads) now.stands
 
 pub next_window-window-requires : goal.next_window-window-requires
 next_window-window-requires g c = λ none. omega (arith, c.requires.size, c.in-Ok.ensures.cut none (none_is c.in-Ok.taken.fault (sym c.is_some.ensures ∙ c.if-is_some.false)))
@@ -25,7 +25,7 @@ returns-then-is_some-clause-walked g c =
       before = take at file;
       rest = drop at file;
       bytes_are = sym (take-append-drop at file);
-      stands = subst (λ (i : Image). Stands c.take_window.new.walk (take at (file_at i c.args.extent))) now.same.reads c.in-Ok.ensures.stands;
+      stands = subst (λ (i : Image). TracksWalked c.take_window.new.walk (take at (file_at i c.args.extent))) now.same.reads c.in-Ok.ensures.stands;
       ends = ends_some c.in-Ok.taken.fault (drop at file) (sym c.is_some.ensures ∙ c.if-is_some.true)
           (subst (λ (i : Image). IfSome c.in-Ok.taken.fault (EndsAt (file_at i c.args.extent) at)) now.same.reads c.in-Ok.ensures.fault);
     }
@@ -39,7 +39,7 @@ loop-at-preserved g c =
       inside = c.in-Ok.ensures.inside;
       window = omega (arith, now.window, c.next_window-window.ensures.least);
       within = omega (arith, now.within, ap length c.take_window.ensures.same.reads);
-      stands = subst (λ (i : Image). Stands c.take_window.new.walk (take at (file_at i c.args.extent))) now.same.reads c.in-Ok.ensures.stands;
+      stands = subst (λ (i : Image). TracksWalked c.take_window.new.walk (take at (file_at i c.args.extent))) now.same.reads c.in-Ok.ensures.stands;
       closed = c.take_window.ensures.closed ∙ now.closed;
       same = unchanged_twice (disk c.args.medium.now) (disk c.loop-at.medium) (disk c.take_window.new.medium) now.same c.take_window.ensures.same;
       no_fewer = omega (arith, now.no_fewer, c.take_window.ensures.counts.no_fewer);

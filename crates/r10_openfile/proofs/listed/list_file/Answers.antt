@@ -7,7 +7,7 @@ use Rattle.r10_body.specs.Packets.{file_bytes}
 use Rattle.r10_dirchain.specs.Steps.{added, last_block, spare}
 use Rattle.r10_dirchain.proofs.Turning.{published}
 use Rattle.r10_dirchain.specs.declared.chain.ChainBlock.{ChainBlock}
-use Rattle.r10_volume.specs.Holding.{Holds}
+use Rattle.r10_volume.specs.Holding.{HoldsFiles}
 use Rattle.r10_machine.specs.Says.{MediumSays}
 use Rattle.r10_openfile.proofs.Calls.{directory_stays, front_listed, front_put, last_holds, last_moments, listed_carried, listed_holds, listed_moments, listed_reads, listed_settled, on_both, turned_size}
 use Rattle.r10_openfile.proofs.listed.list_file.Goals as goal
@@ -72,7 +72,7 @@ returns-clause-holds g c =
     let sure = disk c.sync.new.self in
     let new = disk c.add.new.medium in
     λ s files f may.
-    let Held : List ChainBlock → Type 0 = λ l. Holds s new.blocks l (Some (record { recording = r; shown = length r.out.entries })) (files ++ f ∷ []) in
+    let Held : List ChainBlock → Type 0 = λ l. HoldsFiles s new.blocks l (Some (record { recording = r; shown = length r.out.entries })) (files ++ f ∷ []) in
     on_both c.add.result (Held (added c.args.entry chain)) (c.add.new.self ≡ added c.args.entry chain) (Held c.add.new.self) (λ held is. subst Held (sym is) held)
     (listed_holds s chain files f c.args.entry r old mid sure new c.add.result may (c.commit_blocks.ensures.puts f.setup f.entries may.carries)
     (c.in_default.ensures.shows f.setup f.entries may.carries) (c.commit_blocks.ensures.says f.setup f.entries may.carries may.none) c.sync.ensures.same c.in_default-sync.ensures.sure c.add.ensures.turns) c.add.ensures.done

@@ -1,7 +1,7 @@
 use Rattle.r10_world.proofs.Telling.{telling}
 use Rattle.std.proofs.Common.{ap}
 use Rattle.r10_body.specs.declared.refusal.Refusal.TheVariants.{Failed}
-use Rattle.r10_control.specs.Checks.{refusal}
+use Rattle.r10_control.specs.Checks.{recorder_refusal}
 use Rattle.r10_means.specs.Kept.{Work}
 use Rattle.r10_world.proofs.Stopping.{alone_if_open, stays_failed, survives_by}
 use Rattle.r10_world.proofs.control.mark.Goals as goal
@@ -21,6 +21,6 @@ returns-clause-stops g c =
     let disk = g.M.BlockMedium.disk in
     let old = a.recorder.now in
     let new = call.new.self in
-    let fails = stays_failed disk old new (refusal old.kept (events.Event a.number a.count)) Failed _ call.result (λ is. ap (λ (w : Work). refusal (record old.kept { work = w }) (events.Event a.number a.count)) is) call.ensures.passed call.ensures.refused
-    (λ r some refuses. alone_if_open disk (refusal old.kept (events.Event a.number a.count)) _ Failed old.kept new.kept old.medium new.medium r some refuses) in
+    let fails = stays_failed disk old new (recorder_refusal old.kept (events.Event a.number a.count)) Failed _ call.result (λ is. ap (λ (w : Work). recorder_refusal (record old.kept { work = w }) (events.Event a.number a.count)) is) call.ensures.passed call.ensures.refused
+    (λ r some refuses. alone_if_open disk (recorder_refusal old.kept (events.Event a.number a.count)) _ Failed old.kept new.kept old.medium new.medium r some refuses) in
     survives_by disk old new (events.Event a.number a.count) (λ _. replies.Done) call.result c.done.result call.ensures.stops c.done.ensures fails

@@ -3,7 +3,7 @@ use Rattle.r10_world.proofs.Tables.{is_mounted, open_lacks, opens_on}
 use Rattle.r10_world.proofs.Telling.{refused_on}
 use Rattle.r10_body.specs.declared.refusal.Refusal.TheVariants.{Failed}
 use Rattle.r10_body.specs.declared.refusal.Refusal.TheVariants as refusals
-use Rattle.r10_control.specs.Checks.{refusal}
+use Rattle.r10_control.specs.Checks.{recorder_refusal}
 use Rattle.r10_machine.specs.declared.reply.Reply.TheVariants as replies
 use Rattle.r10_means.specs.Kept.{Kept, Work}
 use Rattle.r10_world.proofs.Stopping.{alone_if, survives_kept, survives_refused}
@@ -45,7 +45,7 @@ returns-in-Err-clause-stops g c =
     let call = c.check_file in
     let new = call.new.self in
     survives_refused disk old new (events.Cursor a.file a.channels.now a.from a.to) c.in-Err.refusal call.ensures.config call.ensures.same (λ is.
-    (ap (λ (k : Kept). k.work) (alone_if disk (refusal old.kept (events.Cursor a.file a.channels.now a.from a.to)) _ Failed old.kept new.kept old.medium new.medium c.in-Err.refusal (ap (λ (w : Work). refusal (record old.kept { work = w }) (events.Cursor a.file a.channels.now a.from a.to)) is) (c.in-Err.ensures.refused a.channels.now)).0 ∙ is))
+    (ap (λ (k : Kept). k.work) (alone_if disk (recorder_refusal old.kept (events.Cursor a.file a.channels.now a.from a.to)) _ Failed old.kept new.kept old.medium new.medium c.in-Err.refusal (ap (λ (w : Work). recorder_refusal (record old.kept { work = w }) (events.Cursor a.file a.channels.now a.from a.to)) is) (c.in-Err.ensures.refused a.channels.now)).0 ∙ is))
 
 pub returns-in-Err-generation-clause-stops : goal.returns-in-Err-generation-clause-stops
 returns-in-Err-generation-clause-stops g c =

@@ -3,7 +3,7 @@ use Rattle.r10_world.proofs.Going.{all_of, begun, run_more, take_one_more}
 use Rattle.r10_world.proofs.running.run.Goals as goal
 use Rattle.r10_world.proofs.Stopping.{begun_safely, run_more_safely}
 use Rattle.r10_world.specs.Stopping.{RunsSafely}
-use Rattle.r10_world.specs.Telling.{Runs}
+use Rattle.r10_world.specs.Telling.{WorldRuns}
 use Rattle.r10_machine.specs.declared.reply.Reply.{Reply}
 
 pub loop-i-init : goal.loop-i-init
@@ -23,7 +23,7 @@ loop-i-init g c =
 pub returns-clause-run : goal.returns-clause-run
 returns-clause-run g c =
     let ended : c.loop-i.i ≡ length c.args.events.now = omega arith in
-    subst (λ (n : ℕ). Runs g.M.BlockMedium.disk c.args.world.now (take n c.args.events.now) (drop (vec_len c.args.replies.now) c.loop-i.replies.items) c.loop-i.world) ended c.loop-i.invariant.run
+    subst (λ (n : ℕ). WorldRuns g.M.BlockMedium.disk c.args.world.now (take n c.args.events.now) (drop (vec_len c.args.replies.now) c.loop-i.replies.items) c.loop-i.world) ended c.loop-i.invariant.run
 
 pub returns-clause-stops : goal.returns-clause-stops
 returns-clause-stops g c =

@@ -4,9 +4,9 @@ use Rattle.r10_count.specs.Checks.{first_broken}
 use Rattle.r10_machine.specs.Checks.{idle_checks}
 use Rattle.r10_machine.specs.Machine.{Machine}
 use Rattle.r10_means.specs.Kept.{Kept, mode_of, idle}
-use Rattle.r10_means.specs.Means.{Means}
-use Rattle.r10_control.specs.Leading.{KeepsShown, Leads, none_taken}
-use Rattle.r10_control.specs.State.{State}
+use Rattle.r10_means.specs.Means.{KeptStandsFor}
+use Rattle.r10_control.specs.Leading.{MachinesKeepShown, KeptStepsTaking, none_taken}
+use Rattle.r10_control.specs.State.{RecorderState}
 use Rattle.r10_control.specs.Work.{work_of}
 use Rattle.r10_control.specs.declared.work.Doing.{Doing}
 use Rattle.r10_control.proofs.Bytes.{holds_of}
@@ -29,8 +29,8 @@ use Rattle.r10_control.proofs.recorder.Recorder.dismount.Goals as goal
 pub returns-in-Err-clause-steps : goal.returns-in-Err-clause-steps
 returns-in-Err-clause-steps g c =
     let disk = g.M.BlockMedium.disk in
-    subst (λ (v : State _ _). (m : Machine) → Means v.kept (disk v.medium).blocks (disk v.medium).failures m
-    → Leads none_taken v.kept m events.Dismount (replies.Refused c.in-Err.refusal) v.kept (disk v.medium).blocks (disk v.medium).failures) c.self.view_is
+    subst (λ (v : RecorderState _ _). (m : Machine) → KeptStandsFor v.kept (disk v.medium).blocks (disk v.medium).failures m
+    → KeptStepsTaking none_taken v.kept m events.Dismount (replies.Refused c.in-Err.refusal) v.kept (disk v.medium).blocks (disk v.medium).failures) c.self.view_is
     (λ m means. dismount_refused c.a_step_stays_sound.ensures _ _ _ m c.in-Err.refusal c.self.invariant.limits means
     (ap (λ mode. first_broken (idle_checks mode)) (sym c.mode_in.ensures) ∙ c.in-Err.ensures))
 
@@ -41,9 +41,9 @@ returns-in-Ok-clause-steps g c =
     let later = disk c.dismount.new.medium in
     let k : Kept = record { config = w.settings; work = work_of w.work; tick = w.tick; last_event = w.last_event; generation = w.generation; taken = w.taken.items; erased = w.erased.items } in
     let at : k.work ≡ idle c.in-Idle.directory = ap work_of c.in-Idle.is in
-    subst (λ (v : State _ _). (m : Machine) → Means v.kept (disk v.medium).blocks (disk v.medium).failures m
-    → Leads none_taken v.kept m events.Dismount replies.Done (record k { work = work_of c.turn.new.work }) later.blocks later.failures) c.self.view_is
-    (subst (λ (x : Doing). (m : Machine) → Means k (disk w.medium).blocks (disk w.medium).failures m → Leads none_taken k m events.Dismount replies.Done (record k { work = work_of x }) later.blocks later.failures) (sym c.turn.ensures)
+    subst (λ (v : RecorderState _ _). (m : Machine) → KeptStandsFor v.kept (disk v.medium).blocks (disk v.medium).failures m
+    → KeptStepsTaking none_taken v.kept m events.Dismount replies.Done (record k { work = work_of c.turn.new.work }) later.blocks later.failures) c.self.view_is
+    (subst (λ (x : Doing). (m : Machine) → KeptStandsFor k (disk w.medium).blocks (disk w.medium).failures m → KeptStepsTaking none_taken k m events.Dismount replies.Done (record k { work = work_of x }) later.blocks later.failures) (sym c.turn.ensures)
     (λ m means.
     let holds = c.in-Ok.ensures.holds k.config m.files (held k c.in-Idle.directory (disk w.medium).blocks m at means.files) in
     dismount_done c.a_step_stays_sound.ensures k (disk w.medium).blocks later.blocks (disk w.medium).failures later.failures m c.in-Idle.directory c.self.invariant.limits means at
@@ -57,9 +57,9 @@ returns-in-Err-dismount-clause-steps g c =
     let k : Kept = record { config = w.settings; work = work_of w.work; tick = w.tick; last_event = w.last_event; generation = w.generation; taken = w.taken.items; erased = w.erased.items } in
     let at : k.work ≡ idle c.in-Idle.directory = ap work_of c.in-Idle.is in
     let fine : first_broken (idle_checks (mode_of k.work)) ≡ None = ap (λ mode. first_broken (idle_checks mode)) (sym c.mode_in.ensures) ∙ c.in_default.ensures in
-    subst (λ (v : State _ _). (m : Machine) → Means v.kept (disk v.medium).blocks (disk v.medium).failures m
-    → Leads none_taken v.kept m events.Dismount (replies.Refused refusals.Medium) (record k { work = work_of c.turn-in-Err-dismount.new.work }) later.blocks later.failures) c.self.view_is
-    (subst (λ (x : Doing). (m : Machine) → Means k (disk w.medium).blocks (disk w.medium).failures m → Leads none_taken k m events.Dismount (replies.Refused refusals.Medium) (record k { work = work_of x }) later.blocks later.failures) (sym c.turn-in-Err-dismount.ensures)
+    subst (λ (v : RecorderState _ _). (m : Machine) → KeptStandsFor v.kept (disk v.medium).blocks (disk v.medium).failures m
+    → KeptStepsTaking none_taken v.kept m events.Dismount (replies.Refused refusals.Medium) (record k { work = work_of c.turn-in-Err-dismount.new.work }) later.blocks later.failures) c.self.view_is
+    (subst (λ (x : Doing). (m : Machine) → KeptStandsFor k (disk w.medium).blocks (disk w.medium).failures m → KeptStepsTaking none_taken k m events.Dismount (replies.Refused refusals.Medium) (record k { work = work_of x }) later.blocks later.failures) (sym c.turn-in-Err-dismount.ensures)
     (λ m means.
     dismount_fails c.a_step_stays_sound.ensures k (disk w.medium).blocks later.blocks (disk w.medium).failures later.failures m c.self.invariant.limits means fine c.dismount.ensures.counts.no_fewer
     (c.in-Err-dismount.ensures.counts.cause refl) (c.dismount.ensures.says k.config m.files (held k c.in-Idle.directory (disk w.medium).blocks m at means.files))))
@@ -69,14 +69,14 @@ returns-in-Err-clause-owned g c =
     let w = c.self.inside in
     let disk = g.M.BlockMedium.disk in
     let k : Kept = record { config = w.settings; work = work_of w.work; tick = w.tick; last_event = w.last_event; generation = w.generation; taken = w.taken.items; erased = w.erased.items } in
-    subst (λ (v : State _ _). OwnStay v.kept (disk v.medium).blocks v.kept (disk v.medium).blocks) c.self.view_is (stay_same k (disk w.medium).blocks)
+    subst (λ (v : RecorderState _ _). OwnStay v.kept (disk v.medium).blocks v.kept (disk v.medium).blocks) c.self.view_is (stay_same k (disk w.medium).blocks)
 
 pub returns-in-Err-dismount-clause-owned : goal.returns-in-Err-dismount-clause-owned
 returns-in-Err-dismount-clause-owned g c =
     let w = c.self.inside in
     let disk = g.M.BlockMedium.disk in
     let k : Kept = record { config = w.settings; work = work_of w.work; tick = w.tick; last_event = w.last_event; generation = w.generation; taken = w.taken.items; erased = w.erased.items } in
-    subst (λ (v : State _ _). OwnStay v.kept (disk v.medium).blocks (record k { work = work_of c.turn-in-Err-dismount.new.work }) (disk c.dismount.new.medium).blocks) c.self.view_is
+    subst (λ (v : RecorderState _ _). OwnStay v.kept (disk v.medium).blocks (record k { work = work_of c.turn-in-Err-dismount.new.work }) (disk c.dismount.new.medium).blocks) c.self.view_is
     (stay_failed k (record k { work = work_of c.turn-in-Err-dismount.new.work }) (disk w.medium).blocks (disk c.dismount.new.medium).blocks (ap work_of c.turn-in-Err-dismount.ensures))
 
 pub returns-in-Ok-clause-owned : goal.returns-in-Ok-clause-owned
@@ -88,7 +88,7 @@ returns-in-Ok-clause-owned g c =
     let chain = c.in-Idle.directory in
     let at : k.work ≡ idle chain = ap work_of c.in-Idle.is in
     let usable = idle_usable g.L.LaneOut.spec_of g.L.LaneOut.reached k (disk w.medium).blocks w.lanes.items chain at c.self.invariant.work in
-    subst (λ (v : State _ _). OwnStay v.kept (disk v.medium).blocks (record k { work = work_of c.turn.new.work }) later.blocks) c.self.view_is
+    subst (λ (v : RecorderState _ _). OwnStay v.kept (disk v.medium).blocks (record k { work = work_of c.turn.new.work }) later.blocks) c.self.view_is
     (stay_by k (record k { work = work_of c.turn.new.work }) (disk w.medium).blocks later.blocks
     (dismounted_own k (record k { work = work_of c.turn.new.work }) (disk w.medium).blocks later.blocks chain at (whole_reads (disk w.medium)) usable
     (one_block k.config.directory (length (disk w.medium).blocks) chain (with_shutdown 0xFF chain) (disk w.medium) later c.dismount.result (some_reserved k.config.directory (disk w.medium).blocks chain usable) c.dismount.ensures.turns)
@@ -98,14 +98,14 @@ pub returns-in-Ok-clause-bytes : goal.returns-in-Ok-clause-bytes
 returns-in-Ok-clause-bytes g c =
     let w = c.self.inside in
     let disk = g.M.BlockMedium.disk in
-    subst (λ (v : State _ _). KeepsShown v.kept (disk v.medium).blocks (disk v.medium).failures (disk c.dismount.new.medium).blocks) c.self.view_is
+    subst (λ (v : RecorderState _ _). MachinesKeepShown v.kept (disk v.medium).blocks (disk v.medium).failures (disk c.dismount.new.medium).blocks) c.self.view_is
     (λ m means. c.dismount.ensures.bytes w.settings m.files (holds_of w.settings (work_of w.work) c.in-Idle.directory (disk w.medium).blocks m.files (ap work_of c.in-Idle.is) means.files))
 
 pub returns-in-Err-dismount-clause-bytes : goal.returns-in-Err-dismount-clause-bytes
 returns-in-Err-dismount-clause-bytes g c =
     let w = c.self.inside in
     let disk = g.M.BlockMedium.disk in
-    subst (λ (v : State _ _). KeepsShown v.kept (disk v.medium).blocks (disk v.medium).failures (disk c.dismount.new.medium).blocks) c.self.view_is
+    subst (λ (v : RecorderState _ _). MachinesKeepShown v.kept (disk v.medium).blocks (disk v.medium).failures (disk c.dismount.new.medium).blocks) c.self.view_is
     (λ m means. c.dismount.ensures.bytes w.settings m.files (holds_of w.settings (work_of w.work) c.in-Idle.directory (disk w.medium).blocks m.files (ap work_of c.in-Idle.is) means.files))
 
 pub returns-in-Ok-clause-effect : goal.returns-in-Ok-clause-effect
@@ -115,7 +115,7 @@ returns-in-Ok-clause-effect g c =
     let later = disk c.dismount.new.medium in
     let k : Kept = record { config = w.settings; work = work_of w.work; tick = w.tick; last_event = w.last_event; generation = w.generation; taken = w.taken.items; erased = w.erased.items } in
     let at : k.work ≡ idle c.in-Idle.directory = ap work_of c.in-Idle.is in
-    subst (λ (v : State _ _). DismountEffect v.kept (disk v.medium) (record k { work = work_of c.turn.new.work }) later) c.self.view_is
+    subst (λ (v : RecorderState _ _). DismountEffect v.kept (disk v.medium) (record k { work = work_of c.turn.new.work }) later) c.self.view_is
     (subst (λ (x : Doing). DismountEffect k (disk w.medium) (record k { work = work_of x }) later) (sym c.turn.ensures)
     (dismount_effect k (disk w.medium) later c.in-Idle.directory c.dismount.new.directory c.dismount.result at
     (idle_usable g.L.LaneOut.spec_of g.L.LaneOut.reached k (disk w.medium).blocks w.lanes.items c.in-Idle.directory at c.self.invariant.work) c.dismount.ensures.turns c.in-Ok.ensures.done c.in-Ok.ensures.directory))
@@ -125,7 +125,7 @@ returns-in-Err-clause-stops g c =
     let w = c.self.inside in
     let disk = g.M.BlockMedium.disk in
     let k : Kept = record { config = w.settings; work = work_of w.work; tick = w.tick; last_event = w.last_event; generation = w.generation; taken = w.taken.items; erased = w.erased.items } in
-    subst (λ (v : State _ _). StaysSafe whichever v.kept events.Dismount (replies.Refused c.in-Err.refusal) (disk v.medium) v.kept (disk v.medium)) c.self.view_is
+    subst (λ (v : RecorderState _ _). StaysSafe whichever v.kept events.Dismount (replies.Refused c.in-Err.refusal) (disk v.medium) v.kept (disk v.medium)) c.self.view_is
     (refused_safely whichever k k events.Dismount c.in-Err.refusal (disk w.medium) (disk w.medium) refl (unchanged (disk w.medium)))
 
 pub returns-in-Ok-clause-stops : goal.returns-in-Ok-clause-stops
@@ -134,7 +134,7 @@ returns-in-Ok-clause-stops g c =
     let disk = g.M.BlockMedium.disk in
     let k : Kept = record { config = w.settings; work = work_of w.work; tick = w.tick; last_event = w.last_event; generation = w.generation; taken = w.taken.items; erased = w.erased.items } in
     let later = disk c.dismount.new.medium in
-    subst (λ (v : State _ _). StaysSafe whichever v.kept events.Dismount replies.Done (disk v.medium) (record k { work = work_of c.turn.new.work }) later) c.self.view_is
+    subst (λ (v : RecorderState _ _). StaysSafe whichever v.kept events.Dismount replies.Done (disk v.medium) (record k { work = work_of c.turn.new.work }) later) c.self.view_is
     (synced_safely whichever k (record k { work = work_of c.turn.new.work }) events.Dismount replies.Done (disk w.medium) later c.in-Ok.ensures.directory.synced (makes_none whichever k events.Dismount (disk w.medium) later (idle_leaves k (disk w.medium) later c.in-Idle.directory (ap work_of c.in-Idle.is) (λ files held settled. c.dismount.ensures.moments k.config files held settled))))
 
 pub returns-in-Err-dismount-clause-stops : goal.returns-in-Err-dismount-clause-stops
@@ -143,5 +143,5 @@ returns-in-Err-dismount-clause-stops g c =
     let disk = g.M.BlockMedium.disk in
     let k : Kept = record { config = w.settings; work = work_of w.work; tick = w.tick; last_event = w.last_event; generation = w.generation; taken = w.taken.items; erased = w.erased.items } in
     let later = disk c.dismount.new.medium in
-    subst (λ (v : State _ _). StaysSafe whichever v.kept events.Dismount (replies.Refused refusals.Medium) (disk v.medium) (record k { work = work_of c.turn-in-Err-dismount.new.work }) later) c.self.view_is
+    subst (λ (v : RecorderState _ _). StaysSafe whichever v.kept events.Dismount (replies.Refused refusals.Medium) (disk v.medium) (record k { work = work_of c.turn-in-Err-dismount.new.work }) later) c.self.view_is
     (failed_safely whichever k (record k { work = work_of c.turn-in-Err-dismount.new.work }) events.Dismount (replies.Refused refusals.Medium) (disk w.medium) later (ap work_of c.turn-in-Err-dismount.ensures) (makes_none whichever k events.Dismount (disk w.medium) later (idle_leaves k (disk w.medium) later c.in-Idle.directory (ap work_of c.in-Idle.is) (λ files held settled. c.dismount.ensures.moments k.config files held settled))))

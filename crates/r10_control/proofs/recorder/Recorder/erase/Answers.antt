@@ -5,9 +5,9 @@ use Rattle.r10_count.proofs.Rules.{rules_pass, rules_stop}
 use Rattle.r10_machine.specs.Checks.{idle_checks}
 use Rattle.r10_machine.specs.Machine.{Machine}
 use Rattle.r10_means.specs.Kept.{Kept, mode_of, idle}
-use Rattle.r10_means.specs.Means.{Means}
-use Rattle.r10_control.specs.Leading.{KeepsShown, Leads, none_taken}
-use Rattle.r10_control.specs.State.{State}
+use Rattle.r10_means.specs.Means.{KeptStandsFor}
+use Rattle.r10_control.specs.Leading.{MachinesKeepShown, KeptStepsTaking, none_taken}
+use Rattle.r10_control.specs.State.{RecorderState}
 use Rattle.r10_control.specs.Work.{work_of}
 use Rattle.r10_control.specs.declared.work.Doing.{Doing}
 use Rattle.r10_control.proofs.Bytes.{holds_of}
@@ -20,7 +20,7 @@ use Rattle.r10_control.proofs.Effecting.{erase_effect, idle_usable}
 use Rattle.r10_control.specs.Effects.{EraseEffect}
 use Rattle.r10_control.specs.Own.{OwnStay}
 use Rattle.r10_control.proofs.Owning.{none_among, stay_failed, stay_same}
-use Rattle.r10_dirchain.specs.Chain.{files as listed_files}
+use Rattle.r10_dirchain.specs.Chain.{listed_files}
 use Rattle.r10_stops.proofs.Behind.{failed_safely, refused_safely, synced_safely}
 use Rattle.r10_stops.specs.Left.{StaysSafe, whichever}
 use Rattle.r10_control.proofs.Stopped.{made_of}
@@ -32,8 +32,8 @@ pub returns-in-Err-clause-steps : goal.returns-in-Err-clause-steps
 returns-in-Err-clause-steps g c =
     let w = c.self.inside in
     let disk = g.M.BlockMedium.disk in
-    subst (λ (v : State _ _). (m : Machine) → Means v.kept (disk v.medium).blocks (disk v.medium).failures m
-    → Leads none_taken v.kept m events.Erase (replies.Refused c.in-Err.refusal) v.kept (disk v.medium).blocks (disk v.medium).failures) c.self.view_is
+    subst (λ (v : RecorderState _ _). (m : Machine) → KeptStandsFor v.kept (disk v.medium).blocks (disk v.medium).failures m
+    → KeptStepsTaking none_taken v.kept m events.Erase (replies.Refused c.in-Err.refusal) v.kept (disk v.medium).blocks (disk v.medium).failures) c.self.view_is
     (λ m means. erase_refused c.a_step_stays_sound.ensures _ _ _ m c.in-Err.refusal c.self.invariant.limits means
     (rules_stop (idle_checks (mode_of (work_of w.work))) (erase_checks w.generation) c.in-Err.refusal (ap (λ mode. first_broken (idle_checks mode)) (sym c.mode_in.ensures) ∙ c.in-Err.ensures)))
 
@@ -41,8 +41,8 @@ pub returns-in-Err-check_erase-clause-steps : goal.returns-in-Err-check_erase-cl
 returns-in-Err-check_erase-clause-steps g c =
     let w = c.self.inside in
     let disk = g.M.BlockMedium.disk in
-    subst (λ (v : State _ _). (m : Machine) → Means v.kept (disk v.medium).blocks (disk v.medium).failures m
-    → Leads none_taken v.kept m events.Erase (replies.Refused c.in-Err-check_erase.refusal) v.kept (disk v.medium).blocks (disk v.medium).failures) c.self.view_is
+    subst (λ (v : RecorderState _ _). (m : Machine) → KeptStandsFor v.kept (disk v.medium).blocks (disk v.medium).failures m
+    → KeptStepsTaking none_taken v.kept m events.Erase (replies.Refused c.in-Err-check_erase.refusal) v.kept (disk v.medium).blocks (disk v.medium).failures) c.self.view_is
     (λ m means. erase_refused c.a_step_stays_sound.ensures _ _ _ m c.in-Err-check_erase.refusal c.self.invariant.limits means
     (rules_pass (idle_checks (mode_of (work_of w.work))) (erase_checks w.generation) (ap (λ mode. first_broken (idle_checks mode)) (sym c.mode_in.ensures) ∙ c.in_default.ensures) ∙ c.in-Err-check_erase.ensures))
 
@@ -50,8 +50,8 @@ pub returns-in_default-from_slice-clause-steps : goal.returns-in_default-from_sl
 returns-in_default-from_slice-clause-steps g c =
     let w = c.self.inside in
     let disk = g.M.BlockMedium.disk in
-    subst (λ (v : State _ _). (m : Machine) → Means v.kept (disk v.medium).blocks (disk v.medium).failures m
-    → Leads none_taken v.kept m events.Erase (replies.Refused refusals.OutOfMemory) v.kept (disk v.medium).blocks (disk v.medium).failures) c.self.view_is
+    subst (λ (v : RecorderState _ _). (m : Machine) → KeptStandsFor v.kept (disk v.medium).blocks (disk v.medium).failures m
+    → KeptStepsTaking none_taken v.kept m events.Erase (replies.Refused refusals.OutOfMemory) v.kept (disk v.medium).blocks (disk v.medium).failures) c.self.view_is
     (λ m means. erase_lacks c.a_step_stays_sound.ensures _ _ _ m c.self.invariant.limits means
     (rules_pass (idle_checks (mode_of (work_of w.work))) (erase_checks w.generation) (ap (λ mode. first_broken (idle_checks mode)) (sym c.mode_in.ensures) ∙ c.in_default.ensures) ∙ c.in_default-check_erase.ensures))
 
@@ -65,10 +65,10 @@ returns-in-Ok-erase-clause-steps g c =
     let fine : checked k ≡ None =
     rules_pass (idle_checks (mode_of k.work)) (erase_checks k.generation) (ap (λ mode. first_broken (idle_checks mode)) (sym c.mode_in.ensures) ∙ c.in_default.ensures) ∙ c.in_default-check_erase.ensures in
     let copied : k.taken ≡ c.in-Ok.erased.items = sym (c.in-Ok.ensures.items ∙ c.as_slice.ensures.value) in
-    subst (λ (v : State _ _). (m : Machine) → Means v.kept (disk v.medium).blocks (disk v.medium).failures m
-    → Leads none_taken v.kept m events.Erase replies.Done (record k { work = idle c.erase.new.directory; generation = w.generation + 1; erased = c.in-Ok.erased.items }) later.blocks later.failures) c.self.view_is
-    (subst (λ (x : List ℕ). (m : Machine) → Means k (disk w.medium).blocks (disk w.medium).failures m
-    → Leads none_taken k m events.Erase replies.Done (record k { work = idle c.erase.new.directory; generation = w.generation + 1; erased = x }) later.blocks later.failures) copied
+    subst (λ (v : RecorderState _ _). (m : Machine) → KeptStandsFor v.kept (disk v.medium).blocks (disk v.medium).failures m
+    → KeptStepsTaking none_taken v.kept m events.Erase replies.Done (record k { work = idle c.erase.new.directory; generation = w.generation + 1; erased = c.in-Ok.erased.items }) later.blocks later.failures) c.self.view_is
+    (subst (λ (x : List ℕ). (m : Machine) → KeptStandsFor k (disk w.medium).blocks (disk w.medium).failures m
+    → KeptStepsTaking none_taken k m events.Erase replies.Done (record k { work = idle c.erase.new.directory; generation = w.generation + 1; erased = x }) later.blocks later.failures) copied
     (λ m means.
     let holds = c.in-Ok-erase.ensures.holds k.config m.files (held k c.in-Idle.directory (disk w.medium).blocks m at means.files) in
     erase_done c.a_step_stays_sound.ensures k (disk w.medium).blocks later.blocks (disk w.medium).failures later.failures m c.in-Idle.directory c.erase.new.directory c.self.invariant.limits means at fine
@@ -83,9 +83,9 @@ returns-in-Err-erase-clause-steps g c =
     let at : k.work ≡ idle c.in-Idle.directory = ap work_of c.in-Idle.is in
     let fine : checked k ≡ None =
     rules_pass (idle_checks (mode_of k.work)) (erase_checks k.generation) (ap (λ mode. first_broken (idle_checks mode)) (sym c.mode_in.ensures) ∙ c.in_default.ensures) ∙ c.in_default-check_erase.ensures in
-    subst (λ (v : State _ _). (m : Machine) → Means v.kept (disk v.medium).blocks (disk v.medium).failures m
-    → Leads none_taken v.kept m events.Erase (replies.Refused refusals.Medium) (record k { work = work_of c.turn.new.work }) later.blocks later.failures) c.self.view_is
-    (subst (λ (x : Doing). (m : Machine) → Means k (disk w.medium).blocks (disk w.medium).failures m → Leads none_taken k m events.Erase (replies.Refused refusals.Medium) (record k { work = work_of x }) later.blocks later.failures) (sym c.turn.ensures)
+    subst (λ (v : RecorderState _ _). (m : Machine) → KeptStandsFor v.kept (disk v.medium).blocks (disk v.medium).failures m
+    → KeptStepsTaking none_taken v.kept m events.Erase (replies.Refused refusals.Medium) (record k { work = work_of c.turn.new.work }) later.blocks later.failures) c.self.view_is
+    (subst (λ (x : Doing). (m : Machine) → KeptStandsFor k (disk w.medium).blocks (disk w.medium).failures m → KeptStepsTaking none_taken k m events.Erase (replies.Refused refusals.Medium) (record k { work = work_of x }) later.blocks later.failures) (sym c.turn.ensures)
     (λ m means.
     erase_fails c.a_step_stays_sound.ensures k (disk w.medium).blocks later.blocks (disk w.medium).failures later.failures m c.self.invariant.limits means fine c.erase.ensures.counts.no_fewer
     (c.in-Err-erase.ensures.counts.cause refl) (c.in-Err-erase.ensures.failed k.config m.files (held k c.in-Idle.directory (disk w.medium).blocks m at means.files))))
@@ -95,28 +95,28 @@ returns-in-Err-clause-owned g c =
     let w = c.self.inside in
     let disk = g.M.BlockMedium.disk in
     let k : Kept = record { config = w.settings; work = work_of w.work; tick = w.tick; last_event = w.last_event; generation = w.generation; taken = w.taken.items; erased = w.erased.items } in
-    subst (λ (v : State _ _). OwnStay v.kept (disk v.medium).blocks v.kept (disk v.medium).blocks) c.self.view_is (stay_same k (disk w.medium).blocks)
+    subst (λ (v : RecorderState _ _). OwnStay v.kept (disk v.medium).blocks v.kept (disk v.medium).blocks) c.self.view_is (stay_same k (disk w.medium).blocks)
 
 pub returns-in-Err-check_erase-clause-owned : goal.returns-in-Err-check_erase-clause-owned
 returns-in-Err-check_erase-clause-owned g c =
     let w = c.self.inside in
     let disk = g.M.BlockMedium.disk in
     let k : Kept = record { config = w.settings; work = work_of w.work; tick = w.tick; last_event = w.last_event; generation = w.generation; taken = w.taken.items; erased = w.erased.items } in
-    subst (λ (v : State _ _). OwnStay v.kept (disk v.medium).blocks v.kept (disk v.medium).blocks) c.self.view_is (stay_same k (disk w.medium).blocks)
+    subst (λ (v : RecorderState _ _). OwnStay v.kept (disk v.medium).blocks v.kept (disk v.medium).blocks) c.self.view_is (stay_same k (disk w.medium).blocks)
 
 pub returns-in_default-from_slice-clause-owned : goal.returns-in_default-from_slice-clause-owned
 returns-in_default-from_slice-clause-owned g c =
     let w = c.self.inside in
     let disk = g.M.BlockMedium.disk in
     let k : Kept = record { config = w.settings; work = work_of w.work; tick = w.tick; last_event = w.last_event; generation = w.generation; taken = w.taken.items; erased = w.erased.items } in
-    subst (λ (v : State _ _). OwnStay v.kept (disk v.medium).blocks v.kept (disk v.medium).blocks) c.self.view_is (stay_same k (disk w.medium).blocks)
+    subst (λ (v : RecorderState _ _). OwnStay v.kept (disk v.medium).blocks v.kept (disk v.medium).blocks) c.self.view_is (stay_same k (disk w.medium).blocks)
 
 pub returns-in-Err-erase-clause-owned : goal.returns-in-Err-erase-clause-owned
 returns-in-Err-erase-clause-owned g c =
     let w = c.self.inside in
     let disk = g.M.BlockMedium.disk in
     let k : Kept = record { config = w.settings; work = work_of w.work; tick = w.tick; last_event = w.last_event; generation = w.generation; taken = w.taken.items; erased = w.erased.items } in
-    subst (λ (v : State _ _). OwnStay v.kept (disk v.medium).blocks (record k { work = work_of c.turn.new.work }) (disk c.erase.new.medium).blocks) c.self.view_is
+    subst (λ (v : RecorderState _ _). OwnStay v.kept (disk v.medium).blocks (record k { work = work_of c.turn.new.work }) (disk c.erase.new.medium).blocks) c.self.view_is
     (stay_failed k (record k { work = work_of c.turn.new.work }) (disk w.medium).blocks (disk c.erase.new.medium).blocks (ap work_of c.turn.ensures))
 
 pub returns-in-Ok-erase-clause-owned : goal.returns-in-Ok-erase-clause-owned
@@ -128,14 +128,14 @@ pub returns-in-Ok-erase-clause-bytes : goal.returns-in-Ok-erase-clause-bytes
 returns-in-Ok-erase-clause-bytes g c =
     let w = c.self.inside in
     let disk = g.M.BlockMedium.disk in
-    subst (λ (v : State _ _). KeepsShown v.kept (disk v.medium).blocks (disk v.medium).failures (disk c.erase.new.medium).blocks) c.self.view_is
+    subst (λ (v : RecorderState _ _). MachinesKeepShown v.kept (disk v.medium).blocks (disk v.medium).failures (disk c.erase.new.medium).blocks) c.self.view_is
     (λ m means. c.erase.ensures.bytes w.settings m.files (holds_of w.settings (work_of w.work) c.in-Idle.directory (disk w.medium).blocks m.files (ap work_of c.in-Idle.is) means.files))
 
 pub returns-in-Err-erase-clause-bytes : goal.returns-in-Err-erase-clause-bytes
 returns-in-Err-erase-clause-bytes g c =
     let w = c.self.inside in
     let disk = g.M.BlockMedium.disk in
-    subst (λ (v : State _ _). KeepsShown v.kept (disk v.medium).blocks (disk v.medium).failures (disk c.erase.new.medium).blocks) c.self.view_is
+    subst (λ (v : RecorderState _ _). MachinesKeepShown v.kept (disk v.medium).blocks (disk v.medium).failures (disk c.erase.new.medium).blocks) c.self.view_is
     (λ m means. c.erase.ensures.bytes w.settings m.files (holds_of w.settings (work_of w.work) c.in-Idle.directory (disk w.medium).blocks m.files (ap work_of c.in-Idle.is) means.files))
 
 pub returns-in-Ok-erase-clause-effect : goal.returns-in-Ok-erase-clause-effect
@@ -146,7 +146,7 @@ returns-in-Ok-erase-clause-effect g c =
     let k : Kept = record { config = w.settings; work = work_of w.work; tick = w.tick; last_event = w.last_event; generation = w.generation; taken = w.taken.items; erased = w.erased.items } in
     let at : k.work ≡ idle c.in-Idle.directory = ap work_of c.in-Idle.is in
     let copied : k.taken ≡ c.in-Ok.erased.items = sym (c.in-Ok.ensures.items ∙ c.as_slice.ensures.value) in
-    subst (λ (v : State _ _). EraseEffect v.kept (disk v.medium) (record k { work = idle c.erase.new.directory; generation = w.generation + 1; erased = c.in-Ok.erased.items }) later) c.self.view_is
+    subst (λ (v : RecorderState _ _). EraseEffect v.kept (disk v.medium) (record k { work = idle c.erase.new.directory; generation = w.generation + 1; erased = c.in-Ok.erased.items }) later) c.self.view_is
     (erase_effect k (disk w.medium) later c.in-Idle.directory c.erase.new.directory c.erase.result at
     (idle_usable g.L.LaneOut.spec_of g.L.LaneOut.reached k (disk w.medium).blocks w.lanes.items c.in-Idle.directory at c.self.invariant.work) c.erase.ensures.turns c.in-Ok-erase.ensures.done c.in-Ok-erase.ensures.directory
     c.in-Ok.erased.items copied)
@@ -156,7 +156,7 @@ returns-in-Err-clause-stops g c =
     let w = c.self.inside in
     let disk = g.M.BlockMedium.disk in
     let k : Kept = record { config = w.settings; work = work_of w.work; tick = w.tick; last_event = w.last_event; generation = w.generation; taken = w.taken.items; erased = w.erased.items } in
-    subst (λ (v : State _ _). StaysSafe whichever v.kept events.Erase (replies.Refused c.in-Err.refusal) (disk v.medium) v.kept (disk v.medium)) c.self.view_is
+    subst (λ (v : RecorderState _ _). StaysSafe whichever v.kept events.Erase (replies.Refused c.in-Err.refusal) (disk v.medium) v.kept (disk v.medium)) c.self.view_is
     (refused_safely whichever k k events.Erase c.in-Err.refusal (disk w.medium) (disk w.medium) refl (unchanged (disk w.medium)))
 
 pub returns-in-Err-check_erase-clause-stops : goal.returns-in-Err-check_erase-clause-stops
@@ -164,7 +164,7 @@ returns-in-Err-check_erase-clause-stops g c =
     let w = c.self.inside in
     let disk = g.M.BlockMedium.disk in
     let k : Kept = record { config = w.settings; work = work_of w.work; tick = w.tick; last_event = w.last_event; generation = w.generation; taken = w.taken.items; erased = w.erased.items } in
-    subst (λ (v : State _ _). StaysSafe whichever v.kept events.Erase (replies.Refused c.in-Err-check_erase.refusal) (disk v.medium) v.kept (disk v.medium)) c.self.view_is
+    subst (λ (v : RecorderState _ _). StaysSafe whichever v.kept events.Erase (replies.Refused c.in-Err-check_erase.refusal) (disk v.medium) v.kept (disk v.medium)) c.self.view_is
     (refused_safely whichever k k events.Erase c.in-Err-check_erase.refusal (disk w.medium) (disk w.medium) refl (unchanged (disk w.medium)))
 
 pub returns-in_default-from_slice-clause-stops : goal.returns-in_default-from_slice-clause-stops
@@ -172,7 +172,7 @@ returns-in_default-from_slice-clause-stops g c =
     let w = c.self.inside in
     let disk = g.M.BlockMedium.disk in
     let k : Kept = record { config = w.settings; work = work_of w.work; tick = w.tick; last_event = w.last_event; generation = w.generation; taken = w.taken.items; erased = w.erased.items } in
-    subst (λ (v : State _ _). StaysSafe whichever v.kept events.Erase (replies.Refused refusals.OutOfMemory) (disk v.medium) v.kept (disk v.medium)) c.self.view_is
+    subst (λ (v : RecorderState _ _). StaysSafe whichever v.kept events.Erase (replies.Refused refusals.OutOfMemory) (disk v.medium) v.kept (disk v.medium)) c.self.view_is
     (refused_safely whichever k k events.Erase refusals.OutOfMemory (disk w.medium) (disk w.medium) refl (unchanged (disk w.medium)))
 
 pub returns-in-Ok-erase-clause-stops : goal.returns-in-Ok-erase-clause-stops
@@ -183,7 +183,7 @@ returns-in-Ok-erase-clause-stops g c =
     let later = disk c.erase.new.medium in
     let fine : checked k ≡ None =
     rules_pass (idle_checks (mode_of k.work)) (erase_checks k.generation) (ap (λ mode. first_broken (idle_checks mode)) (sym c.mode_in.ensures) ∙ c.in_default.ensures) ∙ c.in_default-check_erase.ensures in
-    subst (λ (v : State _ _). StaysSafe whichever v.kept events.Erase replies.Done (disk v.medium) (record k { work = idle c.erase.new.directory; generation = w.generation + 1; erased = c.in-Ok.erased.items }) later) c.self.view_is
+    subst (λ (v : RecorderState _ _). StaysSafe whichever v.kept events.Erase replies.Done (disk v.medium) (record k { work = idle c.erase.new.directory; generation = w.generation + 1; erased = c.in-Ok.erased.items }) later) c.self.view_is
     (synced_safely whichever k (record k { work = idle c.erase.new.directory; generation = w.generation + 1; erased = c.in-Ok.erased.items }) events.Erase replies.Done (disk w.medium) later c.in-Ok-erase.ensures.directory.synced (made_of whichever k events.Erase (disk w.medium) later (erase_left k (disk w.medium) later c.in-Idle.directory (ap work_of c.in-Idle.is) fine (λ files held settled. c.erase.ensures.moments k.config files held settled))))
 
 pub returns-in-Err-erase-clause-stops : goal.returns-in-Err-erase-clause-stops
@@ -194,5 +194,5 @@ returns-in-Err-erase-clause-stops g c =
     let later = disk c.erase.new.medium in
     let fine : checked k ≡ None =
     rules_pass (idle_checks (mode_of k.work)) (erase_checks k.generation) (ap (λ mode. first_broken (idle_checks mode)) (sym c.mode_in.ensures) ∙ c.in_default.ensures) ∙ c.in_default-check_erase.ensures in
-    subst (λ (v : State _ _). StaysSafe whichever v.kept events.Erase (replies.Refused refusals.Medium) (disk v.medium) (record k { work = work_of c.turn.new.work }) later) c.self.view_is
+    subst (λ (v : RecorderState _ _). StaysSafe whichever v.kept events.Erase (replies.Refused refusals.Medium) (disk v.medium) (record k { work = work_of c.turn.new.work }) later) c.self.view_is
     (failed_safely whichever k (record k { work = work_of c.turn.new.work }) events.Erase (replies.Refused refusals.Medium) (disk w.medium) later (ap work_of c.turn.ensures) (made_of whichever k events.Erase (disk w.medium) later (erase_left k (disk w.medium) later c.in-Idle.directory (ap work_of c.in-Idle.is) fine (λ files held settled. c.erase.ensures.moments k.config files held settled))))

@@ -3,9 +3,9 @@ use Rattle.r10_body.specs.declared.refusal.Refusal.TheVariants as refusals
 use Rattle.r10_count.specs.Checks.{first_broken}
 use Rattle.r10_machine.specs.Checks.{mounted_checks}
 use Rattle.r10_machine.specs.Machine.{Machine}
-use Rattle.r10_means.specs.Means.{Means}
-use Rattle.r10_control.specs.Leading.{Leads, none_taken}
-use Rattle.r10_control.specs.State.{State}
+use Rattle.r10_means.specs.Means.{KeptStandsFor}
+use Rattle.r10_control.specs.Leading.{KeptStepsTaking, none_taken}
+use Rattle.r10_control.specs.State.{RecorderState}
 use Rattle.r10_control.proofs.Tellings.{files_done, files_lack, files_refused}
 use Rattle.r10_machine.specs.declared.event.Event.TheVariants as events
 use Rattle.r10_machine.specs.declared.reply.Reply.TheVariants as replies
@@ -14,8 +14,8 @@ use Rattle.r10_control.proofs.recorder.Recorder.files.Goals as goal
 pub returns-in-Err-clause-steps : goal.returns-in-Err-clause-steps
 returns-in-Err-clause-steps g c =
     let disk = g.M.BlockMedium.disk in
-    subst (λ (v : State _ _). (m : Machine) → Means v.kept (disk v.medium).blocks (disk v.medium).failures m
-    → Leads none_taken v.kept m events.Files (replies.Refused c.in-Err.refusal) v.kept (disk v.medium).blocks (disk v.medium).failures) c.self.view_is
+    subst (λ (v : RecorderState _ _). (m : Machine) → KeptStandsFor v.kept (disk v.medium).blocks (disk v.medium).failures m
+    → KeptStepsTaking none_taken v.kept m events.Files (replies.Refused c.in-Err.refusal) v.kept (disk v.medium).blocks (disk v.medium).failures) c.self.view_is
     (λ m means. files_refused c.a_step_stays_sound.ensures _ _ _ m c.in-Err.refusal c.self.invariant.limits means
     (ap (λ mode. first_broken (mounted_checks mode)) (sym c.mode_in.ensures) ∙ c.in-Err.ensures))
 
@@ -23,15 +23,15 @@ pub returns-in-Ok-clause-steps : goal.returns-in-Ok-clause-steps
 returns-in-Ok-clause-steps g c =
     let w = c.self.inside in
     let disk = g.M.BlockMedium.disk in
-    subst (λ (v : State _ _). (m : Machine) → Means v.kept (disk v.medium).blocks (disk v.medium).failures m
-    → Leads none_taken v.kept m events.Files (replies.Files c.in-Ok.infos.items) v.kept (disk v.medium).blocks (disk v.medium).failures) c.self.view_is
+    subst (λ (v : RecorderState _ _). (m : Machine) → KeptStandsFor v.kept (disk v.medium).blocks (disk v.medium).failures m
+    → KeptStepsTaking none_taken v.kept m events.Files (replies.Files c.in-Ok.infos.items) v.kept (disk v.medium).blocks (disk v.medium).failures) c.self.view_is
     (λ m means. files_done c.tellings_are_steps.ensures.files _ _ _ m c.in-Ok.infos.items c.self.invariant.limits means
     (ap (λ mode. first_broken (mounted_checks mode)) (sym c.mode_in.ensures) ∙ c.in_default.ensures) c.in-Ok.ensures)
 
 pub returns-in-Err-list_in-clause-steps : goal.returns-in-Err-list_in-clause-steps
 returns-in-Err-list_in-clause-steps g c =
     let disk = g.M.BlockMedium.disk in
-    subst (λ (v : State _ _). (m : Machine) → Means v.kept (disk v.medium).blocks (disk v.medium).failures m
-    → Leads none_taken v.kept m events.Files (replies.Refused refusals.OutOfMemory) v.kept (disk v.medium).blocks (disk v.medium).failures) c.self.view_is
+    subst (λ (v : RecorderState _ _). (m : Machine) → KeptStandsFor v.kept (disk v.medium).blocks (disk v.medium).failures m
+    → KeptStepsTaking none_taken v.kept m events.Files (replies.Refused refusals.OutOfMemory) v.kept (disk v.medium).blocks (disk v.medium).failures) c.self.view_is
     (λ m means. files_lack c.a_step_stays_sound.ensures _ _ _ m c.self.invariant.limits means
     (ap (λ mode. first_broken (mounted_checks mode)) (sym c.mode_in.ensures) ∙ c.in_default.ensures))

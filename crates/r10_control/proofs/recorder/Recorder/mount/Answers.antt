@@ -4,10 +4,10 @@ use Rattle.r10_count.specs.Checks.{first_broken}
 use Rattle.r10_machine.specs.Checks.{unmounted_checks}
 use Rattle.r10_machine.specs.Machine.{Machine}
 use Rattle.r10_means.specs.Kept.{Kept, Work, mode_of, idle, failed}
-use Rattle.r10_means.specs.Means.{Means}
-use Rattle.r10_control.specs.Leading.{KeepsShown, Leads, none_taken}
-use Rattle.r10_control.specs.Refused.{Refuses, IsMountRefusal}
-use Rattle.r10_control.specs.State.{State}
+use Rattle.r10_means.specs.Means.{KeptStandsFor}
+use Rattle.r10_control.specs.Leading.{MachinesKeepShown, KeptStepsTaking, none_taken}
+use Rattle.r10_control.specs.Refused.{RefusesCall, IsMountRefusal}
+use Rattle.r10_control.specs.State.{RecorderState}
 use Rattle.r10_control.specs.Work.{work_of}
 use Rattle.r10_control.specs.declared.work.Doing.{Doing}
 use Rattle.r10_control.proofs.Bytes.{says_of}
@@ -31,8 +31,8 @@ use Rattle.r10_control.proofs.recorder.Recorder.mount.Goals as goal
 pub returns-in-Err-clause-steps : goal.returns-in-Err-clause-steps
 returns-in-Err-clause-steps g c =
     let disk = g.M.BlockMedium.disk in
-    subst (λ (v : State _ _). (m : Machine) → Means v.kept (disk v.medium).blocks (disk v.medium).failures m
-    → Leads none_taken v.kept m events.Mount (replies.Refused c.in-Err.refusal) v.kept (disk v.medium).blocks (disk v.medium).failures) c.self.view_is
+    subst (λ (v : RecorderState _ _). (m : Machine) → KeptStandsFor v.kept (disk v.medium).blocks (disk v.medium).failures m
+    → KeptStepsTaking none_taken v.kept m events.Mount (replies.Refused c.in-Err.refusal) v.kept (disk v.medium).blocks (disk v.medium).failures) c.self.view_is
     (λ m means. mount_refused c.a_step_stays_sound.ensures _ _ _ m c.in-Err.refusal c.self.invariant.limits means
     (ap (λ mode. first_broken (unmounted_checks mode)) (sym c.mode_in.ensures) ∙ c.in-Err.ensures))
 
@@ -57,9 +57,9 @@ returns-in-Ok-clause-steps g c =
     let later = disk c.mount.new.medium in
     let k : Kept = record { config = w.settings; work = work_of w.work; tick = w.tick; last_event = w.last_event; generation = w.generation; taken = w.taken.items; erased = w.erased.items } in
     let fine : first_broken (unmounted_checks (mode_of k.work)) ≡ None = ap (λ mode. first_broken (unmounted_checks mode)) (sym c.mode_in.ensures) ∙ c.in_default.ensures in
-    subst (λ (v : State _ _). (m : Machine) → Means v.kept (disk v.medium).blocks (disk v.medium).failures m
-    → Leads none_taken v.kept m events.Mount replies.Done (record k { work = work_of c.turn.new.work }) later.blocks later.failures) c.self.view_is
-    (subst (λ (x : Doing). (m : Machine) → Means k (disk w.medium).blocks (disk w.medium).failures m → Leads none_taken k m events.Mount replies.Done (record k { work = work_of x }) later.blocks later.failures) (sym c.turn.ensures)
+    subst (λ (v : RecorderState _ _). (m : Machine) → KeptStandsFor v.kept (disk v.medium).blocks (disk v.medium).failures m
+    → KeptStepsTaking none_taken v.kept m events.Mount replies.Done (record k { work = work_of c.turn.new.work }) later.blocks later.failures) c.self.view_is
+    (subst (λ (x : Doing). (m : Machine) → KeptStandsFor k (disk w.medium).blocks (disk w.medium).failures m → KeptStepsTaking none_taken k m events.Mount replies.Done (record k { work = work_of x }) later.blocks later.failures) (sym c.turn.ensures)
     (λ m means.
     let says = said k k.work (disk w.medium).blocks m refl (unmounted_work k.work fine) means.files in
     mount_done c.a_step_stays_sound.ensures k (disk w.medium).blocks later.blocks (disk w.medium).failures later.failures m c.in-Ok.directory c.self.invariant.limits means fine
@@ -71,7 +71,7 @@ returns-in-Err-BadDirectory-clause-refused g c =
     let disk = g.M.BlockMedium.disk in
     let k : Kept = record { config = w.settings; work = work_of w.work; tick = w.tick; last_event = w.last_event; generation = w.generation; taken = w.taken.items; erased = w.erased.items } in
     let fine : first_broken (unmounted_checks (mode_of k.work)) ≡ None = ap (λ mode. first_broken (unmounted_checks mode)) (sym c.mode_in.ensures) ∙ c.in_default.ensures in
-    subst (λ (v : State _ _). Refuses disk (first_broken (unmounted_checks (mode_of v.kept.work))) (IsMountRefusal v.kept.config.directory (disk v.medium)) v.kept k v.medium c.mount.new.medium (refusals.BadDirectory c.in-Err-BadDirectory.block)) c.self.view_is
+    subst (λ (v : RecorderState _ _). RefusesCall disk (first_broken (unmounted_checks (mode_of v.kept.work))) (IsMountRefusal v.kept.config.directory (disk v.medium)) v.kept k v.medium c.mount.new.medium (refusals.BadDirectory c.in-Err-BadDirectory.block)) c.self.view_is
     (lacking disk (first_broken (unmounted_checks (mode_of k.work))) (IsMountRefusal k.config.directory (disk w.medium)) k k w.medium c.mount.new.medium c.in-Err-BadDirectory.block fine
     (rw (sym c.directory.ensures.value) (rw c.in-Err-BadDirectory.field-0-is at c.in-Err-BadDirectory.ensures.fault)) (rw c.in-Err-BadDirectory.field-0-is at c.in-Err-BadDirectory.ensures.left) refl)
 
@@ -82,8 +82,8 @@ returns-in-Err-OutOfMemory-clause-steps g c =
     let later = disk c.mount.new.medium in
     let k : Kept = record { config = w.settings; work = work_of w.work; tick = w.tick; last_event = w.last_event; generation = w.generation; taken = w.taken.items; erased = w.erased.items } in
     let fine : first_broken (unmounted_checks (mode_of k.work)) ≡ None = ap (λ mode. first_broken (unmounted_checks mode)) (sym c.mode_in.ensures) ∙ c.in_default.ensures in
-    subst (λ (v : State _ _). (m : Machine) → Means v.kept (disk v.medium).blocks (disk v.medium).failures m
-    → Leads none_taken v.kept m events.Mount (replies.Refused refusals.OutOfMemory) k later.blocks later.failures) c.self.view_is
+    subst (λ (v : RecorderState _ _). (m : Machine) → KeptStandsFor v.kept (disk v.medium).blocks (disk v.medium).failures m
+    → KeptStepsTaking none_taken v.kept m events.Mount (replies.Refused refusals.OutOfMemory) k later.blocks later.failures) c.self.view_is
     (λ m means. mount_lacks c.a_step_stays_sound.ensures k (disk w.medium).blocks later.blocks (disk w.medium).failures later.failures m c.self.invariant.limits means fine
     (rw c.in-Err-OutOfMemory.field-0-is at c.in-Err-OutOfMemory.ensures.left).reads c.mount.ensures.no_fewer)
 
@@ -94,9 +94,9 @@ returns-in-Err-Medium-clause-steps g c =
     let later = disk c.mount.new.medium in
     let k : Kept = record { config = w.settings; work = work_of w.work; tick = w.tick; last_event = w.last_event; generation = w.generation; taken = w.taken.items; erased = w.erased.items } in
     let fine : first_broken (unmounted_checks (mode_of k.work)) ≡ None = ap (λ mode. first_broken (unmounted_checks mode)) (sym c.mode_in.ensures) ∙ c.in_default.ensures in
-    subst (λ (v : State _ _). (m : Machine) → Means v.kept (disk v.medium).blocks (disk v.medium).failures m
-    → Leads none_taken v.kept m events.Mount (replies.Refused refusals.Medium) (record k { work = work_of c.turn-in-Err-Medium.new.work }) later.blocks later.failures) c.self.view_is
-    (subst (λ (x : Doing). (m : Machine) → Means k (disk w.medium).blocks (disk w.medium).failures m → Leads none_taken k m events.Mount (replies.Refused refusals.Medium) (record k { work = work_of x }) later.blocks later.failures) (sym c.turn-in-Err-Medium.ensures)
+    subst (λ (v : RecorderState _ _). (m : Machine) → KeptStandsFor v.kept (disk v.medium).blocks (disk v.medium).failures m
+    → KeptStepsTaking none_taken v.kept m events.Mount (replies.Refused refusals.Medium) (record k { work = work_of c.turn-in-Err-Medium.new.work }) later.blocks later.failures) c.self.view_is
+    (subst (λ (x : Doing). (m : Machine) → KeptStandsFor k (disk w.medium).blocks (disk w.medium).failures m → KeptStepsTaking none_taken k m events.Mount (replies.Refused refusals.Medium) (record k { work = work_of x }) later.blocks later.failures) (sym c.turn-in-Err-Medium.ensures)
     (λ m means.
     let says = said k k.work (disk w.medium).blocks m refl (unmounted_work k.work fine) means.files in
     mount_fails c.a_step_stays_sound.ensures k (disk w.medium).blocks later.blocks (disk w.medium).failures later.failures m c.self.invariant.limits means fine c.mount.ensures.no_fewer
@@ -107,14 +107,14 @@ returns-in-Err-clause-owned g c =
     let w = c.self.inside in
     let disk = g.M.BlockMedium.disk in
     let k : Kept = record { config = w.settings; work = work_of w.work; tick = w.tick; last_event = w.last_event; generation = w.generation; taken = w.taken.items; erased = w.erased.items } in
-    subst (λ (v : State _ _). OwnStay v.kept (disk v.medium).blocks v.kept (disk v.medium).blocks) c.self.view_is (stay_same k (disk w.medium).blocks)
+    subst (λ (v : RecorderState _ _). OwnStay v.kept (disk v.medium).blocks v.kept (disk v.medium).blocks) c.self.view_is (stay_same k (disk w.medium).blocks)
 
 pub returns-in-Err-BadDirectory-clause-owned : goal.returns-in-Err-BadDirectory-clause-owned
 returns-in-Err-BadDirectory-clause-owned g c =
     let w = c.self.inside in
     let disk = g.M.BlockMedium.disk in
     let k : Kept = record { config = w.settings; work = work_of w.work; tick = w.tick; last_event = w.last_event; generation = w.generation; taken = w.taken.items; erased = w.erased.items } in
-    subst (λ (v : State _ _). OwnStay v.kept (disk v.medium).blocks k (disk c.mount.new.medium).blocks) c.self.view_is
+    subst (λ (v : RecorderState _ _). OwnStay v.kept (disk v.medium).blocks k (disk c.mount.new.medium).blocks) c.self.view_is
     (subst (λ (image : Image). OwnStay k (disk w.medium).blocks k image) (sym ((rw c.in-Err-BadDirectory.field-0-is at c.in-Err-BadDirectory.ensures.left).reads)) (stay_same k (disk w.medium).blocks))
 
 pub returns-in-Err-OutOfMemory-clause-owned : goal.returns-in-Err-OutOfMemory-clause-owned
@@ -122,7 +122,7 @@ returns-in-Err-OutOfMemory-clause-owned g c =
     let w = c.self.inside in
     let disk = g.M.BlockMedium.disk in
     let k : Kept = record { config = w.settings; work = work_of w.work; tick = w.tick; last_event = w.last_event; generation = w.generation; taken = w.taken.items; erased = w.erased.items } in
-    subst (λ (v : State _ _). OwnStay v.kept (disk v.medium).blocks k (disk c.mount.new.medium).blocks) c.self.view_is
+    subst (λ (v : RecorderState _ _). OwnStay v.kept (disk v.medium).blocks k (disk c.mount.new.medium).blocks) c.self.view_is
     (subst (λ (image : Image). OwnStay k (disk w.medium).blocks k image) (sym ((rw c.in-Err-OutOfMemory.field-0-is at c.in-Err-OutOfMemory.ensures.left).reads)) (stay_same k (disk w.medium).blocks))
 
 pub returns-in-Err-Medium-clause-owned : goal.returns-in-Err-Medium-clause-owned
@@ -130,7 +130,7 @@ returns-in-Err-Medium-clause-owned g c =
     let w = c.self.inside in
     let disk = g.M.BlockMedium.disk in
     let k : Kept = record { config = w.settings; work = work_of w.work; tick = w.tick; last_event = w.last_event; generation = w.generation; taken = w.taken.items; erased = w.erased.items } in
-    subst (λ (v : State _ _). OwnStay v.kept (disk v.medium).blocks (record k { work = work_of c.turn-in-Err-Medium.new.work }) (disk c.mount.new.medium).blocks) c.self.view_is
+    subst (λ (v : RecorderState _ _). OwnStay v.kept (disk v.medium).blocks (record k { work = work_of c.turn-in-Err-Medium.new.work }) (disk c.mount.new.medium).blocks) c.self.view_is
     (stay_failed k (record k { work = work_of c.turn-in-Err-Medium.new.work }) (disk w.medium).blocks (disk c.mount.new.medium).blocks (ap work_of c.turn-in-Err-Medium.ensures))
 
 pub returns-in-Ok-clause-owned : goal.returns-in-Ok-clause-owned
@@ -143,7 +143,7 @@ returns-in-Ok-clause-owned g c =
     let reserved : c.directory.result ≡ k.config.directory = c.directory.ensures.value in
     let is = subst (λ (n : ℕ). IsMounted n (disk w.medium).blocks c.in-Ok.directory) reserved c.in-Ok.ensures.mounted in
     let turns = c.mount.ensures.turns is.chain (subst (λ (n : ℕ). IsUsable n (disk w.medium).blocks is.chain) (sym reserved) is.usable) in
-    subst (λ (v : State _ _). OwnStay v.kept (disk v.medium).blocks (record k { work = work_of c.turn.new.work }) later.blocks) c.self.view_is
+    subst (λ (v : RecorderState _ _). OwnStay v.kept (disk v.medium).blocks (record k { work = work_of c.turn.new.work }) later.blocks) c.self.view_is
     (stay_by k (record k { work = work_of c.turn.new.work }) (disk w.medium).blocks later.blocks
     (mounted_own k (record k { work = work_of c.turn.new.work }) (disk w.medium).blocks later.blocks is.chain (unmounted_work k.work fine) (whole_reads (disk w.medium)) is.usable
     (one_block k.config.directory (length (disk w.medium).blocks) is.chain (with_shutdown 0x00 is.chain) (disk w.medium) later c.mount.result (some_reserved k.config.directory (disk w.medium).blocks is.chain is.usable) turns)
@@ -154,7 +154,7 @@ returns-in-Ok-clause-bytes g c =
     let w = c.self.inside in
     let disk = g.M.BlockMedium.disk in
     let fine : first_broken (unmounted_checks (mode_of (work_of w.work))) ≡ None = ap (λ mode. first_broken (unmounted_checks mode)) (sym c.mode_in.ensures) ∙ c.in_default.ensures in
-    subst (λ (v : State _ _). KeepsShown v.kept (disk v.medium).blocks (disk v.medium).failures (disk c.mount.new.medium).blocks) c.self.view_is
+    subst (λ (v : RecorderState _ _). MachinesKeepShown v.kept (disk v.medium).blocks (disk v.medium).failures (disk c.mount.new.medium).blocks) c.self.view_is
     (λ m means. c.mount.ensures.bytes w.settings m.files (says_of w.settings (work_of w.work) (disk w.medium).blocks m.files (unmounted_work (work_of w.work) fine) means.files))
 
 pub returns-in-Err-Medium-clause-bytes : goal.returns-in-Err-Medium-clause-bytes
@@ -162,7 +162,7 @@ returns-in-Err-Medium-clause-bytes g c =
     let w = c.self.inside in
     let disk = g.M.BlockMedium.disk in
     let fine : first_broken (unmounted_checks (mode_of (work_of w.work))) ≡ None = ap (λ mode. first_broken (unmounted_checks mode)) (sym c.mode_in.ensures) ∙ c.in_default.ensures in
-    subst (λ (v : State _ _). KeepsShown v.kept (disk v.medium).blocks (disk v.medium).failures (disk c.mount.new.medium).blocks) c.self.view_is
+    subst (λ (v : RecorderState _ _). MachinesKeepShown v.kept (disk v.medium).blocks (disk v.medium).failures (disk c.mount.new.medium).blocks) c.self.view_is
     (λ m means. c.mount.ensures.bytes w.settings m.files (says_of w.settings (work_of w.work) (disk w.medium).blocks m.files (unmounted_work (work_of w.work) fine) means.files))
 
 pub returns-in-Ok-clause-effect : goal.returns-in-Ok-clause-effect
@@ -172,7 +172,7 @@ returns-in-Ok-clause-effect g c =
     let later = disk c.mount.new.medium in
     let k : Kept = record { config = w.settings; work = work_of w.work; tick = w.tick; last_event = w.last_event; generation = w.generation; taken = w.taken.items; erased = w.erased.items } in
     let reserved : c.directory.result ≡ k.config.directory = c.directory.ensures.value in
-    subst (λ (v : State _ _). MountEffect v.kept (disk v.medium) (record k { work = work_of c.turn.new.work }) later) c.self.view_is
+    subst (λ (v : RecorderState _ _). MountEffect v.kept (disk v.medium) (record k { work = work_of c.turn.new.work }) later) c.self.view_is
     (subst (λ (x : Doing). MountEffect k (disk w.medium) (record k { work = work_of x }) later) (sym c.turn.ensures)
     (mount_effect k (disk w.medium) later c.in-Ok.directory c.mount.result (subst (λ (n : ℕ). IsMounted n (disk w.medium).blocks c.in-Ok.directory) reserved c.in-Ok.ensures.mounted)
     (λ chain usable. c.mount.ensures.turns chain (subst (λ (n : ℕ). IsUsable n (disk w.medium).blocks chain) (sym reserved) usable)) c.in-Ok.ensures.directory))
@@ -182,7 +182,7 @@ returns-in-Err-clause-stops g c =
     let w = c.self.inside in
     let disk = g.M.BlockMedium.disk in
     let k : Kept = record { config = w.settings; work = work_of w.work; tick = w.tick; last_event = w.last_event; generation = w.generation; taken = w.taken.items; erased = w.erased.items } in
-    subst (λ (v : State _ _). StaysSafe whichever v.kept events.Mount (replies.Refused c.in-Err.refusal) (disk v.medium) v.kept (disk v.medium)) c.self.view_is
+    subst (λ (v : RecorderState _ _). StaysSafe whichever v.kept events.Mount (replies.Refused c.in-Err.refusal) (disk v.medium) v.kept (disk v.medium)) c.self.view_is
     (refused_safely whichever k k events.Mount c.in-Err.refusal (disk w.medium) (disk w.medium) refl (unchanged (disk w.medium)))
 
 pub returns-in-Ok-clause-stops : goal.returns-in-Ok-clause-stops
@@ -192,7 +192,7 @@ returns-in-Ok-clause-stops g c =
     let k : Kept = record { config = w.settings; work = work_of w.work; tick = w.tick; last_event = w.last_event; generation = w.generation; taken = w.taken.items; erased = w.erased.items } in
     let later = disk c.mount.new.medium in
     let fine : first_broken (unmounted_checks (mode_of k.work)) ≡ None = ap (λ mode. first_broken (unmounted_checks mode)) (sym c.mode_in.ensures) ∙ c.in_default.ensures in
-    subst (λ (v : State _ _). StaysSafe whichever v.kept events.Mount replies.Done (disk v.medium) (record k { work = work_of c.turn.new.work }) later) c.self.view_is
+    subst (λ (v : RecorderState _ _). StaysSafe whichever v.kept events.Mount replies.Done (disk v.medium) (record k { work = work_of c.turn.new.work }) later) c.self.view_is
     (synced_safely whichever k (record k { work = work_of c.turn.new.work }) events.Mount replies.Done (disk w.medium) later c.in-Ok.ensures.directory.synced (makes_none whichever k events.Mount (disk w.medium) later (unmounted_leaves k (disk w.medium) later (unmounted_work k.work fine) (λ files settled. c.mount.ensures.moments k.config files settled))))
 
 pub returns-in-Err-BadDirectory-clause-stops : goal.returns-in-Err-BadDirectory-clause-stops
@@ -201,7 +201,7 @@ returns-in-Err-BadDirectory-clause-stops g c =
     let disk = g.M.BlockMedium.disk in
     let k : Kept = record { config = w.settings; work = work_of w.work; tick = w.tick; last_event = w.last_event; generation = w.generation; taken = w.taken.items; erased = w.erased.items } in
     let later = disk c.mount.new.medium in
-    subst (λ (v : State _ _). StaysSafe whichever v.kept events.Mount (replies.Refused (refusals.BadDirectory c.in-Err-BadDirectory.block)) (disk v.medium) k later) c.self.view_is
+    subst (λ (v : RecorderState _ _). StaysSafe whichever v.kept events.Mount (replies.Refused (refusals.BadDirectory c.in-Err-BadDirectory.block)) (disk v.medium) k later) c.self.view_is
     (refused_safely whichever k k events.Mount (refusals.BadDirectory c.in-Err-BadDirectory.block) (disk w.medium) later refl (rw c.in-Err-BadDirectory.field-0-is at c.in-Err-BadDirectory.ensures.left))
 
 pub returns-in-Err-OutOfMemory-clause-stops : goal.returns-in-Err-OutOfMemory-clause-stops
@@ -210,7 +210,7 @@ returns-in-Err-OutOfMemory-clause-stops g c =
     let disk = g.M.BlockMedium.disk in
     let k : Kept = record { config = w.settings; work = work_of w.work; tick = w.tick; last_event = w.last_event; generation = w.generation; taken = w.taken.items; erased = w.erased.items } in
     let later = disk c.mount.new.medium in
-    subst (λ (v : State _ _). StaysSafe whichever v.kept events.Mount (replies.Refused refusals.OutOfMemory) (disk v.medium) k later) c.self.view_is
+    subst (λ (v : RecorderState _ _). StaysSafe whichever v.kept events.Mount (replies.Refused refusals.OutOfMemory) (disk v.medium) k later) c.self.view_is
     (refused_safely whichever k k events.Mount refusals.OutOfMemory (disk w.medium) later refl (rw c.in-Err-OutOfMemory.field-0-is at c.in-Err-OutOfMemory.ensures.left))
 
 pub returns-in-Err-Medium-clause-stops : goal.returns-in-Err-Medium-clause-stops
@@ -220,5 +220,5 @@ returns-in-Err-Medium-clause-stops g c =
     let k : Kept = record { config = w.settings; work = work_of w.work; tick = w.tick; last_event = w.last_event; generation = w.generation; taken = w.taken.items; erased = w.erased.items } in
     let later = disk c.mount.new.medium in
     let fine : first_broken (unmounted_checks (mode_of k.work)) ≡ None = ap (λ mode. first_broken (unmounted_checks mode)) (sym c.mode_in.ensures) ∙ c.in_default.ensures in
-    subst (λ (v : State _ _). StaysSafe whichever v.kept events.Mount (replies.Refused refusals.Medium) (disk v.medium) (record k { work = work_of c.turn-in-Err-Medium.new.work }) later) c.self.view_is
+    subst (λ (v : RecorderState _ _). StaysSafe whichever v.kept events.Mount (replies.Refused refusals.Medium) (disk v.medium) (record k { work = work_of c.turn-in-Err-Medium.new.work }) later) c.self.view_is
     (failed_safely whichever k (record k { work = work_of c.turn-in-Err-Medium.new.work }) events.Mount (replies.Refused refusals.Medium) (disk w.medium) later (ap work_of c.turn-in-Err-Medium.ensures) (makes_none whichever k events.Mount (disk w.medium) later (unmounted_leaves k (disk w.medium) later (unmounted_work k.work fine) (λ files settled. c.mount.ensures.moments k.config files settled))))

@@ -2,11 +2,11 @@ use Rattle.std.proofs.Common.{◌≡◌, ℕ, List, length, sym, ap, ◌∙◌, 
 use Rattle.r10_machine.specs.Machine.{Lane, Machine}
 use Rattle.r10_machine.specs.declared.mode.Mode.{Mode}
 use Rattle.r10_means.specs.Kept.{Kept, mode_of}
-use Rattle.r10_means.specs.Means.{Means}
+use Rattle.r10_means.specs.Means.{KeptStandsFor}
 use Rattle.r10_control.specs.Checks.{files_of}
 use Rattle.r10_control.specs.Lanes.{AreLanes, LeadsWith}
 use Rattle.r10_control.specs.Owns.{tick_count}
-use Rattle.r10_control.specs.State.{State}
+use Rattle.r10_control.specs.State.{RecorderState}
 use Rattle.r10_control.specs.Told.{channels_in, free_in, status_in}
 use Rattle.r10_control.specs.Work.{work_of}
 use Rattle.r10_machine.specs.declared.event.Event.TheVariants as events
@@ -25,7 +25,7 @@ returns-clause-told g c =
     ∙ ap (λ (x : Mode). channels_in x c.as_slice.result.now c.as_slice-2.result.now) c.mode_in-mode.ensures
     ∙ ap (λ (ls : List Lane). channels_in (mode_of k.work) ls c.as_slice-2.result.now) c.as_slice.ensures.value
     ∙ ap (λ (es : List ℕ). channels_in (mode_of k.work) w.lanes.items es) c.as_slice-2.ensures.value in
-    subst (λ (v : State _ _). ◌≡◌ {A = Status} (record { mode = c.mode_in-mode.result; tick = c.tick_in.result; files = c.count_in.result; free = c.free_in.result; channels = c.of.result }) (status_in v.kept v.lanes)) c.self.view_is
+    subst (λ (v : RecorderState _ _). ◌≡◌ {A = Status} (record { mode = c.mode_in-mode.result; tick = c.tick_in.result; files = c.count_in.result; free = c.free_in.result; channels = c.of.result }) (status_in v.kept v.lanes)) c.self.view_is
     (made c.mode_in-mode.result (mode_of k.work) c.tick_in.result (tick_count k.tick) c.count_in.result (length (files_of k.work)) c.free_in.result (free_in k.config k.work) c.of.result (channels_in (mode_of k.work) w.lanes.items k.erased)
     c.mode_in-mode.ensures c.tick_in.ensures all c.free_in.ensures.value channels)
 
@@ -44,7 +44,7 @@ returns-clause-steps g c =
     let is : status ≡ status_in k w.lanes.items =
     made c.mode_in-mode.result (mode_of k.work) c.tick_in.result (tick_count k.tick) c.count_in.result (length (files_of k.work)) c.free_in.result (free_in k.config k.work) c.of.result (channels_in (mode_of k.work) w.lanes.items k.erased)
     c.mode_in-mode.ensures c.tick_in.ensures all c.free_in.ensures.value channels in
-    subst (λ (v : State _ _). (m : Machine) → Means v.kept (disk v.medium).blocks (disk v.medium).failures m → AreLanes v.lanes m
+    subst (λ (v : RecorderState _ _). (m : Machine) → KeptStandsFor v.kept (disk v.medium).blocks (disk v.medium).failures m → AreLanes v.lanes m
     → LeadsWith v.kept m events.Status (replies.Status status) (disk v.medium).blocks (disk v.medium).failures v.lanes) c.self.view_is
     (λ m means are. status_leads c.tellings_are_steps.ensures.status k (disk w.medium).blocks (disk w.medium).failures m w.lanes.items status c.self.invariant.limits means are (numbered _ _ _ _ _ _ c.self.invariant)
     (λ image x mode files. sym c.free_in.ensures.value ∙ c.free_in.ensures.held image x mode files) is)

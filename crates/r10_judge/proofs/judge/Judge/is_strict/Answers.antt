@@ -1,11 +1,11 @@
 use Rattle.std.proofs.Common.{sym, subst, true≢false}
-use Rattle.r10_judge.specs.Judged.{GoesOn, BreaksAt}
+use Rattle.r10_judge.specs.Judged.{KeepsRulesSoFar, BreaksAt}
 use Rattle.r10_judge.proofs.Judging.{at_none, at_some, whole_is_strict, strict_is_whole, broken_is_none}
 use Rattle.r10_judge.proofs.judge.Judge.is_strict.Goals as goal
 
 pub returns-in-None : goal.returns-in-None
 returns-in-None c = λ bytes stands closed.
-    let goes : GoesOn c.args.self.now.closed c.args.self.now.tracks bytes = at_none c.args.self.now.broken c.args.self.now.closed c.args.self.now.tracks bytes c.in-None.is stands in
+    let goes : KeepsRulesSoFar c.args.self.now.closed c.args.self.now.tracks bytes = at_none c.args.self.now.broken c.args.self.now.closed c.args.self.now.tracks bytes c.in-None.is stands in
     let whole = c.is_whole.ensures goes.packets goes.tracked in (
       (λ is. whole_is_strict bytes goes.packets goes.bytes_are (record { each = goes.keep.strict; start = (whole.0 is).0; index = (whole.0 is).1 })),
       (λ strict. let file = strict_is_whole bytes goes.packets goes.bytes_are goes.keep.strict strict in whole.1 (file.start, file.index)),

@@ -1,5 +1,5 @@
 use Rattle.std.proofs.Common.{◌∙◌, sym, refl, true≢false}
-use Rattle.r10_body.specs.Faults as faults
+use Rattle.r10_body.specs.Faults as broken_rules
 use Rattle.r10_body.proofs.Indexes.{not_closed}
 use Rattle.r10_judge.proofs.judge.Judge.missing_index.Goals as goal
 
@@ -13,4 +13,4 @@ returns-then-is_closed c = λ bytes goes some.
     (some, root ∙ sym c.if-not-self.false, (λ open_end. absurd (true≢false (sym root ∙ open_end))))
 
 pub returns : goal.returns
-returns c = λ bytes goes some. faults.no_index refl some c.if-not-self.false (sym (c.is_closed.ensures goes.packets goes.tracked) ∙ c.if-is_closed.false)
+returns c = λ bytes goes some. broken_rules.no_index refl some c.if-not-self.false (sym (c.is_closed.ensures goes.packets goes.tracked) ∙ c.if-is_closed.false)

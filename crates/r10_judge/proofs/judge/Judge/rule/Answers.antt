@@ -1,5 +1,5 @@
 use Rattle.std.proofs.Common.{◌∙◌, sym, subst, Some, true≢false}
-use Rattle.r10_judge.specs.Judged.{BreaksFirst}
+use Rattle.r10_judge.specs.Judged.{BreaksRuleOfFileFirst}
 use Rattle.r10_judge.proofs.Judging.{first_elsewhere, first_of_index}
 use Rattle.r10_judge.proofs.judge.Judge.rule.Goals as goal
 
@@ -15,6 +15,6 @@ returns-then-not-is_index c = λ packets p tracked fits sums tells body.
 
 pub returns : goal.returns
 returns c = λ packets p tracked fits sums tells body.
-    subst (λ n. BreaksFirst c.args.self.now.closed packets p (Some n)) (sym c.index_rule.ensures)
+    subst (λ n. BreaksRuleOfFileFirst c.args.self.now.closed packets p (Some n)) (sym c.index_rule.ensures)
     (first_of_index c.args.self.now.closed packets p c.rule-rule.result (sym (c.is_index.ensures p tells.kind) ∙ c.if-not-is_index.false) c.if-self.false
     (c.rule-rule.ensures packets p (record { tracked = tracked; fits = fits; checksums = sums; tells = tells; body_is = body })))

@@ -1,8 +1,8 @@
 use Rattle.std.proofs.Common.{◌≡◌, ◌+◌, ◌-◌, ◌<◌, ◌≤◌, ◌^◌, ◌++◌, ◌∙◌, ℕ, List, length, take, drop, sym, ap, subst, arith}
 use Rattle.std.proofs.lemmas.List.{length-drop}
 use Rattle.r10_body.specs.Faults.{HasFault}
-use Rattle.r10_strict.specs.Tracks.{Stands as StandsForeign}
-use Rattle.r10_judge.specs.Judged.{Stands as StandsJudged}
+use Rattle.r10_strict.specs.Tracks.{TracksForeign}
+use Rattle.r10_judge.specs.Judged.{TracksJudged}
 use Rattle.r10_judge.proofs.Parts.{rest_is, short_on, taken_on}
 use Rattle.r10_judge.proofs.walk.Walk.take.Goals as goal
 
@@ -30,8 +30,8 @@ loop-done-preserved c =
           let size : length before ≡ length c.requires.0 = sym start.foreign.offset ∙ c.requires.1.foreign.offset in
           let short : length ((before ++ take done bytes) ++ take n (take (length bytes - done) (drop done bytes))) < 2 ^ 63 = short_on before bytes (done + n) _ c.requires.0 further inside size c.requires.2 in
           record {
-            foreign = subst (λ (l : List ℕ). StandsForeign c.take.new.self l) further (c.in-Ok.ensures.taken (before ++ take done bytes) so_far.foreign);
-            judged = subst (λ (l : List ℕ). StandsJudged c.take-in-loop-done.new.self l) further (c.in_ok-take.ensures.taken (before ++ take done bytes) so_far.judged found.foreign short);
+            foreign = subst (λ (l : List ℕ). TracksForeign c.take.new.self l) further (c.in-Ok.ensures.taken (before ++ take done bytes) so_far.foreign);
+            judged = subst (λ (l : List ℕ). TracksJudged c.take-in-loop-done.new.self l) further (c.in_ok-take.ensures.taken (before ++ take done bytes) so_far.judged found.foreign short);
           };
       closed = c.take-in-loop-done.ensures.closed ∙ now.closed;
     }

@@ -1,6 +1,6 @@
 use Rattle.std.proofs.Common.{◌≡◌, ℕ, List, ◌+◌, ◌-◌, ◌*◌, ◌/◌, ◌++◌, length, take, drop, replicate, refl, sym, subst, ap, ◌∙◌, arith, rules, vec_len}
 use Rattle.r10_packet.specs.Sums.{data_checksum}
-use Rattle.r10_packet.specs.Header.{FitsHeader, header_bytes, bits_of, checksum_bits}
+use Rattle.r10_packet.specs.Header.{FitsHeader, header_bytes, check_bits_of, checksum_bits}
 use Rattle.r10_packet.specs.Packet.{framed, framed_bytes, IsPacket}
 use Rattle.r10_packet.specs.declared.header.Header.{Header}
 use Rattle.r10_packet.proofs.Lengths.{header_length}
@@ -20,7 +20,7 @@ bytes_are c =
     let h = c.args.header.now in
     let body = c.args.body.now in
     let bits = checksum_bits h.flags in
-    let kind : bits_of c.of_flags-check.result ≡ bits = c.of_flags-check.ensures in
+    let kind : check_bits_of c.of_flags-check.result ≡ bits = c.of_flags-check.ensures in
     let wide : c.width.result ≡ bits / 8 = c.width.ensures.value ∙ ap (λ b. b / 8) kind in
     let same : c.width-2.result ≡ c.width.result = c.width-2.ensures.value ∙ sym c.width.ensures.value in
     let size = (length body + c.width.result + 27) / 4 * 4 in
@@ -29,7 +29,7 @@ bytes_are c =
     let wrote : c.encode_header.result ≡ header_bytes (framed h body) = c.encode_header.ensures.bytes ∙ ap header_bytes made in
     let x3 = c.resize.new.self.items in
     let e1 : c.extend_from_slice.new.self.items ≡ c.in_ok-out.out.items ++ c.encode_header.result = c.in_ok-extend_from_slice.ensures.items in
-    let e4 : c.push_checksum.new.out.items ≡ x3 ++ data_checksum (bits_of c.of_flags-check.result) (drop 24 x3) = c.in_ok-push_checksum.ensures in
+    let e4 : c.push_checksum.new.out.items ≡ x3 ++ data_checksum (check_bits_of c.of_flags-check.result) (drop 24 x3) = c.in_ok-push_checksum.ensures in
     let len2 : vec_len c.extend_from_slice-2.new.self ≡ length c.extend_from_slice-2.new.self.items = search rules in
     let e3 : x3 ≡ take n c.extend_from_slice-2.new.self.items ++ replicate (n - vec_len c.extend_from_slice-2.new.self) 0 = c.in_ok-resize.ensures.items in
     framed_is bits c.width.result (header_bytes (framed h body)) body

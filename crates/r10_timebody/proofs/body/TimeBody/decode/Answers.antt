@@ -1,14 +1,14 @@
 use Rattle.std.proofs.Common.{◌≡◌, ◌∙◌, List, [], ◌∷◌, ℕ, true, false, sym, subst, ap, rules, eqb, eq-eqb, refl}
 use Rattle.std.specs.Cmp.Lexicographic.{pointwise}
 use Rattle.r10_count.specs.Civil.{IsCivil}
-use Rattle.r10_count.specs.declared.civil.Parts.{Parts as Spoken}
+use Rattle.r10_count.specs.declared.civil.Parts.{Parts as PartsValue}
 use Rattle.r10_count.specs.declared.reading.Reading.TheVariants.{Strict}
 use Rattle.r10_timebody.specs.Time.{IsTime, time_body, told_parts}
 use Rattle.r10_timebody.proofs.Times.{told_parts-IsTime}
 use Rattle.r10_timebody.proofs.body.TimeBody.decode.Goals as goal
 
 -- the digits tell no civil time
-no_civil : (c : goal.In_default-told_civil) → (civil : Spoken) → IsTime civil c.args.body.now → ⊥
+no_civil : (c : goal.In_default-told_civil) → (civil : PartsValue) → IsTime civil c.args.body.now → ⊥
 no_civil c civil h =
     let whole : c.in-Ok.body ≡ c.args.body.now = c.in-Ok.ensures.1.same in
     let told : told_parts c.in-Ok.body ≡ civil = ap told_parts whole ∙ told_parts-IsTime civil c.args.body.now h in
@@ -19,7 +19,7 @@ same_bytes : (bytes : List ℕ) → pointwise eqb bytes bytes ≡ true
 same_bytes [] = refl
 same_bytes (b ∷ bytes) = rw (eq-eqb b b refl) (same_bytes bytes)
 
-other_bytes : (c : goal.Else-eq) → (civil : Spoken) → IsTime civil c.args.body.now → ⊥
+other_bytes : (c : goal.Else-eq) → (civil : PartsValue) → IsTime civil c.args.body.now → ⊥
 other_bytes c civil h =
     let whole : c.in-Ok.body ≡ c.args.body.now = c.in-Ok.ensures.1.same in
     let told : c.in-Some.civil ≡ civil = c.in-Some.ensures.1 ∙ ap told_parts whole ∙ told_parts-IsTime civil c.args.body.now h in
