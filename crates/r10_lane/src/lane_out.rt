@@ -38,7 +38,7 @@ pub trait LaneOut {
 
     /// The first sample, which stays. The next `take`, and each `front` before it, give the same one.
     fn front(&mut self) -> Option<&Sample>
-        ensures* after { sem 𝓛 (Rests Self.row self.entry (λ new. took self.old [] new × ((first : One) → shows self.old first → shows new first) × IfSome result (λ first. shows new first.now))) }
+        ensures* after { sem 𝓛 (Rests Self.row self.entry (λ new. took self.old [] new × ((first : SampleValue) → shows self.old first → shows new first) × IfSome result (λ first. shows new first.now))) }
         ensures shown { (first : SampleValue) → shows self.old first → option_copied result ≡ Some first }
         ensures quiet { IfSome (quiet self.old) (λ waiting. option_copied result ≡ slice_get waiting 0) };
 
