@@ -19,3 +19,4 @@ mod AlikeFronts
 pub mod HowFar
 mod Slots
 mod Stepping
+mod FirstPackets

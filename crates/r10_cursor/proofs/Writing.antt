@@ -25,7 +25,7 @@ use Rattle.r10_cursor.specs.declared.written.Written.{Written}
 use Rattle.r10_cursor.proofs.BeforeIndex.{follows_front}
 use Rattle.r10_cursor.proofs.Said.{written_held}
 
-named_first : (n offset : ℕ) (packets : List Packet) → take n (node_entries offset packets) ≡ node_entries offset (take n packets)
+pub named_first : (n offset : ℕ) (packets : List Packet) → take n (node_entries offset packets) ≡ node_entries offset (take n packets)
 named_first zero offset packets = refl
 named_first (suc n) offset [] = refl
 named_first (suc n) offset (p ∷ packets) = ap (λ (es : List NodeEntry). node_entry_of offset p ∷ es) (named_first n (offset + length (packet_bytes p)) packets)
