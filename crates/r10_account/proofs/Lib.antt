@@ -1,0 +1,9 @@
+mod Exchanges
+mod Lanes
+mod Files
+mod Numbers
+mod Accounting
+mod Doing
+mod Stepping
+mod Accounts
+mod Staying

@@ -1,0 +1,105 @@
+-- Worked cases: what whole recordings accepted, and where it is.
+use Rattle.std.specs.Prelude.{◌≡◌, ℕ, ◌++◌, ◌∷◌, [], List, true, false, refl, map}
+use Rattle.std.proofs.Common.{ap, arith, length}
+use Rattle.std.proofs.lemmas.List.{length-append}
+use Rattle.r10_body.specs.declared.refusal.Refusal.TheVariants as refusals
+use Rattle.r10_machine.specs.Machine.{Machine}
+use Rattle.r10_machine.specs.ControlCalls.{own_entries, erased_with}
+use Rattle.r10_machine.specs.declared.event.Event.{Event}
+use Rattle.r10_machine.specs.declared.event.Event.TheVariants as ask
+use Rattle.r10_machine.specs.declared.reply.Reply.{Reply}
+use Rattle.r10_machine.specs.declared.reply.Reply.TheVariants as say
+use Rattle.r10_machine.specs.Vectors.{after_gap, both_offered, entry, leap_day, lost, name, replayed, resumed, setup_text, small_started, small_stopped, stopped, text, two}
+use Rattle.r10_account.specs.Accepted.{accepted_entries}
+use Rattle.r10_account.specs.Account.{IsAccount, missed_of, shown_own, waiting_of}
+
+-- ---- the first recording
+
+abbrev first_events : List Event
+first_events =
+    ask.Mount ∷ ask.Tick 1000 leap_day ∷ ask.Start name setup_text ∷ ask.Offer 5 1000 (text (0x41 ∷ 0x42 ∷ 0x43 ∷ [])) ∷ ask.Offer 5 1010 (text []) ∷ ask.Pump 5 2 ∷ ask.Stop ∷ []
+
+abbrev first_replies : List Reply
+first_replies = say.Done ∷ say.Done ∷ say.Done ∷ say.Done ∷ say.Done ∷ say.Moved 2 ∷ say.Stopped (record { taken = 0; left = 0 }) ∷ []
+
+pub first-accepted : accepted_entries 5 false first_events first_replies ≡ two
+first-accepted = refl
+
+pub nothing-on-another : accepted_entries 6 false first_events first_replies ≡ []
+nothing-on-another = refl
+
+pub both-wait : waiting_of 5 both_offered.lanes ≡ two
+both-wait = refl
+
+pub both-filed : own_entries 5 small_stopped.files ++ waiting_of 5 small_stopped.lanes ≡ two
+both-filed = refl
+
+pub both-shown : shown_own 5 small_stopped.files ≡ two
+both-shown = refl
+
+-- ---- a recording with a lost message
+
+abbrev lost_events : List Event
+lost_events =
+    ask.Mount ∷ ask.Tick 1000 leap_day ∷ ask.Start name setup_text ∷ ask.Offer 5 1001 (text (0x41 ∷ [])) ∷ ask.Offer 5 1002 (text (0x42 ∷ [])) ∷ ask.Offer 5 1003 (text (0x43 ∷ []))
+    ∷ ask.Pump 5 2 ∷ ask.Offer 5 1004 (text (0x44 ∷ [])) ∷ ask.Stop ∷ []
+
+abbrev lost_replies : List Reply
+lost_replies = say.Done ∷ say.Done ∷ say.Done ∷ say.Done ∷ say.Done ∷ say.Refused refusals.Overflow ∷ say.Moved 2 ∷ say.Done ∷ say.Stopped (record { taken = 1; left = 0 }) ∷ []
+
+pub lost-accepted : accepted_entries 5 false lost_events lost_replies ≡ replayed
+lost-accepted = refl
+
+pub missed-then : missed_of 5 lost.lanes ≡ true
+missed-then = refl
+
+-- in the midst of it two are filed, of which nothing is shown yet, and one waits
+pub filed-and-waiting : own_entries 5 resumed.files ++ waiting_of 5 resumed.lanes ≡ replayed
+filed-and-waiting = refl
+
+pub none-shown-yet : shown_own 5 resumed.files ≡ []
+none-shown-yet = refl
+
+pub last-waits : waiting_of 5 resumed.lanes ≡ after_gap ∷ []
+last-waits = refl
+
+-- an erase takes all three
+abbrev erased_machine : Machine
+erased_machine = record stopped { files = []; lanes = map (erased_with stopped.files) stopped.lanes }
+
+pub all-gone : IsAccount 5 erased_machine replayed
+all-gone = record { gone = replayed; each = λ works. refl; shown = ([], refl); waits = (replayed, refl); erased = refl }
+
+-- ---- gap marks
+
+abbrev offer : ℕ → Event
+offer count = ask.Offer 5 count (text [])
+
+abbrev lane_full : Reply
+lane_full = say.Refused refusals.Overflow
+
+-- two losses make one mark, and the message behind it has none
+pub one-mark : accepted_entries 5 false (offer 1 ∷ offer 2 ∷ offer 3 ∷ offer 4 ∷ []) (lane_full ∷ lane_full ∷ say.Done ∷ say.Done ∷ []) ≡ entry 5 3 (text []) true ∷ entry 5 4 (text []) false ∷ []
+one-mark = refl
+
+-- what was missed before them all marks the first
+pub missed-before : accepted_entries 5 true (offer 1 ∷ offer 2 ∷ []) (say.Done ∷ say.Done ∷ []) ≡ entry 5 1 (text []) true ∷ entry 5 2 (text []) false ∷ []
+missed-before = refl
+
+-- a loss on another channel, and another refusal, make no mark
+pub no-mark : accepted_entries 5 false (ask.Offer 6 1 (text []) ∷ offer 1 ∷ offer 2 ∷ []) (lane_full ∷ say.Refused refusals.CountBack ∷ say.Done ∷ []) ≡ entry 5 2 (text []) false ∷ []
+no-mark = refl
+
+-- a mark outlasts what is done between
+pub mark-stays : accepted_entries 5 false (offer 1 ∷ ask.Stop ∷ ask.Offer 6 1 (text []) ∷ ask.Erase ∷ offer 2 ∷ []) (lane_full ∷ say.Stopped (record { taken = 0; left = 0 }) ∷ say.Done ∷ say.Done ∷ say.Done ∷ []) ≡ entry 5 2 (text []) true ∷ []
+mark-stays = refl
+
+-- ---- accounts that don't hold
+
+-- what waits was accepted
+pub unaccepted : IsAccount 5 both_offered [] → ⊥
+unaccepted account = omega (arith, ap length account.waits.1, length-append account.waits.0 two)
+
+-- and what was accepted is somewhere
+pub nowhere : IsAccount 5 small_started two → ⊥
+nowhere account = omega (arith, ap length (account.each refl), length-append (account.gone ++ []) [], length-append account.gone [], account.erased)

@@ -1,0 +1,4 @@
+pub mod Accepted
+pub mod Account
+pub mod Found
+pub mod Cases

@@ -1,0 +1,7 @@
+//! Where the accepted messages of a channel are: over every run of the small machine erases took the first of them, those behind
+//! them are in the files that the recorder began, and the last wait.
+#![tactic(auto)]
+
+mod laws;
+
+pub use laws::{a_recording_accounts, a_run_goes_over, found_files_stay};
