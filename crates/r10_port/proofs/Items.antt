@@ -1,5 +1,6 @@
 -- Items of a ring, one longer.
-use Rattle.std.proofs.Common.{◌≡◌, ℕ, ◌+◌, ◌≤◌, List, [], ◌∷◌, ◌++◌, length, Option, Some, None, slice_get, refl, ap, subst, arith, length-append, ◌∙◌}
+use Rattle.std.proofs.Common.{◌≡◌, ℕ, ◌+◌, ◌≤◌, ◌<◌, List, [], ◌∷◌, ◌++◌, length, drop, Option, Some, None, slice_get, refl, sym, ap, subst, arith, length-append, ◌∙◌}
+use Rattle.std.proofs.Math.Seq.{drop-append_seam}
 use Rattle.r10_body.specs.Messages.{channel_refusal}
 use Rattle.r10_body.specs.declared.entry.Sample.{Sample}
 use Rattle.r10_body.specs.declared.spec.ChannelSpec.{ChannelSpec}
@@ -31,4 +32,28 @@ first_stays (x ∷ xs) ys first is = is
 -- what may follow an announcement is a sample that the channel takes, not below the last one
 pub joins : (items : List Item) (spec : ChannelSpec) (x : Sample) → slice_get items 0 ≡ Some (Announce spec) → ItemMayFollow items (Entry x)
     → (channel_refusal spec x.message ≡ None) × (count_or_0 (last_count_or None (samples items)) ≤ x.count)
-joins items spec x first may = passed spec (last_count_or None (samples items)) x.count x.message (subst (λ (o : Option Item). MayJoin o (samples items) (Entry x)) first may)
+joins items spec x first may = passed spec (last_count_or None (samples items)) x.count x.message (subst (λ (o : Option Item). MayJoin o (samples items) (Entry x)) first may).1
+
+pub has_room : (items : List Item) (spec : ChannelSpec) (x : Sample) → slice_get items 0 ≡ Some (Announce spec) → ItemMayFollow items (Entry x) → 0 < spec.capacity
+has_room items spec x first may = (subst (λ (o : Option Item). MayJoin o (samples items) (Entry x)) first may).0
+
+-- ---- both ends
+
+-- what is left between what was received and what was sent, as samples and as the items that are known
+pub record IsLeft (got sent : List Sample) (rest : List Item) : Type 0 where
+  pub all : sent ≡ got ++ drop (length got) sent
+  pub known : samples rest ≡ drop (length got) sent
+  pub count : length rest ≡ length (drop (length got) sent)
+
+-- of items that went in, all behind the first of which are samples, those behind the ones that came out
+pub left_behind : (out out2 rest items items2 : List Item) → out2 ≡ out → items2 ≡ items → out2 ++ rest ≡ items2 → length items ≡ length (samples items) + 1 → length out ≡ length (samples out) + 1
+    → IsLeft (samples out) (samples items) rest
+left_behind out out2 rest items items2 received sent fifo entries ends =
+    let joined : out ++ rest ≡ items = ap (λ (l : List Item). l ++ rest) (sym received) ∙ fifo ∙ sent in
+    let parts : samples items ≡ samples out ++ samples rest = ap samples (sym joined) ∙ samples_joined out rest in
+    let known : samples rest ≡ drop (length (samples out)) (samples items) = sym (ap (drop (length (samples out))) parts ∙ drop-append_seam (samples out) (samples rest)) in
+    record {
+      all = parts ∙ ap (λ (l : List Sample). samples out ++ l) known;
+      known = known;
+      count = omega (arith, ap length joined, length-append out rest, ap length parts, length-append (samples out) (samples rest), ap length known, entries, ends);
+    }

@@ -1,3 +1,4 @@
 pub mod Items
 pub mod Offers
+pub mod Resting
 pub mod Steps

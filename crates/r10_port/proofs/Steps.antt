@@ -12,7 +12,7 @@ use Rattle.r10_port.specs.declared.item.Item.{Item}
 use Rattle.r10_port.specs.declared.item.Item.TheVariants.{Announce, Entry}
 use Rattle.r10_port.specs.Items.{samples, last_count_or, ItemMayFollow}
 use Rattle.r10_port.specs.Ends.{Ring, Sending, Receiving, Offered, TookReceived}
-use Rattle.r10_port.proofs.Items.{samples_joined, last_pushed, joins}
+use Rattle.r10_port.proofs.Items.{samples_joined, last_pushed, joins, has_room}
 
 -- ---- the sending end
 
@@ -62,4 +62,5 @@ takes ring ring2 spec items items2 ahead ahead2 x same grown first may = record 
   same = (same, refl);
   received = ap samples grown ∙ samples_joined items (Entry x ∷ []);
   rises = omega (arith, (joins items spec x first may).1, reaches items items2 x grown);
+  room = λ none. absurd (omega (arith, none, has_room items spec x first may));
 }

@@ -1,5 +1,5 @@
 -- The two ends of a lane between threads.
-use Rattle.std.specs.Prelude.{◌≡◌, ℕ, ◌+◌, ◌≤◌, List, [], ◌∷◌, ◌++◌, Option, Some, None, Result, Err, MatchOption, MatchResult}
+use Rattle.std.specs.Prelude.{◌≡◌, ℕ, ◌+◌, ◌≤◌, List, [], ◌∷◌, ◌++◌, drop, length, Option, Some, None, Result, Err, MatchOption, MatchResult}
 use denote.RawPtr.{Ptr}
 use Rattle.std.specs.declared.alloc.Global.{Global}
 use Rattle.rtrb.specs.Shared.{Names}
@@ -72,8 +72,13 @@ next_known (item ∷ items) = sample_in item
 abbrev pub reached_by_outlet : Receiving → ℕ
 reached_by_outlet outlet = count_or_0 (last_count_or None outlet.received)
 
--- these samples were received, over the same ring
+-- these samples were received, over the same ring; none on a channel without room
 pub record TookReceived (old : Receiving) (samples : List Sample) (new : Receiving) : Type 0 where
   pub same : (new.ring ≡ old.ring) × (new.spec ≡ old.spec)
   pub received : new.received ≡ old.received ++ samples
   pub rises : reached_by_outlet old ≤ reached_by_outlet new
+  pub room : old.spec.capacity ≡ 0 → samples ≡ []
+
+-- what was sent over a ring and not received yet, by its two ends
+abbrev pub unreceived : Receiving → Sending → List Sample
+unreceived outlet port = drop (length outlet.received) (sent port)

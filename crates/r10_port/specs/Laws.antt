@@ -9,6 +9,7 @@ port_took_joins a b c xs ys first second = record {
   same = (second.same.0 ∙ first.same.0, second.same.1 ∙ first.same.1);
   received = second.received ∙ ap (λ (l : List Sample). l ++ ys) first.received ∙ append_assoc a.received xs ys;
   rises = omega (arith, first.rises, second.rises);
+  room = λ none. ap (λ (l : List Sample). l ++ ys) (first.room none) ∙ second.room (ap (λ s. s.capacity) first.same.1 ∙ none);
 }
 
 pub port_took_nothing : (a b c : Receiving) (xs : List Sample) → TookReceived a xs b → TookReceived b [] c → TookReceived a xs c
@@ -16,10 +17,11 @@ port_took_nothing a b c xs first second = record {
   same = (second.same.0 ∙ first.same.0, second.same.1 ∙ first.same.1);
   received = second.received ∙ append-nil b.received ∙ first.received;
   rises = omega (arith, first.rises, second.rises);
+  room = first.room;
 }
 
 pub port_took_stays : (a : Receiving) → TookReceived a [] a
-port_took_stays a = record { same = (refl, refl); received = sym (append-nil a.received); rises = omega arith }
+port_took_stays a = record { same = (refl, refl); received = sym (append-nil a.received); rises = omega arith; room = λ none. refl }
 
 pub port_took_keeps_spec : (a b : Receiving) (xs : List Sample) → TookReceived a xs b → b.spec ≡ a.spec
 port_took_keeps_spec a b xs took = took.same.1

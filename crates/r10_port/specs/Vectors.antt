@@ -1,6 +1,6 @@
 -- A lane of two messages between two threads, call by call.
 use Rattle.std.specs.Prelude.{◌≡◌, ℕ, Bool, true, false, List, [], ◌∷◌, Option, Some, None, Ok, Err, refl}
-use Rattle.std.proofs.Common.{lit≤}
+use Rattle.std.proofs.Common.{lit≤, arith}
 use Rattle.r10_body.specs.declared.entry.Sample.{Sample}
 use Rattle.r10_body.specs.declared.message.Kind.TheVariants as kinds
 use Rattle.r10_body.specs.declared.message.Message.{Message}
@@ -10,7 +10,7 @@ use Rattle.r10_body.specs.declared.spec.ChannelSpec.{ChannelSpec}
 use Rattle.r10_machine.specs.Machine.{fresh_lane}
 use Rattle.r10_port.specs.declared.item.Item.TheVariants.{Announce, Entry}
 use Rattle.r10_port.specs.Items.{ItemMayFollow}
-use Rattle.r10_port.specs.Ends.{Ring, Sending, Receiving, Offered, TookReceived, reached_by_outlet, next_known}
+use Rattle.r10_port.specs.Ends.{Ring, Sending, Receiving, Offered, TookReceived, reached_by_outlet, next_known, unreceived}
 
 abbrev channel : ChannelSpec
 channel = record { id = 5; kind = kinds.Uart; capacity = 2; check = 0; bytes = 524288; number = 65535; bits = 0 }
@@ -56,13 +56,17 @@ module _ (ring : Ring) where
 
   -- one is taken, and the next that is sent has a gap
   one_is_taken : TookReceived (outlet ring []) (first ∷ []) (outlet ring (first ∷ []))
-  one_is_taken = record { same = (refl, refl); received = refl; rises = lit≤ tt }
+  one_is_taken = record { same = (refl, refl); received = refl; rises = lit≤ tt; room = λ e. absurd (cc) }
 
   a_gap_is_marked : Offered (port ring (first ∷ second ∷ []) (Some 2) 1 1 0) 4 (text 0x44) (Ok tt) (port ring (first ∷ second ∷ fourth ∷ []) (Some 4) 0 1 0)
   a_gap_is_marked = (refl, lit≤ tt)
 
   two_are_taken : TookReceived (outlet ring (first ∷ [])) (second ∷ fourth ∷ []) (outlet ring (first ∷ second ∷ fourth ∷ []))
-  two_are_taken = record { same = (refl, refl); received = refl; rises = lit≤ tt }
+  two_are_taken = record { same = (refl, refl); received = refl; rises = lit≤ tt; room = λ e. absurd (cc) }
+
+  -- what is left between the two ends
+  one_is_left : unreceived (outlet ring (first ∷ [])) full ≡ second ∷ []
+  one_is_left = refl
 
   -- the kind is looked at before the message, the message before its length, and the count last; none of them is a loss
   a_wrong_kind : Offered full 1 (Discrete 0) (Err WrongKind) full
@@ -90,16 +94,20 @@ announced : ItemMayFollow [] (Announce channel)
 announced = tt
 
 one_may_follow : ItemMayFollow (Announce channel ∷ []) (Entry first)
-one_may_follow = refl
+one_may_follow = (lit≤ tt, refl)
 
 two_may_follow : ItemMayFollow (Announce channel ∷ Entry first ∷ []) (Entry second)
-two_may_follow = refl
+two_may_follow = (lit≤ tt, refl)
 
 back_may_not : ItemMayFollow (Announce channel ∷ Entry second ∷ []) (Entry first) → ⊥
 back_may_not may = absurd (cc)
 
 unannounced_may_not : ItemMayFollow [] (Entry first) → ⊥
 unannounced_may_not may = may
+
+-- on a channel without room nothing follows
+none_may_follow : ItemMayFollow (Announce (record channel { capacity = 0 }) ∷ []) (Entry first) → ⊥
+none_may_follow may = absurd (omega (arith, may.0))
 
 -- what is known to come next
 next_is_known : next_known (Entry second ∷ []) ≡ Some second

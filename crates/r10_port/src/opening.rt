@@ -1,6 +1,6 @@
 //! A new lane.
 
-ghost use Rattle.std.specs.Prelude.{◌≡◌, ◌<◌, [], IfOk};
+ghost use Rattle.std.specs.Prelude.{◌≡◌, [], IfOk};
 ghost use Rattle.r10_machine.specs.Machine.{fresh_lane};
 
 use crate::item::Item;
@@ -12,17 +12,15 @@ use rtrb::RingBuffer;
 use std::alloc::{AllocError, Global};
 
 /// The two ends of a lane between two threads, with room for as many samples as the channel's capacity, through which nothing
-/// has gone yet. This takes all the memory that the lane ever takes.
+/// has gone yet. A lane of capacity 0 accepts nothing. This takes all the memory that the lane ever takes.
 pub fn lane(alloc: Global, spec: ChannelSpec) -> Result<(Port, Outlet), AllocError>
-    requires { 0 < spec.capacity }
     ensures port { IfOk result (λ ends. (ends.0.lane ≡ fresh_lane spec) × (ends.0.free ≡ spec.capacity)) }
     ensures outlet { IfOk result (λ ends. (ends.1.spec ≡ spec) × (ends.1.received ≡ [])) }
     ensures ring { IfOk result (λ ends. ends.1.ring ≡ ends.0.ring) }
 {
-    let (mut producer, mut consumer) = RingBuffer::with_protocol::<Global, InOrder>(
-        alloc,
-        spec.capacity,
-    )?;
+    // room for what the channel is set to, which goes through first
+    let room = spec.capacity.max(1);
+    let (mut producer, mut consumer) = RingBuffer::with_protocol::<Global, InOrder>(alloc, room)?;
     producer.push_reserved(Item::Announce(spec));
     consumer.slots_beside(&mut producer);
     let _announced = consumer.pop_known();

@@ -19,7 +19,7 @@ pub struct Outlet {
 }
 
 impl Model for Outlet {
-    ghost use Rattle.std.specs.Prelude.{◌≡◌, Some, slice_get};
+    ghost use Rattle.std.specs.Prelude.{◌≡◌, ◌+◌, Some, length, slice_get};
     ghost use Rattle.rtrb.specs.Ring.{received, known_items};
     ghost use Rattle.r10_port.specs.declared.item.Item.TheVariants.{Announce};
     ghost use Rattle.r10_port.specs.Items.{samples};
@@ -34,7 +34,10 @@ impl Model for Outlet {
       ahead = known_items o.consumer;
     } };
 
-    ghost invariant = { λ o. slice_get (received o.consumer) 0 ≡ Some (Announce o.spec) };
+    ghost invariant = { λ o. record {
+      announced : slice_get (received o.consumer) 0 ≡ Some (Announce o.spec);
+      entries : length (received o.consumer) ≡ length (samples (received o.consumer)) + 1;
+    } };
 }
 
 impl LaneOut for Outlet {

@@ -1,7 +1,9 @@
 //! The sending end.
 
-ghost use Rattle.std.specs.Prelude.{◌≡◌, length};
+ghost use Rattle.std.specs.Prelude.{◌≡◌, ◌<◌, ◌≤◌, ◌+◌, ◌++◌, [], ◌∷◌, OnOk, OnErr, length, min};
+ghost use Rattle.rtrb.specs.Ring.{SameProducer, known_free, sent as pushed};
 ghost use Rattle.r10_machine.specs.Machine.{saturated};
+ghost use Rattle.r10_port.specs.Items.{ItemMayFollow};
 ghost use Rattle.r10_port.specs.Ends.{Offered, sent};
 
 use crate::item::Item;
@@ -9,7 +11,7 @@ use crate::rule::InOrder;
 use r10_body::{ChannelSpec, Message, Refusal, Sample};
 use r10_count::Count;
 use r10_machine::check_offer;
-use rtrb::Producer;
+use rtrb::{Producer, PushError};
 use std::alloc::Global;
 use std::marker::Model;
 
@@ -25,7 +27,7 @@ pub struct Port {
 }
 
 impl Model for Port {
-    ghost use Rattle.std.specs.Prelude.{◌≡◌, Some, None, length, slice_get};
+    ghost use Rattle.std.specs.Prelude.{◌≡◌, ◌+◌, Some, None, length, min, slice_get};
     ghost use Rattle.rtrb.specs.Ring.{sent as pushed, known_free};
     ghost use Rattle.r10_machine.specs.Machine.{saturated};
     ghost use Rattle.r10_port.specs.declared.item.Item.TheVariants.{Announce};
@@ -44,23 +46,25 @@ impl Model for Port {
         lost = p.lost;
         erased = 0;
       };
-      free = known_free p.producer;
+      free = min p.spec.capacity (known_free p.producer);
     } };
 
     ghost invariant = { λ p. record {
       announced : slice_get (pushed p.producer) 0 ≡ Some (Announce p.spec);
       last : last_count_or None (samples (pushed p.producer)) ≡ p.last;
       counted : p.sent ≡ saturated (length (samples (pushed p.producer)));
+      entries : length (pushed p.producer) ≡ length (samples (pushed p.producer)) + 1;
     } };
 }
 
 impl Port {
     /// Sends a message, with a gap mark where some were lost since the last one that was sent. Else says why not, by the first
     /// of these that applies: WrongKind, BadMessage, TooLong, CountBack, or Overflow where as many wait as the capacity. An
-    /// overflow counts the message as lost; every other refusal leaves the port as it was. This takes no memory and waits for
-    /// nobody.
+    /// overflow counts the message as lost; every other refusal leaves the port as it was. A lane of capacity 0 accepts no
+    /// message. This takes no memory and waits for nobody.
     pub fn offer(&mut self, count: Count, message: Message) -> Result<(), Refusal>
-        ensures { Offered self.old count message result self.new }
+        ensures offered { Offered self.old count message result self.new }
+        ensures room { OnOk result (0 < self.old.lane.spec.capacity) }
     {
         if let Err(refusal) = check_offer(&self.spec, self.last, count.get(), &message) {
             return Err(refusal);
@@ -70,7 +74,8 @@ impl Port {
             message,
             gap: self.missed > 0,
         };
-        match self.producer.push(Item::Entry(sample)) {
+        let capacity = self.spec.capacity;
+        match push_within(&mut self.producer, capacity, Item::Entry(sample)) {
             Ok(()) => {
                 self.last = Some(count);
                 self.missed = 0;
@@ -98,4 +103,22 @@ impl Port {
     {
         self.lost
     }
+}
+
+/// Pushes an item, if a lane of this capacity has room for it. One of capacity 0 never has: what room its ring has was for what
+/// the channel is set to.
+fn push_within(
+    producer: &mut Producer<Item, Global, InOrder>,
+    capacity: usize,
+    item: Item,
+) -> Result<(), PushError<Item>>
+    requires { 0 < capacity → ItemMayFollow (pushed producer.old) item }
+    ensures ring { SameProducer producer.old producer.new }
+    ensures ok { OnOk result ((0 < capacity) × (pushed producer.new ≡ pushed producer.old ++ item ∷ []) × (min capacity (known_free producer.old) ≤ min capacity (known_free producer.new) + 1)) }
+    ensures full { OnErr result ((pushed producer.new ≡ pushed producer.old) × (min capacity (known_free producer.old) ≡ 0) × (min capacity (known_free producer.new) ≡ 0)) }
+{
+    if capacity == 0 {
+        return Err(PushError::Full(item));
+    }
+    producer.push(item)
 }

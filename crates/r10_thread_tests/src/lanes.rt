@@ -1,5 +1,7 @@
 // A lane, with both ends in one thread.
 
+ghost use Rattle.std.specs.Prelude.{◌≡◌};
+
 use crate::made::{CHANNEL, count, empty};
 use r10_body::{Refusal, Sample};
 use r10_lane::LaneOut;
@@ -7,7 +9,9 @@ use r10_port::{Port, lane};
 use std::alloc::Global;
 use std::test::Fail;
 
-fn offer(port: &mut Port, alloc: Global, units: u32) -> Result<(), Refusal> {
+fn offer(port: &mut Port, alloc: Global, units: u32) -> Result<(), Refusal>
+    ensures { port.new.ring ≡ port.old.ring }
+{
     port.offer(count(units), empty(alloc))
 }
 
@@ -41,5 +45,21 @@ fn a_full_lane_loses_a_message_and_marks_the_gap(rt: HostRuntime) -> Result<(), 
         [Some((1, false)), Some((2, false)), Some((4, true)), None]
     );
     assert_eq!(rt; (held, lent, port.sent(), port.lost()), (2, Some(1), 3, 1));
+    Ok(())
+}
+
+/// The rest goes into room that is there, and what finds none waits on.
+#[test]
+fn the_rest_goes_into_room(rt: HostRuntime) -> Result<(), Fail> {
+    let alloc = rt.alloc();
+    let (mut port, mut outlet) = lane(alloc, CHANNEL)?;
+    let answers = [offer(&mut port, alloc, 1), offer(&mut port, alloc, 2)];
+    let left = outlet.left(&mut port);
+    let mut room = Vec::with_capacity(alloc, 1)?;
+    outlet.rest_into(&mut port, &mut room);
+    let moved = marks(room.pop());
+    let rest = outlet.rest(alloc, &mut port)?.len();
+    assert_eq!(rt; answers, [Ok(()), Ok(())]);
+    assert_eq!(rt; (left, moved, rest), (2, Some((1, false)), 1));
     Ok(())
 }

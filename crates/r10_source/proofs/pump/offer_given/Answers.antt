@@ -11,4 +11,4 @@ returns-in-Item c before after gave =
     let first : before ≡ item ∷ after = subst (λ g. GivesNext g before after) c.in-Item.is gave in
     let taken = c.from-accepted.result in
     subst (λ (l : List Timed). PumpsSource 1 l after c.args.port.now c.offer.new.self (record { accepted = taken; refused = 1 - taken; ended = false })) (sym first) (
-    pumps_one item c.offer.result after c.args.port.now c.offer.new.self taken c.offer.ensures (c.from-accepted.ensures ∙ one_if c.is_ok.result ∙ ap (λ b. cond b 1 0) c.is_ok.ensures.value))
+    pumps_one item c.offer.result after c.args.port.now c.offer.new.self taken c.offer.ensures.offered (c.from-accepted.ensures ∙ one_if c.is_ok.result ∙ ap (λ b. cond b 1 0) c.is_ok.ensures.value))
