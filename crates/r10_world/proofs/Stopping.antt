@@ -1,9 +1,8 @@
 -- Runs, and what a stop leaves of them, one event after another.
-use Rattle.std.proofs.Common.{◌≡◌, ◌≤◌, ◌<◌, ◌+◌, ⊎_elim, inl, inr, false, ℕ, arith, List, [], ◌∷◌, ◌++◌, length, take, drop, get_or, Option, Some, None, Result, Ok, Err, MatchResult, refl, sym, ap, ◌∙◌, subst}
+use Rattle.std.proofs.Common.{◌≡◌, ◌≤◌, ◌<◌, ◌+◌, ⊎_elim, inl, inr, false, ℕ, List, [], ◌∷◌, ◌++◌, length, take, drop, get_or, Option, Some, None, Result, Ok, Err, refl, sym, ap, ◌∙◌, subst}
 use Rattle.std.specs.Prelude.{IfErr, OnOk}
 use Rattle.std.proofs.lemmas.List.{take_more}
 use Rattle.r10_body.specs.declared.refusal.Refusal.{Refusal}
-use Rattle.r10_control.specs.Checks.{recorder_refusal}
 use Rattle.r10_control.specs.Lanes.{AreLanes}
 use Rattle.r10_control.specs.Refused.{RefusesCall, RefusesOpen}
 use Rattle.r10_control.specs.State.{RecorderState}
@@ -19,21 +18,20 @@ use Rattle.r10_machine.specs.declared.reply.Reply.{Reply as ReplyValue}
 use Rattle.r10_machine.specs.declared.reply.Reply.TheVariants as replies
 use Rattle.r10_means.specs.Kept.{Kept, failed}
 use Rattle.r10_medium.proofs.Stops.{unchanged}
-use Rattle.r10_medium.specs.Disk.{Disk, Image, Unchanged}
+use Rattle.r10_medium.specs.Disk.{Disk, Unchanged}
 use Rattle.r10_medium.specs.Stop.{Leaves}
 use Rattle.r10_stops.proofs.Behind.{reads_safely, refused_safely, still_safely}
 use Rattle.r10_stops.proofs.Keeping.{safe_says}
 use Rattle.r10_stops.proofs.Leaving.{leaves_begun, leaves_more, leaves_still}
-use Rattle.r10_stops.specs.Left.{AnswersSafely, IsEither, IsLeft, StaysSafe, whichever}
+use Rattle.r10_stops.specs.Left.{AnswersSafely, IsEither, StaysSafe, whichever}
 use Rattle.r10_stops.specs.Quiet.{may_make}
-use Rattle.r10_stops.specs.Safe.{IsSafe, IsSafeOrFailed}
 use Rattle.r10_world.proofs.Going.{RunsJoin, drop_one_more, none_behind}
 use Rattle.r10_control.specs.Safely.{StopsSafely, WaitsAlike}
 use Rattle.r10_machine.specs.declared.event.Event.TheVariants.{Stop}
 use Rattle.r10_machine.specs.declared.mode.Stopped.{Stopped}
 use Rattle.r10_world.proofs.Taking.{waiting}
 use Rattle.r10_world.proofs.Telling.{told}
-use Rattle.r10_world.specs.Standing.{PartsStepTo, PartsRunTo, PartsStandFor}
+use Rattle.r10_world.specs.Standing.{PartsStepTo}
 use Rattle.r10_world.specs.State.{WorldState}
 use Rattle.r10_world.specs.Stopping.{RanSafely, RunsSafely, Survives}
 use Rattle.r10_world.specs.Telling.{RecorderStepsTo}

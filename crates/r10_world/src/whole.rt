@@ -1,19 +1,22 @@
 //! A whole recording: a new world that is told events, and the medium that it leaves.
 
-ghost use Rattle.std.specs.Prelude.{◌≡◌, List, IfErr, IfOk, drop, length, take, vec_len};
+ghost use Rattle.std.specs.Prelude.{◌≡◌, ◌<◌, ◌≤◌, List, IfErr, IfOk, drop, length, take, vec_len};
 ghost use Rattle.r10_machine.specs.Machine.{File};
 ghost use Rattle.r10_machine.specs.Says.{MediumSays};
 ghost use Rattle.r10_world.specs.Stopping.{Records};
 
 use crate::running::run;
 use crate::world::World;
-use r10_machine::{Event, Reply, Settings};
+use r10_account::{a_recording_accounts, found_files_stay};
+use r10_machine::{Event, Reply, Settings, files_on_a_medium_are_found};
 use r10_medium::BlockMedium;
 use std::alloc::Global;
 
 /// Tells a new world over this medium, which says some files, these events, and gives how many it did and the medium that they leave. Their
 /// replies are added to those that are there: they are a run of the small machine from these files, and the medium says the files that
-/// the run ends with. Where memory is refused before the first event, the medium comes back as it was.
+/// the run ends with. On each channel the messages that they accepted are in the lists of the files that the run began, wait, or were erased: each
+/// once, in its order. Where the medium failed, of these the files show the first, behind what was erased, and the last wait. It does some events
+/// where there are any. Where memory is refused before the first event, the medium comes back as it was.
 pub fn record_all<M: BlockMedium + Drop>(
     alloc: Global,
     settings: Settings,
@@ -24,10 +27,15 @@ pub fn record_all<M: BlockMedium + Drop>(
     requires { length (M.disk medium).blocks ≡ settings.blocks }
     ensures records { (files : List File) → MediumSays settings (M.disk medium).blocks files
         → IfOk result (λ r. Records settings files (take r.0 events.now) (drop (vec_len replies.old) replies.new.items) (M.disk medium) (M.disk r.1)) }
+    ensures within { IfOk result (λ r. r.0 ≤ length events.now) }
+    ensures some { IfOk result (λ r. 0 < length events.now → 0 < r.0) }
     ensures earlier { take (vec_len replies.old) replies.new.items ≡ replies.old.items }
     ensures refused { IfErr result (λ back. back ≡ medium) }
     ensures none { IfErr result (λ back. replies.new.items ≡ replies.old.items) }
 {
+    a_recording_accounts();
+    found_files_stay();
+    files_on_a_medium_are_found();
     let mut world = match World::new(alloc, settings, medium) {
         Ok(world) => world,
         Err((_, medium)) => return Err(medium),
