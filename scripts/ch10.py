@@ -98,13 +98,16 @@ class Range:
 
 # ---- input and output
 
+MOST_HELD = 1 << 30
+
+
 def given():
-    """Standard input: mapped where it is a file, else read."""
+    """Standard input: read whole, or mapped where it is a file of more than a GiB."""
     if sys.stdin is None:
         raise OSError('standard input is closed')
     source = sys.stdin.buffer
     state = os.fstat(source.fileno())
-    if stat.S_ISREG(state.st_mode) and state.st_size and os.lseek(source.fileno(), 0, os.SEEK_CUR) == 0:
+    if stat.S_ISREG(state.st_mode) and state.st_size > MOST_HELD and os.lseek(source.fileno(), 0, os.SEEK_CUR) == 0:
         return mmap.mmap(source.fileno(), 0, access=mmap.ACCESS_READ)
     return source.read()
 

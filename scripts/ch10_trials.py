@@ -4,6 +4,7 @@
     scripts/ch10_trials.py check                           # without r10, in seconds: recordings of every kind, of other recorders, and at fault
     scripts/ch10_trials.py examples PROGRAM                # what PROGRAM records of each script of examples/
     scripts/ch10_trials.py random PROGRAM [COUNT [SEED]]   # what it records of so many random scripts: else 200, from seed 1
+    scripts/ch10_trials.py using PROGRAM                   # the lines of docs/USING.md that begin with `$`, and what stands below each
     scripts/ch10_trials.py large MEBIBYTES > RECORDING     # a recording of about that size, for measures
 
 Of each file that `r10 files` lists, the entries of csv and json have to be those of `r10 play`, whole, of a channel and in a range; the
@@ -14,6 +15,7 @@ import csv
 import datetime
 import io
 import json
+import os
 import pathlib
 import random
 import struct
@@ -427,6 +429,44 @@ def by_shell(program, image, other):
                 agree(csv_lines(said.stdout), csv_lines(ran(['csv', '--file', of], image)), 'csv by the shell')
 
 
+# ---- the page that shows them
+
+def shown_calls(page):
+    """Each line of a page that is typed, and what is to be printed."""
+    call, below = None, []
+    for line in page.splitlines() + ['']:
+        if call is not None and (line.startswith('    $ ') or line and not line.startswith('    ')):
+            yield call, '\n'.join(below).strip('\n')
+            call = None
+        if line.startswith('    $ '):
+            call, below = line[6:], []
+        else:
+            below.append(line[4:])
+    if call is not None:
+        yield call, '\n'.join(below).strip('\n')
+
+
+def using_trials(program):
+    """Runs these lines one after the other in one folder. One with the word FILE has no file to be run with."""
+    bad, done = 0, 0
+    with tempfile.TemporaryDirectory() as folder:
+        for name in ('scripts', 'examples'):
+            pathlib.Path(folder, name).symlink_to(TOP / name)
+        pathlib.Path(folder, 'r10').symlink_to(pathlib.Path(program).resolve())
+        how = {'cwd': folder, 'env': dict(os.environ, PATH=folder + ':' + os.environ['PATH']), 'shell': True, 'capture_output': True}
+        subprocess.run('r10 sim --image < examples/first.toml > medium.img', **how)
+        for call, wanted in shown_calls((TOP / 'docs' / 'USING.md').read_text()):
+            if 'FILE' in call.split(' '):
+                continue
+            said = subprocess.run(call, **how)
+            done += 1
+            if (said.stdout.decode().strip('\n'), said.stderr, said.returncode) != (wanted, b'', 0):
+                print('%s\n%s%s' % (call, said.stdout.decode(), said.stderr.decode()))
+                bad += 1
+    print('%d lines of docs/USING.md; %d print something else' % (done, bad))
+    return bad > 0
+
+
 # ---- without r10
 
 FIRST_SUMMARY = """\
@@ -606,6 +646,8 @@ def main(words):
         return check()
     if len(words) == 2 and words[0] == 'examples':
         return example_trials(words[1])
+    if len(words) == 2 and words[0] == 'using':
+        return using_trials(words[1])
     if 2 <= len(words) <= 4 and words[0] == 'random':
         return random_trials(words[1], *(list(map(int, words[2:])) + [200, 1][len(words) - 2:]))
     if len(words) == 2 and words[0] == 'large':
