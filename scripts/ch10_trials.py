@@ -599,10 +599,15 @@ def compare_shell():
         medium.flush()
         for call, wanted in (('"%s" summary < %s | head -n 3 | tail -n 1', (b'file 0 FLT1: 272 bytes in 5 packets, closed\n', b'', 0)),
                              ('"%s" file FLT1 < %s | tail -c 4', (b'\0\0\0\0', b'', 0)),
-                             ('{ "%s" csv < %s; echo $? >&2; } | true', (b'', b'3\n', 0)),
                              ('"%s" csv < %s > /dev/full', (b'', b'ch10: a read or a write failed: No space left on device\n', 3))):
             said = subprocess.run(call % (FILTER, medium.name), shell=True, capture_output=True)
             agree((said.stdout, said.stderr, said.returncode), wanted, call)
+        gone, end = os.pipe()
+        os.close(gone)
+        medium.seek(0)
+        said = subprocess.run([FILTER, 'csv'], stdin=medium, stdout=end, stderr=subprocess.PIPE)
+        os.close(end)
+        agree((said.stderr, said.returncode), (b'', 3), 'a reader that has gone')
 
 
 # ---- a large recording
