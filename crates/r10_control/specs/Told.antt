@@ -1,6 +1,9 @@
 -- What a recorder tells of itself.
-use Rattle.std.specs.Prelude.{ℕ, ◌-◌, List, [], ◌∷◌, length, None, Some}
-use Rattle.std.specs.List.{last_or}
+use Rattle.std.specs.Prelude.{ℕ, ◌-◌, ◌==◌, List, [], ◌∷◌, length, Option, None, Some, slice_get}
+use Rattle.std.specs.List.{last_or, position}
+use Rattle.std.specs.Option.{option_and_then}
+use Rattle.r10_body.specs.declared.spec.ChannelSpec.{ChannelSpec}
+use Rattle.r10_dirblock.specs.declared.entry.Entry.{Entry as DirectoryEntry}
 use Rattle.r10_dirchain.specs.Chain.{listed_files}
 use Rattle.r10_dirchain.specs.declared.chain.ChainBlock.{ChainBlock}
 use Rattle.r10_volume.specs.Holding.{Open}
@@ -41,3 +44,18 @@ status_in k lanes = record {
   free = free_in k.config k.work;
   channels = channels_in (mode_of k.work) lanes k.erased;
 }
+
+-- ---- without memory
+
+-- of so many files the last is this one: its number, and its bytes
+abbrev pub shown_as_last : ℕ → Option DirectoryEntry → Option (ℕ × ℕ)
+shown_as_last files None = None
+shown_as_last files (Some e) = Some (files - 1, e.size)
+
+-- the number of the last file of the directory in use, and the bytes that the medium shows of it
+abbrev pub last_shown : Work → Option (ℕ × ℕ)
+last_shown work = shown_as_last (length (files_of work)) (last_or None (files_of work))
+
+-- the number of a channel, where numbers stand in the order of the channels
+abbrev pub number_on : ℕ → List ChannelSpec → List ℕ → Option ℕ
+number_on channel channels numbers = option_and_then (slice_get numbers) (position (λ (spec : ChannelSpec). spec.id == channel) channels)

@@ -5,6 +5,7 @@
 mod clock;
 mod lanes;
 mod mounting;
+mod numbers;
 mod offering;
 mod own_laws;
 mod pumping;
