@@ -10,6 +10,7 @@ mod Lacking
 mod Starts
 mod Offers
 mod Statuses
+mod Looked
 mod Readings
 mod Finds
 mod Intakes

@@ -125,11 +125,11 @@ channels_told k failed m numbers same = channels_failed m.lanes k.erased same
 
 -- ---- files, and the clock
 
-tick_told : (t : Option Tick) → elim t [ None ↦ None | Some tick ↦ Some tick.count ] ≡ tick_count t
+pub tick_told : (t : Option Tick) → elim t [ None ↦ None | Some tick ↦ Some tick.count ] ≡ tick_count t
 tick_told None = refl
 tick_told (Some tick) = refl
 
-files_told : (s : Config) (w : Work) (image : Image) (files : List File) → HasFiles s w image files → (if is_mounted (mode_of w) then length files else 0) ≡ length (files_of w)
+pub files_told : (s : Config) (w : Work) (image : Image) (files : List File) → HasFiles s w image files → (if is_mounted (mode_of w) then length files else 0) ≡ length (files_of w)
 files_told s unmounted image files holds = refl
 files_told s (idle chain) image files holds = sym (count_told s image chain None files holds)
 files_told s (recording chain o) image files holds = sym (count_told s image chain (Some o) files holds)

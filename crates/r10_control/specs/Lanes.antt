@@ -1,6 +1,7 @@
 -- The lanes of one thread, and the machine's.
-use Rattle.std.specs.Prelude.{◌≡◌, ℕ, ◌≤◌, List, [], ◌∷◌, map, find, None, Some, Result, MatchResult, is_none, if◌then◌else◌}
+use Rattle.std.specs.Prelude.{◌≡◌, ℕ, ◌≤◌, List, [], ◌∷◌, map, find, Option, None, Some, Result, MatchResult, is_none, if◌then◌else◌}
 use Rattle.r10_count.specs.Checks.{first_broken}
+use Rattle.r10_body.specs.declared.entry.Sample.{Sample}
 use Rattle.r10_body.specs.declared.message.Message.{Message}
 use Rattle.r10_body.specs.declared.refusal.Refusal.{Refusal}
 use Rattle.r10_lane.specs.Lanes.{reached}
@@ -26,6 +27,12 @@ AreLanes lanes m = lanes ≡ map unerased m.lanes
 -- of each lane the first samples were taken, so many of its channel
 abbrev pub AreTaken : (ℕ → ℕ) → List Lane → List Lane → Type 0
 AreTaken taken old new = new ≡ map (λ (lane : Lane). without (taken lane.spec.id) lane) old
+
+-- in each of these lanes, which are quiet, waits what waits in the machine's
+abbrev pub WaitQuietly : {L : Type 0} → (L → Option (List Sample)) → List L → List Lane → Type 0
+WaitQuietly quiet [] [] = Unit {0}
+WaitQuietly quiet (a ∷ lanes) (b ∷ machines) = (quiet a ≡ Some b.waiting) × WaitQuietly quiet lanes machines
+WaitQuietly quiet lanes machines = ⊥
 
 -- a step leads to a machine that is meant then and has these lanes, and the same files and cursors
 pub record LeadsWith (k : Kept) (m : Machine) (event : EventValue) (reply : ReplyValue) (image : Image) (failures : ℕ) (lanes : List Lane) : Type 0 where

@@ -1,7 +1,8 @@
 -- What a recorder tells of itself.
-use Rattle.std.specs.Prelude.{ℕ, ◌-◌, ◌==◌, List, [], ◌∷◌, length, Option, None, Some, slice_get}
+use Rattle.std.specs.Prelude.{◌≡◌, ℕ, ◌-◌, ◌==◌, List, [], ◌∷◌, length, map, Option, None, Some, IfSome, slice_get}
 use Rattle.std.specs.List.{last_or, position}
 use Rattle.std.specs.Option.{option_and_then}
+use Rattle.r10_body.specs.declared.entry.Sample.{Sample}
 use Rattle.r10_body.specs.declared.spec.ChannelSpec.{ChannelSpec}
 use Rattle.r10_dirblock.specs.declared.entry.Entry.{Entry as DirectoryEntry}
 use Rattle.r10_dirchain.specs.Chain.{listed_files}
@@ -11,6 +12,7 @@ use Rattle.r10_machine.specs.Config.{Config}
 use Rattle.r10_machine.specs.Machine.{Lane}
 use Rattle.r10_machine.specs.Room.{area_from}
 use Rattle.r10_machine.specs.declared.mode.Mode.{Mode}
+use Rattle.r10_machine.specs.declared.mode.Mode.TheVariants as modes
 use Rattle.r10_means.specs.Kept.{Kept, Work, mode_of, unmounted, idle, recording, failed}
 use Rattle.r10_control.specs.Checks.{files_of}
 use Rattle.r10_control.specs.Owns.{tick_count}
@@ -18,6 +20,8 @@ use Rattle.r10_machine.specs.Finding.{channel_status}
 use Rattle.r10_machine.specs.declared.reply.ChannelStatus.{ChannelStatus}
 use Rattle.r10_machine.specs.declared.reply.Status.{Status}
 use Rattle.r10_volume.specs.Listing.{block_behind}
+use Rattle.r10_control.specs.declared.status.LaneStatus.{LaneStatus}
+use Rattle.r10_control.specs.declared.status.RecorderStatus.{RecorderStatus}
 
 -- the bytes that the file that is recorded has left: from its first block on, without what it costs
 abbrev pub left_in : Config → List ChainBlock → Open → ℕ
@@ -44,6 +48,36 @@ status_in k lanes = record {
   free = free_in k.config k.work;
   channels = channels_in (mode_of k.work) lanes k.erased;
 }
+
+-- ---- whatever the lanes
+
+-- what is told of so many entries that erases took: none of a recorder that failed
+abbrev pub erased_in : Mode → ℕ → ℕ
+erased_in mode erased = elim mode [ modes.Failed ↦ 0 | _ ↦ erased ]
+
+-- this is told of a lane: its channel; how many it holds, all that waits where it is quiet; and what erases took
+abbrev pub TellsLane : {L : Type 0} → (L → Option (List Sample)) → (L → ChannelSpec) → Mode → L → ℕ → LaneStatus → Type 0
+TellsLane quiet spec_of mode lane erased told = (told.channel ≡ (spec_of lane).id) × IfSome (quiet lane) (λ waiting. told.held ≡ length waiting) × (told.erased ≡ erased_in mode erased)
+
+abbrev pub TellsLanes : {L : Type 0} → (L → Option (List Sample)) → (L → ChannelSpec) → Mode → List L → List ℕ → List LaneStatus → Type 0
+TellsLanes quiet spec_of mode [] [] [] = Unit {0}
+TellsLanes quiet spec_of mode (lane ∷ lanes) (e ∷ erased) (told ∷ rest) = TellsLane quiet spec_of mode lane e told × TellsLanes quiet spec_of mode lanes erased rest
+TellsLanes quiet spec_of mode lanes erased told = ⊥
+
+-- this is told of a recorder
+pub record TellsRecorder {L : Type 0} (quiet : L → Option (List Sample)) (spec_of : L → ChannelSpec) (k : Kept) (lanes : List L) (told : RecorderStatus) : Type 0 where
+  pub mode : told.mode ≡ mode_of k.work
+  pub tick : told.tick ≡ tick_count k.tick
+  pub files : told.files ≡ length (files_of k.work)
+  pub free : told.free ≡ free_in k.config k.work
+  pub channels : TellsLanes quiet spec_of (mode_of k.work) lanes k.erased told.channels
+
+-- what the machine tells of itself, but for what was lost
+abbrev pub held_of : ChannelStatus → LaneStatus
+held_of c = record { channel = c.channel; held = c.waiting; erased = c.erased }
+
+abbrev pub without_lost : Status → RecorderStatus
+without_lost s = record { mode = s.mode; tick = s.tick; files = s.files; free = s.free; channels = map held_of s.channels }
 
 -- ---- without memory
 

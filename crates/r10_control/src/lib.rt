@@ -22,3 +22,4 @@ mod work;
 pub use lanes::lanes_stay_the_machines;
 pub use own_laws::{own_entries_are_meant, own_entries_stay};
 pub use recorder::Recorder;
+pub use status::{LaneStatus, RecorderStatus};

@@ -1,19 +1,21 @@
-//! How a recorder is, with the lanes of one thread.
+//! How a recorder is.
 
-ghost use Rattle.std.specs.Prelude.{◌≡◌, ◌-◌, ◌^◌, ◌++◌, ◌∷◌, [], List, Some, length, min, IfErr, IfOk};
+ghost use Rattle.std.specs.Prelude.{◌≡◌, ◌-◌, ◌^◌, ◌++◌, ◌∷◌, [], List, Some, length, min, IfErr, IfOk, MatchResult};
+ghost use Rattle.r10_pump.specs.Stopping.{TookAll};
 ghost use Rattle.r10_body.specs.declared.refusal.Refusal.TheVariants as refusals;
 ghost use Rattle.r10_volume.specs.Holding.{HoldsFiles};
 ghost use Rattle.r10_machine.specs.Machine.{File, Machine};
 ghost use Rattle.r10_machine.specs.Room.{area, area_from, cost_of};
 ghost use Rattle.r10_means.specs.Kept.{mode_of};
-ghost use Rattle.r10_means.specs.Means.{HasFiles};
+ghost use Rattle.r10_means.specs.Means.{HasFiles, KeptStandsFor};
 ghost use Rattle.r10_medium.specs.Disk.{Image};
 ghost use Rattle.r10_control.specs.Checks.{files_of};
-ghost use Rattle.r10_control.specs.Lanes.{AnswersWith};
+ghost use Rattle.r10_control.specs.Lanes.{AnswersWith, WaitQuietly};
+ghost use Rattle.r10_control.specs.Leading.{KeptStepsTaking, none_taken};
 ghost use Rattle.r10_control.specs.Owns.{tick_count};
-ghost use Rattle.r10_control.specs.Told.{channels_in, free_in, left_in, status_in};
+ghost use Rattle.r10_control.specs.Told.{TellsLane, TellsLanes, TellsRecorder, channels_in, free_in, left_in, status_in, without_lost};
 ghost use Rattle.r10_control.specs.Work.{work_of};
-ghost use Rattle.r10_machine.specs.Finding.{channel_status, free_bytes};
+ghost use Rattle.r10_machine.specs.Finding.{channel_status, free_bytes, status_of};
 ghost use Rattle.r10_machine.specs.declared.event.Event.TheVariants as events;
 ghost use Rattle.r10_machine.specs.declared.reply.Reply.TheVariants as replies;
 
@@ -31,10 +33,67 @@ use r10_openfile::OpenFile;
 use r10_volume::{count, last_file, next_block};
 use std::alloc::{AllocError, Global};
 
-impl<M: BlockMedium> Recorder<M, RingLane> {
+/// How a channel of a recorder is.
+#[derive(Clone, Copy, Debug, PartialEq, Eq)]
+pub struct LaneStatus {
+    pub channel: u16,
+    /// The messages that its lane holds.
+    pub held: usize,
+    /// The entries that erases took, up to `u64::MAX`; 0 where the recorder failed.
+    pub erased: u64,
+}
+
+/// How a recorder is, whatever its lanes.
+#[derive(Debug, Drop)]
+pub struct RecorderStatus {
+    pub mode: Mode,
+    /// The count of the last tick.
+    pub tick: Option<Count>,
+    /// How many files the medium has; 0 where none is mounted.
+    pub files: usize,
+    /// The bytes that the file that is recorded has left, or that the next one may have.
+    pub free: u64,
+    /// In the order of the settings.
+    pub channels: Items<LaneStatus>,
+}
+
+impl<M: BlockMedium, L: LaneOut> Recorder<M, L> {
     /// How the recorder is, in any mode: the last tick, how many files there are, the bytes that the file that is recorded has left, or that
-    /// the next one may have, and of each channel how many messages wait, were lost, and were erased. Refused: OutOfMemory.
-    pub fn status(&self) -> Result<Status, Refusal>
+    /// the next one may have, and of each channel how many messages its lane holds, and erases took. Of a lane that is quiet all that waits is
+    /// held. Refused: OutOfMemory.
+    pub fn status(&mut self) -> Result<RecorderStatus, Refusal>
+        ensures told { IfOk result (TellsRecorder L.quiet L.spec_of self.old.kept self.old.lanes) }
+        ensures meant { (m : Machine) → KeptStandsFor self.old.kept (M.disk self.old.medium).blocks (M.disk self.old.medium).failures m → WaitQuietly L.quiet self.old.lanes m.lanes → IfOk result (λ status. status ≡ without_lost (status_of self.old.kept.config m)) }
+        ensures steps { (m : Machine) → KeptStandsFor self.old.kept (M.disk self.old.medium).blocks (M.disk self.old.medium).failures m
+            → MatchResult result (λ _. KeptStepsTaking none_taken self.old.kept m events.Status (replies.Status (status_of self.old.kept.config m)) self.new.kept (M.disk self.new.medium).blocks (M.disk self.new.medium).failures)
+            (λ r. KeptStepsTaking none_taken self.old.kept m events.Status (replies.Refused r) self.new.kept (M.disk self.new.medium).blocks (M.disk self.new.medium).failures) }
+        ensures refused { IfErr result (λ r. r ≡ refusals.OutOfMemory) }
+        ensures took { TookAll L.took L.spec_of [] self.old.lanes self.new.lanes }
+        ensures kept { self.new.kept ≡ self.old.kept }
+        ensures medium { self.new.medium ≡ self.old.medium }
+    {
+        a_step_stays_sound();
+        tellings_are_steps();
+        let _channels = self.settings.channels();
+        let _blocks = self.settings.blocks();
+        let mode = mode_in(&self.work);
+        let Ok(channels) = lanes_in(self.alloc, mode, &mut self.lanes, self.erased.as_slice())
+        else {
+            return Err(Refusal::OutOfMemory);
+        };
+        Ok(RecorderStatus {
+            mode,
+            tick: tick_in(self.tick),
+            files: count_in(&self.work),
+            free: free_in(&self.settings, &self.work),
+            channels: Items::of(channels),
+        })
+    }
+}
+
+impl<M: BlockMedium> Recorder<M, RingLane> {
+    /// The same, and of each channel how many messages were lost. Refused: OutOfMemory.
+    pub fn status_with_lost(&self) -> Result<Status, Refusal>
         ensures told { IfOk result (λ status. status ≡ status_in self.now.kept self.now.lanes) }
         ensures refused { IfErr result (λ r. r ≡ refusals.OutOfMemory) }
         ensures steps { AnswersWith self.now.lanes self.now.kept (M.disk self.now.medium).blocks (M.disk self.now.medium).failures events.Status (λ status. replies.Status status) result self.now.lanes }
@@ -141,6 +200,38 @@ fn channel_in(mode: Mode, lane: &RingLane, erased: u64) -> ChannelStatus
         channel: lane.spec().id,
         waiting: lane.len(),
         lost: lane.lost(),
+        erased: if mode == Mode::Failed { 0 } else { erased },
+    }
+}
+
+/// How the channels are, by what their lanes hold, where erases took so many of their entries.
+fn lanes_in<L: LaneOut>(
+    alloc: Global,
+    mode: Mode,
+    lanes: &mut Vec<L>,
+    erased: &[u64],
+) -> Result<Vec<LaneStatus>, AllocError>
+    requires { length erased.now ≡ length lanes.old.items }
+    ensures told { IfOk result (λ told. TellsLanes L.quiet L.spec_of mode lanes.old.items erased.now told.items) }
+    ensures took { TookAll L.took L.spec_of [] lanes.old.items lanes.new.items }
+{
+    let mut told = Vec::with_capacity(alloc, lanes.len())?;
+    for at in 0..lanes.len() {
+        let lane = &mut lanes[at];
+        told.push_reserved(lane_in(mode, lane, erased[at]));
+    }
+    Ok(told)
+}
+
+/// How a channel is, by what its lane holds, where erases took so many of its entries.
+fn lane_in<L: LaneOut>(mode: Mode, lane: &mut L, erased: u64) -> LaneStatus
+    ensures told { TellsLane L.quiet L.spec_of mode lane.old erased result }
+    ensures took { L.took lane.old [] lane.new }
+{
+    let channel = lane.spec().id;
+    LaneStatus {
+        channel,
+        held: lane.held(),
         erased: if mode == Mode::Failed { 0 } else { erased },
     }
 }

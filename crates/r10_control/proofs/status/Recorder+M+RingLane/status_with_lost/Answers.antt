@@ -13,7 +13,7 @@ use Rattle.r10_machine.specs.declared.event.Event.TheVariants as events
 use Rattle.r10_machine.specs.declared.reply.Reply.TheVariants as replies
 use Rattle.r10_machine.specs.declared.reply.Status.{Status}
 use Rattle.r10_control.proofs.Statuses.{files_all, made, numbered, status_leads}
-use Rattle.r10_control.proofs.status.Recorder+M+RingLane.status.Goals as goal
+use Rattle.r10_control.proofs.status.Recorder+M+RingLane.status_with_lost.Goals as goal
 
 pub returns-clause-told : goal.returns-clause-told
 returns-clause-told g c =

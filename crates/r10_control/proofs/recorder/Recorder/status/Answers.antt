@@ -1,0 +1,81 @@
+use Rattle.std.proofs.Common.{◌≡◌, ℕ, List, length, sym, ◌∙◌, subst, refl, arith}
+use Rattle.r10_body.specs.declared.refusal.Refusal.TheVariants as refusals
+use Rattle.r10_machine.specs.Finding.{status_of}
+use Rattle.r10_machine.specs.Machine.{Machine}
+use Rattle.r10_machine.specs.declared.event.Event.TheVariants as events
+use Rattle.r10_machine.specs.declared.mode.Mode.{Mode}
+use Rattle.r10_machine.specs.declared.reply.Reply.TheVariants as replies
+use Rattle.r10_means.specs.Kept.{Kept, mode_of}
+use Rattle.r10_means.specs.Means.{KeptStandsFor}
+use Rattle.r10_control.specs.Checks.{files_of}
+use Rattle.r10_control.specs.Lanes.{WaitQuietly}
+use Rattle.r10_control.specs.Leading.{KeptStepsTaking, none_taken}
+use Rattle.r10_control.specs.State.{RecorderState}
+use Rattle.r10_control.specs.Told.{TellsLanes, TellsRecorder, without_lost}
+use Rattle.r10_control.specs.Work.{work_of}
+use Rattle.r10_control.specs.declared.status.LaneStatus.{LaneStatus}
+use Rattle.r10_control.specs.declared.status.RecorderStatus.{RecorderStatus}
+use Rattle.r10_control.proofs.Leading.{memory_leads}
+use Rattle.r10_control.proofs.Looked.{looked, looks_alike, owns_looked}
+use Rattle.r10_control.proofs.Statuses.{files_all, numbered}
+use Rattle.r10_control.proofs.recorder.Recorder.status.Goals as goal
+
+pub invariant_of-self : goal.invariant_of-self
+invariant_of-self g c =
+    let w = c.self.inside in
+    let k : Kept = record { config = w.settings; work = work_of w.work; tick = w.tick; last_event = w.last_event; generation = w.generation; taken = w.taken.items; erased = w.erased.items } in
+    owns_looked g.L.LaneOut.took g.L.LaneOut.spec_of g.L.LaneOut.reached k (g.M.BlockMedium.disk w.medium).blocks w.reader.books w.lanes.items c.lanes_in.new.lanes.items g.met.L.LaneOut.keeps_spec g.met.L.LaneOut.rises c.lanes_in.ensures.took c.self.invariant
+
+pub invariant_of-self-2 : goal.invariant_of-self-2
+invariant_of-self-2 g c =
+    let w = c.self.inside in
+    let k : Kept = record { config = w.settings; work = work_of w.work; tick = w.tick; last_event = w.last_event; generation = w.generation; taken = w.taken.items; erased = w.erased.items } in
+    owns_looked g.L.LaneOut.took g.L.LaneOut.spec_of g.L.LaneOut.reached k (g.M.BlockMedium.disk w.medium).blocks w.reader.books w.lanes.items c.lanes_in.new.lanes.items g.met.L.LaneOut.keeps_spec g.met.L.LaneOut.rises c.lanes_in.ensures.took c.self.invariant
+
+pub returns-in_default-clause-steps : goal.returns-in_default-clause-steps
+returns-in_default-clause-steps g c =
+    let w = c.self.inside in
+    let disk = g.M.BlockMedium.disk in
+    let k : Kept = record { config = w.settings; work = work_of w.work; tick = w.tick; last_event = w.last_event; generation = w.generation; taken = w.taken.items; erased = w.erased.items } in
+    let now = disk w.medium in
+    subst (λ (v : RecorderState _ _). (m : Machine) → KeptStandsFor v.kept (disk v.medium).blocks (disk v.medium).failures m → KeptStepsTaking none_taken v.kept m events.Status (replies.Refused refusals.OutOfMemory) k now.blocks now.failures) c.self.view_is
+    (λ m means. memory_leads c.a_step_stays_sound.ensures k now.blocks now.blocks now.failures now.failures m events.Status c.self.invariant.limits means refl (omega arith) refl refl refl)
+
+pub returns-clause-steps : goal.returns-clause-steps
+returns-clause-steps g c =
+    let w = c.self.inside in
+    let disk = g.M.BlockMedium.disk in
+    let k : Kept = record { config = w.settings; work = work_of w.work; tick = w.tick; last_event = w.last_event; generation = w.generation; taken = w.taken.items; erased = w.erased.items } in
+    let now = disk w.medium in
+    subst (λ (v : RecorderState _ _). (m : Machine) → KeptStandsFor v.kept (disk v.medium).blocks (disk v.medium).failures m → KeptStepsTaking none_taken v.kept m events.Status (replies.Status (status_of v.kept.config m)) k now.blocks now.failures) c.self.view_is
+    (λ m means. looked c.tellings_are_steps.ensures.status k now.blocks now.failures m c.self.invariant.limits means)
+
+pub returns-clause-told : goal.returns-clause-told
+returns-clause-told g c =
+    let w = c.self.inside in
+    let lane = g.L.LaneOut in
+    let k : Kept = record { config = w.settings; work = work_of w.work; tick = w.tick; last_event = w.last_event; generation = w.generation; taken = w.taken.items; erased = w.erased.items } in
+    let all : c.count_in.result ≡ length (files_of k.work) = files_all _ _ _ _ _ _ c.blocks-blocks.result c.count_in.result c.self.invariant c.blocks-blocks.ensures.value c.blocks-blocks.ensures.range.0 c.blocks-blocks.ensures.range.1 c.count_in.ensures in
+    let channels : TellsLanes lane.quiet lane.spec_of (mode_of k.work) w.lanes.items k.erased c.of.result =
+    subst (λ (ts : List LaneStatus). TellsLanes lane.quiet lane.spec_of (mode_of k.work) w.lanes.items k.erased ts) (sym c.of.ensures)
+    (subst (λ (es : List ℕ). TellsLanes lane.quiet lane.spec_of (mode_of k.work) w.lanes.items es c.in-Ok.channels.items) c.as_slice.ensures.value
+    (subst (λ (x : Mode). TellsLanes lane.quiet lane.spec_of x w.lanes.items c.as_slice.result.now c.in-Ok.channels.items) c.mode_in-mode.ensures c.in-Ok.ensures.told)) in
+    subst (λ (v : RecorderState _ _). TellsRecorder lane.quiet lane.spec_of v.kept v.lanes (record { mode = c.mode_in-mode.result; tick = c.tick_in.result; files = c.count_in.result; free = c.free_in.result; channels = c.of.result })) c.self.view_is
+    (record { mode = c.mode_in-mode.ensures; tick = c.tick_in.ensures; files = all; free = c.free_in.ensures.value; channels = channels })
+
+pub returns-clause-meant : goal.returns-clause-meant
+returns-clause-meant g c =
+    let w = c.self.inside in
+    let lane = g.L.LaneOut in
+    let disk = g.M.BlockMedium.disk in
+    let k : Kept = record { config = w.settings; work = work_of w.work; tick = w.tick; last_event = w.last_event; generation = w.generation; taken = w.taken.items; erased = w.erased.items } in
+    let told : RecorderStatus = record { mode = c.mode_in-mode.result; tick = c.tick_in.result; files = c.count_in.result; free = c.free_in.result; channels = c.of.result } in
+    let all : c.count_in.result ≡ length (files_of k.work) = files_all _ _ _ _ _ _ c.blocks-blocks.result c.count_in.result c.self.invariant c.blocks-blocks.ensures.value c.blocks-blocks.ensures.range.0 c.blocks-blocks.ensures.range.1 c.count_in.ensures in
+    let channels : TellsLanes lane.quiet lane.spec_of (mode_of k.work) w.lanes.items k.erased c.of.result =
+    subst (λ (ts : List LaneStatus). TellsLanes lane.quiet lane.spec_of (mode_of k.work) w.lanes.items k.erased ts) (sym c.of.ensures)
+    (subst (λ (es : List ℕ). TellsLanes lane.quiet lane.spec_of (mode_of k.work) w.lanes.items es c.in-Ok.channels.items) c.as_slice.ensures.value
+    (subst (λ (x : Mode). TellsLanes lane.quiet lane.spec_of x w.lanes.items c.as_slice.result.now c.in-Ok.channels.items) c.mode_in-mode.ensures c.in-Ok.ensures.told)) in
+    let tells : TellsRecorder lane.quiet lane.spec_of k w.lanes.items told = record { mode = c.mode_in-mode.ensures; tick = c.tick_in.ensures; files = all; free = c.free_in.ensures.value; channels = channels } in
+    subst (λ (v : RecorderState _ _). (m : Machine) → KeptStandsFor v.kept (disk v.medium).blocks (disk v.medium).failures m → WaitQuietly lane.quiet v.lanes m.lanes → ◌≡◌ {A = RecorderStatus} told (without_lost (status_of v.kept.config m))) c.self.view_is
+    (λ m means waits. looks_alike lane.quiet lane.spec_of k (disk w.medium).blocks (disk w.medium).failures m w.lanes.items told means c.self.invariant.specs (numbered _ _ _ _ _ _ c.self.invariant) waits
+    (λ image x mode files. sym c.free_in.ensures.value ∙ c.free_in.ensures.held image x mode files) tells)
