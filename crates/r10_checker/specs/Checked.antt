@@ -9,8 +9,8 @@ use Rattle.r10_dirchain.specs.Chain.{IsDirectory}
 use Rattle.r10_dirchain.specs.Mount.{listed}
 use Rattle.r10_dirchain.specs.declared.chain.ChainBlock.{ChainBlock}
 use Rattle.r10_dirchain.specs.declared.chain.Listed.{Listed}
-use Rattle.r10_dirchain.specs.declared.read.ChainError.{ChainError}
-use Rattle.r10_dirchain.specs.declared.read.ChainError.TheVariants.{BadDirectory, Medium, OutOfMemory}
+use Rattle.r10_body.specs.declared.refusal.Refusal.{Refusal}
+use Rattle.r10_body.specs.declared.refusal.Refusal.TheVariants.{BadDirectory, Medium, OutOfMemory}
 use Rattle.r10_checker.specs.Verdict.{IsVerdict}
 use Rattle.r10_checker.specs.Place.{bytes_on, inside_rules}
 use Rattle.r10_checker.specs.declared.media.FileVerdict.{FileVerdict}
@@ -29,8 +29,9 @@ AreVerdicts image said =
 abbrev pub IsRefusedBlock : Image → ℕ → Type 0
 IsRefusedBlock image n = IsBad image n ⊎ ((chain : List ChainBlock) × IsDirectory image chain × (first_broken (inside_rules (length image) chain) ≡ Some n))
 
--- what a refusal says of the medium
-abbrev pub IsRefused : Image → ChainError → Type 0
+-- what a refusal says of the medium; there are no others
+abbrev pub IsRefused : Image → Refusal → Type 0
 IsRefused image (BadDirectory n) = IsRefusedBlock image n
 IsRefused image Medium = Unit {0}
 IsRefused image OutOfMemory = Unit {0}
+IsRefused image refusal = ⊥

@@ -3,14 +3,15 @@
 ghost use Rattle.std.specs.Prelude.{◌≡◌, ◌*◌, ◌+◌, ◌≤◌, length, IfOk, IfErr, IsErrOf};
 ghost use Rattle.std.specs.List.{All, AllZip};
 ghost use Rattle.r10_medium.specs.Disk.{Unchanged, Rose};
+ghost use Rattle.r10_blockout.specs.Bytes.{ReadHasCause};
 ghost use Rattle.r10_checker.specs.Checked.{AreVerdicts, IsFileVerdict, IsRefused};
-ghost use Rattle.r10_dirchain.specs.Bad.{IsNoFault};
 ghost use Rattle.r10_checker.specs.Place.{IsPlaced};
 
 use crate::Verdict;
 use crate::place::{extent_of, first_outside};
 use crate::verdict::walked_verdict;
 use r10_blockout::ReadFault;
+use r10_body::Refusal;
 use r10_dirchain::{ChainError, Listed, read_chain};
 use r10_judge::walk_file;
 use r10_medium::BlockMedium;
@@ -28,28 +29,35 @@ pub struct FileVerdict {
 /// window, and none is held whole.
 ///
 /// `BadDirectory` names the first block that the chain of directory blocks reaches and can't take, else the one that lists
-/// the first file whose blocks don't all lie inside the medium; this is found before any file is read.
+/// the first file whose blocks don't all lie inside the medium; this is found before any file is read. `Medium` comes where a read
+/// failed, and `OutOfMemory` where memory was refused or a file has more than 2^62 bytes. There is no other refusal.
 pub fn check_medium<M: BlockMedium>(
     alloc: Global,
     medium: &mut M,
-) -> Result<Vec<FileVerdict>, ChainError>
+) -> Result<Vec<FileVerdict>, Refusal>
     ensures verdicts { IfOk result (λ said. AreVerdicts (M.disk medium.old).blocks said.items) }
     ensures refused { IfErr result (IsRefused (M.disk medium.old).blocks) }
     ensures same { Unchanged (M.disk medium.old) (M.disk medium.new) }
     ensures no_fewer { (M.disk medium.old).failures ≤ (M.disk medium.new).failures }
-    ensures cause { IsErrOf result ChainError.Medium → Rose (M.disk medium.old).failures (M.disk medium.new).failures }
+    ensures cause { IsErrOf result Refusal.Medium → Rose (M.disk medium.old).failures (M.disk medium.new).failures }
 {
     let directory = match read_chain(alloc, medium) {
         Ok(directory) => directory,
-        Err(error) => return Err(error),
+        Err(ChainError::BadDirectory(block)) => return Err(Refusal::BadDirectory(block)),
+        Err(ChainError::Medium) => return Err(Refusal::Medium),
+        Err(ChainError::OutOfMemory) => return Err(Refusal::OutOfMemory),
     };
     let Ok(files) = directory.listed(alloc) else {
-        return Err(ChainError::OutOfMemory);
+        return Err(Refusal::OutOfMemory);
     };
     if let Some(number) = first_outside(&files, medium.blocks()) {
-        return Err(ChainError::BadDirectory(number));
+        return Err(Refusal::BadDirectory(number));
     }
-    check_files(alloc, medium, &files)
+    match check_files(alloc, medium, &files) {
+        Ok(said) => Ok(said),
+        Err(ReadFault::Medium) => Err(Refusal::Medium),
+        Err(ReadFault::OutOfMemory) => Err(Refusal::OutOfMemory),
+    }
 }
 
 /// The name and the verdict of each of these files.
@@ -57,13 +65,11 @@ fn check_files<M: BlockMedium>(
     alloc: Global,
     medium: &mut M,
     files: &[Listed],
-) -> Result<Vec<FileVerdict>, ChainError>
+) -> Result<Vec<FileVerdict>, ReadFault>
     requires { All (IsPlaced (M.disk medium.old).blocks) files.now }
     ensures verdicts { IfOk result (λ said. AllZip (IsFileVerdict (M.disk medium.old).blocks) files.now said.items) }
-    ensures failure { IfErr result IsNoFault }
     ensures same { Unchanged (M.disk medium.old) (M.disk medium.new) }
-    ensures no_fewer { (M.disk medium.old).failures ≤ (M.disk medium.new).failures }
-    ensures cause { IsErrOf result ChainError.Medium → Rose (M.disk medium.old).failures (M.disk medium.new).failures }
+    ensures counts { ReadHasCause (M.disk medium.old) (M.disk medium.new) result }
 {
     let mut buffer = Vec::new(alloc);
     let mut said = Vec::new(alloc);
@@ -73,7 +79,7 @@ fn check_files<M: BlockMedium>(
             Err(error) => return Err(error),
         };
         if said.push(verdict).is_err() {
-            return Err(ChainError::OutOfMemory);
+            return Err(ReadFault::OutOfMemory);
         }
     }
     Ok(said)
@@ -85,26 +91,23 @@ fn check_listed<M: BlockMedium>(
     medium: &mut M,
     file: &Listed,
     buffer: &mut Vec<u8>,
-) -> Result<FileVerdict, ChainError>
+) -> Result<FileVerdict, ReadFault>
     requires { IsPlaced (M.disk medium.old).blocks file.now }
     ensures verdict { IfOk result (IsFileVerdict (M.disk medium.old).blocks file.now) }
-    ensures failure { IfErr result IsNoFault }
     ensures same { Unchanged (M.disk medium.old) (M.disk medium.new) }
-    ensures no_fewer { (M.disk medium.old).failures ≤ (M.disk medium.new).failures }
-    ensures cause { IsErrOf result ChainError.Medium → Rose (M.disk medium.old).failures (M.disk medium.new).failures }
+    ensures counts { ReadHasCause (M.disk medium.old) (M.disk medium.new) result }
 {
     let Some(extent) = extent_of(&file.entry) else {
-        return Err(ChainError::OutOfMemory);
+        return Err(ReadFault::OutOfMemory);
     };
     let Ok(name) = Vec::from_slice(alloc, file.entry.stripped_name()) else {
-        return Err(ChainError::OutOfMemory);
+        return Err(ReadFault::OutOfMemory);
     };
     match walk_file(alloc, medium, extent, true, buffer) {
         Ok(walked) => Ok(FileVerdict {
             name,
             verdict: walked_verdict(&walked),
         }),
-        Err(ReadFault::Medium) => Err(ChainError::Medium),
-        Err(ReadFault::OutOfMemory) => Err(ChainError::OutOfMemory),
+        Err(fault) => Err(fault),
     }
 }

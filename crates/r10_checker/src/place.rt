@@ -1,6 +1,6 @@
 //! Where files lie.
 
-ghost use Rattle.std.specs.Prelude.{◌≡◌, ◌+◌, ◌*◌, ◌≤◌, ◌^◌, true, map, IfSome};
+ghost use Rattle.std.specs.Prelude.{◌≡◌, ◌+◌, ◌*◌, ◌<◌, ◌≤◌, ◌^◌, true, map, IfNone, IfSome};
 ghost use Rattle.r10_count.specs.Checks.{first_broken};
 ghost use Rattle.r10_dirblock.specs.Block.{has_room_for_size};
 ghost use Rattle.r10_checker.specs.Place.{inside_rule, is_inside};
@@ -35,6 +35,7 @@ pub(crate) fn first_outside(files: &[Listed], blocks: usize) -> Option<u64>
 pub fn extent_of(entry: &Entry) -> Option<Extent>
     ensures fields { IfSome result (λ extent. extent ≡ record { first = entry.now.first_block; size = entry.now.size }) }
     ensures size { IfSome result (λ extent. extent.size ≤ 2 ^ 62) }
+    ensures none { IfNone result (2 ^ 62 < entry.now.size) }
 {
     if entry.size > MOST_BYTES {
         return None;

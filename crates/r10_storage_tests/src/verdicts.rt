@@ -1,9 +1,8 @@
 // All files of a medium, each with its verdict.
 use crate::packets::FIRST;
-use r10_body::FileFault;
+use r10_body::{FileFault, Refusal};
 use r10_checker::{Verdict, check_medium};
 use r10_dirblock::{DirBlock, Entries, Entry, encode, pad};
-use r10_dirchain::ChainError;
 use r10_medium::{BlockMedium, Faulty, Memory};
 use std::alloc::{AllocError, Global};
 use std::process::Abort;
@@ -48,7 +47,7 @@ fn medium(rt: &impl Abort, alloc: Global, files: &[Entry; 3]) -> Result<Memory, 
 fn told<M: BlockMedium>(
     alloc: Global,
     medium: &mut M,
-) -> Result<[Option<(usize, Verdict)>; 4], ChainError> {
+) -> Result<[Option<(usize, Verdict)>; 4], Refusal> {
     let said = check_medium(alloc, medium)?;
     Ok([0, 1, 2, 3].map(|n| said.get(n).map(|file| (file.name.len(), file.verdict))))
 }
@@ -77,7 +76,7 @@ fn a_file_outside_is_told_by_its_block(rt: HostRuntime) -> Result<(), Fail> {
     let mut medium = medium(&rt, rt.alloc(), &files)?;
     assert_eq!(rt;
         told(rt.alloc(), &mut medium),
-        Err(ChainError::BadDirectory(1))
+        Err(Refusal::BadDirectory(1))
     );
     Ok(())
 }
@@ -86,6 +85,6 @@ fn a_file_outside_is_told_by_its_block(rt: HostRuntime) -> Result<(), Fail> {
 fn a_failing_medium_has_no_verdicts(rt: HostRuntime) -> Result<(), Fail> {
     let files = [file(0, 272, true), file(0, 212, false), file(0, 1, true)];
     let mut medium = Faulty::new(medium(&rt, rt.alloc(), &files)?, 2);
-    assert_eq!(rt; told(rt.alloc(), &mut medium), Err(ChainError::Medium));
+    assert_eq!(rt; told(rt.alloc(), &mut medium), Err(Refusal::Medium));
     Ok(())
 }

@@ -2,6 +2,7 @@
 
 use crate::fault::TrialFault;
 use crate::scene::{medium_of, told};
+use r10_body::Refusal;
 use r10_checker::{Verdict, check_medium};
 use r10_dirchain::{ChainError, Directory, Listed, read_chain};
 use r10_machine::{Event, Reply, Settings};
@@ -67,7 +68,7 @@ pub fn judged_on(alloc: Global, image: &[u8]) -> Result<Option<Judged>, TrialFau
     let mut medium = medium_of(alloc, image)?;
     let files = match check_medium(alloc, &mut medium) {
         Ok(files) => files,
-        Err(ChainError::OutOfMemory) => return Err(TrialFault::Memory(AllocError)),
+        Err(Refusal::OutOfMemory) => return Err(TrialFault::Memory(AllocError)),
         Err(_) => return Ok(None),
     };
     let mut judged = Judged {
