@@ -1,2 +1,3 @@
+mod Formats
 pub mod Rounds
 pub mod Running

@@ -1,6 +1,6 @@
 -- What `sim` does.
 use Rattle.std.specs.Prelude.{◌≡◌, ℕ, List, [], Option, Some}
-use Rattle.std.specs.List.{concat}
+use Rattle.std.specs.List.{concat, last_or}
 use Rattle.std.specs.Io.KnownBytes.{Appends}
 use Rattle.toml.specs.Data.{Members}
 use Rattle.toml.specs.Parse.{parse_document}
@@ -20,28 +20,27 @@ abbrev pub IsScript : List ℕ → Config → List Event → Type 0
 IsScript text settings events =
     (table : Members) × (parse_document text ≡ Some table) × HasOnly script_keys table × AreScriptSettings table settings × AreSteps settings.channels table events
 
--- the events are a run from a fresh recorder without files, and the lines of the replies were written behind what the writer held
-pub record PlaysScript (s : Config) (events : List Event) (old new : Option (List ℕ)) : Type 0 where
-  pub failures : ℕ
-  pub replies : List Reply
+-- The events are a run from a fresh recorder without files, on a medium in memory, which does not fail. The image is what this medium reads as
+-- behind the last event: the run's last one, and it says the machine's files.
+pub record RunsOnFresh (s : Config) (events : List Event) (replies : List Reply) (image : Image) : Type 0 where
   pub images : List Image
   pub end : Machine
-  pub run : Run s (fresh s.channels [] failures) events replies images end
+  pub run : Run s (fresh s.channels [] 0) events replies images end
+  pub unfailed : end.failures ≡ 0
+  pub says : MediumSays s image end.files
+  pub last : last_or (Some image) images ≡ Some image
+
+-- the events are such a run, and the lines of the replies were written behind what the writer held
+pub record PlaysScript (s : Config) (events : List Event) (image : Image) (old new : Option (List ℕ)) : Type 0 where
+  pub replies : List Reply
+  pub ran : RunsOnFresh s events replies image
   pub lines : WritesLines old new 0 replies
 
 -- the text is a script, and was played
 abbrev pub Simulates : List ℕ → Option (List ℕ) → Option (List ℕ) → Type 0
-Simulates text old new = (settings : Config) × (events : List Event) × IsScript text settings events × PlaysScript settings events old new
-
--- the events are a run from a fresh recorder without files, and the medium that they left says the machine's files
-pub record LeavesMedium (s : Config) (events : List Event) (image : Image) : Type 0 where
-  pub failures : ℕ
-  pub replies : List Reply
-  pub images : List Image
-  pub end : Machine
-  pub run : Run s (fresh s.channels [] failures) events replies images end
-  pub says : MediumSays s image end.files
+Simulates text old new = (settings : Config) × (events : List Event) × (image : Image) × IsScript text settings events × PlaysScript settings events image old new
 
 -- the text is a script, and the image of the medium that its steps left was written
 abbrev pub WritesLeft : List ℕ → Option (List ℕ) → Option (List ℕ) → Type 0
-WritesLeft text old new = (settings : Config) × (events : List Event) × (image : Image) × IsScript text settings events × LeavesMedium settings events image × Appends old new (concat image)
+WritesLeft text old new =
+    (settings : Config) × (events : List Event) × (replies : List Reply) × (image : Image) × IsScript text settings events × RunsOnFresh settings events replies image × Appends old new (concat image)

@@ -1,7 +1,8 @@
 //! What the words of the command line ask for.
 
-ghost use Rattle.std.specs.Prelude.{◌≡◌, IfOk, OnOk, map, string_bytes};
+ghost use Rattle.std.specs.Prelude.{◌≡◌, [], IfOk, OnOk, map, string_bytes};
 ghost use Rattle.std.specs.Io.KnownBytes.{Appends};
+ghost use Rattle.std.specs.Io.Buffered.{writer_buffer, writer_contents};
 ghost use Rattle.r10_command.specs.Command.{DoesCommand, selected};
 ghost use Rattle.r10_command.specs.Status.{fault_status, EndsWithStatus, IsFailure};
 ghost use Rattle.r10_command.specs.Written.{WritesFormatted};
@@ -13,19 +14,20 @@ use r10_images::{Outcome, check_format, list_files, write_formatted};
 use r10_playback::{Selection, check_input, play_input};
 use r10_words::{Asked, FormatWords, PlayWords, WordsFault, read_words};
 use std::alloc::Global;
-use std::io::{Read, Write};
+use std::io::{BufWriter, Read, Write};
 
 /// Runs the command that the words name, the program's own name first, and answers the exit status: 0, 1 where an image
 /// refused it or a recording is faulty, 2 for wrong words or a wrong script, 3 for want of memory and for what can't be read or written.
-/// A fault goes to `faults`, as one line.
-pub fn run<R: Read, W: Write, E: Write>(
+/// A fault goes to `faults`, as one line. With 0 and 1 nothing is left in the writer's buffer: a flush that fails is a write that failed.
+pub fn run<R: Read, W: Write + Drop, E: Write>(
     alloc: Global,
     words: &[String],
     reader: &mut R,
-    writer: &mut W,
+    writer: &mut BufWriter<W>,
     faults: &mut E,
 ) -> u8
-    ensures { EndsWithStatus result (DoesCommand (map string_bytes words.now) (R.remaining reader.old) (W.contents writer.old) (W.contents writer.new)) }
+    ensures does { EndsWithStatus result (DoesCommand (map string_bytes words.now) (R.remaining reader.old) (writer_contents W.contents writer.old) (writer_contents W.contents writer.new)) }
+    ensures sent { EndsWithStatus result (λ _. writer_buffer writer.new ≡ []) }
 {
     match perform(alloc, words, reader, writer) {
         Ok(Outcome::Done) => 0,
@@ -43,13 +45,14 @@ pub fn report<E: Write>(faults: &mut E, fault: &Fault) -> u8
     fault.status()
 }
 
-fn perform<R: Read, W: Write>(
+fn perform<R: Read, W: Write + Drop>(
     alloc: Global,
     words: &[String],
     reader: &mut R,
-    writer: &mut W,
+    writer: &mut BufWriter<W>,
 ) -> Result<Outcome, Fault>
-    ensures { IfOk result (DoesCommand (map string_bytes words.now) (R.remaining reader.old) (W.contents writer.old) (W.contents writer.new)) }
+    ensures does { IfOk result (DoesCommand (map string_bytes words.now) (R.remaining reader.old) (writer_contents W.contents writer.old) (writer_contents W.contents writer.new)) }
+    ensures sent { OnOk result (writer_buffer writer.new ≡ []) }
 {
     match read_words(alloc, words) {
         Ok(Asked::Sim) => {
@@ -89,8 +92,12 @@ fn selection(play: &PlayWords) -> Selection
 }
 
 /// Writes the image of a medium that is formatted so, if it may be.
-fn write_medium<W: Write>(format: &FormatWords, writer: &mut W) -> Result<(), Fault>
-    ensures { OnOk result (WritesFormatted format.now (W.contents writer.old) (W.contents writer.new)) }
+fn write_medium<W: Write + Drop>(
+    format: &FormatWords,
+    writer: &mut BufWriter<W>,
+) -> Result<(), Fault>
+    ensures image { OnOk result (WritesFormatted format.now (writer_contents W.contents writer.old) (writer_contents W.contents writer.new)) }
+    ensures sent { OnOk result (writer_buffer writer.new ≡ []) }
 {
     let (blocks, directory) = (format.blocks, format.directory);
     let volume = format.volume.as_bytes();
@@ -101,8 +108,9 @@ fn write_medium<W: Write>(format: &FormatWords, writer: &mut W) -> Result<(), Fa
     Ok(())
 }
 
-fn print_text<W: Write>(writer: &mut W, text: &str) -> Result<(), Fault>
-    ensures { OnOk result (Appends (W.contents writer.old) (W.contents writer.new) text.now) }
+fn print_text<W: Write + Drop>(writer: &mut BufWriter<W>, text: &str) -> Result<(), Fault>
+    ensures text { OnOk result (Appends (writer_contents W.contents writer.old) (writer_contents W.contents writer.new) text.now) }
+    ensures sent { OnOk result (writer_buffer writer.new ≡ []) }
 {
     writer.write_all(text.as_bytes()).map_err(Fault::Write)?;
     writer.flush().map_err(Fault::Write)

@@ -55,7 +55,7 @@ impl From<StreamFault> for Fault {
         match fault {
             StreamFault::Memory(error) => Fault::Memory(error),
             StreamFault::Read(error) => Fault::Read(error),
-            StreamFault::Endless => Fault::Endless,
+            StreamFault::Endless { .. } => Fault::Endless,
             StreamFault::Write(error) => Fault::Write(error),
         }
     }

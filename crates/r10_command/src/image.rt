@@ -1,6 +1,7 @@
 //! The command `sim --image`: runs the steps of a script, and writes the image that they leave.
 
-ghost use Rattle.std.specs.Prelude.{OnOk, IfSome};
+ghost use Rattle.std.specs.Prelude.{◌≡◌, [], OnOk, IfSome};
+ghost use Rattle.std.specs.Io.Buffered.{writer_buffer, writer_contents};
 ghost use Rattle.r10_command.specs.Sim.{WritesLeft};
 
 use crate::fault::Fault;
@@ -9,15 +10,16 @@ use r10_images::{read_whole, write_image};
 use r10_script::Script;
 use std::alloc::Global;
 use std::io;
-use std::io::{Read, Write};
+use std::io::{BufWriter, Read, Write};
 
-/// Reads a script, runs its steps on a fresh medium in memory, and writes the medium's image, block by block.
-pub fn sim_image<R: Read, W: Write>(
+/// Reads a script, runs its steps on a fresh medium in memory, and writes the medium's image, block by block. The writer's buffer is flushed.
+pub fn sim_image<R: Read, W: Write + Drop>(
     alloc: Global,
     reader: &mut R,
-    writer: &mut W,
+    writer: &mut BufWriter<W>,
 ) -> Result<(), Fault>
-    ensures { OnOk result (IfSome (R.remaining reader.old) (λ text. WritesLeft text (W.contents writer.old) (W.contents writer.new))) }
+    ensures image { OnOk result (IfSome (R.remaining reader.old) (λ text. WritesLeft text (writer_contents W.contents writer.old) (writer_contents W.contents writer.new))) }
+    ensures sent { OnOk result (writer_buffer writer.new ≡ []) }
 {
     let text = read_whole(alloc, reader)?;
     let Script { settings, events } = script_of(alloc, text.as_slice())?;

@@ -1,11 +1,12 @@
 //! The command `sim`: runs the steps of a script.
 
-ghost use Rattle.std.specs.Prelude.{◌≡◌, ◌<◌, ◌+◌, ◌^◌, ℕ, [], length, IfOk, IfSome, OnOk};
+ghost use Rattle.std.specs.Prelude.{◌≡◌, ◌<◌, ◌+◌, ◌^◌, [], length, IfOk, IfSome, OnOk};
+ghost use Rattle.std.specs.Io.Buffered.{writer_buffer, writer_contents};
 ghost use Rattle.r10_machine.specs.Machine.{Machine, fresh};
 ghost use Rattle.r10_medium.specs.MemoryDisk.{memory_disk};
 ghost use Rattle.r10_world.specs.Telling.{WorldStandsFor};
 ghost use Rattle.r10_command.specs.Lines.{WritesLines, RunsAndWrites};
-ghost use Rattle.r10_command.specs.Sim.{IsScript, LeavesMedium, PlaysScript, Simulates};
+ghost use Rattle.r10_command.specs.Sim.{IsScript, PlaysScript, Simulates};
 
 use crate::fault::Fault;
 use r10_body::Refusal;
@@ -16,16 +17,24 @@ use r10_medium::{BlockMedium, Memory};
 use r10_script::{Script, read_script};
 use r10_world::World;
 use std::alloc::{AllocError, Global};
-use std::io::{Read, Write};
+use std::io::{BufWriter, Read, Write};
 
-/// Reads a script, runs its steps on a fresh medium in memory, and writes the lines of each reply.
-pub fn sim<R: Read, W: Write>(alloc: Global, reader: &mut R, writer: &mut W) -> Result<(), Fault>
-    ensures { OnOk result (IfSome (R.remaining reader.old) (λ text. Simulates text (W.contents writer.old) (W.contents writer.new))) }
+/// Reads a script, runs its steps on a fresh medium in memory, and writes the lines of each reply. The writer's buffer is flushed.
+pub fn sim<R: Read, W: Write + Drop>(
+    alloc: Global,
+    reader: &mut R,
+    writer: &mut BufWriter<W>,
+) -> Result<(), Fault>
+    ensures simulates { OnOk result (IfSome (R.remaining reader.old) (λ text. Simulates text (writer_contents W.contents writer.old) (writer_contents W.contents writer.new))) }
+    ensures sent { OnOk result (writer_buffer writer.new ≡ []) }
 {
     let text = read_whole(alloc, reader)?;
     let Script { settings, events } = script_of(alloc, text.as_slice())?;
     let _ = run_script(alloc, settings, events, writer)?;
-    writer.flush().map_err(Fault::Write)
+    match writer.flush() {
+        Ok(()) => Ok(()),
+        Err(error) => Err(Fault::Write(error)),
+    }
 }
 
 /// The script that the text spells.
@@ -38,15 +47,15 @@ pub(crate) fn script_of(alloc: Global, text: &[u8]) -> Result<Script, Fault>
     }
 }
 
-/// Runs the steps of a script on a fresh medium, and gives the medium back.
+/// Runs the steps of a script on a fresh medium in memory, which never fails, writes the lines of each reply, and gives the medium back. The
+/// writer is not flushed.
 pub fn run_script<W: Write>(
     alloc: Global,
     settings: Settings,
     events: Vec<Event>,
     writer: &mut W,
 ) -> Result<Memory, Fault>
-    ensures plays { OnOk result (PlaysScript settings events.items (W.contents writer.old) (W.contents writer.new)) }
-    ensures leaves { IfOk result (λ medium. LeavesMedium settings events.items (memory_disk medium).blocks) }
+    ensures { IfOk result (λ medium. PlaysScript settings events.items (memory_disk medium).blocks (W.contents writer.old) (W.contents writer.new)) }
 {
     let world = run_on_fresh(alloc, settings, events, writer)?;
     Ok(world.into_medium())
@@ -59,8 +68,7 @@ pub(crate) fn run_on_fresh<W: Write>(
     events: Vec<Event>,
     writer: &mut W,
 ) -> Result<World<Memory>, Fault>
-    ensures plays { OnOk result (PlaysScript settings events.items (W.contents writer.old) (W.contents writer.new)) }
-    ensures leaves { IfOk result (λ world. LeavesMedium settings events.items (memory_disk world.recorder.medium).blocks) }
+    ensures { IfOk result (λ world. PlaysScript settings events.items (memory_disk world.recorder.medium).blocks (W.contents writer.old) (W.contents writer.new)) }
 {
     let medium = Memory::new(alloc, settings.blocks())?;
     let mut world = fresh_world(alloc, settings, medium)?;
@@ -76,7 +84,7 @@ fn fresh_world<M: BlockMedium + Drop>(
 ) -> Result<World<M>, Fault>
     requires { length (M.disk medium).blocks ≡ settings.blocks }
     ensures config { IfOk result (λ w. w.recorder.kept.config ≡ settings) }
-    ensures stands { IfOk result (λ w. (failures : ℕ) × WorldStandsFor M.disk w (fresh settings.channels [] failures)) }
+    ensures stands { IfOk result (λ w. WorldStandsFor M.disk w (fresh settings.channels [] (M.disk w.recorder.medium).failures)) }
 {
     match r10_volume::format(&mut medium, &settings) {
         Ok(()) => (),

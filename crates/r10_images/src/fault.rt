@@ -13,9 +13,9 @@ pub enum StreamFault {
     /// The reader failed.
     #[error("cannot read: {0}")]
     Read(io::Error),
-    /// The reader was called as often as a command may, and had not ended.
+    /// The reader was called so often, as often as a command may, and had not ended.
     #[error("cannot read: the input does not end")]
-    Endless,
+    Endless { calls: u64 },
     /// The writer failed.
     #[error("cannot write: {0}")]
     Write(io::Error),

@@ -1,7 +1,8 @@
 //! The files of an image.
 
-ghost use Rattle.std.specs.Prelude.{◌≡◌, ◌++◌, IfOk, IfSome, OnOk, map, string_bytes};
+ghost use Rattle.std.specs.Prelude.{◌≡◌, ◌++◌, [], IfOk, IfSome, OnOk, map, string_bytes};
 ghost use Rattle.std.specs.Io.KnownBytes.{Appends};
+ghost use Rattle.std.specs.Io.Buffered.{writer_buffer, writer_contents};
 ghost use Rattle.r10_images.specs.Image.{image_blocks};
 ghost use Rattle.r10_images.specs.Listing.{shown_byte, shown_name, listed_file_line, listed_file_lines, refusal_line, ListsFiles};
 
@@ -13,7 +14,7 @@ use r10_dirchain::{ChainError, read_chain};
 use r10_medium::BlockMedium;
 use std::alloc::{AllocError, Global};
 use std::io;
-use std::io::{ErrorKind, Read, Write};
+use std::io::{BufWriter, ErrorKind, Read, Write};
 
 /// How a command over an image ended.
 #[derive(Clone, Copy, Debug, PartialEq, Eq, Drop)]
@@ -25,13 +26,14 @@ pub enum Outcome {
 }
 
 /// Reads an image, and writes a line for each file of its directory, in order, or the refusal where
-/// it has none. The image is held once.
-pub fn list_files<R: Read, W: Write>(
+/// it has none. The image is held once, and the writer's buffer is flushed.
+pub fn list_files<R: Read, W: Write + Drop>(
     alloc: Global,
     reader: &mut R,
-    writer: &mut W,
+    writer: &mut BufWriter<W>,
 ) -> Result<Outcome, StreamFault>
-    ensures { IfOk result (λ outcome. IfSome (R.remaining reader.old) (λ input. ListsFiles (image_blocks input) outcome (W.contents writer.old) (W.contents writer.new))) }
+    ensures lists { IfOk result (λ outcome. IfSome (R.remaining reader.old) (λ input. ListsFiles (image_blocks input) outcome (writer_contents W.contents writer.old) (writer_contents W.contents writer.new))) }
+    ensures sent { OnOk result (writer_buffer writer.new ≡ []) }
 {
     let mut image = Image::of(read_whole(alloc, reader)?);
     let outcome = list_medium(alloc, &mut image, writer)?;

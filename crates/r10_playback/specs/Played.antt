@@ -1,7 +1,7 @@
 -- The entries of a file on a medium that are asked for, and why there are none.
-use Rattle.std.specs.Prelude.{◌≡◌, ◌⊎◌, ℕ, zero, suc, ◌≤◌, true, false, List, [], ◌∷◌, length, Some, slice_get}
+use Rattle.std.specs.Prelude.{◌≡◌, ◌⊎◌, ℕ, zero, suc, ◌≤◌, true, false, List, [], ◌∷◌, length, Some, slice_get, Result, IfErr}
 use Rattle.r10_count.specs.Count.{IsCount}
-use Rattle.r10_medium.specs.Disk.{Image}
+use Rattle.r10_medium.specs.Disk.{Disk, Image, Rose}
 use Rattle.r10_dirblock.specs.Block.{is_closed}
 use Rattle.r10_dirchain.specs.Bad.{IsBad}
 use Rattle.r10_dirchain.specs.Chain.{IsDirectory}
@@ -95,3 +95,8 @@ abbrev pub IsJudgeFault : Image → Listed → PlayFault → Type 0
 IsJudgeFault image f (play_faults.Refused refusal) = (refusal ≡ play_refusals.NotStrict) × IsAtFaultOn image f
 IsJudgeFault image f play_faults.Medium = Unit {0}
 IsJudgeFault image f play_faults.OutOfMemory = Unit {0}
+
+-- the medium is blamed where it failed, and nowhere else
+pub record PlayHasCause {T : Type 0} (old new : Disk) (result : Result T PlayFault) : Type 0 where
+  pub no_fewer : old.failures ≤ new.failures
+  pub cause : IfErr result (λ fault. fault ≡ play_faults.Medium → Rose old.failures new.failures)

@@ -1,22 +1,24 @@
 //! The verdict on an input.
 
-ghost use Rattle.std.specs.Prelude.{◌≡◌, IfOk, IfSome};
+ghost use Rattle.std.specs.Prelude.{◌≡◌, [], IfOk, IfSome, OnOk};
+ghost use Rattle.std.specs.Io.Buffered.{writer_buffer, writer_contents};
 ghost use Rattle.r10_playback.specs.Checked.{verdict_outcome, Checks};
 
 use crate::words::verdict_line;
 use r10_checker::{Verdict, check_file};
 use r10_images::{Outcome, StreamFault, read_whole};
 use std::alloc::Global;
-use std::io::{Read, Write};
+use std::io::{BufWriter, Read, Write};
 
 /// Reads a recording, and writes the line of its verdict: `strict`, `lenient OPAQUE` or `faulty OFFSET FAULT`. A faulty one is
-/// refused. The recording is held once.
-pub fn check_input<R: Read, W: Write>(
+/// refused. The recording is held once, and the writer's buffer is flushed.
+pub fn check_input<R: Read, W: Write + Drop>(
     alloc: Global,
     reader: &mut R,
-    writer: &mut W,
+    writer: &mut BufWriter<W>,
 ) -> Result<Outcome, StreamFault>
-    ensures { IfOk result (λ outcome. IfSome (R.remaining reader.old) (λ bytes. Checks bytes outcome (W.contents writer.old) (W.contents writer.new))) }
+    ensures checks { IfOk result (λ outcome. IfSome (R.remaining reader.old) (λ bytes. Checks bytes outcome (writer_contents W.contents writer.old) (writer_contents W.contents writer.new))) }
+    ensures sent { OnOk result (writer_buffer writer.new ≡ []) }
 {
     let bytes = read_whole(alloc, reader)?;
     let outcome = check_bytes(alloc, bytes.as_slice(), writer)?;

@@ -6,7 +6,9 @@ ghost use Rattle.r10_dirchain.specs.Bad.{IsChainError};
 ghost use Rattle.r10_judge.specs.Judged.{TracksStrictFile};
 ghost use Rattle.r10_dirblock.specs.Block.{is_closed};
 ghost use Rattle.r10_checker.specs.Place.{bytes_on, IsPlaced};
-ghost use Rattle.r10_playback.specs.Played.{IsListedInside, IsFileFault, IsJudgeFault};
+ghost use Rattle.r10_dirchain.specs.declared.read.ChainError.TheVariants as chain_errors;
+ghost use Rattle.r10_playback.specs.Played.{IsListedInside, IsFileFault, IsJudgeFault, PlayHasCause};
+ghost use Rattle.r10_playback.specs.declared.selection.PlayFault.TheVariants as play_faults;
 
 use crate::selection::{PlayFault, PlayRefusal};
 use r10_blockout::ReadFault;
@@ -26,6 +28,7 @@ pub(crate) fn find_file<M: BlockMedium>(
     ensures found { IfOk result (λ file. IsListedInside (M.disk medium.old).blocks number file × IsPlaced (M.disk medium.old).blocks file) }
     ensures refused { IfErr result (IsFileFault (M.disk medium.old).blocks number) }
     ensures same { Unchanged (M.disk medium.old) (M.disk medium.new) }
+    ensures counts { PlayHasCause (M.disk medium.old) (M.disk medium.new) result }
 {
     let directory = match read_chain(alloc, medium) {
         Ok(directory) => directory,
@@ -53,7 +56,8 @@ fn file_at(files: &[Listed], number: usize) -> Option<Listed>
 
 /// Why there is no file where there is no directory.
 fn chain_fault(error: ChainError) -> PlayFault
-    ensures { (image : Image) (number : ℕ) → IsChainError image error → IsFileFault image number result }
+    ensures refused { (image : Image) (number : ℕ) → IsChainError image error → IsFileFault image number result }
+    ensures cause { result ≡ play_faults.Medium → error ≡ chain_errors.Medium }
 {
     match error {
         ChainError::BadDirectory(block) => PlayFault::Refused(PlayRefusal::BadDirectory(block)),
@@ -73,6 +77,7 @@ pub(crate) fn strict_tracks<M: BlockMedium>(
     ensures kept { IfOk result (λ tracks. TracksStrictFile (is_closed file.now.entry) tracks (bytes_on (M.disk medium.old).blocks file.now.entry)) }
     ensures refused { IfErr result (IsJudgeFault (M.disk medium.old).blocks file.now) }
     ensures same { Unchanged (M.disk medium.old) (M.disk medium.new) }
+    ensures counts { PlayHasCause (M.disk medium.old) (M.disk medium.new) result }
 {
     let Some(extent) = extent_of(&file.entry) else {
         return Err(PlayFault::OutOfMemory);

@@ -2,7 +2,7 @@
 
 ghost use Rattle.std.specs.Prelude.{◌≡◌, IfOk, IfErr};
 ghost use Rattle.r10_medium.specs.Disk.{Unchanged};
-ghost use Rattle.r10_playback.specs.Played.{channels_of, IsInstalment, IsPlayFault};
+ghost use Rattle.r10_playback.specs.Played.{channels_of, IsInstalment, IsPlayFault, PlayHasCause};
 
 use crate::file::{find_file, strict_tracks};
 use crate::selection::{PlayFault, PlayRefusal, Selection};
@@ -19,6 +19,7 @@ pub(crate) fn replay<M: BlockMedium>(
 ) -> Result<Reading, PlayFault>
     ensures entries { IfOk result (λ cursor. IsInstalment (M.disk medium.old).blocks selection.now cursor.queue) }
     ensures refused { IfErr result (IsPlayFault (M.disk medium.old).blocks selection.now) }
+    ensures counts { PlayHasCause (M.disk medium.old) (M.disk medium.new) result }
 {
     let (Some(from), Some(to)) = (Count::of(selection.from), Count::of(selection.to)) else {
         return Err(PlayFault::Refused(PlayRefusal::CountRange));

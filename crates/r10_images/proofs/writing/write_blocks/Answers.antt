@@ -14,8 +14,9 @@ loop-n-preserved g c =
     let n = c.loop-n.n in
     let inside : n < length image = omega (arith, c.loop-n-test.true, c.blocks-n-end.ensures) in
     let block : c.read.new.block ≡ block_at image n = c.in-Ok.ensures.read ∙ ap (λ (i : Image). block_at i n) c.loop-n.invariant.same in
-    let put : Appends (contents c.loop-n.writer) (contents c.write_block.new.writer) (block_at image n) = rw block at c.in_ok-write_block.ensures in
+    let put : Appends (contents c.loop-n.writer) (contents c.write_block.new.writer) (block_at image n) = rw block at c.in-Ok-write_block.ensures.bytes in
     record {
       same = c.in-Ok.ensures.same.reads ∙ c.loop-n.invariant.same;
+      no_fewer = omega (arith, c.loop-n.invariant.no_fewer, c.read.ensures.counts.no_fewer);
       written = rw (blocks_more image n inside) (Appends-trans (contents c.args.writer.now) (contents c.loop-n.writer) (contents c.write_block.new.writer) (concat (take n image)) (block_at image n) c.loop-n.invariant.written put);
     }

@@ -1,4 +1,4 @@
-use Rattle.std.proofs.Common.{◌≡◌, take}
+use Rattle.std.proofs.Common.{◌≡◌, ◌≤◌, take}
 use Rattle.std.specs.List.{concat}
 use Rattle.std.specs.Io.KnownBytes.{Appends}
 use Rattle.r10_images.proofs.writing.write_blocks.Given as goal
@@ -9,5 +9,6 @@ invariant-loop-n g l =
     let disk = g.M.BlockMedium.disk in
     record {
       same : (disk l.medium).blocks ≡ (disk l.fn.medium).blocks;
+      no_fewer : (disk l.fn.medium).failures ≤ (disk l.medium).failures;
       written : Appends (g.W.Write.contents l.fn.writer) (g.W.Write.contents l.writer) (concat (take l.n (disk l.fn.medium).blocks));
     }

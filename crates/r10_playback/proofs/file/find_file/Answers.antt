@@ -30,4 +30,4 @@ returns-clause-found g c =
     ((at, inside), placed_file image c.args.number file at inside)
 
 pub returns-in-Err-clause-refused : goal.returns-in-Err-clause-refused
-returns-in-Err-clause-refused g c = c.chain_fault.ensures (g.M.BlockMedium.disk c.args.medium.now).blocks c.args.number c.in-Err.ensures.bad
+returns-in-Err-clause-refused g c = c.chain_fault.ensures.refused (g.M.BlockMedium.disk c.args.medium.now).blocks c.args.number c.in-Err.ensures.bad

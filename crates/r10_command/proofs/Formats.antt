@@ -1,0 +1,36 @@
+-- What is done where the words ask for a formatted image.
+use Rattle.std.proofs.Common.{◌≡◌, ℕ, List, Option, Result, Ok, IfOk, inl, inr, refl, subst}
+use Rattle.r10_words.specs.Words.{AsksSim, AsksImage, AsksFiles, AsksCheck, AsksOther, GivesAll}
+use Rattle.r10_words.specs.declared.asked.Asked.{Asked}
+use Rattle.r10_words.specs.declared.asked.Asked.TheVariants as asked
+use Rattle.r10_words.specs.declared.asked.FormatWords.{FormatWords}
+use Rattle.r10_words.specs.declared.asked.WordsFault.{WordsFault}
+use Rattle.r10_images.specs.declared.listing.Outcome.TheVariants.{Done}
+use Rattle.r10_command.specs.Command.{DoesCommand}
+use Rattle.r10_command.specs.Written.{WritesFormatted}
+
+not_sim : (r : Result Asked WordsFault) (f : FormatWords) → r ≡ Ok asked.Sim → r ≡ Ok (asked.Format f) → ⊥
+not_sim r f a b = cc
+
+not_image : (r : Result Asked WordsFault) (f : FormatWords) → r ≡ Ok asked.Image → r ≡ Ok (asked.Format f) → ⊥
+not_image r f a b = cc
+
+not_files : (r : Result Asked WordsFault) (f : FormatWords) → r ≡ Ok asked.Files → r ≡ Ok (asked.Format f) → ⊥
+not_files r f a b = cc
+
+not_check : (r : Result Asked WordsFault) (f : FormatWords) → r ≡ Ok asked.Check → r ≡ Ok (asked.Format f) → ⊥
+not_check r f a b = cc
+
+pub formats : (words : List (List ℕ)) (input old new : Option (List ℕ)) (r : Result Asked WordsFault) (f : FormatWords) → r ≡ Ok (asked.Format f)
+    → (AsksSim words → r ≡ Ok asked.Sim) → (AsksImage words → r ≡ Ok asked.Image) → (AsksFiles words → r ≡ Ok asked.Files) → (AsksCheck words → r ≡ Ok asked.Check)
+    → ((AsksSim words → ⊥) → (AsksImage words → ⊥) → (AsksFiles words → ⊥) → (AsksCheck words → ⊥) → IfOk r (AsksOther words))
+    → WritesFormatted f old new → DoesCommand words input old new Done
+formats words input old new r f is sim image files check other written = record {
+  sim = λ asks. absurd (not_sim r f (sim asks) is);
+  image = λ asks. absurd (not_image r f (image asks) is);
+  files = λ asks. absurd (not_files r f (files asks) is);
+  check = λ asks. absurd (not_check r f (check asks) is);
+  other = λ no_sim no_image no_files no_check.
+      let gives : GivesAll words f = subst (λ (s : Result Asked WordsFault). IfOk s (AsksOther words)) is (other no_sim no_image no_files no_check) in
+      inr (refl, inl (f, gives, written));
+}
