@@ -1,6 +1,6 @@
 use std::alloc::{AllocError, Global};
 use std::io;
-use std::io::{ErrorKind, Read, Write};
+use std::io::{BufWriter, ErrorKind, Read, Write};
 use std::test::Fail;
 
 /// A script of one step.
@@ -46,10 +46,11 @@ impl Read for Slow {
     }
 }
 
-/// A writer that takes so many bytes, and then no more.
+/// A writer that takes so many bytes, and then no more; whether it can pass them on.
 #[derive(Drop)]
 struct Full {
     room: usize,
+    flushes: bool,
 }
 
 impl Write for Full {
@@ -63,7 +64,11 @@ impl Write for Full {
     }
 
     fn flush(&mut self) -> io::Result<()> {
-        Ok(())
+        if self.flushes {
+            Ok(())
+        } else {
+            Err(io::Error::from(ErrorKind::BrokenPipe))
+        }
     }
 }
 
@@ -71,34 +76,39 @@ fn no_words(alloc: Global) -> Vec<String> {
     Vec::new(alloc)
 }
 
-fn one_word(alloc: Global, text: &str) -> Result<Vec<String>, AllocError> {
+/// The program's name, and these words.
+fn words_of(alloc: Global, line: &[&str]) -> Result<Vec<String>, AllocError> {
     let mut words = Vec::new(alloc);
     words.push(String::from_str(alloc, "r10")?)?;
-    words.push(String::from_str(alloc, text)?)?;
+    for word in line {
+        words.push(String::from_str(alloc, word)?)?;
+    }
     Ok(words)
 }
 
-/// The status, the lines and the fault of a run over a slow reader.
+/// The status, how many bytes are left in the buffer, the lines and the fault of a run over a slow reader.
 fn read_slowly(alloc: Global, fails: bool) -> Result<String, Fail> {
     let mut reader = Slow {
         left: SCRIPT.as_bytes(),
         interrupted: false,
         fails,
     };
-    let mut lines = Vec::new(alloc);
+    let mut lines = BufWriter::new(alloc, Vec::new(alloc))?;
     let mut said = Vec::new(alloc);
     let words = no_words(alloc);
     let status = r10_command::run(alloc, words.as_slice(), &mut reader, &mut lines, &mut said);
+    let (lines, left) = lines.into_parts();
+    let left = left.len();
     let lines = String::from_utf8(lines)?;
     let said = String::from_utf8(said)?;
-    Ok(format!(in alloc; "{status} {lines}{said}")?)
+    Ok(format!(in alloc; "{status} {left} {lines}{said}")?)
 }
 
-/// The status and the fault where the writer takes so many bytes.
-fn write_into(alloc: Global, word: &str, room: usize) -> Result<String, Fail> {
-    let words = one_word(alloc, word)?;
+/// The status and the fault where the writer takes so many bytes, and passes them on or doesn't.
+fn write_into(alloc: Global, line: &[&str], room: usize, flushes: bool) -> Result<String, Fail> {
+    let words = words_of(alloc, line)?;
     let mut reader = SCRIPT.as_bytes();
-    let mut full = Full { room };
+    let mut full = BufWriter::new(alloc, Full { room, flushes })?;
     let mut said = Vec::new(alloc);
     let status = r10_command::run(alloc, words.as_slice(), &mut reader, &mut full, &mut said);
     let said = String::from_utf8(said)?;
@@ -109,7 +119,7 @@ fn write_into(alloc: Global, word: &str, room: usize) -> Result<String, Fail> {
 #[test]
 fn a_slow_reader_is_read_whole(rt: HostRuntime) -> Result<(), Fail> {
     let seen = read_slowly(rt.alloc(), false)?;
-    assert_eq!(rt; seen.as_str(), "0 1 refused 2 NotMounted\n");
+    assert_eq!(rt; seen.as_str(), "0 0 1 refused 2 NotMounted\n");
     Ok(())
 }
 
@@ -117,7 +127,7 @@ fn a_slow_reader_is_read_whole(rt: HostRuntime) -> Result<(), Fail> {
 #[test]
 fn a_failing_reader_is_status_3(rt: HostRuntime) -> Result<(), Fail> {
     let seen = read_slowly(rt.alloc(), true)?;
-    assert_eq!(rt; seen.as_str(), "3 r10: cannot read: timed out\n");
+    assert_eq!(rt; seen.as_str(), "3 0 r10: cannot read: timed out\n");
     Ok(())
 }
 
@@ -131,8 +141,35 @@ fn a_full_writer_is_status_3(rt: HostRuntime) -> Result<(), Fail> {
         ("--help", 0),
         ("--help", 100),
     ] {
-        let seen = write_into(rt.alloc(), word, room)?;
+        let seen = write_into(rt.alloc(), &[word], room, true)?;
         assert_eq!(rt; seen.as_str(), "3 r10: cannot write: no storage space\n");
+    }
+    Ok(())
+}
+
+/// A writer that takes all and can't pass it on is status 3, whatever the command.
+#[test]
+fn a_failed_flush_is_status_3(rt: HostRuntime) -> Result<(), Fail> {
+    let lines: [&[&str]; 7] = [
+        &["sim"],
+        &["sim", "--image"],
+        &["files"],
+        &["check"],
+        &["play"],
+        &[
+            "format",
+            "--blocks",
+            "16",
+            "--directory",
+            "2",
+            "--volume",
+            "VOL",
+        ],
+        &["--help"],
+    ];
+    for line in lines {
+        let seen = write_into(rt.alloc(), line, usize::MAX, false)?;
+        assert_eq!(rt; seen.as_str(), "3 r10: cannot write: broken pipe\n");
     }
     Ok(())
 }

@@ -1,3 +1,4 @@
+mod Commanded
 mod Lengths
 mod Lines
 mod Parts

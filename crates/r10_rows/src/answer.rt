@@ -10,7 +10,7 @@ use crate::fault::RowsFault;
 use r10_images::Outcome;
 use r10_playback::judge_closing;
 use std::alloc::{AllocError, Global};
-use std::io::Write;
+use std::io::{BufWriter, Write};
 
 /// What a case comes to.
 #[derive(Debug, Drop)]
@@ -41,20 +41,23 @@ fn answer_words(alloc: Global, words: &[String], input: &[u8]) -> Result<Answer,
     if asks_judge(words, "unclosed") {
         return judge(alloc, input, false);
     }
-    Ok(answer_command(alloc, words, input))
+    answer_command(alloc, words, input)
 }
 
-fn answer_command(alloc: Global, words: &[String], input: &[u8]) -> Answer
-    ensures { IsCommanded (map string_bytes words.now) input.now result }
+fn answer_command(alloc: Global, words: &[String], input: &[u8]) -> Result<Answer, RowsFault>
+    ensures { IfOk result (λ a. IsCommanded (map string_bytes words.now) input.now a) }
 {
     let mut reader = input;
-    let mut lines = Vec::new(alloc);
+    let mut lines = BufWriter::new(alloc, Vec::new(alloc))?;
     let mut said = Vec::new(alloc);
     let status = r10_command::run(alloc, words, &mut reader, &mut lines, &mut said);
-    Answer {
-        status,
-        lines,
-        said,
+    match lines.into_inner() {
+        Ok(lines) => Ok(Answer {
+            status,
+            lines,
+            said,
+        }),
+        Err(_) => Err(RowsFault::Memory(AllocError)),
     }
 }
 
