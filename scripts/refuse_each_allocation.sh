@@ -1,74 +1,81 @@
 #!/usr/bin/env bash
-# Refuses one allocation after the other of a run over examples/NAME.toml, and looks at what the program makes of it.
+# Refuses each allocation in turn of the runs in crates/r10_trials/stdin that do again what was refused for want of memory, and counts what came.
 # Run by hand:
 #
-#     scripts/refuse_each_allocation.sh NAME [FIRST [LAST]]
+#     scripts/refuse_each_allocation.sh [NUMBER]
 #
-# `first` has one file, `files` several, with a commit, a search, a second mount and an erase.
-# Each number is a build of its own without proofs, which takes a minute or two.
-#
-# The program ends with the message "r10: out of memory" and status 3, behind no line or right lines; or one step's line
-# is "K refused 30 OutOfMemory", the lines before it are right, and each step has one; or all lines are right, as where it
-# goes on from the number that a run answered. Without LAST the script ends after six of these in a row.
+# A build without proofs refuses the allocation of this number, 3000 if none is given, in each of its runs. A run asks for memory as often as its
+# title says before it begins, and once more behind it: so with many asks one of these is refused, with none one of those behind, and by both it
+# is known which numbers of asks have an allocation of the run refused. A second build tries all of these, each allocation once. It prints a line for
+# each run, and ends with status 1 where one did not come as wanted. Each build takes a minute or two.
 set -u
 
-usage() {
+number=${1:-3000}
+top=$(cd "$(dirname "${BASH_SOURCE[0]}")/.." && pwd)
+if [ $# -gt 1 ] || ! [[ $number =~ ^[1-9][0-9]*$ ]]; then
     sed -n '2,5p' "$0" | cut -c 3-
     exit 2
-}
-
-# Whether these lines are the first of the expected ones.
-is_front() {
-    head -n "$(wc -l <"$1")" "$expected" | cmp -s - "$1"
-}
-
-# The number of steps that have a line here; the lines of a listing or of a status have none.
-steps_in() {
-    grep -c '^[0-9]' "$1"
-}
-
-judge() {
-    local status
-    (cd "$top/crates/r10_cli" && rt try --fail-alloc "$1" -- sim <"$script") >"$work/lines" 2>"$work/notes"
-    status=$?
-    grep -q '^run=ended' "$work/notes" || return 1
-    if [ "$status" = 3 ]; then
-        grep '^r10: ' "$work/notes" | cmp -s - <(echo 'r10: out of memory') || return 1
-        is_front "$work/lines" || return 1
-        echo "ended behind $(wc -l <"$work/lines") lines"
-        return 0
-    fi
-    [ "$status" = 0 ] || return 1
-    cmp -s "$work/lines" "$expected" && echo untouched && return 0
-    [ "$(grep -c ' refused 30 OutOfMemory$' "$work/lines")" = 1 ] || return 1
-    [ "$(steps_in "$work/lines")" = "$(steps_in "$expected")" ] || return 1
-    sed '/ refused 30 OutOfMemory$/,$d' "$work/lines" >"$work/before"
-    is_front "$work/before" || return 1
-    grep ' refused 30 OutOfMemory$' "$work/lines"
-}
-
-[ $# -ge 1 ] && [ $# -le 3 ] || usage
-number=${2:-1}
-last=${3:-}
-top=$(cd "$(dirname "${BASH_SOURCE[0]}")/.." && pwd)
-script=$top/examples/$1.toml
-expected=$top/examples/$1.expected
-[ -f "$script" ] || usage
+fi
 work=$(mktemp -d)
 trap 'rm -rf "$work"' EXIT
 
-untouched=0
-while [ "$untouched" -lt 6 ] && { [ -z "$last" ] || [ "$number" -le "$last" ]; }; do
-    if ! seen=$(judge "$number"); then
-        echo "$number: NOT AS IT SHOULD BE"
-        cat "$work/lines" "$work/notes"
+# The names of such runs.
+names() {
+    awk '/^== [^ ]+ (again|runs|judges) / { print $2 }' "$top/crates/r10_trials/stdin"
+}
+
+# The run of this name with so many asks, as a file of the folder of cases.
+put_case() {
+    mkdir -p "$work/cases"
+    awk -v name="$1" -v asks="$2" '
+        /^== / { on = $2 == name; if (on) { $4 = asks } }
+        on { print }
+    ' "$top/crates/r10_trials/stdin" >"$work/cases/$1.$2"
+}
+
+# Runs the cases, and leaves what came of each: its name, its asks, and a line.
+run_cases() {
+    (cd "$top/crates/r10_trials" && rt try --fail-alloc "$number" --cases "$work/cases") >"$work/lines" 2>"$work/notes"
+    rm -r "$work/cases"
+    awk '
+        /^== [^ ]+ (again|runs|judges) / { title = $2 " " $4; next }
+        title != "" { print title, $0; title = "" }
+    ' "$work/lines" >"$work/came"
+}
+
+# How many asks came before a refused one in the run of this name with so many.
+asks_of() {
+    sed -n "s/^$1 $2 .* refused behind \([0-9]*\) asks $3\$/\1/p" "$work/came"
+}
+
+for name in $(names); do
+    put_case "$name" 0
+    put_case "$name" "$number"
+done
+run_cases
+bad=0
+for name in $(names); do
+    from=$(asks_of "$name" 0 'at the end')
+    to=$(asks_of "$name" "$number" before)
+    if [ -z "$from" ] || [ -z "$to" ]; then
+        echo "$name: NUMBER is too low, or the run did not end"
+        tail -3 "$work/notes"
         exit 1
     fi
-    sed "s/^/$number: /" <<<"$seen"
-    if [ "$seen" = untouched ]; then
-        untouched=$((untouched + 1))
-    else
-        untouched=0
-    fi
-    number=$((number + 1))
+    echo "$name $((to - from))" >>"$work/wanted"
+    for asks in $(seq $((from + 1)) "$to"); do
+        put_case "$name" "$asks"
+    done
 done
+run_cases
+while read -r name many; do
+    grep "^$name " "$work/came" | cut -d ' ' -f 3- | sort | uniq -c >"$work/counts"
+    echo "$name: each of $many allocations refused"
+    cat "$work/counts"
+    seen=$(awk '{ seen += $1 } END { print seen + 0 }' "$work/counts")
+    if [ "$seen" != "$many" ] || grep -q 'not as wanted\|refused behind' "$work/counts"; then
+        echo "  NOT AS IT SHOULD BE"
+        bad=1
+    fi
+done <"$work/wanted"
+exit $bad
