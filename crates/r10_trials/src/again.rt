@@ -1,13 +1,15 @@
-//! Steps that are told again where memory was refused.
+//! What is done again where memory was refused.
 
 use crate::course::{Course, one_of};
 use crate::fault::TrialFault;
-use crate::scene::{medium_of, tell, world_over};
+use crate::scene::{image_behind, medium_of, tell, world_over};
+use crate::shown::shown_on;
 use r10_body::Refusal;
+use r10_checker::{Verdict, check_file};
 use r10_machine::{Event, Reply};
 use r10_medium::Memory;
-use r10_world::World;
-use std::alloc::Global;
+use r10_world::{World, run};
+use std::alloc::{AllocError, Global};
 
 /// How a step went.
 #[derive(Clone, Copy, Debug, PartialEq, Eq)]
@@ -20,32 +22,143 @@ enum Told {
     Otherwise,
 }
 
-/// Asks for memory so often, and gives it back.
-fn ask(alloc: Global, times: u32) {
-    for _ in 0..times {
-        let _ = Vec::<u8>::with_capacity(alloc, 1);
+/// How often memory is asked for behind what is done: more often than a number that is refused.
+const BEHIND: u32 = 5_000;
+
+/// Asks for memory so often, and gives it back. It answers how many asks came before one that was refused.
+fn ask(alloc: Global, times: u32) -> Option<u32> {
+    let mut refused = None;
+    for asked in 0..times {
+        let is_refused = Vec::<u8>::with_capacity(alloc, 1).is_err();
+        if is_refused && refused.is_none() {
+            refused = Some(asked);
+        }
+    }
+    refused
+}
+
+/// The line of what came, where memory was asked for before and behind it.
+fn line_of(
+    alloc: Global,
+    came: &str,
+    before: Option<u32>,
+    behind: Option<u32>,
+) -> Result<String, AllocError> {
+    match (before, behind) {
+        (Some(asks), _) => format!(in alloc; "{came}, refused behind {asks} asks before\n"),
+        (None, Some(asks)) => format!(in alloc; "{came}, refused behind {asks} asks at the end\n"),
+        (None, None) => format!(in alloc; "{came}\n"),
     }
 }
 
-/// Asks for memory so often, so that a refused allocation of a fixed number falls on another one of the course; then does each step of the
-/// course, again where it was refused for want of memory. It answers the line of what came.
-pub fn tell_again(alloc: Global, course: &Course, asks: u32) -> Result<&'static str, TrialFault> {
+/// Asks for memory so often, so that a refused allocation of a fixed number falls on another one behind these; then makes a recorder,
+/// once more where memory is refused. It answers what came of the asks too.
+fn made_behind(
+    alloc: Global,
+    course: &Course,
+    asks: u32,
+) -> Result<(World<Memory>, Told, Option<u32>), TrialFault> {
     let (medium, second) = (
         medium_of(alloc, course.image.as_slice())?,
         medium_of(alloc, course.image.as_slice())?,
     );
-    ask(alloc, asks);
-    let (mut world, made) = match world_over(alloc, &course.settings, medium) {
+    let before = ask(alloc, asks);
+    let (world, made) = match world_over(alloc, &course.settings, medium) {
         Ok(world) => (world, Told::Once),
         Err(_) => (world_over(alloc, &course.settings, second)?, Told::Again),
     };
+    Ok((world, made, before))
+}
+
+/// Whether the recorder's medium reads as these bytes; they are read once more where memory is refused.
+fn reads_as(alloc: Global, world: World<Memory>, wanted: &[u8]) -> bool {
+    let medium = world.into_medium();
+    let image = match medium.image(alloc) {
+        Ok(image) => Ok(image),
+        Err(_) => medium.image(alloc),
+    };
+    match image {
+        Ok(image) => *image.as_slice() == *wanted,
+        Err(_) => false,
+    }
+}
+
+/// Does each step of the course behind so many asks for memory, again where it was refused for want of memory. It answers the line of what
+/// came: `as wanted` where each reply is that of a run without refusals, and the medium then reads as behind that run.
+pub fn tell_again(alloc: Global, course: &Course, asks: u32) -> Result<String, TrialFault> {
+    let (image, events) = (course.image.as_slice(), course.events.as_slice());
+    let end = image_behind(alloc, &course.settings, image, events)?;
+    let (mut world, made, before) = made_behind(alloc, course, asks)?;
     let told = tell_each(alloc, course, &mut world);
-    Ok(match (made, told) {
-        (_, Told::Otherwise) => "not as wanted\n",
-        (_, Told::Again) => "as wanted, a step was told again\n",
-        (Told::Once, Told::Once) => "as wanted\n",
-        (_, Told::Once) => "as wanted, the recorder was made again\n",
-    })
+    let reads = reads_as(alloc, world, end.as_slice());
+    let behind = ask(alloc, BEHIND);
+    let came = match (made, told) {
+        _ if !reads => "not as wanted",
+        (_, Told::Otherwise) => "not as wanted",
+        (_, Told::Again) => "as wanted, a step was told again",
+        (Told::Once, Told::Once) => "as wanted",
+        (_, Told::Once) => "as wanted, the recorder was made again",
+    };
+    Ok(line_of(alloc, came, before, behind)?)
+}
+
+/// Runs the whole course in one call behind so many asks for memory, and goes on behind the number that it answered where it ended early.
+/// It answers the line of what came; replies are compared up to a step that was refused for want of memory.
+pub fn run_on(alloc: Global, course: &Course, asks: u32) -> Result<String, TrialFault> {
+    let (mut world, made, before) = made_behind(alloc, course, asks)?;
+    let events = course.events.as_slice();
+    let mut replies = Vec::new(alloc);
+    let done = match run(&mut world, events, &mut replies) {
+        Ok(done) => done,
+        Err(_) => 0,
+    };
+    if done < events.len() {
+        let _ = run(&mut world, &events[done..], &mut replies);
+    }
+    let behind = ask(alloc, BEHIND);
+    let (came, wanted) = (replies.as_slice(), course.replies.as_slice());
+    let alike = came
+        .iter()
+        .zip(wanted)
+        .position(|(reply, wanted)| *reply != *wanted);
+    let came = match alike {
+        Some(place) if is_refused_at(came, place) => "as wanted, up to a step that was refused",
+        Some(_) => "not as wanted",
+        None if came.len() != wanted.len() => "not as wanted",
+        None if done < events.len() => "as wanted, the run went on",
+        None if made == Told::Again => "as wanted, the recorder was made again",
+        None => "as wanted",
+    };
+    Ok(line_of(alloc, came, before, behind)?)
+}
+
+/// Whether the reply in this place says that memory was refused.
+fn is_refused_at(replies: &[Reply], place: usize) -> bool {
+    match replies.get(place) {
+        Some(reply) => *reply == Reply::Refused(Refusal::OutOfMemory),
+        None => false,
+    }
+}
+
+/// Judges the bytes of the files that the course finds as one file, behind so many asks for memory, and once more where memory is refused.
+/// It answers the line of what came.
+pub fn judge_again(alloc: Global, course: &Course, asks: u32) -> Result<String, TrialFault> {
+    let shown = shown_on(alloc, &course.settings, course.image.as_slice())?;
+    let bytes = shown.bytes.as_slice();
+    let before = ask(alloc, asks);
+    let (verdict, told) = match check_file(alloc, bytes) {
+        Ok(verdict) => (verdict, Told::Once),
+        Err(_) => (check_file(alloc, bytes)?, Told::Again),
+    };
+    let behind = ask(alloc, BEHIND);
+    let came = if verdict != Verdict::Strict {
+        "not as wanted"
+    } else if told == Told::Again {
+        "as wanted, judged again"
+    } else {
+        "as wanted"
+    };
+    Ok(line_of(alloc, came, before, behind)?)
 }
 
 fn tell_each(alloc: Global, course: &Course, world: &mut World<Memory>) -> Told {

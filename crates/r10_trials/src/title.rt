@@ -32,6 +32,16 @@ pub enum Task {
         asks: u32,
         first: usize,
     },
+    /// Behind so many steps all others are run at once, and run on behind the number that was answered, after so many asks for memory.
+    Runs {
+        asks: u32,
+        first: usize,
+    },
+    /// The bytes of the files that so many steps leave are judged as one file, again where memory was refused, after so many asks for memory.
+    Judges {
+        asks: u32,
+        first: usize,
+    },
 }
 
 /// A trial, as it stands in the input.
@@ -51,7 +61,7 @@ pub fn trial_of(place: usize, lines: &str) -> Result<Trial<'_>, TrialFault> {
 }
 
 /// What the title of the trial in this place asks for: `NAME each CALLS STEPS`, `NAME fails CALL STEPS`, `NAME stops CALLS STEPS`,
-/// `NAME spoils PLACE BYTE STEPS` or `NAME again ASKS STEPS`.
+/// `NAME spoils PLACE BYTE STEPS`, `NAME again ASKS STEPS`, `NAME runs ASKS STEPS` or `NAME judges ASKS STEPS`.
 pub fn task_of(place: usize, title: &str) -> Result<Task, TrialFault> {
     match words_of(title) {
         Some(task) => Ok(task),
@@ -85,6 +95,14 @@ fn words_of(title: &str) -> Option<Task> {
         "again" => {
             let asks = words.next()?.parse().ok()?;
             Some(Task::Again { asks, first })
+        }
+        "runs" => {
+            let asks = words.next()?.parse().ok()?;
+            Some(Task::Runs { asks, first })
+        }
+        "judges" => {
+            let asks = words.next()?.parse().ok()?;
+            Some(Task::Judges { asks, first })
         }
         _ => None,
     }

@@ -1,6 +1,6 @@
 //! Trials in order.
 
-use crate::again::tell_again;
+use crate::again::{judge_again, run_on, tell_again};
 use crate::course::{Course, course_before, course_behind};
 use crate::each::try_each;
 use crate::fault::TrialFault;
@@ -71,6 +71,18 @@ fn try_one<W: Write>(
         Task::Again { asks, first } => {
             let course = course_behind(alloc, script, first)?;
             let line = tell_again(alloc, &course, asks)?;
+            writer.write_all(line.as_bytes())?;
+            Ok(Row::default())
+        }
+        Task::Runs { asks, first } => {
+            let course = course_behind(alloc, script, first)?;
+            let line = run_on(alloc, &course, asks)?;
+            writer.write_all(line.as_bytes())?;
+            Ok(Row::default())
+        }
+        Task::Judges { asks, first } => {
+            let course = course_behind(alloc, script, first)?;
+            let line = judge_again(alloc, &course, asks)?;
             writer.write_all(line.as_bytes())?;
             Ok(Row::default())
         }
