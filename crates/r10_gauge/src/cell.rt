@@ -1,0 +1,57 @@
+// The cell, its rule, and the kinds of step.
+use atomic_table::Split;
+use crossbeam_utils::atomic::seq_cell::{Pass, RuledSeqCell};
+use crossbeam_utils::rule::{Outcome, Protocol};
+use r10_body::Glance;
+use std::collections::LinkedList;
+
+/// What a seat knows: what was published up to its last step, and whether it is the one that publishes. No value of it is made.
+pub(crate) struct SeatKnows {
+    pub(crate) writes: bool,
+    pub(crate) seen: LinkedList<Glance>,
+}
+
+/// The rule: what is published is one growing list, which begins with what each seat has seen, and the words are its last triple.
+pub(crate) struct OneList;
+
+impl Protocol<[u64; 3], SeatKnows> for OneList {
+    ghost use Rattle.r10_gauge.specs.Seats.{KeepsOneList, making_seat};
+
+    ghost holds = { KeepsOneList };
+
+    ghost first = { making_seat };
+}
+
+/// A step that publishes.
+pub(crate) struct Publishing;
+
+impl Outcome<[u64; 3], SeatKnows> for Publishing {
+    ghost use Rattle.r10_gauge.specs.Seats.{GrewByWords};
+
+    ghost then = { GrewByWords };
+}
+
+/// A step that looks.
+pub(crate) struct Glancing;
+
+impl Outcome<[u64; 3], SeatKnows> for Glancing {
+    ghost use Rattle.r10_gauge.specs.Seats.{SawAll};
+
+    ghost then = { SawAll };
+}
+
+/// A step that cuts off a seat that has seen the same.
+pub(crate) struct Splitting;
+
+impl Split<SeatKnows> for Splitting {
+    ghost use Rattle.r10_gauge.specs.Seats.{reading_seat};
+
+    ghost left = { λ v. v };
+
+    ghost right = { λ v. reading_seat v.seen };
+}
+
+pub(crate) type Cell = RuledSeqCell<[u64; 3], SeatKnows, OneList, 3>;
+
+/// A seat at the cell.
+pub(crate) type Seat = Pass<[u64; 3], SeatKnows>;

@@ -1,0 +1,87 @@
+//! The publishing end.
+
+ghost use Rattle.std.specs.Prelude.{◌≡◌, ◌^◌, ◌-◌, min, [], ◌∷◌, ◌++◌, length, IfOk};
+ghost use Rattle.r10_gauge.specs.Published.{triple, nothing_published, commits_of};
+
+use crate::cell::{Cell, Publishing, Seat, Splitting};
+use crate::pass::Pass;
+use crate::watch::Watch;
+use r10_body::Glance;
+use std::alloc::{AllocError, Global};
+use std::marker::Model;
+use std::sync::{Arc, Wait};
+
+/// The publishing end of a gauge. Contracts see which gauge it is, and all that was published at it.
+#[derive(Drop)]
+pub struct Gauge {
+    cell: Arc<Cell, Global>,
+    seat: Seat,
+    commits: u64,
+}
+
+impl Model for Gauge {
+    ghost use Rattle.std.specs.Prelude.{◌≡◌, ◌<◌, length};
+    ghost use Rattle.std.specs.Arc.{arc_value};
+    ghost use Rattle.crossbeam_utils.specs.Seq.{cell_view};
+    ghost use Rattle.r10_gauge.specs.Published.{PublishingEnd, commits_of};
+    ghost use Rattle.r10_gauge.specs.Seats.{writing_seat};
+
+    ghost Value = { PublishingEnd };
+
+    ghost view = { λ g. record { cell = g.seat.table_id; published = (cell_view g.seat).seen } };
+
+    ghost invariant = { λ g.
+        (g.seat.table_id ≡ (arc_value g.cell).table.shared.table_id)
+        × (cell_view g.seat ≡ writing_seat (cell_view g.seat).seen)
+        × (0 < length (cell_view g.seat).seen)
+        × (g.commits ≡ commits_of (cell_view g.seat).seen) };
+}
+
+impl Gauge {
+    /// A gauge at which nothing was published but three zeros, the end at which threads look, and the first pass, which has seen them.
+    /// This takes all the memory that the gauge ever takes.
+    pub fn new(alloc: Global) -> Result<(Gauge, Watch, Pass), AllocError>
+        ensures gauge { IfOk result (λ r. r.0.published ≡ nothing_published) }
+        ensures pass { IfOk result (λ r. r.2.seen ≡ nothing_published) }
+        ensures one { IfOk result (λ r. (r.1 ≡ r.0.cell) × (r.2.cell ≡ r.0.cell)) }
+    {
+        let (cell, mut seat) = Cell::ruled(alloc, [0, 0, 0])?;
+        let pass = Pass {
+            seat: cell.split_pass::<Splitting>(&mut seat),
+            last: Glance {
+                commits: 0,
+                file: 0,
+                bytes: 0,
+            },
+        };
+        let cell = Arc::new(alloc, cell)?;
+        let watch = Watch {
+            cell: Arc::try_clone(&cell)?,
+        };
+        let gauge = Gauge {
+            cell,
+            seat,
+            commits: 0,
+        };
+        Ok((gauge, watch, pass))
+    }
+
+    /// Publishes the number of a file and how many of its bytes are shown, as one triple with the number of this publication, from 1 up to
+    /// `u64::MAX`, where it stays. This takes no memory.
+    pub fn publish<R: Wait>(&mut self, rt: &R, file: u64, bytes: u64)
+        ensures same { self.new.cell ≡ self.old.cell }
+        ensures grows { self.new.published ≡ self.old.published ++ triple (min (length self.old.published) (2 ^ 64 - 1)) file bytes ∷ [] }
+    {
+        let commits = self.commits.saturating_add(1);
+        self.cell
+            .swap_as::<Publishing, R>(rt, &mut self.seat, [commits, file, bytes]);
+        self.commits = commits;
+    }
+
+    /// How often something was published, up to `u64::MAX`, where it stays.
+    pub fn commits(&self) -> u64
+        ensures { result ≡ commits_of self.now.published }
+    {
+        self.commits
+    }
+}

@@ -1,0 +1,40 @@
+//! What a thread has seen.
+
+ghost use Rattle.std.specs.Prelude.{◌≡◌};
+ghost use Rattle.r10_gauge.specs.Published.{last_triple, commits_of};
+
+use crate::cell::Seat;
+use r10_body::Glance;
+use std::marker::Model;
+
+/// What a thread has seen of what is published, with the last of it. Contracts see at which gauge, and all that was seen.
+#[derive(Drop)]
+pub struct Pass {
+    pub(crate) seat: Seat,
+    pub(crate) last: Glance,
+}
+
+impl Model for Pass {
+    ghost use Rattle.std.specs.Prelude.{◌≡◌, ◌<◌, length};
+    ghost use Rattle.crossbeam_utils.specs.Seq.{cell_view};
+    ghost use Rattle.r10_gauge.specs.Published.{LookingEnd, last_triple, AreNumbered};
+
+    ghost Value = { LookingEnd };
+
+    ghost view = { λ p. record { cell = p.seat.table_id; seen = (cell_view p.seat).seen } };
+
+    ghost invariant = { λ p.
+        (p.last ≡ last_triple (cell_view p.seat).seen)
+        × (0 < length (cell_view p.seat).seen)
+        × AreNumbered (cell_view p.seat).seen };
+}
+
+impl Pass {
+    /// The last triple that was seen, without another look. Its number says how many were seen.
+    pub fn last(&self) -> Glance
+        ensures last { result ≡ last_triple self.now.seen }
+        ensures commits { result.commits ≡ commits_of self.now.seen }
+    {
+        self.last
+    }
+}
