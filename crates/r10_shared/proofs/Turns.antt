@@ -1,0 +1,58 @@
+-- What turns of a feed come to.
+use Rattle.std.proofs.Common.{◌≡◌, ℕ, ◌+◌, List, [], ◌++◌, map, cond, refl, sym, ap, ◌∙◌, append_assoc, arith}
+use Rattle.std.proofs.lemmas.List.{append-nil, map-append}
+use Rattle.std.proofs.lemmas.List.Sums.{sum_by-append}
+use Rattle.r10_body.specs.declared.entry.Timed.{Timed}
+use Rattle.r10_machine.specs.Machine.{saturated}
+use Rattle.r10_port.specs.Ends.{Sending, sent}
+use Rattle.r10_source.specs.declared.pump.Pumped.{Pumped}
+use Rattle.r10_source.specs.Pumps.{Tried, PumpsSource, is_accepted, is_refused}
+use Rattle.r10_source.proofs.Feeding.{offers_join, offers_sent, offers_same}
+use Rattle.r10_shared.specs.Feeding.{FedFrom}
+
+-- so much was done, and this is left
+abbrev pub FedTo : List Timed → List Timed → Sending → Sending → ℕ → ℕ → Type 0
+FedTo a b p q accepted refused = (fed : FedFrom a p q accepted refused) × (fed.left ≡ b)
+
+-- nothing yet
+pub fed_none : (a : List Timed) (p : Sending) → FedTo a a p p 0 0
+fed_none a p = (
+  record {
+    tried = [];
+    left = a;
+    given = refl;
+    offers = refl;
+    same = (refl, refl);
+    sent_is = sym (append-nil (sent p));
+    accepted_is = refl;
+    refused_is = refl;
+  },
+  refl,
+)
+
+abbrev items_of : List Tried → List Timed
+items_of tried = map (λ (t : Tried). t.item) tried
+
+-- so far, and then a pump of the rest
+pub fed_join : (n : ℕ) (a b c : List Timed) (p q r : Sending) (x : Pumped) (accepted refused accepted' refused' : ℕ) → FedTo a b p q accepted refused → PumpsSource n b c q r x
+    → accepted' ≡ saturated (accepted + x.accepted) → refused' ≡ saturated (refused + x.refused) → FedTo a c p r accepted' refused'
+fed_join n a b c p q r x accepted refused accepted' refused' (fed, left) pumps more others =
+    let tried = fed.tried ++ pumps.tried in
+    let offers = offers_join p q r fed.tried pumps.tried fed.offers pumps.offers in (
+      record {
+        tried = tried;
+        left = c;
+        given = fed.given ∙ ap (λ (l : List Timed). items_of fed.tried ++ l) (left ∙ pumps.given) ∙ sym (append_assoc (items_of fed.tried) (items_of pumps.tried) c)
+            ∙ ap (λ (l : List Timed). l ++ c) (sym (map-append (λ (t : Tried). t.item) fed.tried pumps.tried));
+        offers = offers;
+        same = offers_same p r tried offers;
+        sent_is = offers_sent p r tried offers;
+        accepted_is = omega (arith, more, fed.accepted_is, pumps.accepted, sum_by-append (λ (t : Tried). cond (is_accepted t) 1 0) fed.tried pumps.tried);
+        refused_is = omega (arith, others, fed.refused_is, pumps.refused, sum_by-append (λ (t : Tried). cond (is_refused t) 1 0) fed.tried pumps.tried);
+      },
+      refl,
+    )
+
+-- where it has come to an end, between ends that are known by other names
+pub fed_ends : (a b : List Timed) (p q r p' r' : Sending) (accepted refused accepted' refused' : ℕ) → p' ≡ p → r' ≡ r → FedTo a b p q accepted refused → r ≡ q → accepted' ≡ accepted → refused' ≡ refused → FedFrom a p' r' accepted' refused'
+fed_ends a b p q r p' r' accepted refused accepted' refused' first last (fed, left) at more others = rw (first, last, at, more, others) fed

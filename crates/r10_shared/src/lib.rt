@@ -1,0 +1,14 @@
+//! A recorder between threads: workers that feed its lanes from sources.
+#![tactic(auto)]
+
+mod feed;
+mod gate;
+mod line;
+mod rings;
+mod running;
+
+pub use feed::{AnySource, Feed};
+pub use gate::{Gate, Open};
+pub use line::Line;
+pub use rings::Rings;
+pub use running::run_feeds;
