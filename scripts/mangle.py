@@ -1,14 +1,14 @@
 #!/usr/bin/env python3
 """Mangles recordings and images, and compares what r10 says of each with what the rules of docs/FORMAT.md say.
 
-    scripts/mangle.py run R10 [--rows ROWS] [--seed SEED] [--count COUNT]     # says what differs, and how many came to what
-    scripts/mangle.py case R10 NUMBER [--seed SEED]                           # writes the mangled bytes of one
+    scripts/mangle.py run PROGRAM [--rows ROWS] [--seed SEED] [--count COUNT]     # says what differs, and how many came to what
+    scripts/mangle.py case PROGRAM NUMBER [--seed SEED]                           # writes the mangled bytes of one
     scripts/mangle.py kept                                                    # judges the kept ones, the rows `mangled-..` of crates/r10_rows
 
-R10 is the program, and ROWS that of crates/r10_rows, by which each recording is also judged under a closed and an unclosed entry, rules
+PROGRAM is the program, and ROWS that of crates/r10_rows, by which each recording is also judged under a closed and an unclosed entry, rules
 included. The seed is 1 and the count 10,000 where none is given. Half of the mangled are recordings, which `check` judges, and `play`
 on a medium with that file alone; half are images, for `files` and `play`. What is right is said by judge_recording.py and judge_image.py,
-which take nothing from the recorder. What is mangled are the recordings and images of check_cases.py and play_cases.py, and what R10
+which take nothing from the recorder. What is mangled are the recordings and images of check_cases.py and play_cases.py, and what PROGRAM
 records of the examples and of the scripts in crates/r10_rows.
 """
 import argparse
@@ -511,7 +511,7 @@ def main(words):
     if words.task == 'kept':
         return int(kept() > 0)
     if words.program is None or (words.task == 'case' and words.number is None):
-        parser.error('R10 is missing, or the number of a case')
+        parser.error('PROGRAM is missing, or the number of a case')
     if words.task == 'run':
         return int(run(words) > 0)
     if words.task == 'case':
