@@ -3,6 +3,7 @@ use Rattle.std.proofs.Common.{◌≡◌, ℕ, zero, suc, ◌≤◌, ◌-◌, ◌
 use Rattle.std.proofs.lemmas.List.{drop_min}
 use Rattle.std.proofs.lemmas.Bool.{leb-true}
 use Rattle.r10_count.specs.Checks.{first_broken}
+use Rattle.r10_count.specs.Count.{IsCount}
 use Rattle.r10_body.specs.Messages.{channel_refusal}
 use Rattle.r10_body.specs.declared.entry.Sample.{Sample}
 use Rattle.r10_body.specs.declared.message.Message.{Message}
@@ -17,7 +18,7 @@ use Rattle.r10_count.proofs.Rules.{rules_stop}
 use Rattle.r10_machine.proofs.Steady.{parts_pass, checks_pass}
 use Rattle.r10_machine.proofs.Growing.{all_joined}
 use Rattle.r10_machine.proofs.Climbing.{climbs_push, map-joined}
-use Rattle.r10_lane.specs.Lanes.{Offers, IsTaken, Waits, counts_of}
+use Rattle.r10_lane.specs.Lanes.{Offers, IsTaken, Waits, counts_of, first_count_or}
 
 -- ---- offers
 
@@ -47,6 +48,17 @@ waits_more spec last waiting x waits fine =
       taken = all_joined (IsTaken spec) waiting (x ∷ []) waits.taken (fine.0, tt);
       climbs = subst (λ (ns : List ℕ). Climbs 0 ns x.count) (sym (map-joined (λ (y : Sample). y.count) waiting (x ∷ []))) (climbs_push 0 (counts_of waiting) (count_or_0 last) x.count fine.1 waits.climbs);
     }
+
+-- ---- counts of 48 bits
+
+-- what waits first isn't above the last that was accepted
+pub reached_in_range : (last : ℕ) (waiting : List Sample) → Climbs 0 (counts_of waiting) last → IsCount last → IsCount (first_count_or waiting last)
+reached_in_range last [] climbs range = range
+reached_in_range last (x ∷ xs) climbs range = omega (arith, least x.count (counts_of xs) last climbs.1, range)
+  where
+    least : (low : ℕ) (ns : List ℕ) (high : ℕ) → Climbs low ns high → low ≤ high
+    least low [] high climbs = climbs
+    least low (n ∷ ns) high (first, climbs) = omega (arith, first, least n ns high climbs)
 
 -- ---- without the first
 

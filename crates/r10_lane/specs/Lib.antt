@@ -1,3 +1,4 @@
 pub mod Lanes
 pub mod Laws
+pub mod Spending
 pub mod Vectors

@@ -3,6 +3,7 @@
 ghost use Rattle.std.specs.Prelude.{◌≡◌, ◌≤◌, ◌++◌, ℕ, List, [], ◌∷◌, length, slice_get, Option, Some, None, IfSome, MatchOption, option_copied};
 ghost use Rattle.std.specs.Borrow.{sem};
 ghost use Rattle.std.specs.Io.BufRead.{Rests};
+ghost use Rattle.r10_count.specs.Count.{IsCount};
 ghost use Rattle.r10_body.specs.Messages.{channel_refusal};
 ghost use Rattle.r10_body.specs.declared.entry.Sample.{Sample as SampleValue};
 ghost use Rattle.r10_body.specs.declared.spec.ChannelSpec.{ChannelSpec as ChannelSpecValue};
@@ -35,6 +36,10 @@ pub trait LaneOut {
     /// What the channel is set to.
     fn spec(&self) -> ChannelSpec
         ensures { result ≡ spec_of self.now };
+
+    /// A law: the count that the lane has reached is one of 48 bits.
+    fn in_range(&self)
+        ensures { IsCount (reached self.now) };
 
     /// The first sample, which stays. The next `take`, and each `front` before it, give the same one.
     fn front(&mut self) -> Option<&Sample>

@@ -4,6 +4,8 @@
 
 mod lane_out;
 mod ring_lane;
+mod spent;
 
 pub use lane_out::LaneOut;
 pub use ring_lane::RingLane;
+pub use spent::Spent;

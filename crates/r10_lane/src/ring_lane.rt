@@ -1,6 +1,7 @@
 //! A lane of one thread.
 
 ghost use Rattle.std.specs.Prelude.{◌≡◌, ◌≤◌, IfOk, length, option_copied, slice_get};
+ghost use Rattle.r10_count.specs.Count.{IsCount};
 ghost use Rattle.r10_machine.specs.Calls.{without};
 ghost use Rattle.r10_machine.specs.Machine.{fresh_lane};
 ghost use Rattle.r10_machine.specs.SoundParts.{count_or_0};
@@ -133,6 +134,17 @@ impl RingLane {
     }
 }
 
+/// The last count that was accepted, or 0.
+fn last_in(last: Option<Count>) -> u64
+    ensures value { result ≡ count_or_0 last }
+    ensures range { IsCount result }
+{
+    match last {
+        Some(count) => count.get(),
+        None => 0,
+    }
+}
+
 impl LaneOut for RingLane {
     ghost use Rattle.std.specs.Prelude.{◌≡◌, Some, slice_get};
     ghost use Rattle.r10_lane.specs.Lanes.{TookWaiting, reached};
@@ -150,6 +162,11 @@ impl LaneOut for RingLane {
 
     fn spec(&self) -> ChannelSpec {
         self.spec
+    }
+
+    fn in_range(&self) {
+        self.waits();
+        let _last = last_in(self.last);
     }
 
     fn front(&mut self) -> Option<&Sample> {

@@ -1,9 +1,14 @@
 -- Items of a ring, one longer.
 use Rattle.std.proofs.Common.{◌≡◌, ℕ, ◌+◌, ◌≤◌, ◌<◌, List, [], ◌∷◌, ◌++◌, length, drop, Option, Some, None, slice_get, refl, sym, ap, subst, arith, length-append, ◌∙◌}
 use Rattle.std.proofs.Math.Seq.{drop-append_seam}
+use Rattle.std.proofs.lemmas.Bool.{ltb-true}
+use Rattle.r10_count.specs.Count.{IsCount}
 use Rattle.r10_body.specs.Messages.{channel_refusal}
 use Rattle.r10_body.specs.declared.entry.Sample.{Sample}
+use Rattle.r10_body.specs.declared.refusal.Refusal.TheVariants.{CountBack, CountRange}
 use Rattle.r10_body.specs.declared.spec.ChannelSpec.{ChannelSpec}
+use Rattle.r10_machine.proofs.Steady.{checks_pass, parts_pass}
+use Rattle.r10_machine.specs.Checks.{count_checks, in_48_bits, is_not_before, message_checks}
 use Rattle.r10_machine.specs.SoundParts.{count_or_0}
 use Rattle.r10_lane.proofs.Waiting.{passed}
 use Rattle.r10_port.specs.declared.item.Item.{Item}
@@ -36,6 +41,14 @@ joins items spec x first may = passed spec (last_count_or None (samples items)) 
 
 pub has_room : (items : List Item) (spec : ChannelSpec) (x : Sample) → slice_get items 0 ≡ Some (Announce spec) → ItemMayFollow items (Entry x) → 0 < spec.capacity
 has_room items spec x first may = (subst (λ (o : Option Item). MayJoin o (samples items) (Entry x)) first may).0
+
+-- and the count that it makes the last is one of 48 bits
+pub bounded : (items : List Item) (spec : ChannelSpec) (x : Sample) → slice_get items 0 ≡ Some (Announce spec) → ItemMayFollow items (Entry x) → IsCount (count_or_0 (last_count_or None (samples (items ++ Entry x ∷ []))))
+bounded items spec x first may =
+    let fine = (subst (λ (o : Option Item). MayJoin o (samples items) (Entry x)) first may).1 in
+    let parts = parts_pass (message_checks spec x.message) (count_checks (last_count_or None (samples items)) x.count) fine in
+    let range = checks_pass (in_48_bits x.count).0 CountRange ((is_not_before (last_count_or None (samples items)) x.count, CountBack) ∷ []) parts.1 in
+    subst IsCount (sym (ap count_or_0 (last_pushed items x))) (ltb-true x.count 281474976710656 range.0)
 
 -- ---- both ends
 

@@ -19,10 +19,12 @@ pub struct Outlet {
 }
 
 impl Model for Outlet {
-    ghost use Rattle.std.specs.Prelude.{◌≡◌, ◌+◌, Some, length, slice_get};
+    ghost use Rattle.std.specs.Prelude.{◌≡◌, ◌+◌, None, Some, length, slice_get};
+    ghost use Rattle.r10_count.specs.Count.{IsCount};
+    ghost use Rattle.r10_machine.specs.SoundParts.{count_or_0};
     ghost use Rattle.rtrb.specs.Ring.{received, known_items};
     ghost use Rattle.r10_port.specs.declared.item.Item.TheVariants.{Announce};
-    ghost use Rattle.r10_port.specs.Items.{samples};
+    ghost use Rattle.r10_port.specs.Items.{last_count_or, samples};
     ghost use Rattle.r10_port.specs.Ends.{Receiving, ring_of};
 
     ghost Value = { Receiving };
@@ -37,6 +39,7 @@ impl Model for Outlet {
     ghost invariant = { λ o. record {
       announced : slice_get (received o.consumer) 0 ≡ Some (Announce o.spec);
       entries : length (received o.consumer) ≡ length (samples (received o.consumer)) + 1;
+      bound : IsCount (count_or_0 (last_count_or None (samples (received o.consumer))));
     } };
 }
 
@@ -57,6 +60,10 @@ impl LaneOut for Outlet {
 
     fn spec(&self) -> ChannelSpec {
         self.spec
+    }
+
+    fn in_range(&self) {
+        let _ = &self.consumer;
     }
 
     fn front(&mut self) -> Option<&Sample> {

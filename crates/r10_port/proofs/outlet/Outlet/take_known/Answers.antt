@@ -2,7 +2,7 @@ use Rattle.std.proofs.Common.{arith, [], ◌∷◌, length-append}
 use Rattle.rtrb.specs.Ring.{received, known_items}
 use Rattle.r10_port.specs.declared.item.Item.TheVariants.{Announce, Entry}
 use Rattle.r10_port.specs.Ends.{ring_of}
-use Rattle.r10_port.proofs.Items.{first_stays, one_more}
+use Rattle.r10_port.proofs.Items.{bounded, first_stays, one_more}
 use Rattle.r10_port.proofs.Steps.{takes}
 use Rattle.r10_port.proofs.outlet.Outlet.take_known.Goals as goal
 
@@ -13,6 +13,7 @@ invariant_of-self c =
     rw c.in-Entry.ensures.received.0 (record {
       announced = first_stays items _ (Announce c.self.inside.spec) c.self.invariant.announced;
       entries = omega (arith, one_more items x, length-append items (Entry x ∷ []), c.self.invariant.entries);
+      bound = bounded items c.self.inside.spec x c.self.invariant.announced c.in-Entry.ensures.allowed;
     })
 
 pub returns-clause-took : goal.returns-clause-took

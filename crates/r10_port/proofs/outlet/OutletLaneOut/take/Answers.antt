@@ -2,7 +2,7 @@ use Rattle.std.proofs.Common.{arith, rules, [], ◌∷◌, length-append}
 use Rattle.rtrb.specs.Ring.{received, known_items}
 use Rattle.r10_port.specs.declared.item.Item.TheVariants.{Announce, Entry}
 use Rattle.r10_port.specs.Ends.{ring_of}
-use Rattle.r10_port.proofs.Items.{joins, first_stays, one_more}
+use Rattle.r10_port.proofs.Items.{bounded, joins, first_stays, one_more}
 use Rattle.r10_port.proofs.Steps.{takes, reaches}
 use Rattle.r10_port.proofs.outlet.OutletLaneOut.take.Goals as goal
 use Rattle.r10_port.proofs.outlet.OutletLaneOut.take.Goals.{in-Ok-Entry, in-Err}
@@ -16,8 +16,9 @@ invariant_of-self c = elim c.match-pop.branch [
       rw ok.0 (record {
         announced = first_stays items _ (Announce c.self.inside.spec) c.self.invariant.announced;
         entries = omega (arith, one_more items x, length-append items (Entry x ∷ []), c.self.invariant.entries);
+        bound = bounded items c.self.inside.spec x c.self.invariant.announced ok.2;
       })
-  | in-Err w ↦ rw w.in-Err.ensures.empty.0 (record { announced = c.self.invariant.announced; entries = c.self.invariant.entries })
+  | in-Err w ↦ rw w.in-Err.ensures.empty.0 (record { announced = c.self.invariant.announced; entries = c.self.invariant.entries; bound = c.self.invariant.bound })
 ]
 
 pub returns-clause-took : goal.returns-clause-took
