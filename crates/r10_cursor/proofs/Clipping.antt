@@ -2,7 +2,7 @@
 use Rattle.std.proofs.Common.{◌≡◌, ℕ, zero, suc, ◌+◌, ◌*◌, ◌-◌, ◌<◌, ◌≤◌, List, [], ◌∷◌, ◌++◌, length, take, drop, get_or, min, Some, None, refl, sym, ap, ◌∙◌, arith, drop-cons}
 use Rattle.std.specs.Prelude.{slice_get}
 use Rattle.std.specs.List.{concat}
-use Rattle.std.proofs.lemmas.List.{drop_min, take_min, length-drop}
+use Rattle.std.proofs.lemmas.List.{drop_min, take_min, length-drop, length-take}
 use Rattle.std.proofs.lemmas.Option.{slice_get-get_or}
 use Rattle.r10_dirblock.specs.declared.entry.Entry.{Entry as DirectoryEntry}
 use Rattle.r10_dirchain.specs.Chain.{listed_files}
@@ -19,6 +19,12 @@ clipped image blocks first size f n whole long f_is n_is =
     ap (λ (k : ℕ). take k (concat (drop f image))) (n_is ∙ ap (min size) (sym total))
     ∙ take_min size (concat (drop f image))
     ∙ ap (λ (blocks : Image). take size (concat blocks)) same
+
+-- how many these are
+pub clipped_length : (image : Image) (first size : ℕ) → IsWhole image → length (bytes_from image first size) ≡ min size (512 * (length image - first))
+clipped_length image first size whole =
+    let total : length (concat (drop first image)) ≡ 512 * (length image - first) = omega (arith, length-concat (drop first image) (whole_drop first image whole), length-drop first image) in
+    length-take size (concat (drop first image)) ∙ ap (min size) total
 
 -- ---- by number
 

@@ -1,6 +1,6 @@
 //! The files that were judged.
 
-ghost use Rattle.std.specs.Prelude.{◌≡◌, ◌≢◌, ◌+◌, ◌*◌, ◌^◌, ◌≤◌, ◌<◌, [], List, Option, None, Some, length, slice_get, IfOk, IfErr, IfSome, IfNone, IsSomeAnd, OnOk, OnErr};
+ghost use Rattle.std.specs.Prelude.{◌≡◌, ◌≢◌, ◌+◌, ◌*◌, ◌^◌, ◌≤◌, ◌<◌, [], List, Option, None, Some, length, slice_get, IfOk, IfErr, IfSome, IfNone, IsErrOf, IsSomeAnd, OnOk, OnErr};
 ghost use Rattle.std.specs.Bool.{OnTrue, OnFalse};
 ghost use Rattle.std.specs.List.{AllByRecursion};
 ghost use Rattle.r10_medium.specs.Disk.{Image, IsWhole, Unchanged};
@@ -12,6 +12,7 @@ ghost use Rattle.r10_judge.specs.Judged.{TracksStrictFile};
 ghost use Rattle.r10_cursor.specs.Files.{IsShownWith, ShowsFile, bytes_in, finished_file};
 ghost use Rattle.r10_cursor.specs.Knowing.{HasJudged, IsAdded, IsBook, IsLearned, IsOf, IsTold, IsToldRight, IsUnder};
 ghost use Rattle.r10_cursor.specs.Refusals.{IsUnread, RefusesRead, RefusesToRead};
+ghost use Rattle.r10_cursor.specs.declared.refusal.ReadRefusal.TheVariants as read_refusals;
 
 use crate::kept::Kept;
 use crate::listing::finished_entry;
@@ -58,7 +59,6 @@ impl Books {
         file: usize,
         buffer: &mut Vec<u8>,
     ) -> Result<usize, ReadRefusal>
-        requires { length (M.disk medium.old).blocks ≤ 2 ^ 53 }
         ensures learned { HasJudged (M.disk medium.old).blocks directory.now written.entry self.old
             → IfOk result (λ place. IsLearned (M.disk medium.old).blocks directory.now written.entry file self.new.kept.items place) }
         ensures judged { HasJudged (M.disk medium.old).blocks directory.now written.entry self.old → HasJudged (M.disk medium.old).blocks directory.now written.entry self.new }
@@ -130,7 +130,6 @@ impl Books {
         entry: &Entry,
         buffer: &mut Vec<u8>,
     ) -> Result<usize, ReadRefusal>
-        requires { length (M.disk medium.old).blocks ≤ 2 ^ 53 }
         ensures kept { (chain : List ChainBlock) (written : Option Written) → finished_file written chain file ≡ Some entry.now → AllByRecursion (IsOf (M.disk medium.old).blocks chain written) self.old.kept.items
             → IfOk result (λ n. IsSomeAnd (slice_get self.new.kept.items n) (IsUnder (M.disk medium.old).blocks entry.now)) }
         ensures judged { (chain : List ChainBlock) (written : Option Written) → finished_file written chain file ≡ Some entry.now → AllByRecursion (IsOf (M.disk medium.old).blocks chain written) self.old.kept.items
@@ -154,7 +153,6 @@ impl Books {
         entry: &Entry,
         buffer: &mut Vec<u8>,
     ) -> Result<usize, ReadRefusal>
-        requires { length (M.disk medium.old).blocks ≤ 2 ^ 53 }
         ensures place { IfOk result (λ n. n ≡ length self.old.kept.items) }
         ensures kept { OnOk result (IsAdded (M.disk medium.old).blocks file entry.now self.old.kept.items self.new.kept.items) }
         ensures refused { IfErr result (IsUnread (M.disk medium.old) (M.disk medium.new) entry.now) }
@@ -200,20 +198,23 @@ fn told<'a>(written: Option<Written<'a>>, file: usize) -> Option<Shown<'a>>
     })
 }
 
-/// Judges a file under its directory entry, and answers what is kept of its packets.
+/// Judges a file under its directory entry, and answers what is kept of its packets. One of which the medium has more than 2^62 bytes is
+/// refused `OutOfMemory`.
 fn tracks_of<M: BlockMedium>(
     alloc: Global,
     medium: &mut M,
     entry: &Entry,
     buffer: &mut Vec<u8>,
 ) -> Result<Tracks, ReadRefusal>
-    requires { length (M.disk medium.old).blocks ≤ 2 ^ 53 }
     ensures kept { IfOk result (λ tracks. TracksStrictFile (is_closed_entry entry.now) tracks (bytes_in (M.disk medium.old).blocks entry.now)) }
+    ensures vast { 2 ^ 62 < length (bytes_in (M.disk medium.old).blocks entry.now) → IsErrOf result read_refusals.OutOfMemory }
     ensures refused { IfErr result (IsUnread (M.disk medium.old) (M.disk medium.new) entry.now) }
     ensures same { Unchanged (M.disk medium.old) (M.disk medium.new) }
     ensures no_fewer { (M.disk medium.old).failures ≤ (M.disk medium.new).failures }
 {
-    let extent = extent_of(entry, medium.blocks());
+    let Some(extent) = extent_of(entry, medium.blocks()) else {
+        return Err(ReadRefusal::OutOfMemory);
+    };
     match judge_file(alloc, medium, extent, entry.is_closed(), buffer) {
         Ok(Judgement::Strict(tracks)) => Ok(tracks),
         Ok(Judgement::Faulty(at)) => Err(ReadRefusal::BadFile(at)),
@@ -221,13 +222,22 @@ fn tracks_of<M: BlockMedium>(
     }
 }
 
-/// Where a file stands by its directory entry, as far as the medium goes, which has so many blocks.
-fn extent_of(entry: &Entry, blocks: usize) -> Extent
-    requires { blocks ≤ 2 ^ 53 }
-    ensures within { 512 * result.first + result.size ≤ 512 * blocks }
-    ensures bytes { (image : Image) → IsWhole image → length image ≡ blocks → file_at image result ≡ bytes_in image entry.now }
+/// How many bytes of a file can be read: more than any medium has.
+const MOST_BYTES: usize = 1 << 62;
+
+/// Where a file stands by its directory entry, as far as the medium goes, which has so many blocks. `None` where these are more than
+/// 2^62 bytes.
+fn extent_of(entry: &Entry, blocks: usize) -> Option<Extent>
+    ensures within { IfSome result (λ extent. 512 * extent.first + extent.size ≤ 512 * blocks) }
+    ensures size { IfSome result (λ extent. extent.size ≤ 2 ^ 62) }
+    ensures bytes { (image : Image) → IsWhole image → length image ≡ blocks → IfSome result (λ extent. file_at image extent ≡ bytes_in image entry.now) }
+    ensures none { (image : Image) → IsWhole image → length image ≡ blocks → IfNone result (2 ^ 62 < length (bytes_in image entry.now)) }
+    ensures some { (image : Image) → IsWhole image → length image ≡ blocks → IfSome result (λ extent. length (bytes_in image entry.now) ≤ 2 ^ 62) }
 {
     let first = (entry.first_block as usize).min(blocks);
-    let size = (entry.size as usize).min(512 * (blocks - first));
-    Extent { first, size }
+    let size = (entry.size as usize).min((blocks - first).saturating_mul(512));
+    if size > MOST_BYTES {
+        return None;
+    }
+    Some(Extent { first, size })
 }

@@ -20,7 +20,7 @@ pub enum ReadRefusal {
     BadFile(Fault),
     /// The medium failed in a read.
     Medium,
-    /// A growth was refused.
+    /// A growth was refused, or the medium has more than 2^62 bytes of the file.
     OutOfMemory,
 }
 
