@@ -13,6 +13,9 @@ pub use laws::{
     a_new_recorder_stands, a_recorder_without_readers, recorders_calls_are_steps,
     tables_calls_are_steps,
 };
+pub use r10_machine::{
+    ChannelStatus, Event, FileInfo, Found, Mode, Reply, Settings, SettingsFault, Status, Stopped,
+};
 pub use running::run;
 pub use whole::record_all;
 pub use world::World;
