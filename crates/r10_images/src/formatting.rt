@@ -10,6 +10,7 @@ ghost use Rattle.r10_images.specs.Faults.{IsWriteFault};
 ghost use Rattle.r10_images.specs.Formatted.{format_rules, formatted_block, formatted_image};
 
 use crate::fault::StreamFault;
+use crate::writing::flush;
 use r10_dirblock::{DirBlock, Entries, encode, pad};
 use std::io::{BufWriter, Write};
 
@@ -25,19 +26,45 @@ pub fn write_formatted<W: Write + Drop>(
     requires { first_broken (format_rules blocks directory volume.now) ≡ None }
     ensures image { OnOk result (Appends (writer_contents W.contents writer.old) (writer_contents W.contents writer.new) (concat (formatted_image blocks volume.now))) }
     ensures sent { OnOk result (writer_buffer writer.new ≡ []) }
+    ensures fault { IfErr result IsWriteFault }
 {
     let _ = directory;
-    write_zeros(1, writer)?;
-    write_block(&formatted_block(volume), writer)?;
-    write_zeros(blocks - 2, writer)?;
-    writer.flush().map_err(StreamFault::Write)
+    match write_blocks(blocks, volume, writer) {
+        Ok(()) => flush(writer),
+        Err(fault) => Err(fault),
+    }
+}
+
+/// Writes the blocks of the image.
+fn write_blocks<W: Write>(blocks: usize, volume: &[u8], writer: &mut W) -> Result<(), StreamFault>
+    requires blocks { 2 ≤ blocks }
+    requires volume { length volume.now ≤ 32 }
+    ensures image { OnOk result (Appends (W.contents writer.old) (W.contents writer.new) (concat (formatted_image blocks volume.now))) }
+    ensures fault { IfErr result IsWriteFault }
+{
+    match write_zeros(1, writer) {
+        Ok(()) => (),
+        Err(fault) => return Err(fault),
+    }
+    match write_block(&formatted_block(volume), writer) {
+        Ok(()) => (),
+        Err(fault) => return Err(fault),
+    }
+    match write_zeros(blocks - 2, writer) {
+        Ok(()) => Ok(()),
+        Err(fault) => Err(fault),
+    }
 }
 
 fn write_zeros<W: Write>(count: usize, writer: &mut W) -> Result<(), StreamFault>
-    ensures { OnOk result (Appends (W.contents writer.old) (W.contents writer.new) (concat (replicate count zeros))) }
+    ensures zeros { OnOk result (Appends (W.contents writer.old) (W.contents writer.new) (concat (replicate count zeros))) }
+    ensures fault { IfErr result IsWriteFault }
 {
     for done in 0..count {
-        write_block(&[0; 512], writer)?;
+        match write_block(&[0; 512], writer) {
+            Ok(()) => (),
+            Err(fault) => return Err(fault),
+        }
     }
     Ok(())
 }

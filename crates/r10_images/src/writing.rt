@@ -27,7 +27,7 @@ pub fn write_image<M: BlockMedium, W: Write + Drop>(
     }
 }
 
-fn flush<W: Write + Drop>(writer: &mut BufWriter<W>) -> Result<(), StreamFault>
+pub(crate) fn flush<W: Write + Drop>(writer: &mut BufWriter<W>) -> Result<(), StreamFault>
     ensures bytes { Keeps (writer_contents W.contents writer.old) (writer_contents W.contents writer.new) }
     ensures sent { OnOk result (writer_buffer writer.new ≡ []) }
     ensures fault { IfErr result IsWriteFault }
