@@ -11,6 +11,7 @@ mod Starts
 mod Offers
 mod Statuses
 mod Looked
+mod Exhausted
 mod Readings
 mod Finds
 mod Intakes

@@ -126,9 +126,9 @@ end_still took spec_of reached entries (a ∷ lanes) [] keeps rises all ends = a
 end_still took spec_of reached entries (a ∷ lanes) (b ∷ now) keeps rises all ends =
     (subst (λ (s : ChannelSpec). last_count 0 (on_channel s.id entries) ≤ reached b) (sym (keeps a b [] all.0)) (omega (arith, ends.0, rises a b [] all.0)), end_still took spec_of reached entries lanes now keeps rises all.1 ends.1)
 
-recorded_still : {L : Type 0} (spec_of : L → ChannelSpec) (reached : L → ℕ) (s : Config) (tick : Option Tick) (last_event : Option ℕ) (image : Image) (chain : List ChainBlock) (o : Open) (lanes now : List L)
-    → ((entries : List Entry) → AllEnd spec_of reached lanes entries → AllEnd spec_of reached now entries) → IsRecorded spec_of reached s tick last_event image chain o lanes → IsRecorded spec_of reached s tick last_event image chain o now
-recorded_still spec_of reached s tick last_event image chain o lanes now ends is = record {
+recorded_still : {L N : Type 0} (spec_of : L → ChannelSpec) (reached : L → ℕ) (spec_of' : N → ChannelSpec) (reached' : N → ℕ) (s : Config) (tick : Option Tick) (last_event : Option ℕ) (image : Image) (chain : List ChainBlock) (o : Open) (lanes : List L) (now : List N)
+    → ((entries : List Entry) → AllEnd spec_of reached lanes entries → AllEnd spec_of' reached' now entries) → IsRecorded spec_of reached s tick last_event image chain o lanes → IsRecorded spec_of' reached' s tick last_event image chain o now
+recorded_still spec_of reached spec_of' reached' s tick last_event image chain o lanes now ends is = record {
   text = is.text;
   entries = is.entries;
   shown = is.shown;
@@ -148,12 +148,12 @@ recorded_still spec_of reached s tick last_event image chain o lanes now ends is
   listed = is.listed;
 }
 
-work_still : {L : Type 0} (spec_of : L → ChannelSpec) (reached : L → ℕ) (k : Kept) (w : Work) (image : Image) (lanes now : List L)
-    → ((entries : List Entry) → AllEnd spec_of reached lanes entries → AllEnd spec_of reached now entries) → OwnsWork spec_of reached k w image lanes → OwnsWork spec_of reached k w image now
-work_still spec_of reached k unmounted image lanes now ends owns = tt
-work_still spec_of reached k (idle chain) image lanes now ends owns = owns
-work_still spec_of reached k (recording chain o) image lanes now ends owns = (owns.0, recorded_still spec_of reached k.config k.tick k.last_event image chain o lanes now ends owns.1)
-work_still spec_of reached k failed image lanes now ends owns = tt
+pub work_still : {L N : Type 0} (spec_of : L → ChannelSpec) (reached : L → ℕ) (spec_of' : N → ChannelSpec) (reached' : N → ℕ) (k : Kept) (w : Work) (image : Image) (lanes : List L) (now : List N)
+    → ((entries : List Entry) → AllEnd spec_of reached lanes entries → AllEnd spec_of' reached' now entries) → OwnsWork spec_of reached k w image lanes → OwnsWork spec_of' reached' k w image now
+work_still spec_of reached spec_of' reached' k unmounted image lanes now ends owns = tt
+work_still spec_of reached spec_of' reached' k (idle chain) image lanes now ends owns = owns
+work_still spec_of reached spec_of' reached' k (recording chain o) image lanes now ends owns = (owns.0, recorded_still spec_of reached spec_of' reached' k.config k.tick k.last_event image chain o lanes now ends owns.1)
+work_still spec_of reached spec_of' reached' k failed image lanes now ends owns = tt
 
 pub owns_looked : {L : Type 0} (took : L → List Sample → L → Type 0) (spec_of : L → ChannelSpec) (reached : L → ℕ) (k : Kept) (image : Image) (books : Books) (lanes now : List L) → ((a b : L) (xs : List Sample) → took a xs b → spec_of b ≡ spec_of a)
     → ((a b : L) (xs : List Sample) → took a xs b → reached a ≤ reached b) → TookAll took spec_of [] lanes now → Owns spec_of reached k image lanes books → Owns spec_of reached k image now books
@@ -164,7 +164,7 @@ owns_looked took spec_of reached k image books lanes now keeps rises all owns = 
   generation = owns.generation;
   taken = owns.taken;
   erased = owns.erased;
-  work = work_still spec_of reached k k.work image lanes now (λ entries ends. end_still took spec_of reached entries lanes now keeps rises all ends) owns.work;
+  work = work_still spec_of reached spec_of reached k k.work image lanes now (λ entries ends. end_still took spec_of reached entries lanes now keeps rises all ends) owns.work;
   judged = owns.judged;
 }
 

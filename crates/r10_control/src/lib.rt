@@ -8,6 +8,7 @@ mod mounting;
 mod numbers;
 mod offering;
 mod own_laws;
+mod parting;
 mod pumping;
 mod reading;
 mod recorder;

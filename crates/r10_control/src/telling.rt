@@ -11,7 +11,7 @@ ghost use Rattle.r10_volume.specs.Listing.{info_in};
 
 use crate::recorder::Recorder;
 use crate::work::{Doing, mode_in};
-use r10_body::Refusal;
+use r10_body::{ChannelSpec, Refusal};
 use r10_lane::LaneOut;
 use r10_machine::{FileInfo, a_step_stays_sound, check_mounted};
 use r10_means::tellings_are_steps;
@@ -20,6 +20,13 @@ use r10_volume::list;
 use std::alloc::{AllocError, Global};
 
 impl<M: BlockMedium, L: LaneOut> Recorder<M, L> {
+    /// The channels of the settings, in their order.
+    pub fn channels(&self) -> &[ChannelSpec]
+        ensures { result.now ≡ self.now.kept.config.channels }
+    {
+        self.settings.channels()
+    }
+
     /// The files in order, each with its name, its bytes, its blocks and whether it is closed; the one that is recorded is the last, as the
     /// medium shows it. Refused: Failed, NotMounted, OutOfMemory.
     pub fn files(&self) -> Result<Vec<FileInfo>, Refusal>
