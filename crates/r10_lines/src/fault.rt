@@ -36,6 +36,14 @@ pub enum Place {
     Channel(usize),
     /// The step of this number, from 1.
     Step(usize),
+    /// The feed table of this place in the text, from 1.
+    Feed(usize),
+    /// The item of this number, from 1, of a feed table.
+    Item { feed: usize, number: usize },
+    /// The order of this number, from 1.
+    Order(usize),
+    /// The reader table of this place in the text, from 1.
+    Reader(usize),
 }
 
 /// What is wrong there.
@@ -149,6 +157,10 @@ impl fmt::Display for Place {
             Place::Top => write!(f, "above the first table"),
             Place::Channel(number) => write!(f, "channel table {number}"),
             Place::Step(number) => write!(f, "step {number}"),
+            Place::Feed(number) => write!(f, "feed table {number}"),
+            Place::Item { feed, number } => write!(f, "item {number} of feed table {feed}"),
+            Place::Order(number) => write!(f, "order {number}"),
+            Place::Reader(number) => write!(f, "reader table {number}"),
         }
     }
 }

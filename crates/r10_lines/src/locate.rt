@@ -18,6 +18,15 @@ fn line_of(text: &str, place: Place, key: &str) -> Option<usize> {
         Place::Top => (key, 1),
         Place::Channel(number) => ("channel", number),
         Place::Step(number) => ("step", number),
+        Place::Feed(number) => ("feed", number),
+        Place::Item { feed, .. } => ("feed", feed),
+        Place::Order(number) => ("order", number),
+        Place::Reader(number) => ("reader", number),
+    };
+    let key = if let Place::Item { .. } = place {
+        "items"
+    } else {
+        key
     };
     let mut inside = place == Place::Top;
     let mut number = 0usize;

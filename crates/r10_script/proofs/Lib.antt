@@ -1,3 +1,4 @@
 pub mod Items
 pub mod Asks
 pub mod Known
+pub mod Apart

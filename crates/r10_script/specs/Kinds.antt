@@ -24,3 +24,11 @@ offer_keys kinds.Arinc =
 offer_keys kinds.Discrete = codes "do" ∷ codes "channel" ∷ codes "count" ∷ codes "kind" ∷ codes "states" ∷ []
 offer_keys kinds.Message =
     codes "do" ∷ codes "channel" ∷ codes "count" ∷ codes "kind" ∷ codes "data" ∷ codes "format" ∷ codes "sub" ∷ codes "bytes" ∷ []
+
+-- an item of a feed has its count, and the keys of its channel's kind
+abbrev pub item_keys : Kind → List (List ℕ)
+item_keys kinds.Uart = codes "count" ∷ codes "parity" ∷ codes "sub" ∷ codes "bytes" ∷ []
+item_keys kinds.Bus1553 = codes "count" ∷ codes "status" ∷ codes "gap" ∷ codes "words" ∷ []
+item_keys kinds.Arinc = codes "count" ∷ codes "bus" ∷ codes "format" ∷ codes "parity" ∷ codes "high" ∷ codes "data" ∷ []
+item_keys kinds.Discrete = codes "count" ∷ codes "states" ∷ []
+item_keys kinds.Message = codes "count" ∷ codes "data" ∷ codes "format" ∷ codes "sub" ∷ codes "bytes" ∷ []

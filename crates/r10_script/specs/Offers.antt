@@ -42,9 +42,13 @@ offered_word channels channel table =
     if is_some (get_member (codes "kind") table) then text_at table (codes "kind")
     else option_map (λ spec. kind_word spec.kind) (find (λ spec. spec.id == channel) channels)
 
--- a message of this kind, under no keys but those of the kind
+-- a message of this kind, as the keys give it
+abbrev pub AreValues : Kind → Members → Message → Type 0
+AreValues kind table message = (is_kind kind message ≡ true) × AreMessageKeys table message
+
+-- a message of this kind, under no keys but those of a step that offers one
 abbrev pub IsOfKind : Kind → Members → Message → Type 0
-IsOfKind kind table message = (is_kind kind message ≡ true) × HasOnly (offer_keys kind) table × AreMessageKeys table message
+IsOfKind kind table message = HasOnly (offer_keys kind) table × AreValues kind table message
 
 abbrev pub IsOffered : List ChannelSpec → ℕ → Members → Message → Type 0
 IsOffered channels channel table message = (kind : Kind) × (offered_word channels channel table ≡ Some (kind_word kind)) × IsOfKind kind table message

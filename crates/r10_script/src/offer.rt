@@ -1,11 +1,12 @@
-//! The messages that steps offer.
+//! The messages that steps offer, and those of a feed.
 
 ghost use Rattle.std.specs.Prelude.{◌≡◌, ◌==◌, Some, IfOk};
 ghost use Rattle.std.specs.List.{find};
 ghost use Rattle.toml.specs.View.{table_view};
 ghost use Rattle.r10_body.specs.declared.message.Kind.TheVariants as kinds;
-ghost use Rattle.r10_script.specs.Kinds.{kind_word};
-ghost use Rattle.r10_script.specs.Offers.{IsOffered, IsOfKind, offered_word};
+ghost use Rattle.r10_script.specs.Kinds.{kind_word, item_keys, offer_keys};
+ghost use Rattle.r10_script.specs.Keys.{HasOnly};
+ghost use Rattle.r10_script.specs.Offers.{IsOffered, AreValues, offered_word};
 
 use crate::settings::kind_of;
 use crate::table::Fields;
@@ -22,7 +23,40 @@ pub fn offered_of(
     ensures { IfOk result (λ message. IsOffered channels.now channel (table_view fields.entry.table.now) message) }
 {
     let kind = offered_kind(channels, channel, fields)?;
+    only_offered(kind, fields)?;
     message_of(kind, fields)
+}
+
+/// Refuses a key that no step has that offers a message of this kind.
+fn only_offered(kind: Kind, fields: Fields<'_>) -> Result<(), ScriptFault>
+    ensures { IfOk result (λ _. HasOnly (offer_keys kind) (table_view fields.entry.table.now)) }
+{
+    match kind {
+        Kind::Uart => fields.only(&["do", "channel", "count", "kind", "parity", "sub", "bytes"]),
+        Kind::Bus1553 => {
+            fields.only(&["do", "channel", "count", "kind", "status", "gap", "words"])
+        }
+        Kind::Arinc => fields.only(&[
+            "do", "channel", "count", "kind", "bus", "format", "parity", "high", "data",
+        ]),
+        Kind::Discrete => fields.only(&["do", "channel", "count", "kind", "states"]),
+        Kind::Message => fields.only(&[
+            "do", "channel", "count", "kind", "data", "format", "sub", "bytes",
+        ]),
+    }
+}
+
+/// Refuses a key that no item of a feed has whose channel is of this kind.
+pub fn only_item(kind: Kind, fields: Fields<'_>) -> Result<(), ScriptFault>
+    ensures { IfOk result (λ _. HasOnly (item_keys kind) (table_view fields.entry.table.now)) }
+{
+    match kind {
+        Kind::Uart => fields.only(&["count", "parity", "sub", "bytes"]),
+        Kind::Bus1553 => fields.only(&["count", "status", "gap", "words"]),
+        Kind::Arinc => fields.only(&["count", "bus", "format", "parity", "high", "data"]),
+        Kind::Discrete => fields.only(&["count", "states"]),
+        Kind::Message => fields.only(&["count", "data", "format", "sub", "bytes"]),
+    }
 }
 
 /// The kind that the step names, or else that of its channel.
@@ -43,15 +77,15 @@ fn offered_kind(
 }
 
 /// The settings of a channel.
-fn spec_of(channels: &[ChannelSpec], channel: u16) -> Option<ChannelSpec>
+pub fn spec_of(channels: &[ChannelSpec], channel: u16) -> Option<ChannelSpec>
     ensures { result ≡ find (λ spec. spec.id == channel) channels.now }
 {
     channels.iter().copied().find(|spec| spec.id == channel)
 }
 
-/// A message of this kind: a key that is absent is false, 0 or empty.
-fn message_of(kind: Kind, fields: Fields<'_>) -> Result<Message, ScriptFault>
-    ensures { IfOk result (λ message. IsOfKind kind (table_view fields.entry.table.now) message) }
+/// The message of this kind that the table's keys give: of one that is absent the value is false, 0 or empty.
+pub fn message_of(kind: Kind, fields: Fields<'_>) -> Result<Message, ScriptFault>
+    ensures { IfOk result (λ message. AreValues kind (table_view fields.entry.table.now) message) }
 {
     match kind {
         Kind::Uart => uart_of(fields),
@@ -63,9 +97,8 @@ fn message_of(kind: Kind, fields: Fields<'_>) -> Result<Message, ScriptFault>
 }
 
 fn uart_of(fields: Fields<'_>) -> Result<Message, ScriptFault>
-    ensures { IfOk result (λ message. IsOfKind kinds.Uart (table_view fields.entry.table.now) message) }
+    ensures { IfOk result (λ message. AreValues kinds.Uart (table_view fields.entry.table.now) message) }
 {
-    fields.only(&["do", "channel", "count", "kind", "parity", "sub", "bytes"])?;
     let parity = fields.truth_or_false("parity")?;
     let sub = fields.short_or_zero("sub")?;
     let bytes = Items::of(fields.bytes_or_none("bytes")?);
@@ -74,9 +107,8 @@ fn uart_of(fields: Fields<'_>) -> Result<Message, ScriptFault>
 
 /// A message of a MIL-STD-1553 bus.
 fn bus_of(fields: Fields<'_>) -> Result<Message, ScriptFault>
-    ensures { IfOk result (λ message. IsOfKind kinds.Bus1553 (table_view fields.entry.table.now) message) }
+    ensures { IfOk result (λ message. AreValues kinds.Bus1553 (table_view fields.entry.table.now) message) }
 {
-    fields.only(&["do", "channel", "count", "kind", "status", "gap", "words"])?;
     let status = fields.short_or_zero("status")?;
     let gap = fields.short_or_zero("gap")?;
     let words = Items::of(fields.words_or_none("words")?);
@@ -85,11 +117,8 @@ fn bus_of(fields: Fields<'_>) -> Result<Message, ScriptFault>
 
 /// A word of an ARINC 429 bus.
 fn arinc_of(fields: Fields<'_>) -> Result<Message, ScriptFault>
-    ensures { IfOk result (λ message. IsOfKind kinds.Arinc (table_view fields.entry.table.now) message) }
+    ensures { IfOk result (λ message. AreValues kinds.Arinc (table_view fields.entry.table.now) message) }
 {
-    fields.only(&[
-        "do", "channel", "count", "kind", "bus", "format", "parity", "high", "data",
-    ])?;
     Ok(Message::Arinc {
         bus: fields.byte_or_zero("bus")?,
         format: fields.truth_or_false("format")?,
@@ -100,20 +129,16 @@ fn arinc_of(fields: Fields<'_>) -> Result<Message, ScriptFault>
 }
 
 fn discrete_of(fields: Fields<'_>) -> Result<Message, ScriptFault>
-    ensures { IfOk result (λ message. IsOfKind kinds.Discrete (table_view fields.entry.table.now) message) }
+    ensures { IfOk result (λ message. AreValues kinds.Discrete (table_view fields.entry.table.now) message) }
 {
-    fields.only(&["do", "channel", "count", "kind", "states"])?;
     let states = fields.long_or_zero("states")?;
     Ok(Message::Discrete { states })
 }
 
 /// A message of a message channel.
 fn bytes_of(fields: Fields<'_>) -> Result<Message, ScriptFault>
-    ensures { IfOk result (λ message. IsOfKind kinds.Message (table_view fields.entry.table.now) message) }
+    ensures { IfOk result (λ message. AreValues kinds.Message (table_view fields.entry.table.now) message) }
 {
-    fields.only(&[
-        "do", "channel", "count", "kind", "data", "format", "sub", "bytes",
-    ])?;
     let data_error = fields.truth_or_false("data")?;
     let format = fields.truth_or_false("format")?;
     let sub = fields.short_or_zero("sub")?;

@@ -75,7 +75,8 @@ fn events_of(
     Ok(events)
 }
 
-fn toml_fault(alloc: Global, text: &[u8], error: &toml::de::Error) -> ScriptFault {
+/// The fault of a text that is not TOML.
+pub fn toml_fault(alloc: Global, text: &[u8], error: &toml::de::Error) -> ScriptFault {
     let Some(span) = error.span() else {
         return ScriptFault::OutOfMemory(AllocError);
     };

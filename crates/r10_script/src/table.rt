@@ -353,6 +353,13 @@ impl<'a> Fields<'a> {
         }
     }
 
+    /// The elements of an array of tables, whose key must be there.
+    pub fn needed_tables(&self, key: &'static str) -> Result<&'a [Value], ScriptFault>
+        ensures { IfOk result (λ vs. map view vs.now ≡ items_at (table_view self.now.table.now) key.now) }
+    {
+        self.elements(key, TABLES)
+    }
+
     /// The elements of an array of tables, none where the key is absent.
     pub fn tables(&self, key: &'static str) -> Result<&'a [Value], ScriptFault>
         ensures { IfOk result (λ vs. map view vs.now ≡ items_at (table_view self.now.table.now) key.now) }
