@@ -2,6 +2,7 @@
 use Rattle.std.specs.Prelude.{◌≡◌, ℕ, ◌≤◌, List, [], ◌∷◌, ◌++◌, map, Option, Some, None, Result, MatchResult, is_none, if◌then◌else◌}
 use Rattle.std.specs.List.{AllByRecursion}
 use Rattle.r10_count.specs.Checks.{first_broken}
+use Rattle.r10_count.specs.Count.{IsCount}
 use Rattle.r10_body.specs.Messages.{channel_refusal}
 use Rattle.r10_body.specs.declared.entry.Sample.{Sample}
 use Rattle.r10_body.specs.declared.message.Message.{Message}
@@ -36,7 +37,14 @@ counts_of xs = map (λ x. x.count) xs
 -- what may wait in a lane: messages that the channel takes, whose counts don't fall up to the last accepted one
 pub record Waits (spec : ChannelSpec) (last : ℕ) (waiting : List Sample) : Type 0 where
   pub taken : AllByRecursion (IsTaken spec) waiting
+  pub counts : AllByRecursion (λ x. IsCount x.count) waiting
   pub climbs : Climbs 0 (counts_of waiting) last
+
+-- what may be taken from a lane, from one count that it has reached on and up to another: messages that the channel takes, whose counts don't fall
+pub record Gives (spec : ChannelSpec) (low : ℕ) (samples : List Sample) (high : ℕ) : Type 0 where
+  pub passes : AllByRecursion (IsTaken spec) samples
+  pub counts : AllByRecursion (λ x. IsCount x.count) samples
+  pub climbs : Climbs low (counts_of samples) high
 
 -- the count of the first sample, or this one
 abbrev pub first_count_or : List Sample → ℕ → ℕ
@@ -47,8 +55,9 @@ first_count_or (x ∷ xs) n = x.count
 abbrev pub reached : Lane → ℕ
 reached lane = first_count_or lane.waiting (count_or_0 lane.last)
 
--- these samples left the front of what waits, and nothing else is changed
+-- these samples, which the lane may give, left the front of what waits, and nothing else is changed
 pub record TookWaiting (old : Lane) (samples : List Sample) (new : Lane) : Type 0 where
   pub front : old.waiting ≡ samples ++ new.waiting
   pub others : new ≡ record old { waiting = new.waiting }
+  pub gives : Gives old.spec (reached old) samples (reached new)
   pub rises : reached old ≤ reached new

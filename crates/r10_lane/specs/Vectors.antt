@@ -33,7 +33,7 @@ full = lane (first ∷ second ∷ []) (Some 1002) 0 0
 
 -- both are messages of the channel, and their counts rise to the last accepted
 both_wait : Waits channel 1002 (first ∷ second ∷ [])
-both_wait = record { taken = (refl, (refl, tt)); climbs = (lit≤ tt, (lit≤ tt, lit≤ tt)) }
+both_wait = record { taken = (refl, (refl, tt)); counts = (lit≤ tt, (lit≤ tt, tt)); climbs = (lit≤ tt, (lit≤ tt, lit≤ tt)) }
 
 -- two are accepted, the third is lost
 one_waits : Offers (fresh_lane channel) 1001 (text 0x41) (Ok tt) (lane (first ∷ []) (Some 1001) 0 0)
@@ -47,7 +47,7 @@ a_third_is_lost = (refl, refl)
 
 -- one is taken, and the next that is accepted has a gap
 one_is_taken : TookWaiting (lane (first ∷ second ∷ []) (Some 1002) 1 1) (first ∷ []) (lane (second ∷ []) (Some 1002) 1 1)
-one_is_taken = record { front = refl; others = refl; rises = lit≤ tt }
+one_is_taken = record { front = refl; others = refl; gives = record { passes = (refl, tt); counts = (lit≤ tt, tt); climbs = (lit≤ tt, lit≤ tt) }; rises = lit≤ tt }
 
 a_gap_is_marked : Offers (lane (second ∷ []) (Some 1002) 1 1) 1004 (text 0x44) (Ok tt) (lane (second ∷ sample 1004 0x44 true ∷ []) (Some 1004) 0 1)
 a_gap_is_marked = (refl, refl)

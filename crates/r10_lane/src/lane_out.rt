@@ -7,6 +7,7 @@ ghost use Rattle.r10_count.specs.Count.{IsCount};
 ghost use Rattle.r10_body.specs.Messages.{channel_refusal};
 ghost use Rattle.r10_body.specs.declared.entry.Sample.{Sample as SampleValue};
 ghost use Rattle.r10_body.specs.declared.spec.ChannelSpec.{ChannelSpec as ChannelSpecValue};
+ghost use Rattle.r10_lane.specs.Lanes.{Gives};
 
 use r10_body::{ChannelSpec, Sample};
 
@@ -55,9 +56,10 @@ pub trait LaneOut {
         ensures shown { (first : SampleValue) → shows self.old first → result ≡ Some first }
         ensures quiet { IfSome (quiet self.old) (λ waiting. result ≡ slice_get waiting 0) };
 
-    /// How many samples wait.
+    /// How many samples wait: never more than the capacity.
     fn held(&mut self) -> usize
         ensures took { took self.old [] self.new }
+        ensures room { result ≤ (spec_of self.old).capacity }
         ensures shown { (first : SampleValue) → shows self.old first → shows self.new first }
         ensures quiet { IfSome (quiet self.old) (λ waiting. result ≡ length waiting) };
 
@@ -72,6 +74,9 @@ pub trait LaneOut {
     ghost keeps_spec: { (a b : Self) (xs : List SampleValue) → took a xs b → spec_of b ≡ spec_of a };
 
     ghost rises: { (a b : Self) (xs : List SampleValue) → took a xs b → reached a ≤ reached b };
+
+    /// What was taken passes the channel's check, in counts that don't fall from what the lane had reached to what it has.
+    ghost gives: { (a b : Self) (xs : List SampleValue) → took a xs b → Gives (spec_of a) (reached a) xs (reached b) };
 
     /// What is taken from a quiet lane is the front of what waits, and the rest waits on.
     ghost stays_quiet: { (a b : Self) (xs waiting : List SampleValue) → took a xs b → quiet a ≡ Some waiting → (rest : List SampleValue) × (quiet b ≡ Some rest) × (waiting ≡ xs ++ rest) };

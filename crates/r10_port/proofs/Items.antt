@@ -34,9 +34,9 @@ pub first_stays : (xs ys : List Item) (first : Item) → slice_get xs 0 ≡ Some
 first_stays [] ys first is = absurd (cc)
 first_stays (x ∷ xs) ys first is = is
 
--- what may follow an announcement is a sample that the channel takes, not below the last one
+-- what may follow an announcement is a sample that the channel takes, its count of 48 bits and not below the last one
 pub joins : (items : List Item) (spec : ChannelSpec) (x : Sample) → slice_get items 0 ≡ Some (Announce spec) → ItemMayFollow items (Entry x)
-    → (channel_refusal spec x.message ≡ None) × (count_or_0 (last_count_or None (samples items)) ≤ x.count)
+    → (channel_refusal spec x.message ≡ None) × (count_or_0 (last_count_or None (samples items)) ≤ x.count) × IsCount x.count
 joins items spec x first may = passed spec (last_count_or None (samples items)) x.count x.message (subst (λ (o : Option Item). MayJoin o (samples items) (Entry x)) first may).1
 
 pub has_room : (items : List Item) (spec : ChannelSpec) (x : Sample) → slice_get items 0 ≡ Some (Announce spec) → ItemMayFollow items (Entry x) → 0 < spec.capacity

@@ -58,9 +58,12 @@ reaches items items2 x grown = ap (λ (l : List Item). count_or_0 (last_count_or
 pub takes : (ring ring2 : Ring) (spec : ChannelSpec) (items items2 ahead ahead2 : List Item) (x : Sample)
     → ring2 ≡ ring → items2 ≡ items ++ Entry x ∷ [] → slice_get items 0 ≡ Some (Announce spec) → ItemMayFollow items (Entry x)
     → TookReceived (receiving ring spec items ahead) (x ∷ []) (receiving ring2 spec items2 ahead2)
-takes ring ring2 spec items items2 ahead ahead2 x same grown first may = record {
-  same = (same, refl);
-  received = ap samples grown ∙ samples_joined items (Entry x ∷ []);
-  rises = omega (arith, (joins items spec x first may).1, reaches items items2 x grown);
-  room = λ none. absurd (omega (arith, none, has_room items spec x first may));
-}
+takes ring ring2 spec items items2 ahead ahead2 x same grown first may =
+    let (passes, climbs, count) = joins items spec x first may in
+    record {
+      same = (same, refl);
+      received = ap samples grown ∙ samples_joined items (Entry x ∷ []);
+      gives = record { passes = (passes, tt); counts = (count, tt); climbs = (climbs, omega (arith, reaches items items2 x grown)) };
+      rises = omega (arith, climbs, reaches items items2 x grown);
+      room = λ none. absurd (omega (arith, none, has_room items spec x first may));
+    }

@@ -14,6 +14,7 @@ use Rattle.r10_machine.specs.Machine.{Lane}
 use Rattle.r10_machine.specs.Checks.{offer_checks}
 use Rattle.r10_machine.specs.Calls.{accepted, overflowed}
 use Rattle.r10_machine.specs.SoundParts.{count_or_0}
+use Rattle.r10_lane.specs.Lanes.{Gives}
 use Rattle.r10_port.specs.declared.item.Item.{Item}
 use Rattle.r10_port.specs.declared.item.Item.TheVariants.{Announce, Entry}
 use Rattle.r10_port.specs.declared.rule.InOrder.{InOrder}
@@ -72,10 +73,11 @@ next_known (item ∷ items) = sample_in item
 abbrev pub reached_by_outlet : Receiving → ℕ
 reached_by_outlet outlet = count_or_0 (last_count_or None outlet.received)
 
--- these samples were received, over the same ring; none on a channel without room
+-- these samples, which the lane may give, were received, over the same ring; none on a channel without room
 pub record TookReceived (old : Receiving) (samples : List Sample) (new : Receiving) : Type 0 where
   pub same : (new.ring ≡ old.ring) × (new.spec ≡ old.spec)
   pub received : new.received ≡ old.received ++ samples
+  pub gives : Gives old.spec (reached_by_outlet old) samples (reached_by_outlet new)
   pub rises : reached_by_outlet old ≤ reached_by_outlet new
   pub room : old.spec.capacity ≡ 0 → samples ≡ []
 

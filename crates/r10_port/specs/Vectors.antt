@@ -56,13 +56,13 @@ module _ (ring : Ring) where
 
   -- one is taken, and the next that is sent has a gap
   one_is_taken : TookReceived (outlet ring []) (first ∷ []) (outlet ring (first ∷ []))
-  one_is_taken = record { same = (refl, refl); received = refl; rises = lit≤ tt; room = λ e. absurd (cc) }
+  one_is_taken = record { same = (refl, refl); received = refl; gives = record { passes = (refl, tt); counts = (lit≤ tt, tt); climbs = (lit≤ tt, lit≤ tt) }; rises = lit≤ tt; room = λ e. absurd (cc) }
 
   a_gap_is_marked : Offered (port ring (first ∷ second ∷ []) (Some 2) 1 1 0) 4 (text 0x44) (Ok tt) (port ring (first ∷ second ∷ fourth ∷ []) (Some 4) 0 1 0)
   a_gap_is_marked = (refl, lit≤ tt)
 
   two_are_taken : TookReceived (outlet ring (first ∷ [])) (second ∷ fourth ∷ []) (outlet ring (first ∷ second ∷ fourth ∷ []))
-  two_are_taken = record { same = (refl, refl); received = refl; rises = lit≤ tt; room = λ e. absurd (cc) }
+  two_are_taken = record { same = (refl, refl); received = refl; gives = record { passes = (refl, (refl, tt)); counts = (lit≤ tt, (lit≤ tt, tt)); climbs = (lit≤ tt, (lit≤ tt, lit≤ tt)) }; rises = lit≤ tt; room = λ e. absurd (cc) }
 
   -- what is left between the two ends
   one_is_left : unreceived (outlet ring (first ∷ [])) full ≡ second ∷ []
