@@ -37,3 +37,4 @@ mod Effecting
 mod Making
 mod Owning
 mod Meant
+mod Alike

@@ -16,3 +16,4 @@ pub mod Closing
 pub mod Effects
 pub mod Safely
 pub mod Own
+pub mod Standing

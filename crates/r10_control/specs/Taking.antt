@@ -31,7 +31,7 @@ use Rattle.r10_openfile.specs.Intake.{IsMovedIn}
 use Rattle.r10_openfile.specs.Keeping.{MayGoOn}
 use Rattle.r10_pump.specs.Machines.{HasWaiting}
 use Rattle.r10_pump.specs.Pumping.{Begins, SampleHasRoom, KeepsRoom, entries_on}
-use Rattle.r10_pump.specs.Stopping.{Part, TellsWaiting, TookAll, entries_of, samples_on}
+use Rattle.r10_pump.specs.Stopping.{Part, TellsWaiting, TookAll, entries_of, most_of, samples_on}
 use Rattle.r10_control.specs.Leading.{KeptStepsTaking}
 use Rattle.r10_control.specs.declared.pumping.PumpFault.{PumpFault}
 use Rattle.r10_control.specs.declared.pumping.PumpFault.TheVariants as pump_faults
@@ -49,9 +49,14 @@ taken_of parts channel = length (samples_on channel parts)
 abbrev pub one_part : ℕ → List Sample → List Sample → Part
 one_part channel samples rest = record { channel = channel; samples = samples; rest = rest; full = None }
 
+-- of a lane that isn't quiet, none is told to wait behind what was taken
+abbrev pub NoneBehind : {L : Type 0} → (L → Option (List Sample)) → (L → ChannelSpec) → List L → Part → Type 0
+NoneBehind quiet spec_of lanes p = AllByRecursion (λ lane. (spec_of lane).id ≡ p.channel → quiet lane ≡ None → p.rest ≡ []) lanes
+
 -- Channel by channel in this order, up to some, a call took these parts from the lanes, no more of a channel than may be; of a lane that is quiet, a part and its rest are all that waited. Where the medium failed while they were taken, nothing is told of the rests.
+-- No part is more than its lane has room for. Where the answer says that nothing was left, none is told to wait behind what was taken of a lane that isn't quiet.
 -- They are counted where the call succeeds, and whatever entries the recorder's own files had, these are behind them then. From each machine that is meant, and in whose lanes the parts and their rests wait, what the call answers leads to one that is meant then.
-pub record StepsByTaking {L T : Type 0} (took : L → List Sample → L → Type 0) (quiet : L → Option (List Sample)) (spec_of : L → ChannelSpec) (order : List ℕ) (most : ℕ → ℕ) (says : T → List Part → Type 0)
+pub record StepsByTaking {L T : Type 0} (took : L → List Sample → L → Type 0) (quiet : L → Option (List Sample)) (spec_of : L → ChannelSpec) (order : List ℕ) (most : ℕ → ℕ) (says : T → List Part → Type 0) (bare : Result T Refusal → Type 0)
     (k : Kept) (old : Image) (before : ℕ) (event : EventValue) (reply : T → ReplyValue) (result : Result T Refusal) (later : Kept) (new : Image) (now : ℕ) (lanes lanes' : List L) : Type 0 where
   pub parts : List Part
   pub known : List Part
@@ -59,8 +64,10 @@ pub record StepsByTaking {L T : Type 0} (took : L → List Sample → L → Type
   pub passed : List ℕ
   pub order_is : map (λ (p : Part). p.channel) parts ++ passed ≡ order
   pub within : AllByRecursion (λ (p : Part). length p.samples ≤ most p.channel) parts
+  pub few : AllByRecursion (λ (p : Part). length p.samples ≤ most_of (map spec_of lanes) p.channel) parts
   pub taken : TookAll took spec_of parts lanes lanes'
   pub waits : AllByRecursion (TellsWaiting quiet spec_of lanes) known
+  pub rests : bare result → AllByRecursion (NoneBehind quiet spec_of lanes) known
   pub tells : IfOk result (λ v. says v parts)
   pub counts : OnOk result (AreGrown (entries_of parts) k.config.channels k.taken later.taken)
   pub none : IfErr result (λ r. (r ≡ Medium) ⊎ AllByRecursion (λ (p : Part). p.samples ≡ []) parts)
@@ -76,6 +83,14 @@ CountsMoved n parts = n ≡ length (entries_of parts)
 -- so many were taken, and so many are left, up to 2^64 - 1
 abbrev pub IsStopped : Stopped → List Part → Type 0
 IsStopped said parts = (said.taken ≡ length (entries_of parts)) × (said.left ≡ min (sum_by (λ (p : Part). length p.rest) parts) (2 ^ 64 - 1))
+
+-- a pump's answer, unless it is that the first that waits has no room
+abbrev pub HadRoom : Result ℕ Refusal → Type 0
+HadRoom result = IfErr result (λ r. elim r [ IndexFull ↦ ⊥ | MediumFull ↦ ⊥ | _ ↦ Unit {0} ])
+
+-- a stop's answer that none is left, or that the medium didn't fail
+abbrev pub LeftNone : Result Stopped Refusal → Type 0
+LeftNone result = MatchResult result (λ said. said.left ≡ 0) (λ r. elim r [ Medium ↦ ⊥ | _ ↦ Unit {0} ])
 
 -- ---- the file
 
@@ -149,12 +164,18 @@ MovedNone disk ends ends' channel most nodes area samples rest old medium new me
     Rose (disk medium).failures (disk medium').failures × IsSomeAnd (slice_get samples 0) (SampleHasRoom old.recording channel area)
     × ((s : Config) (chain : List ChainBlock) (files : List File) (f : File) → HoldsFiles s (disk medium).blocks chain (Some old) (files ++ f ∷ []) → ends f.entries → MediumSays s (disk medium').blocks (files ++ f ∷ []))
 
--- From the lane of a channel these samples were taken, at most so many, and the rest waits behind them.
-pub record PumpedLane {M : Type 0} (took : List Sample → Type 0) (left : List Sample → List Sample → Type 0) (ends ends' : List Entry → Type 0) (disk : M → Disk) (channel most nodes area : ℕ)
+-- this, unless the first has no room
+abbrev pub UnlessFull : Result ℕ PumpFault → Type 0 → Type 0
+UnlessFull result P = IfErr result (λ fault. elim fault [ pump_faults.Full full ↦ Unit {0} | _ ↦ P ]) × IfOk result (λ n. P)
+
+-- From the lane of a channel these samples were taken, at most so many and no more than it has room for, and the rest waits behind them, which is bare unless the first has no room.
+pub record PumpedLane {M : Type 0} (took : List Sample → Type 0) (left : List Sample → List Sample → Type 0) (bare : List Sample → Type 0) (ends ends' : List Entry → Type 0) (disk : M → Disk) (channel capacity most nodes area : ℕ)
     (old : Open) (medium : M) (new : Open) (medium' : M) (result : Result ℕ PumpFault) : Type 0 where
   pub samples : List Sample
   pub rest : List Sample
   pub gave : took samples
   pub waits : left samples rest
   pub within : length samples ≤ most
+  pub few : length samples ≤ capacity
+  pub alone : UnlessFull result (bare rest)
   pub moved : MatchResult result (MovedSamples ends ends' channel most nodes area samples rest old (disk medium).blocks new (disk medium').blocks) (MovedNone disk ends ends' channel most nodes area samples rest old medium new medium')

@@ -14,6 +14,7 @@ mod reading;
 mod recorder;
 mod recording;
 mod sealing;
+mod standing;
 mod starting;
 mod status;
 mod stopping;

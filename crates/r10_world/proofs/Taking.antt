@@ -63,10 +63,10 @@ waiting (p ∷ parts) lanes old same (tells, more) =
 
 -- ---- a call that takes from lanes
 
-pub telling_taken : {M T : Type 0} (disk : M → Disk) (old new : RecorderState M Lane) → Moves → (order : List ℕ) (most : ℕ → ℕ) (says : T → List Part → Type 0) (event : EventValue) (reply : T → ReplyValue) (result : Result T Refusal) (said : ReplyValue)
-    → StepsByTaking TookWaiting (λ (lane : Lane). Some lane.waiting) (λ (lane : Lane). lane.spec) order most says old.kept (disk old.medium).blocks (disk old.medium).failures event reply result new.kept (disk new.medium).blocks (disk new.medium).failures old.lanes new.lanes
+pub telling_taken : {M T : Type 0} (disk : M → Disk) (old new : RecorderState M Lane) → Moves → (order : List ℕ) (most : ℕ → ℕ) (says : T → List Part → Type 0) (bare : Result T Refusal → Type 0) (event : EventValue) (reply : T → ReplyValue) (result : Result T Refusal) (said : ReplyValue)
+    → StepsByTaking TookWaiting (λ (lane : Lane). Some lane.waiting) (λ (lane : Lane). lane.spec) order most says bare old.kept (disk old.medium).blocks (disk old.medium).failures event reply result new.kept (disk new.medium).blocks (disk new.medium).failures old.lanes new.lanes
     → MachinesKeepShown old.kept (disk old.medium).blocks (disk old.medium).failures (disk new.medium).blocks → new.kept.config ≡ old.kept.config → said ≡ elim result [ Ok v ↦ reply v | Err r ↦ replies.Refused r ] → RecorderStepsAlone disk old event said new
-telling_taken disk old new law order most says event reply result said takes keeps config is = λ slots m stands.
+telling_taken disk old new law order most says bare event reply result said takes keeps config is = λ slots m stands.
     let before = disk old.medium in
     let now = disk new.medium in
     let means = stands.joined.means in

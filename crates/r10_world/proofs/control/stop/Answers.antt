@@ -12,7 +12,7 @@ pub returns-clause-tells : goal.returns-clause-tells
 returns-clause-tells g c =
     let call = c.stop_file in
     let a = c.args in
-    telling_taken g.M.BlockMedium.disk a.recorder.now call.new.self c.recorders_calls_are_steps.ensures.moves _ _ _ events.Stop (λ said. replies.Stopped said) call.result c.stopped.result call.ensures.takes call.ensures.bytes call.ensures.config c.stopped.ensures
+    telling_taken g.M.BlockMedium.disk a.recorder.now call.new.self c.recorders_calls_are_steps.ensures.moves _ _ _ _ events.Stop (λ said. replies.Stopped said) call.result c.stopped.result call.ensures.takes call.ensures.bytes call.ensures.config c.stopped.ensures
 
 pub returns-clause-stops : goal.returns-clause-stops
 returns-clause-stops g c =

@@ -1,0 +1,70 @@
+-- Machines whose lanes stand for lanes of any kind.
+use Rattle.std.specs.Prelude.{◌≡◌, ℕ, ◌≤◌, List, [], ◌∷◌, Option, None, Some, Result, MatchOption, MatchResult}
+use Rattle.r10_body.specs.declared.entry.Sample.{Sample}
+use Rattle.r10_body.specs.declared.refusal.Refusal.{Refusal}
+use Rattle.r10_body.specs.declared.spec.ChannelSpec.{ChannelSpec}
+use Rattle.r10_machine.specs.Machine.{Lane, Machine}
+use Rattle.r10_machine.specs.SoundParts.{count_or_0}
+use Rattle.r10_means.specs.Kept.{Kept}
+use Rattle.r10_means.specs.Means.{KeptStandsFor}
+use Rattle.r10_medium.specs.Disk.{Image}
+use Rattle.r10_pump.specs.Stopping.{Part, TookAll, samples_on}
+use Rattle.r10_control.specs.Leading.{KeptStepsTaking}
+use Rattle.r10_control.specs.Taking.{taken_of}
+use Rattle.r10_machine.specs.declared.event.Event.{Event as EventValue}
+use Rattle.r10_machine.specs.declared.reply.Reply.{Reply as ReplyValue}
+use Rattle.r10_machine.specs.declared.reply.Reply.TheVariants.{Refused}
+
+-- ---- lanes
+
+-- of a lane that is quiet, what waits in it; of another, nothing that it has not reached was accepted
+abbrev pub IsReachedBy : Option (List Sample) → ℕ → Lane → Type 0
+IsReachedBy quiet reached a = MatchOption quiet (count_or_0 a.last ≤ reached) (λ waiting. a.waiting ≡ waiting)
+
+-- lane by lane, the machine's stand for these
+abbrev pub StandFor : {L : Type 0} → (L → Option (List Sample)) → (L → ℕ) → (L → ChannelSpec) → List L → List Lane → Type 0
+StandFor quiet reached spec_of [] [] = Unit {0}
+StandFor quiet reached spec_of (x ∷ lanes) (a ∷ machines) = (a.spec ≡ spec_of x) × IsReachedBy (quiet x) (reached x) a × StandFor quiet reached spec_of lanes machines
+StandFor quiet reached spec_of lanes machines = ⊥
+
+-- what is taken from a lane that isn't quiet leaves one that isn't
+abbrev pub StaysShared : {L : Type 0} → (L → List Sample → L → Type 0) → (L → Option (List Sample)) → Type 0
+StaysShared {L} took quiet = (a b : L) (samples : List Sample) → took a samples b → quiet a ≡ None → quiet b ≡ None
+
+-- ---- what was taken
+
+-- the count of the last of these samples, or the one before them
+abbrev pub last_behind : Option ℕ → List Sample → Option ℕ
+last_behind last [] = last
+last_behind last (x ∷ xs) = last_behind (Some x.count) xs
+
+-- the machine's lane, where these wait in it and were accepted last; that of a quiet lane as it is
+abbrev pub with_taken : Option (List Sample) → List Sample → Lane → Lane
+with_taken None samples a = record a { waiting = samples; last = last_behind a.last samples }
+with_taken (Some waiting) samples a = a
+
+abbrev pub lanes_with : {L : Type 0} → (L → Option (List Sample)) → (L → ChannelSpec) → List Part → List L → List Lane → List Lane
+lanes_with quiet spec_of parts (x ∷ lanes) (a ∷ machines) = with_taken (quiet x) (samples_on (spec_of x).id parts) a ∷ lanes_with quiet spec_of parts lanes machines
+lanes_with quiet spec_of parts lanes machines = machines
+
+-- a machine with other lanes
+abbrev pub with_lanes : List Lane → Machine → Machine
+with_lanes lanes m = record m { lanes = lanes }
+
+-- ---- steps
+
+-- With the samples that a call took waiting in its lanes the machine is meant too, and the call is its step. That leads to one that is meant then, and stands for the lanes as they are then.
+pub record StepsWith {L : Type 0} (took : L → List Sample → L → Type 0) (quiet : L → Option (List Sample)) (reached : L → ℕ) (spec_of : L → ChannelSpec)
+    (k : Kept) (old : Image) (before : ℕ) (event : EventValue) (reply : ReplyValue) (later : Kept) (new : Image) (now : ℕ) (lanes lanes' : List L) (m : Machine) : Type 0 where
+  pub parts : List Part
+  pub taken : TookAll took spec_of parts lanes lanes'
+  pub means : KeptStandsFor k old before (with_lanes (lanes_with quiet spec_of parts lanes m.lanes) m)
+  pub leads : KeptStepsTaking (taken_of parts) k (with_lanes (lanes_with quiet spec_of parts lanes m.lanes) m) event reply later new now
+  pub stands : StandFor quiet reached spec_of lanes' leads.machine.lanes
+
+-- such an answer is a step so, from each machine that is meant and stands for the lanes
+abbrev pub StepsAlike : {L T : Type 0} → (L → List Sample → L → Type 0) → (L → Option (List Sample)) → (L → ℕ) → (L → ChannelSpec) → (Result T Refusal → Type 0) → Kept → Image → ℕ → EventValue → (T → ReplyValue) → Result T Refusal
+    → Kept → Image → ℕ → List L → List L → Type 0
+StepsAlike took quiet reached spec_of bare k old before event reply result later new now lanes lanes' =
+    bare result → StaysShared took quiet → (m : Machine) → KeptStandsFor k old before m → StandFor quiet reached spec_of lanes m.lanes
+    → MatchResult result (λ v. StepsWith took quiet reached spec_of k old before event (reply v) later new now lanes lanes' m) (λ r. StepsWith took quiet reached spec_of k old before event (Refused r) later new now lanes lanes' m)
