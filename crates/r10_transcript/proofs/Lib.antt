@@ -1,0 +1,4 @@
+mod Refusing
+mod Agreeing
+mod Comparing
+mod Several
