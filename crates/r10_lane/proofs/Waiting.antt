@@ -1,5 +1,5 @@
 -- What waits in a lane: refused offers, one more at the end, and without the first.
-use Rattle.std.proofs.Common.{◌≡◌, ℕ, zero, suc, ◌≤◌, ◌-◌, ◌∙◌, true, List, [], ◌∷◌, ◌++◌, Option, Some, None, Err, is_none, if◌then◌else◌, drop, length, min, refl, sym, ap, subst, arith}
+use Rattle.std.proofs.Common.{◌≡◌, ℕ, ◌≤◌, ◌-◌, ◌∙◌, true, List, [], ◌∷◌, ◌++◌, Option, Some, None, Err, is_none, if◌then◌else◌, drop, length, min, refl, sym, ap, subst, arith}
 use Rattle.std.proofs.lemmas.List.{drop_min}
 use Rattle.std.proofs.lemmas.Bool.{leb-true, ltb-true}
 use Rattle.r10_count.specs.Checks.{first_broken}
@@ -87,23 +87,3 @@ took_first lane (x ∷ xs) waits =
     reaches : (ys : List Sample) → Climbs x.count (counts_of ys) (count_or_0 lane.last) → x.count ≤ first_count_or ys (count_or_0 lane.last)
     reaches [] climbs = climbs
     reaches (y ∷ ys) climbs = climbs.0
-
--- ---- without the first ones
-
-drop_nothing : (n : ℕ) (xs : List Sample) → xs ≡ [] → drop n xs ≡ []
-drop_nothing zero xs is = is
-drop_nothing (suc n) xs is = ap (drop (suc n)) is
-
-one_by_one : (n : ℕ) (xs : List Sample) → drop (suc n) xs ≡ drop n (drop 1 xs)
-one_by_one n [] = sym (drop_nothing n [] refl)
-one_by_one n (x ∷ xs) = refl
-
-pub waits_fewer : (n : ℕ) (spec : ChannelSpec) (last : ℕ) (waiting : List Sample) → Waits spec last waiting → Waits spec last (drop n waiting)
-waits_fewer zero spec last waiting waits = waits
-waits_fewer (suc n) spec last waiting waits = subst (Waits spec last) (sym (one_by_one n waiting)) (waits_fewer n spec last (drop 1 waiting) (waits_less spec last waiting waits))
-
--- to keep the last is to drop the first
-pub kept_last : (n left : ℕ) (xs : List Sample) → left ≡ length xs - n → drop (length xs - left) xs ≡ drop n xs
-kept_last n left xs is =
-    let all : length xs - left ≡ min n (length xs) = omega (arith, is) in
-    ap (λ (k : ℕ). drop k xs) all ∙ drop_min n xs

@@ -2,7 +2,6 @@
 
 ghost use Rattle.std.specs.Prelude.{◌≡◌, ◌≤◌, IfOk, length, option_copied, slice_get};
 ghost use Rattle.r10_count.specs.Count.{IsCount};
-ghost use Rattle.r10_machine.specs.Calls.{without};
 ghost use Rattle.r10_machine.specs.Machine.{fresh_lane};
 ghost use Rattle.r10_machine.specs.SoundParts.{count_or_0};
 ghost use Rattle.r10_lane.specs.Lanes.{Offers, reached, Waits};
@@ -111,18 +110,11 @@ impl RingLane {
         self.waiting.get(place)
     }
 
-    /// Drops the first samples, at most so many.
-    pub fn drop_front(&mut self, most: usize)
-        ensures { self.new ≡ without most self.old }
-    {
-        let left = self.waiting.len().saturating_sub(most);
-        self.waiting.truncate_front(left);
-    }
-
     /// A law: each sample that waits passes the channel's check, and counts don't fall up to the last that was accepted.
-    pub fn waits(&self)
+    fn waits(&self)
         ensures { Waits self.now.spec (count_or_0 self.now.last) self.now.waiting }
     {
+        // For the proof: the lane is read, and its invariant is known.
         let _ = &self.waiting;
     }
 
@@ -165,6 +157,7 @@ impl LaneOut for RingLane {
     }
 
     fn in_range(&self) {
+        // What waits is in order up to the last count, and that is a count.
         self.waits();
         let _last = last_in(self.last);
     }
