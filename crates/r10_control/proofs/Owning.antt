@@ -39,7 +39,7 @@ use Rattle.r10_medium.proofs.Stops.{below_puts}
 use Rattle.r10_seal.specs.Sealing.{ListsSealed, SealsFile, sealed_entry}
 use Rattle.r10_control.proofs.Seals.{sealed_some}
 use Rattle.r10_control.specs.Own.{AreAmong, AreOwn, EndOpen, OwnGrow, OwnStay}
-use Rattle.r10_control.specs.Recording.{IsAskedFor}
+use Rattle.r10_openfile.specs.Entering.{IsAskedFor}
 use Rattle.r10_control.proofs.Staying.{front_keeps, last_first, listed_keep}
 
 -- ---- listed files

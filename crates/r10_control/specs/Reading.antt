@@ -1,5 +1,5 @@
 -- What a recorder reads: a file of the directory in use, or the one that is recorded.
-use Rattle.std.specs.Prelude.{◌≡◌, ℕ, ◌+◌, ◌^◌, ◌<◌, ◌≤◌, List, [], length, take, Option, None, Some, IfSome, IsSomeAnd, slice_get}
+use Rattle.std.specs.Prelude.{◌≡◌, ℕ, ◌+◌, ◌^◌, ◌<◌, ◌≤◌, List, [], length, take, Option, None, Some, Result, IfSome, OnOk, IsSomeAnd, slice_get}
 use Rattle.std.specs.List.{last_or}
 use Rattle.r10_blockout.specs.Output.{first_of}
 use Rattle.r10_body.specs.Faults.{IsAtFault}
@@ -14,7 +14,7 @@ use Rattle.r10_index.specs.Book.{Book}
 use Rattle.r10_judge.specs.Judged.{SaysClosed}
 use Rattle.r10_machine.specs.Machine.{Machine}
 use Rattle.r10_means.specs.Kept.{Kept, Work, unmounted, idle, recording, failed}
-use Rattle.r10_medium.specs.Disk.{Image}
+use Rattle.r10_medium.specs.Disk.{Disk, Image, Unchanged}
 use Rattle.r10_cursor.specs.Files.{HasDataPackets, IsShownWith, bytes_in}
 use Rattle.r10_cursor.specs.Held.{IsToldOf}
 use Rattle.r10_cursor.specs.declared.refusal.ReadRefusal.{ReadRefusal}
@@ -22,6 +22,7 @@ use Rattle.r10_cursor.specs.declared.refusal.ReadRefusal.TheVariants as read_ref
 use Rattle.r10_cursor.specs.declared.written.Written.{Written}
 use Rattle.r10_control.specs.Checks.{files_of}
 use Rattle.r10_control.specs.Owns.{ended_files}
+use Rattle.r10_control.specs.State.{RecorderState}
 use Rattle.r10_machine.specs.EventChecks.{refusal}
 use Rattle.r10_machine.specs.Says.{MediumSays}
 use Rattle.r10_machine.specs.declared.event.Event.TheVariants.{Cursor}
@@ -109,3 +110,13 @@ pub record MayOpen (k : Kept) (image : Image) (m : Machine) (file : ℕ) (channe
   pub generation : m.generation ≡ k.generation
   pub there : file < length m.files
   pub says : MediumSays k.config image m.files
+
+-- ---- what is left
+
+-- a call that only reads leaves what the medium shows and a stop leaves, lanes and settings; and all that is kept, where it answers
+pub record OnlyReads {M L T : Type 0} (disk : M → Disk) (old new : RecorderState M L) (result : Result T Refusal) : Type 0 where
+  pub kept : OnOk result (new.kept ≡ old.kept)
+  pub same : Unchanged (disk old.medium) (disk new.medium)
+  pub no_fewer : (disk old.medium).failures ≤ (disk new.medium).failures
+  pub lanes : new.lanes ≡ old.lanes
+  pub config : new.kept.config ≡ old.kept.config

@@ -4,7 +4,7 @@ use Rattle.std.specs.Prelude.{◌≡◌, ◌⊎◌, ℕ, ◌-◌, ◌^◌, ◌�
 use Rattle.std.specs.List.{AllByRecursion, sum_by}
 use Rattle.r10_control.specs.Own.{OwnGrow}
 use Rattle.r10_control.specs.Refused.{IsSameKept}
-use Rattle.r10_control.specs.Recording.{IsAskedFor}
+use Rattle.r10_openfile.specs.Entering.{IsAskedFor}
 use Rattle.r10_body.specs.declared.entry.Entry.{Entry}
 use Rattle.r10_body.specs.declared.entry.Sample.{Sample}
 use Rattle.r10_body.specs.declared.refusal.Refusal.{Refusal}

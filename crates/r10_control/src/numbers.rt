@@ -23,6 +23,7 @@ impl<M: BlockMedium, L: LaneOut> Recorder<M, L> {
     pub fn last_shown(&self) -> Option<(usize, u64)>
         ensures { result ≡ last_shown self.now.kept.work }
     {
+        // For the proof: the blocks are within limits.
         let _blocks = self.settings.blocks();
         last_in(&self.work)
     }

@@ -27,6 +27,7 @@ impl<M: BlockMedium> Recorder<M, RingLane> {
         ensures kept { self.new.kept ≡ self.old.kept }
         ensures medium { self.new.medium ≡ self.old.medium }
     {
+        // For the proof: an offer is a step of the machine; the channels are within limits.
         offers_are_steps();
         let _channels = self.settings.channels();
         offer_to(&mut self.lanes, channel, count, message)
@@ -78,6 +79,7 @@ fn refuse_late(spec: &ChannelSpec, count: u64, message: &Message) -> Refusal
 {
     match check_offer(spec, None, count, message) {
         Ok(now) => {
+            // For the proof: the count is in range.
             let _ = now.get();
             Refusal::CountRange
         }

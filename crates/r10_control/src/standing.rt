@@ -17,6 +17,7 @@ impl<M: BlockMedium, L: LaneOut> Recorder<M, L> {
         ensures first { AllByRecursion (λ lane. IfSome (L.quiet lane) (λ waiting. waiting ≡ [])) self.now.lanes → StandFor L.quiet L.reached L.spec_of self.now.lanes (map fresh_lane (map L.spec_of self.now.lanes)) }
         ensures still { (m : Machine) (later : Machine) → StandFor L.quiet L.reached L.spec_of self.now.lanes m.lanes → AreLeft none_taken m.lanes later.lanes → StandFor L.quiet L.reached L.spec_of self.now.lanes later.lanes }
     {
+        // For the proof: the recorder is read, and its invariant is known.
         let _ = &self.lanes;
     }
 }

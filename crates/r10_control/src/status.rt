@@ -72,6 +72,7 @@ impl<M: BlockMedium, L: LaneOut> Recorder<M, L> {
         ensures kept { self.new.kept ≡ self.old.kept }
         ensures medium { self.new.medium ≡ self.old.medium }
     {
+        // For the proof: a step keeps a state sound; what is told is the machine's; the channels and blocks are within limits.
         a_step_stays_sound();
         tellings_are_steps();
         let _channels = self.settings.channels();
@@ -98,6 +99,7 @@ impl<M: BlockMedium> Recorder<M, RingLane> {
         ensures refused { IfErr result (λ r. r ≡ refusals.OutOfMemory) }
         ensures steps { AnswersWith self.now.lanes self.now.kept (M.disk self.now.medium).blocks (M.disk self.now.medium).failures events.Status (λ status. replies.Status status) result self.now.lanes }
     {
+        // For the proof: a step keeps a state sound; what is told is the machine's; the channels and blocks are within limits.
         a_step_stays_sound();
         tellings_are_steps();
         let _channels = self.settings.channels();
@@ -148,6 +150,7 @@ fn free_in(settings: &Settings, work: &Doing) -> u64
     ensures value { result ≡ free_in settings.now (work_of work.now) }
     ensures held { (image : Image) (m : Machine) → m.mode ≡ mode_of (work_of work.now) → HasFiles settings.now (work_of work.now) image m.files → result ≡ free_bytes settings.now m }
 {
+    // For the proof: the blocks are within limits.
     let _blocks = settings.blocks();
     match work {
         Doing::Unmounted => 0,

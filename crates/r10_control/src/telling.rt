@@ -35,6 +35,7 @@ impl<M: BlockMedium, L: LaneOut> Recorder<M, L> {
         ensures refused { IfErr result (RefusesCall M.disk (recorder_refusal self.now.kept events.Files) nothing_lacks self.now.kept self.now.kept self.now.medium self.now.medium) }
         ensures steps { CallStepsTaking none_taken self.now.kept (M.disk self.now.medium).blocks (M.disk self.now.medium).failures events.Files (λ infos. replies.Files infos.items) result self.now.kept (M.disk self.now.medium).blocks (M.disk self.now.medium).failures }
     {
+        // For the proof: a step keeps a state sound; what is told is the machine's; the channels are within limits.
         a_step_stays_sound();
         tellings_are_steps();
         let _channels = self.settings.channels();

@@ -2,3 +2,4 @@ pub mod Writes
 pub mod Room
 pub mod Own
 pub mod Begun
+pub mod Parts

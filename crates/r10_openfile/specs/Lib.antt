@@ -5,3 +5,6 @@ pub mod Putting
 pub mod Starting
 pub mod Begun
 pub mod Carrying
+pub mod Entering
+pub mod Relisting
+pub mod Begins

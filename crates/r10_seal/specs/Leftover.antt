@@ -1,5 +1,5 @@
 -- A last file that was left open, among the files that a recorder holds, and what a seal makes of it.
-use Rattle.std.specs.Prelude.{◌≡◌, ◌⊎◌, ℕ, ◌<◌, ◌≤◌, ◌++◌, false, List, [], ◌∷◌, None, Result, OnOk}
+use Rattle.std.specs.Prelude.{◌≡◌, ◌⊎◌, ℕ, ◌<◌, ◌≤◌, ◌++◌, false, List, [], ◌∷◌, None, Result, IfErr, OnOk}
 use Rattle.r10_blockout.specs.Blocks.{bytes_from}
 use Rattle.r10_body.specs.Cost.{file_cost}
 use Rattle.r10_body.specs.Packets.{Packet}
@@ -55,3 +55,10 @@ pub record SealsLast {T E : Type 0} (s : Config) (files : List File) (f : File) 
   pub reads : IsEither s files f packets new.blocks
   pub moments : IsSettled s (files ++ f ∷ []) old → Leaves (IsEither s files f packets) old new
   pub settled : OnOk result (IsSettled s (files ++ sealed packets f ∷ []) new)
+
+-- Of files that a recorder with so many nodes holds, the last of them left open, that one is closed with the entries that it shows. Where it may be closed, and after an Ok, it has room. A fault says why it wasn't.
+pub record SealsHeld {T : Type 0} (nodes : ℕ) (chain made : List ChainBlock) (old new : Disk) (result : Result T SealFault) : Type 0 where
+  pub sealed : (s : Config) (files : List File) (f : File) → IsLeftOpen s old.blocks chain nodes files f → SealsLast s files f old new made result
+  pub room : (s : Config) (files : List File) (f : File) → IsLeftOpen s old.blocks chain nodes files f → OnOk result (shown_cost f ≤ area s f)
+  pub costs : (s : Config) (files : List File) (f : File) → IsLeftOpen s old.blocks chain nodes files f → StaysOpen s files f old new ⊎ (shown_cost f ≤ area s f)
+  pub left : (s : Config) (files : List File) (f : File) → IsLeftOpen s old.blocks chain nodes files f → IfErr result (IsLeftFault s f)

@@ -1,15 +1,14 @@
 -- When an audit is refused, and how it goes through instalments.
-use Rattle.std.specs.Prelude.{◌≡◌, ℕ, ◌≤◌, Bool, List, [], ◌∷◌, ◌++◌, Option, None, Result, OnOk}
+use Rattle.std.specs.Prelude.{◌≡◌, ℕ, ◌≤◌, Bool, List, [], ◌∷◌, ◌++◌, Option, None}
 use Rattle.r10_body.specs.Packets.{Packet}
 use Rattle.r10_body.specs.declared.refusal.Refusal.{Refusal}
 use Rattle.r10_body.specs.declared.refusal.Refusal.TheVariants.{Failed, NotMounted, NoSuchFile, BadFile}
 use Rattle.r10_control.specs.Reading.{IsReadFileRefusal}
-use Rattle.r10_control.specs.State.{RecorderState}
 use Rattle.r10_count.specs.Checks.{first_broken}
 use Rattle.r10_cursor.specs.declared.cursor.Cursor.{Cursor}
 use Rattle.r10_machine.specs.Checks.{is_working, mounted_checks}
 use Rattle.r10_means.specs.Kept.{Kept, Work, mode_of}
-use Rattle.r10_medium.specs.Disk.{Disk, Image, Unchanged}
+use Rattle.r10_medium.specs.Disk.{Image}
 use Rattle.r10_transcript.specs.Transcripts.{AllAgree, IsPart}
 use Rattle.r10_transcript.specs.declared.transcript.Instalment.{Instalment}
 use Rattle.r10_transcript.specs.declared.transcript.Transcript.{Transcript}
@@ -37,16 +36,6 @@ pub record IsFirstRefused (work : Work) (image : Image) (transcripts : List Tran
 -- the refusals of a file that isn't there
 abbrev pub is_absence : Refusal → Bool
 is_absence r = elim r [ NotMounted ↦ Bool.true | NoSuchFile ↦ Bool.true | _ ↦ Bool.false ]
-
--- ---- what is left
-
--- a call that only reads leaves what the medium shows and a stop leaves, lanes and settings; and all that is kept, where it answers
-pub record OnlyReads {M L T : Type 0} (disk : M → Disk) (old new : RecorderState M L) (result : Result T Refusal) : Type 0 where
-  pub kept : OnOk result (new.kept ≡ old.kept)
-  pub same : Unchanged (disk old.medium) (disk new.medium)
-  pub no_fewer : (disk old.medium).failures ≤ (disk new.medium).failures
-  pub lanes : new.lanes ≡ old.lanes
-  pub config : new.kept.config ≡ old.kept.config
 
 -- ---- instalment by instalment
 

@@ -3,12 +3,12 @@
 ghost use Rattle.std.specs.Prelude.{◌≡◌, ◌≤◌, ◌↔◌, List, length, max, take, None, Some, IfErr, IfOk, IsTrue, MatchResult, OnOk};
 ghost use Rattle.r10_body.specs.Packets.{Packet as StrictPacket};
 ghost use Rattle.r10_control.specs.Checks.{recorder_refusal};
-ghost use Rattle.r10_control.specs.Reading.{IsReadFileRefusal, IsReadAt, ShowsAt};
+ghost use Rattle.r10_control.specs.Reading.{OnlyReads, IsReadFileRefusal, IsReadAt, ShowsAt};
 ghost use Rattle.r10_control.specs.Refused.{RefusesCall};
 ghost use Rattle.r10_count.specs.Count.{IsCount};
 ghost use Rattle.r10_cursor.specs.Standing.{fresh_slot};
 ghost use Rattle.r10_machine.specs.declared.event.Event.TheVariants as events;
-ghost use Rattle.r10_transcript.specs.Auditing.{GoOn, IsAuditRefusal, IsFirstRefused, IsNext, MayGoOn, OnlyReads, at_place, audit_refusal, is_absence as told_absence};
+ghost use Rattle.r10_transcript.specs.Auditing.{GoOn, IsAuditRefusal, IsFirstRefused, IsNext, MayGoOn, at_place, audit_refusal, is_absence as told_absence};
 ghost use Rattle.r10_transcript.specs.Transcripts.{Agrees, AllAgree, beginning};
 
 use crate::same::are_same;
@@ -182,6 +182,7 @@ fn pass_over<M: BlockMedium, L: LaneOut>(
 {
     match recorder.advance_to(cursor, place) {
         Ok(_) => {
+            // The entries before the place are not wanted.
             let _passed_over = cursor.rest(alloc);
             Ok(())
         }
@@ -229,6 +230,7 @@ fn read_instalment<M: BlockMedium, L: LaneOut>(
     ensures refused { IfErr result (RefusesCall M.disk None (IsReadFileRefusal recorder.old.kept.work (M.disk recorder.old.medium).blocks cursor.old.file) recorder.old.kept recorder.new.kept recorder.old.medium recorder.new.medium) }
     ensures reads { OnlyReads M.disk recorder.old recorder.new result }
 {
+    // For the proof: entries have one order.
     order_is_unique();
     if instalment.from != cursor.covered() || instalment.to < instalment.from {
         return Ok(false);

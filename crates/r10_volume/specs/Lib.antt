@@ -4,3 +4,4 @@ pub mod Settling
 pub mod Front
 pub mod Holding
 pub mod Formatted
+pub mod Mounted

@@ -36,6 +36,7 @@ pub fn format<M: BlockMedium>(medium: &mut M, settings: &Settings) -> Result<(),
     ensures refused { IfErr result (λ r. r ≡ refusals.Medium) }
     ensures counts { Counts (M.disk medium.old) (M.disk medium.new) result }
 {
+    // For the proof: the blocks and channels are within limits.
     let _blocks = settings.blocks();
     let _channels = settings.channels();
     let directory = settings.directory();

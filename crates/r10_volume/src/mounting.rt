@@ -1,19 +1,13 @@
 //! Taking a medium into use.
 
-ghost use Rattle.std.specs.Prelude.{◌≡◌, ◌≤◌, ℕ, List, [], ◌∷◌, length, None, IfOk, IfErr, IsErrOf, OnOk, MatchResult};
+ghost use Rattle.std.specs.Prelude.{◌≡◌, ◌≤◌, ℕ, List, [], ◌∷◌, length, IfOk, IfErr, IsErrOf, MatchResult};
 ghost use Rattle.r10_medium.specs.Disk.{Rose, Unchanged};
-ghost use Rattle.r10_medium.specs.Stop.{Leaves, Settled};
 ghost use Rattle.r10_dirchain.specs.Bad.{IsNoFault};
 ghost use Rattle.r10_dirchain.specs.OnMedium.{IsPublished, Turns};
 ghost use Rattle.r10_dirchain.specs.Steps.{with_shutdown};
 ghost use Rattle.r10_dirchain.specs.declared.chain.ChainBlock.{ChainBlock};
-ghost use Rattle.r10_machine.specs.Config.{Config};
-ghost use Rattle.r10_machine.specs.Machine.{File};
-ghost use Rattle.r10_machine.specs.Bytes.{KeepBytes};
-ghost use Rattle.r10_machine.specs.Says.{MediumSays};
-ghost use Rattle.r10_volume.specs.Holding.{HoldsFiles, OthersAreFound};
 ghost use Rattle.r10_volume.specs.Mounting.{IsLeft, IsMountError, IsMounted, IsNamed, IsUnusable, IsUsable};
-ghost use Rattle.r10_volume.specs.Settling.{IsSettled};
+ghost use Rattle.r10_volume.specs.Mounted.{MountsFiles};
 
 use r10_dirchain::{ChainError, Directory, read_chain};
 use r10_medium::BlockMedium;
@@ -40,13 +34,7 @@ pub fn mount<M: BlockMedium>(
     ensures turns { (chain : List ChainBlock) → IsUsable reserved (M.disk medium.old).blocks chain
         → Turns chain (with_shutdown 0x00 chain) [] (1 ∷ []) (M.disk medium.old) (M.disk medium.new) result }
     // Where the medium says files, a recorder of its settings holds them.
-    ensures holds { (s : Config) (files : List File) → MediumSays s (M.disk medium.old).blocks files → OthersAreFound (M.disk medium.old).blocks files → reserved ≡ s.directory
-        → MatchResult result (λ directory. HoldsFiles s (M.disk medium.new).blocks directory None files) IsNoFault }
-    ensures says { (s : Config) (files : List File) → MediumSays s (M.disk medium.old).blocks files → MediumSays s (M.disk medium.new).blocks files }
-    ensures bytes { (s : Config) (files : List File) → MediumSays s (M.disk medium.old).blocks files → KeepBytes (M.disk medium.old).blocks (M.disk medium.new).blocks files }
-    ensures moments { (s : Config) (files : List File) → Settled (λ image. MediumSays s image files) (M.disk medium.old)
-        → Leaves (λ image. MediumSays s image files) (M.disk medium.old) (M.disk medium.new) }
-    ensures settled { (s : Config) (files : List File) → MediumSays s (M.disk medium.old).blocks files → OnOk result (IsSettled s files (M.disk medium.new)) }
+    ensures files { MountsFiles reserved (M.disk medium.old) (M.disk medium.new) result }
     ensures blocks { length (M.disk medium.new).blocks ≡ length (M.disk medium.old).blocks }
     ensures no_fewer { (M.disk medium.old).failures ≤ (M.disk medium.new).failures }
     ensures cause { IsErrOf result ChainError.Medium → Rose (M.disk medium.old).failures (M.disk medium.new).failures }

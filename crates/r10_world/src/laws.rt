@@ -29,6 +29,7 @@ use r10_machine::{a_new_recorder_is_sound, a_step_stays_sound, files_on_a_medium
 pub fn a_new_recorder_stands()
     ensures { (s : Config) (image : Image) (files : List File) (failures : ℕ) → MediumHas s image files → KeptAndSlotsStandFor (new_kept s) image failures [] (fresh s.channels files failures) }
 {
+    // For the proof: a new recorder is sound; the files that a medium has are found by a new recorder.
     a_new_recorder_is_sound();
     files_on_a_medium_are_found();
 }
@@ -48,6 +49,7 @@ pub fn recorders_calls_are_steps()
         → KeptAndSlotsStandFor k old before slots m → KeptStepsTo k m event reply later new now machine → machine.cursors ≡ m.cursors → later.config ≡ k.config → machine.files ≡ m.files → new ≡ old
         → KeptAndSlotsStepTo k m event reply machine later new now slots }
 {
+    // For the proof: cursors stand for the machine over a step that leaves them.
     cursors_stay_over_steps();
 }
 
@@ -67,5 +69,6 @@ pub fn tables_calls_are_steps()
         → IsConfig k.config → KeptAndSlotsStandFor k image before slots m → before ≤ now → refusal k.config m (events.Close id) ≡ None
         → StepsTo (λ new. SetsCursor (record m { failures = now }) new id None) (record m { failures = now }) image slots later → SlotsStepTo k m (events.Close id) replies.Done image now later }
 {
+    // For the proof: a step keeps a state sound.
     a_step_stays_sound();
 }

@@ -38,6 +38,7 @@ pub(crate) fn open<M: BlockMedium>(
     ensures stops { Survives M.disk recorder.old (events.Cursor file channels.now from to) result recorder.new }
     ensures config { recorder.new.kept.config ≡ recorder.old.kept.config }
 {
+    // For the proof: a recorder's call is a step of the machine; a call on the cursors is a step too; so is a lack of memory.
     recorders_calls_are_steps();
     tables_calls_are_steps();
     lacks_of_memory_are_steps();
@@ -65,6 +66,7 @@ pub(crate) fn advance<M: BlockMedium>(
     ensures stops { Survives M.disk recorder.old (events.Advance id) result recorder.new }
     ensures config { recorder.new.kept.config ≡ recorder.old.kept.config }
 {
+    // For the proof: a recorder's call is a step of the machine; a call on the cursors is a step too; a refusal is a step that changes nothing; what a cursor takes is what the machine's takes.
     recorders_calls_are_steps();
     tables_calls_are_steps();
     refusals_are_steps();
@@ -73,6 +75,7 @@ pub(crate) fn advance<M: BlockMedium>(
         Ok(generation) => generation,
         Err(refusal) => return Reply::Refused(refusal),
     };
+    // The check alone is wanted: the cursor itself says which file it is on.
     let _file = match check_read(cursors, generation, id) {
         Ok(file) => file,
         Err(refusal) => return Reply::Refused(refusal),
@@ -90,6 +93,7 @@ pub(crate) fn advance<M: BlockMedium>(
 pub(crate) fn next(cursors: &mut Slab<Cursor>, id: usize) -> Reply
     ensures { (k : Kept) (image : Image) (failures : ℕ) (lanes : List Lane) (m : Machine) → PartsStandFor k image failures lanes cursors.old.slots m → PartsStepTo k m (events.Next id) result k image failures lanes cursors.new.slots }
 {
+    // For the proof: a recorder's call is a step of the machine; a call on the cursors is a step too; a refusal is a step that changes nothing.
     recorders_calls_are_steps();
     tables_calls_are_steps();
     refusals_are_steps();
@@ -103,6 +107,7 @@ pub(crate) fn next(cursors: &mut Slab<Cursor>, id: usize) -> Reply
 pub(crate) fn close(cursors: &mut Slab<Cursor>, id: usize) -> Reply
     ensures { (k : Kept) (image : Image) (failures : ℕ) (lanes : List Lane) (m : Machine) → PartsStandFor k image failures lanes cursors.old.slots m → PartsStepTo k m (events.Close id) result k image failures lanes cursors.new.slots }
 {
+    // For the proof: a recorder's call is a step of the machine; a call on the cursors is a step too; a refusal is a step that changes nothing.
     recorders_calls_are_steps();
     tables_calls_are_steps();
     refusals_are_steps();

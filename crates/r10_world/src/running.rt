@@ -40,6 +40,7 @@ pub fn run<M: BlockMedium>(
     ensures world_kept { OnErr result (world.new ≡ world.old) }
     ensures replies_kept { OnErr result (replies.new.items ≡ replies.old.items) }
 {
+    // For the proof: one run behind another is a run.
     runs_join();
     let alloc = world.alloc();
     for (i, event) in events.iter().enumerate() {

@@ -33,6 +33,7 @@ pub fn record_all<M: BlockMedium + Drop>(
     ensures refused { IfErr result (λ back. back ≡ medium) }
     ensures none { IfErr result (λ back. replies.new.items ≡ replies.old.items) }
 {
+    // For the proof: what was accepted is in the files or waits; the files that were found stay the first; the files that a medium has are found by a new recorder.
     a_recording_accounts();
     found_files_stay();
     files_on_a_medium_are_found();

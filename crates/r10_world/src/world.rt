@@ -65,6 +65,7 @@ impl<M: BlockMedium> World<M> {
         ensures medium { IfOk result (λ w. w.recorder.medium ≡ medium) }
         ensures refused { IfErr result (λ back. (back.0 ≡ settings) × (back.1 ≡ medium)) }
     {
+        // For the proof: a new recorder stands for an unmounted machine.
         a_new_recorder_stands();
         let Ok(lanes) = lanes_of(alloc, settings.channels()) else {
             return Err((settings, medium));

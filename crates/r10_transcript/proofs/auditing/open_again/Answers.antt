@@ -24,7 +24,7 @@ returns-in_default-copied-clause-refused g c =
     let passed : recorder_refusal k (events.Cursor t.file t.channels t.first t.last) ≡ None =
     subst (λ (from : ℕ). recorder_refusal k (events.Cursor t.file t.channels from t.last) ≡ None) c.get-first.ensures.value
     (subst (λ (to : ℕ). recorder_refusal k (events.Cursor t.file t.channels c.get-first.result to) ≡ None) c.get-last.ensures.value (c.in_default.ensures.passed t.channels)) in
-    not_refused disk _ (IsReadFileRefusal k.work (disk c.args.recorder.now.medium).blocks t.file) k c.check_file.new.self.kept c.args.recorder.now.medium c.check_file.new.self.medium passed c.in_default.ensures.same c.in_default.ensures.kept
+    not_refused disk _ (IsReadFileRefusal k.work (disk c.args.recorder.now.medium).blocks t.file) k c.check_file.new.self.kept c.args.recorder.now.medium c.check_file.new.self.medium passed c.in_default.ensures.reads.same c.in_default.ensures.reads.kept
 
 pub returns-clause-passed : goal.returns-clause-passed
 returns-clause-passed g c =

@@ -1,4 +1,4 @@
-use Rattle.std.proofs.Common.{List, [], ◌∷◌, ◌∙◌, Ok, Err, ap, subst}
+use Rattle.std.proofs.Common.{List, [], ◌∷◌, ◌∙◌, Ok, Err, ap, subst, rules}
 use Rattle.r10_medium.proofs.Stops.{settled_reads}
 use Rattle.r10_dirchain.specs.Steps.{with_shutdown}
 use Rattle.r10_dirchain.specs.declared.chain.ChainBlock.{ChainBlock}
@@ -18,13 +18,17 @@ returns-in-Err-clause-usable g c = no_error c.args.reserved (g.M.BlockMedium.dis
 pub returns-in-Err-clause-unusable : goal.returns-in-Err-clause-unusable
 returns-in-Err-clause-unusable g c = named_error c.args.reserved (g.M.BlockMedium.disk c.args.medium.now).blocks c.in-Err.error c.in-Err.ensures.fault
 
-pub returns-in-Err-clause-holds : goal.returns-in-Err-clause-holds
-returns-in-Err-clause-holds g c = λ s files says found e.
-    let image = (g.M.BlockMedium.disk c.args.medium.now).blocks in
-    no_error c.args.reserved image c.in-Err.error c.in-Err.ensures.fault says.chain (says_usable s c.args.reserved image files says e)
-
-pub returns-in-Err-clause-bytes : goal.returns-in-Err-clause-bytes
-returns-in-Err-clause-bytes g c = λ s files says. kept_unchanged (g.M.BlockMedium.disk c.args.medium.now) (g.M.BlockMedium.disk c.usable_directory.new.medium) files c.in-Err.ensures.same
+pub returns-in-Err-clause-files : goal.returns-in-Err-clause-files
+returns-in-Err-clause-files g c =
+    record {
+      holds = λ s files says found e.
+          let image = (g.M.BlockMedium.disk c.args.medium.now).blocks in
+          no_error c.args.reserved image c.in-Err.error c.in-Err.ensures.fault says.chain (says_usable s c.args.reserved image files says e);
+      says = search rules;
+      bytes = λ s files says. kept_unchanged (g.M.BlockMedium.disk c.args.medium.now) (g.M.BlockMedium.disk c.usable_directory.new.medium) files c.in-Err.ensures.same;
+      moments = search rules;
+      settled = search rules;
+    }
 
 pub returns-in-Ok-set_shutdown-clause-usable : goal.returns-in-Ok-set_shutdown-clause-usable
 returns-in-Ok-set_shutdown-clause-usable g c =
@@ -67,8 +71,8 @@ returns-in-Ok-set_shutdown-clause-turns g c =
     marked_later chain 0 old (g.M.BlockMedium.disk c.usable_directory.new.medium) new (Ok c.in-Ok-set_shutdown.field-0) (Ok c.set_shutdown.new.self) c.in-Ok.ensures.same is c.in-Ok-set_shutdown.ensures.turns (λ P p. p) in
     λ other there. subst (λ (l : List ChainBlock). Turns {T = Directory} {E = ChainError} l (with_shutdown 0 l) [] (1 ∷ []) old new (Ok c.set_shutdown.new.self)) (one_directory old.blocks chain other is there.directory) turns
 
-pub returns-in-Ok-set_shutdown-clause-holds : goal.returns-in-Ok-set_shutdown-clause-holds
-returns-in-Ok-set_shutdown-clause-holds g c =
+pub returns-in-Ok-set_shutdown-clause-files : goal.returns-in-Ok-set_shutdown-clause-files
+returns-in-Ok-set_shutdown-clause-files g c =
     let old = g.M.BlockMedium.disk c.args.medium.now in
     let new = g.M.BlockMedium.disk c.set_shutdown.new.medium in
     let chain = c.in-Ok.directory in
@@ -76,51 +80,13 @@ returns-in-Ok-set_shutdown-clause-holds g c =
     let is = c.in-Ok.ensures.usable.directory in
     let turns : Turns {T = Directory} {E = ChainError} chain made [] (1 ∷ []) old new (Ok c.set_shutdown.new.self) =
     marked_later chain 0 old (g.M.BlockMedium.disk c.usable_directory.new.medium) new (Ok c.in-Ok-set_shutdown.field-0) (Ok c.set_shutdown.new.self) c.in-Ok.ensures.same is c.in-Ok-set_shutdown.ensures.turns (λ P p. p) in
-    λ s files says found e. held_on s old new chain made c.set_shutdown.new.self files (Ok c.set_shutdown.new.self) (marking s old.blocks chain 0 files says is) found turns c.in-Ok-set_shutdown.ensures.done
-
-pub returns-in-Ok-set_shutdown-clause-says : goal.returns-in-Ok-set_shutdown-clause-says
-returns-in-Ok-set_shutdown-clause-says g c =
-    let old = g.M.BlockMedium.disk c.args.medium.now in
-    let new = g.M.BlockMedium.disk c.set_shutdown.new.medium in
-    let chain = c.in-Ok.directory in
-    let made = with_shutdown 0 chain in
-    let is = c.in-Ok.ensures.usable.directory in
-    let turns : Turns {T = Directory} {E = ChainError} chain made [] (1 ∷ []) old new (Ok c.set_shutdown.new.self) =
-    marked_later chain 0 old (g.M.BlockMedium.disk c.usable_directory.new.medium) new (Ok c.in-Ok-set_shutdown.field-0) (Ok c.set_shutdown.new.self) c.in-Ok.ensures.same is c.in-Ok-set_shutdown.ensures.turns (λ P p. p) in
-    λ s files says. says_still s old new chain made (1 ∷ []) files (Ok c.set_shutdown.new.self) (marking s old.blocks chain 0 files says is) turns
-
-pub returns-in-Ok-set_shutdown-clause-bytes : goal.returns-in-Ok-set_shutdown-clause-bytes
-returns-in-Ok-set_shutdown-clause-bytes g c =
-    let old = g.M.BlockMedium.disk c.args.medium.now in
-    let new = g.M.BlockMedium.disk c.set_shutdown.new.medium in
-    let chain = c.in-Ok.directory in
-    let made = with_shutdown 0 chain in
-    let is = c.in-Ok.ensures.usable.directory in
-    let turns : Turns {T = Directory} {E = ChainError} chain made [] (1 ∷ []) old new (Ok c.set_shutdown.new.self) =
-    marked_later chain 0 old (g.M.BlockMedium.disk c.usable_directory.new.medium) new (Ok c.in-Ok-set_shutdown.field-0) (Ok c.set_shutdown.new.self) c.in-Ok.ensures.same is c.in-Ok-set_shutdown.ensures.turns (λ P p. p) in
-    λ s files says. kept_then s old new chain made (1 ∷ []) files files (Ok c.set_shutdown.new.self) (marking s old.blocks chain 0 files says is) turns
-
-pub returns-in-Ok-set_shutdown-clause-moments : goal.returns-in-Ok-set_shutdown-clause-moments
-returns-in-Ok-set_shutdown-clause-moments g c =
-    let old = g.M.BlockMedium.disk c.args.medium.now in
-    let new = g.M.BlockMedium.disk c.set_shutdown.new.medium in
-    let chain = c.in-Ok.directory in
-    let made = with_shutdown 0 chain in
-    let is = c.in-Ok.ensures.usable.directory in
-    let turns : Turns {T = Directory} {E = ChainError} chain made [] (1 ∷ []) old new (Ok c.set_shutdown.new.self) =
-    marked_later chain 0 old (g.M.BlockMedium.disk c.usable_directory.new.medium) new (Ok c.in-Ok-set_shutdown.field-0) (Ok c.set_shutdown.new.self) c.in-Ok.ensures.same is c.in-Ok-set_shutdown.ensures.turns (λ P p. p) in
-    λ s files here. leaves_still s old new chain made (1 ∷ []) files (Ok c.set_shutdown.new.self) (marking s old.blocks chain 0 files (settled_reads (λ image. MediumSays s image files) old here) is) turns here
-
-pub returns-in-Ok-set_shutdown-clause-settled : goal.returns-in-Ok-set_shutdown-clause-settled
-returns-in-Ok-set_shutdown-clause-settled g c =
-    let old = g.M.BlockMedium.disk c.args.medium.now in
-    let new = g.M.BlockMedium.disk c.set_shutdown.new.medium in
-    let chain = c.in-Ok.directory in
-    let made = with_shutdown 0 chain in
-    let is = c.in-Ok.ensures.usable.directory in
-    let turns : Turns {T = Directory} {E = ChainError} chain made [] (1 ∷ []) old new (Ok c.set_shutdown.new.self) =
-    marked_later chain 0 old (g.M.BlockMedium.disk c.usable_directory.new.medium) new (Ok c.in-Ok-set_shutdown.field-0) (Ok c.set_shutdown.new.self) c.in-Ok.ensures.same is c.in-Ok-set_shutdown.ensures.turns (λ P p. p) in
-    λ s files says. settled_still s old new chain made (1 ∷ []) files (Ok c.set_shutdown.new.self) (marking s old.blocks chain 0 files says is) turns
+    record {
+      holds = λ s files says found e. held_on s old new chain made c.set_shutdown.new.self files (Ok c.set_shutdown.new.self) (marking s old.blocks chain 0 files says is) found turns c.in-Ok-set_shutdown.ensures.done;
+      says = λ s files says. says_still s old new chain made (1 ∷ []) files (Ok c.set_shutdown.new.self) (marking s old.blocks chain 0 files says is) turns;
+      bytes = λ s files says. kept_then s old new chain made (1 ∷ []) files files (Ok c.set_shutdown.new.self) (marking s old.blocks chain 0 files says is) turns;
+      moments = λ s files here. leaves_still s old new chain made (1 ∷ []) files (Ok c.set_shutdown.new.self) (marking s old.blocks chain 0 files (settled_reads (λ image. MediumSays s image files) old here) is) turns here;
+      settled = λ s files says. settled_still s old new chain made (1 ∷ []) files (Ok c.set_shutdown.new.self) (marking s old.blocks chain 0 files says is) turns;
+    }
 
 pub returns-in-Err-set_shutdown-clause-turns : goal.returns-in-Err-set_shutdown-clause-turns
 returns-in-Err-set_shutdown-clause-turns g c =
@@ -133,8 +99,8 @@ returns-in-Err-set_shutdown-clause-turns g c =
     marked_later chain 0 old (g.M.BlockMedium.disk c.usable_directory.new.medium) new (Err c.in-Err-set_shutdown.field-0) (Err Medium) c.in-Ok.ensures.same is c.in-Err-set_shutdown.ensures.turns (λ P p. tt) in
     λ other there. subst (λ (l : List ChainBlock). Turns {T = Directory} {E = ChainError} l (with_shutdown 0 l) [] (1 ∷ []) old new (Err Medium)) (one_directory old.blocks chain other is there.directory) turns
 
-pub returns-in-Err-set_shutdown-clause-says : goal.returns-in-Err-set_shutdown-clause-says
-returns-in-Err-set_shutdown-clause-says g c =
+pub returns-in-Err-set_shutdown-clause-files : goal.returns-in-Err-set_shutdown-clause-files
+returns-in-Err-set_shutdown-clause-files g c =
     let old = g.M.BlockMedium.disk c.args.medium.now in
     let new = g.M.BlockMedium.disk c.set_shutdown.new.medium in
     let chain = c.in-Ok.directory in
@@ -142,26 +108,10 @@ returns-in-Err-set_shutdown-clause-says g c =
     let is = c.in-Ok.ensures.usable.directory in
     let turns : Turns {T = Directory} {E = ChainError} chain made [] (1 ∷ []) old new (Err Medium) =
     marked_later chain 0 old (g.M.BlockMedium.disk c.usable_directory.new.medium) new (Err c.in-Err-set_shutdown.field-0) (Err Medium) c.in-Ok.ensures.same is c.in-Err-set_shutdown.ensures.turns (λ P p. tt) in
-    λ s files says. says_still s old new chain made (1 ∷ []) files (Err Medium) (marking s old.blocks chain 0 files says is) turns
-
-pub returns-in-Err-set_shutdown-clause-bytes : goal.returns-in-Err-set_shutdown-clause-bytes
-returns-in-Err-set_shutdown-clause-bytes g c =
-    let old = g.M.BlockMedium.disk c.args.medium.now in
-    let new = g.M.BlockMedium.disk c.set_shutdown.new.medium in
-    let chain = c.in-Ok.directory in
-    let made = with_shutdown 0 chain in
-    let is = c.in-Ok.ensures.usable.directory in
-    let turns : Turns {T = Directory} {E = ChainError} chain made [] (1 ∷ []) old new (Err Medium) =
-    marked_later chain 0 old (g.M.BlockMedium.disk c.usable_directory.new.medium) new (Err c.in-Err-set_shutdown.field-0) (Err Medium) c.in-Ok.ensures.same is c.in-Err-set_shutdown.ensures.turns (λ P p. tt) in
-    λ s files says. kept_then s old new chain made (1 ∷ []) files files (Err Medium) (marking s old.blocks chain 0 files says is) turns
-
-pub returns-in-Err-set_shutdown-clause-moments : goal.returns-in-Err-set_shutdown-clause-moments
-returns-in-Err-set_shutdown-clause-moments g c =
-    let old = g.M.BlockMedium.disk c.args.medium.now in
-    let new = g.M.BlockMedium.disk c.set_shutdown.new.medium in
-    let chain = c.in-Ok.directory in
-    let made = with_shutdown 0 chain in
-    let is = c.in-Ok.ensures.usable.directory in
-    let turns : Turns {T = Directory} {E = ChainError} chain made [] (1 ∷ []) old new (Err Medium) =
-    marked_later chain 0 old (g.M.BlockMedium.disk c.usable_directory.new.medium) new (Err c.in-Err-set_shutdown.field-0) (Err Medium) c.in-Ok.ensures.same is c.in-Err-set_shutdown.ensures.turns (λ P p. tt) in
-    λ s files here. leaves_still s old new chain made (1 ∷ []) files (Err Medium) (marking s old.blocks chain 0 files (settled_reads (λ image. MediumSays s image files) old here) is) turns here
+    record {
+      holds = search rules;
+      says = λ s files says. says_still s old new chain made (1 ∷ []) files (Err Medium) (marking s old.blocks chain 0 files says is) turns;
+      bytes = λ s files says. kept_then s old new chain made (1 ∷ []) files files (Err Medium) (marking s old.blocks chain 0 files says is) turns;
+      moments = λ s files here. leaves_still s old new chain made (1 ∷ []) files (Err Medium) (marking s old.blocks chain 0 files (settled_reads (λ image. MediumSays s image files) old here) is) turns here;
+      settled = search rules;
+    }

@@ -43,8 +43,8 @@ returns-in-Ok-take_instalment-clause-tells g c = λ m stands.
     let same : cursor.generation ≡ m.generation = slot_tells (slot_at slots a.id) cursor c.in-Ok-check_read.file c.in-Ok.generation m.generation is c.in-Ok-check_read.ensures.file generation in
     let one = reads (g.M.BlockMedium.disk old.medium).blocks m slots a.id cursor stand stands.joined.read.each is same in
     let passes = passes_too m a.id c.in-Ok.generation generation (c.in-Ok-check_read.ensures.passed m stand) in
-    advances_on g.M.BlockMedium.disk old new c.tables_calls_are_steps.ensures.advances c.advances_are_the_machines.ensures a.id c.in-Ok-take_instalment.queued cursor next slots c.in-Ok-take_instalment.ensures.kept c.take_instalment.ensures.same.reads
-    c.take_instalment.ensures.lanes c.take_instalment.ensures.no_fewer is c.in-Ok-take_instalment.ensures.queued m stands one (c.in-Ok-take_instalment.ensures.steps a.id m means one.there passes)
+    advances_on g.M.BlockMedium.disk old new c.tables_calls_are_steps.ensures.advances c.advances_are_the_machines.ensures a.id c.in-Ok-take_instalment.queued cursor next slots c.in-Ok-take_instalment.ensures.reads.kept c.take_instalment.ensures.reads.same.reads
+    c.take_instalment.ensures.reads.lanes c.take_instalment.ensures.reads.no_fewer is c.in-Ok-take_instalment.ensures.queued m stands one (c.in-Ok-take_instalment.ensures.steps a.id m means one.there passes)
     (c.in-Ok-take_instalment.ensures.takes m one.file one.reader.covered means one.file_is one.read)
 
 pub returns-in-Err-take_instalment-clause-tells : goal.returns-in-Err-take_instalment-clause-tells
@@ -67,7 +67,7 @@ returns-in-Err-take_instalment-clause-tells g c = λ m stands.
     let later = slice_set slots a.id (Some next) in
     let kept : later ≡ slots = subst (λ (x : Cursor). slice_set slots a.id (Some x) ≡ slots) (sym c.in-Err-take_instalment.ensures.cursor) (set_same slots a.id cursor is) in
     same_slots old.kept m (events.Advance a.id) (replies.Refused r) new.kept after.blocks after.failures new.lanes slots later kept
-    (refused_on g.M.BlockMedium.disk old new c.recorders_calls_are_steps.ensures.moves (events.Advance a.id) r c.take_instalment.ensures.same.reads c.take_instalment.ensures.lanes c.take_instalment.ensures.config slots m stands
+    (refused_on g.M.BlockMedium.disk old new c.recorders_calls_are_steps.ensures.moves (events.Advance a.id) r c.take_instalment.ensures.reads.same.reads c.take_instalment.ensures.reads.lanes c.take_instalment.ensures.reads.config slots m stands
     (c.in-Err-take_instalment.ensures.steps a.id m means one.there passes))
 
 pub returns-in-Err-clause-stops : goal.returns-in-Err-clause-stops
@@ -83,7 +83,7 @@ returns-in-Err-check_read-clause-stops g c =
 pub returns-in-Ok-take_instalment-clause-stops : goal.returns-in-Ok-take_instalment-clause-stops
 returns-in-Ok-take_instalment-clause-stops g c =
     let a = c.args in
-    survives_kept g.M.BlockMedium.disk a.recorder.now c.take_instalment.new.self (events.Advance a.id) (replies.Advanced c.in-Ok-take_instalment.queued) refl c.in-Ok-take_instalment.ensures.kept c.take_instalment.ensures.same
+    survives_kept g.M.BlockMedium.disk a.recorder.now c.take_instalment.new.self (events.Advance a.id) (replies.Advanced c.in-Ok-take_instalment.queued) refl c.in-Ok-take_instalment.ensures.reads.kept c.take_instalment.ensures.reads.same
 
 pub returns-in-Err-take_instalment-clause-stops : goal.returns-in-Err-take_instalment-clause-stops
 returns-in-Err-take_instalment-clause-stops g c =
@@ -92,5 +92,5 @@ returns-in-Err-take_instalment-clause-stops g c =
     let old = a.recorder.now in
     let call = c.take_instalment in
     let new = call.new.self in
-    survives_refused disk old new (events.Advance a.id) c.in-Err-take_instalment.refusal call.ensures.config call.ensures.same (λ is.
+    survives_refused disk old new (events.Advance a.id) c.in-Err-take_instalment.refusal call.ensures.reads.config call.ensures.reads.same (λ is.
     (ap (λ (k : Kept). k.work) (alone_if disk (first_broken (mounted_checks (mode_of old.kept.work))) _ Failed old.kept new.kept old.medium new.medium c.in-Err-take_instalment.refusal (ap (λ (w : Work). first_broken (mounted_checks (mode_of w))) is) c.in-Err-take_instalment.ensures.refused).0 ∙ is))

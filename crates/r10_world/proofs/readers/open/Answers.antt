@@ -14,20 +14,20 @@ pub returns-in-Err-clause-tells : goal.returns-in-Err-clause-tells
 returns-in-Err-clause-tells g c = λ m stands.
     let a = c.args in
     let call = c.check_file in
-    refused_on g.M.BlockMedium.disk a.recorder.now call.new.self c.recorders_calls_are_steps.ensures.moves (events.Cursor a.file a.channels.now a.from a.to) c.in-Err.refusal call.ensures.same.reads call.ensures.lanes call.ensures.config
+    refused_on g.M.BlockMedium.disk a.recorder.now call.new.self c.recorders_calls_are_steps.ensures.moves (events.Cursor a.file a.channels.now a.from a.to) c.in-Err.refusal call.ensures.reads.same.reads call.ensures.reads.lanes call.ensures.reads.config
     a.cursors.now.slots m stands (c.in-Err.ensures.steps a.channels.now m stands.joined.means)
 
 pub returns-in-Err-generation-clause-tells : goal.returns-in-Err-generation-clause-tells
 returns-in-Err-generation-clause-tells g c = λ m stands.
     let a = c.args in
-    absurd (is_mounted a.recorder.now.kept c.check_file.new.self.kept a.file a.channels.now a.from a.to c.in-Err-generation.refusal (c.in-Ok.ensures.passed a.channels.now) c.in-Ok.ensures.kept c.in-Err-generation.ensures.tested)
+    absurd (is_mounted a.recorder.now.kept c.check_file.new.self.kept a.file a.channels.now a.from a.to c.in-Err-generation.refusal (c.in-Ok.ensures.passed a.channels.now) c.in-Ok.ensures.reads.kept c.in-Err-generation.ensures.tested)
 
 pub returns-in-Ok-open_cursor-clause-tells : goal.returns-in-Ok-open_cursor-clause-tells
 returns-in-Ok-open_cursor-clause-tells g c = λ m stands.
     let a = c.args in
     let call = c.check_file in
     opens_on g.M.BlockMedium.disk a.recorder.now call.new.self c.tables_calls_are_steps.ensures.opens a.file a.channels.now a.from a.to c.in-Ok.range.0 c.in-Ok.range.1 c.in-Ok-open_cursor.id c.in-Ok-generation.generation a.cursors.now.slots
-    c.open_cursor.new.cursors.slots c.in-Ok.ensures.kept call.ensures.same.reads call.ensures.lanes call.ensures.no_fewer c.in-Ok-generation.ensures.tested.0 c.in-Ok.ensures.range.0 c.in-Ok.ensures.range.1 c.in-Ok-open_cursor.ensures.opens
+    c.open_cursor.new.cursors.slots c.in-Ok.ensures.reads.kept call.ensures.reads.same.reads call.ensures.reads.lanes call.ensures.reads.no_fewer c.in-Ok-generation.ensures.tested.0 c.in-Ok.ensures.range.0 c.in-Ok.ensures.range.1 c.in-Ok-open_cursor.ensures.opens
     m stands (c.in-Ok.ensures.steps a.channels.now m stands.joined.means)
 
 pub returns-in-Err-open_cursor-clause-tells : goal.returns-in-Err-open_cursor-clause-tells
@@ -35,7 +35,7 @@ returns-in-Err-open_cursor-clause-tells g c = λ m stands.
     let a = c.args in
     let call = c.check_file in
     open_lacks g.M.BlockMedium.disk a.recorder.now call.new.self c.recorders_calls_are_steps.ensures.stays c.lacks_of_memory_are_steps.ensures a.file a.channels.now a.from a.to a.cursors.now.slots c.open_cursor.new.cursors.slots
-    c.in-Ok.ensures.kept call.ensures.same.reads call.ensures.lanes call.ensures.no_fewer c.in-Err-open_cursor.ensures.kept m stands (c.in-Ok.ensures.steps a.channels.now m stands.joined.means)
+    c.in-Ok.ensures.reads.kept call.ensures.reads.same.reads call.ensures.reads.lanes call.ensures.reads.no_fewer c.in-Err-open_cursor.ensures.kept m stands (c.in-Ok.ensures.steps a.channels.now m stands.joined.means)
 
 pub returns-in-Err-clause-stops : goal.returns-in-Err-clause-stops
 returns-in-Err-clause-stops g c =
@@ -44,20 +44,20 @@ returns-in-Err-clause-stops g c =
     let old = a.recorder.now in
     let call = c.check_file in
     let new = call.new.self in
-    survives_refused disk old new (events.Cursor a.file a.channels.now a.from a.to) c.in-Err.refusal call.ensures.config call.ensures.same (λ is.
+    survives_refused disk old new (events.Cursor a.file a.channels.now a.from a.to) c.in-Err.refusal call.ensures.reads.config call.ensures.reads.same (λ is.
     (ap (λ (k : Kept). k.work) (alone_if disk (recorder_refusal old.kept (events.Cursor a.file a.channels.now a.from a.to)) _ Failed old.kept new.kept old.medium new.medium c.in-Err.refusal (ap (λ (w : Work). recorder_refusal (record old.kept { work = w }) (events.Cursor a.file a.channels.now a.from a.to)) is) (c.in-Err.ensures.refused a.channels.now)).0 ∙ is))
 
 pub returns-in-Err-generation-clause-stops : goal.returns-in-Err-generation-clause-stops
 returns-in-Err-generation-clause-stops g c =
     let a = c.args in
-    survives_kept g.M.BlockMedium.disk a.recorder.now c.check_file.new.self (events.Cursor a.file a.channels.now a.from a.to) (replies.Refused c.in-Err-generation.refusal) refl c.in-Ok.ensures.kept c.check_file.ensures.same
+    survives_kept g.M.BlockMedium.disk a.recorder.now c.check_file.new.self (events.Cursor a.file a.channels.now a.from a.to) (replies.Refused c.in-Err-generation.refusal) refl c.in-Ok.ensures.reads.kept c.check_file.ensures.reads.same
 
 pub returns-in-Ok-open_cursor-clause-stops : goal.returns-in-Ok-open_cursor-clause-stops
 returns-in-Ok-open_cursor-clause-stops g c =
     let a = c.args in
-    survives_kept g.M.BlockMedium.disk a.recorder.now c.check_file.new.self (events.Cursor a.file a.channels.now a.from a.to) (replies.Cursor c.in-Ok-open_cursor.id) refl c.in-Ok.ensures.kept c.check_file.ensures.same
+    survives_kept g.M.BlockMedium.disk a.recorder.now c.check_file.new.self (events.Cursor a.file a.channels.now a.from a.to) (replies.Cursor c.in-Ok-open_cursor.id) refl c.in-Ok.ensures.reads.kept c.check_file.ensures.reads.same
 
 pub returns-in-Err-open_cursor-clause-stops : goal.returns-in-Err-open_cursor-clause-stops
 returns-in-Err-open_cursor-clause-stops g c =
     let a = c.args in
-    survives_kept g.M.BlockMedium.disk a.recorder.now c.check_file.new.self (events.Cursor a.file a.channels.now a.from a.to) (replies.Refused refusals.OutOfMemory) refl c.in-Ok.ensures.kept c.check_file.ensures.same
+    survives_kept g.M.BlockMedium.disk a.recorder.now c.check_file.new.self (events.Cursor a.file a.channels.now a.from a.to) (replies.Refused refusals.OutOfMemory) refl c.in-Ok.ensures.reads.kept c.check_file.ensures.reads.same

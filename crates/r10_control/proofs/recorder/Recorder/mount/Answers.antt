@@ -63,7 +63,7 @@ returns-in-Ok-clause-steps g c =
     (λ m means.
     let says = said k k.work (disk w.medium).blocks m refl (unmounted_work k.work fine) means.files in
     mount_done c.a_step_stays_sound.ensures k (disk w.medium).blocks later.blocks (disk w.medium).failures later.failures m c.in-Ok.directory c.self.invariant.limits means fine
-    (c.in-Ok.ensures.holds k.config m.files says.0 says.1 c.directory.ensures.value) c.mount.ensures.no_fewer))
+    (c.in-Ok.ensures.files.holds k.config m.files says.0 says.1 c.directory.ensures.value) c.mount.ensures.no_fewer))
 
 pub returns-in-Err-BadDirectory-clause-refused : goal.returns-in-Err-BadDirectory-clause-refused
 returns-in-Err-BadDirectory-clause-refused g c =
@@ -100,7 +100,7 @@ returns-in-Err-Medium-clause-steps g c =
     (λ m means.
     let says = said k k.work (disk w.medium).blocks m refl (unmounted_work k.work fine) means.files in
     mount_fails c.a_step_stays_sound.ensures k (disk w.medium).blocks later.blocks (disk w.medium).failures later.failures m c.self.invariant.limits means fine c.mount.ensures.no_fewer
-    (c.in-Err-Medium.ensures.cause (ap Err c.in-Err-Medium.field-0-is)) (c.mount.ensures.says k.config m.files says.0)))
+    (c.in-Err-Medium.ensures.cause (ap Err c.in-Err-Medium.field-0-is)) (c.mount.ensures.files.says k.config m.files says.0)))
 
 pub returns-in-Err-clause-owned : goal.returns-in-Err-clause-owned
 returns-in-Err-clause-owned g c =
@@ -155,7 +155,7 @@ returns-in-Ok-clause-bytes g c =
     let disk = g.M.BlockMedium.disk in
     let fine : first_broken (unmounted_checks (mode_of (work_of w.work))) ≡ None = ap (λ mode. first_broken (unmounted_checks mode)) (sym c.mode_in.ensures) ∙ c.in_default.ensures in
     subst (λ (v : RecorderState _ _). MachinesKeepShown v.kept (disk v.medium).blocks (disk v.medium).failures (disk c.mount.new.medium).blocks) c.self.view_is
-    (λ m means. c.mount.ensures.bytes w.settings m.files (says_of w.settings (work_of w.work) (disk w.medium).blocks m.files (unmounted_work (work_of w.work) fine) means.files))
+    (λ m means. c.mount.ensures.files.bytes w.settings m.files (says_of w.settings (work_of w.work) (disk w.medium).blocks m.files (unmounted_work (work_of w.work) fine) means.files))
 
 pub returns-in-Err-Medium-clause-bytes : goal.returns-in-Err-Medium-clause-bytes
 returns-in-Err-Medium-clause-bytes g c =
@@ -163,7 +163,7 @@ returns-in-Err-Medium-clause-bytes g c =
     let disk = g.M.BlockMedium.disk in
     let fine : first_broken (unmounted_checks (mode_of (work_of w.work))) ≡ None = ap (λ mode. first_broken (unmounted_checks mode)) (sym c.mode_in.ensures) ∙ c.in_default.ensures in
     subst (λ (v : RecorderState _ _). MachinesKeepShown v.kept (disk v.medium).blocks (disk v.medium).failures (disk c.mount.new.medium).blocks) c.self.view_is
-    (λ m means. c.mount.ensures.bytes w.settings m.files (says_of w.settings (work_of w.work) (disk w.medium).blocks m.files (unmounted_work (work_of w.work) fine) means.files))
+    (λ m means. c.mount.ensures.files.bytes w.settings m.files (says_of w.settings (work_of w.work) (disk w.medium).blocks m.files (unmounted_work (work_of w.work) fine) means.files))
 
 pub returns-in-Ok-clause-effect : goal.returns-in-Ok-clause-effect
 returns-in-Ok-clause-effect g c =
@@ -193,7 +193,7 @@ returns-in-Ok-clause-stops g c =
     let later = disk c.mount.new.medium in
     let fine : first_broken (unmounted_checks (mode_of k.work)) ≡ None = ap (λ mode. first_broken (unmounted_checks mode)) (sym c.mode_in.ensures) ∙ c.in_default.ensures in
     subst (λ (v : RecorderState _ _). StaysSafe whichever v.kept events.Mount replies.Done (disk v.medium) (record k { work = work_of c.turn.new.work }) later) c.self.view_is
-    (synced_safely whichever k (record k { work = work_of c.turn.new.work }) events.Mount replies.Done (disk w.medium) later c.in-Ok.ensures.directory.synced (makes_none whichever k events.Mount (disk w.medium) later (unmounted_leaves k (disk w.medium) later (unmounted_work k.work fine) (λ files settled. c.mount.ensures.moments k.config files settled))))
+    (synced_safely whichever k (record k { work = work_of c.turn.new.work }) events.Mount replies.Done (disk w.medium) later c.in-Ok.ensures.directory.synced (makes_none whichever k events.Mount (disk w.medium) later (unmounted_leaves k (disk w.medium) later (unmounted_work k.work fine) (λ files settled. c.mount.ensures.files.moments k.config files settled))))
 
 pub returns-in-Err-BadDirectory-clause-stops : goal.returns-in-Err-BadDirectory-clause-stops
 returns-in-Err-BadDirectory-clause-stops g c =
@@ -221,4 +221,4 @@ returns-in-Err-Medium-clause-stops g c =
     let later = disk c.mount.new.medium in
     let fine : first_broken (unmounted_checks (mode_of k.work)) ≡ None = ap (λ mode. first_broken (unmounted_checks mode)) (sym c.mode_in.ensures) ∙ c.in_default.ensures in
     subst (λ (v : RecorderState _ _). StaysSafe whichever v.kept events.Mount (replies.Refused refusals.Medium) (disk v.medium) (record k { work = work_of c.turn-in-Err-Medium.new.work }) later) c.self.view_is
-    (failed_safely whichever k (record k { work = work_of c.turn-in-Err-Medium.new.work }) events.Mount (replies.Refused refusals.Medium) (disk w.medium) later (ap work_of c.turn-in-Err-Medium.ensures) (makes_none whichever k events.Mount (disk w.medium) later (unmounted_leaves k (disk w.medium) later (unmounted_work k.work fine) (λ files settled. c.mount.ensures.moments k.config files settled))))
+    (failed_safely whichever k (record k { work = work_of c.turn-in-Err-Medium.new.work }) events.Mount (replies.Refused refusals.Medium) (disk w.medium) later (ap work_of c.turn-in-Err-Medium.ensures) (makes_none whichever k events.Mount (disk w.medium) later (unmounted_leaves k (disk w.medium) later (unmounted_work k.work fine) (λ files settled. c.mount.ensures.files.moments k.config files settled))))
