@@ -1,13 +1,15 @@
 -- A dismount, as a step of the machine.
-use Rattle.std.proofs.Common.{◌≡◌, ◌≤◌, ℕ, List, Option, Some, None, refl, sym, ap, ◌∙◌, subst}
+use Rattle.std.proofs.Common.{◌≡◌, ◌≤◌, ℕ, List, Option, Some, None, Err, refl, sym, ap, ◌∙◌, subst}
+use Rattle.std.specs.Prelude.{IsErrOf}
 use Rattle.r10_body.specs.declared.refusal.Refusal.{Refusal}
-use Rattle.r10_body.specs.declared.refusal.Refusal.TheVariants.{Medium}
+use Rattle.r10_body.specs.declared.refusal.Refusal.TheVariants.{Medium, OutOfMemory}
 use Rattle.r10_count.specs.Checks.{first_broken}
 use Rattle.r10_dirchain.specs.declared.chain.ChainBlock.{ChainBlock}
 use Rattle.r10_volume.specs.Holding.{HoldsFiles, OthersAreFound}
 use Rattle.r10_machine.specs.Checks.{idle_checks}
 use Rattle.r10_machine.specs.Limits.{IsConfig}
 use Rattle.r10_machine.specs.Machine.{Machine}
+use Rattle.r10_machine.specs.declared.mode.Mode.{Mode}
 use Rattle.r10_machine.specs.declared.mode.Mode.TheVariants as modes
 use Rattle.r10_means.specs.Kept.{Kept, Work, mode_of, unmounted, idle, failed}
 use Rattle.r10_means.specs.Means.{HasFiles, KeptStandsFor}
@@ -23,6 +25,18 @@ use Rattle.r10_machine.specs.declared.reply.Reply.TheVariants as replies
 
 same_check : (k : Kept) (image : Image) (n : ℕ) (m : Machine) → KeptStandsFor k image n m → refusal k.config m Dismount ≡ first_broken (idle_checks (mode_of k.work))
 same_check k image n m means = ap (λ mode. first_broken (idle_checks mode)) means.mode
+
+-- whether it may be done is told without memory
+none_for : (mode : Mode) → first_broken (idle_checks mode) ≡ Some OutOfMemory → ⊥
+none_for modes.Unmounted is = cc
+none_for modes.Idle is = cc
+none_for modes.Recording is = cc
+none_for modes.Failed is = cc
+
+pub asks_none : {T : Type 0} (mode : Mode) (r : Refusal) → first_broken (idle_checks mode) ≡ Some r → IsErrOf {T = T} (Err r) OutOfMemory → ⊥
+asks_none mode r is same =
+    let at : first_broken (idle_checks mode) ≡ Some OutOfMemory = cc in
+    none_for mode at
 
 -- the files of a directory in use
 pub held : (k : Kept) (chain : List ChainBlock) (image : Image) (m : Machine) → k.work ≡ idle chain → HasFiles k.config k.work image m.files → HoldsFiles k.config image chain None m.files

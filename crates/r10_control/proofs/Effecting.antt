@@ -1,5 +1,5 @@
 -- What a call that answers Ok has done.
-use Rattle.std.proofs.Common.{◌≡◌, ℕ, ◌+◌, ◌<◌, ◌≤◌, List, [], ◌∷◌, length, Option, Some, Result, refl, sym, ap, ◌∙◌, subst, ⊎_elim, arith}
+use Rattle.std.proofs.Common.{◌≡◌, ℕ, ◌+◌, ◌<◌, ◌≤◌, List, [], ◌∷◌, ◌++◌, length, Option, Some, Result, refl, sym, ap, ◌∙◌, subst, ⊎_elim, arith}
 use Rattle.std.specs.Prelude.{◌≢◌, IsSomeAnd}
 use Rattle.std.proofs.lemmas.List.Elements.{All-cons, All-nil}
 use Rattle.r10_blockout.specs.Output.{first_of, size_of}
@@ -19,6 +19,7 @@ use Rattle.r10_control.specs.Closing.{IsListedClosed}
 use Rattle.r10_body.specs.declared.entry.Entry.{Entry}
 use Rattle.r10_openfile.specs.Carrying.{IsShown}
 use Rattle.r10_packetout.specs.Carries.{time_entry_at}
+use Rattle.r10_mux.specs.Writes.{next_event}
 use Rattle.r10_control.specs.Effects.{CommitEffect, DismountEffect, Effect, EraseEffect, EventEffect, HasDirectory, MountEffect, PumpEffect, StartEffect, StartEffectAt, StopEffect, StopEffectAt, TickEffect, WhereIdle, WhereRecording}
 use Rattle.r10_control.specs.Owns.{OwnsWork}
 use Rattle.r10_volume.specs.Front.{KeepsFront}
@@ -132,12 +133,14 @@ pub idle_tick_effect : (k : Kept) (disk : Disk) (chain : List ChainBlock) (tick 
 idle_tick_effect k disk chain tick at is = rw at (record { kept = refl; front = record { size = refl; blocks = λ n behind less. refl }; directory = is })
 
 pub tick_effect : (k : Kept) (old new : Disk) (chain : List ChainBlock) (o p : Open) (tick : Tick) → k.work ≡ recording chain o → KeepsFront k.config.directory (first_of o.recording.out.blocks) old.blocks new.blocks → IsDirectory new.blocks chain
+    → ((text : List ℕ) (entries : List Entry) (n : ℕ) → IsShown old.blocks o text entries n → IsShown new.blocks p text (entries ++ time_entry_at k.config.time tick.count tick.civil ∷ []) n)
     → TickEffect tick k old (record k { work = recording chain p; tick = Some tick }) new
-tick_effect k old new chain o p tick at front is = rw at (record { kept = refl; front = front; directory = is })
+tick_effect k old new chain o p tick at front is takes = rw at (record { effect = record { kept = refl; front = front; directory = is }; takes = takes })
 
-pub event_effect : (k : Kept) (old new : Disk) (chain : List ChainBlock) (o p : Open) (count : ℕ) → k.work ≡ recording chain o → KeepsFront k.config.directory (first_of o.recording.out.blocks) old.blocks new.blocks → IsDirectory new.blocks chain
-    → EventEffect count k old (record k { work = recording chain p; last_event = Some count }) new
-event_effect k old new chain o p count at front is = rw at (record { kept = refl; front = front; directory = is })
+pub event_effect : (k : Kept) (old new : Disk) (chain : List ChainBlock) (o p : Open) (number count : ℕ) → k.work ≡ recording chain o → KeepsFront k.config.directory (first_of o.recording.out.blocks) old.blocks new.blocks → IsDirectory new.blocks chain
+    → ((text : List ℕ) (entries : List Entry) (n : ℕ) → IsShown old.blocks o text entries n → IsShown new.blocks p text (entries ++ next_event o.recording number count ∷ []) n)
+    → EventEffect number count k old (record k { work = recording chain p; last_event = Some count }) new
+event_effect k old new chain o p number count at front is takes = rw at (record { effect = record { kept = refl; front = front; directory = is }; takes = takes })
 
 pub pump_effect : (k : Kept) (old new : Disk) (chain : List ChainBlock) (o p : Open) (taken : List ℕ) → k.work ≡ recording chain o → KeepsFront k.config.directory (first_of o.recording.out.blocks) old.blocks new.blocks → IsDirectory new.blocks chain
     → PumpEffect k old (record k { work = recording chain p; taken = taken }) new

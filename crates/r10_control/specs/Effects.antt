@@ -1,5 +1,5 @@
 -- What a call that answers Ok has done, whatever files the medium has: what is kept then, the medium's directory, which blocks stay, and what the file that is recorded shows.
-use Rattle.std.specs.Prelude.{◌≡◌, ℕ, ◌+◌, List, [], ◌∷◌, length, Option, Some, IsSomeAnd}
+use Rattle.std.specs.Prelude.{◌≡◌, ℕ, ◌+◌, ◌++◌, List, [], ◌∷◌, length, Option, Some, IsSomeAnd}
 use Rattle.r10_blockout.specs.Output.{first_of, size_of}
 use Rattle.r10_count.specs.declared.civil.Parts.{Parts}
 use Rattle.r10_dirblock.specs.Block.{begun_entry, sized}
@@ -15,6 +15,7 @@ use Rattle.r10_volume.specs.Holding.{Open}
 use Rattle.r10_machine.specs.Machine.{Tick}
 use Rattle.r10_means.specs.Kept.{Kept, Work, unmounted, idle, recording, failed}
 use Rattle.r10_medium.specs.Disk.{Disk, Image}
+use Rattle.r10_mux.specs.Writes.{next_event}
 use Rattle.r10_volume.specs.Front.{KeepsFront}
 use Rattle.r10_volume.specs.Listing.{block_behind}
 use Rattle.r10_volume.specs.Mounting.{IsUsable}
@@ -93,21 +94,26 @@ StopEffect k old later new = WhereRecording k.work (λ chain o. IsSomeAnd k.tick
 
 -- ---- what is put into the file that is recorded, and not shown yet
 
--- a tick: the clock is set; while a file is recorded, that goes on
+-- the file that is recorded goes on with this entry behind all that it carried, and shows what it showed
+pub record EntryEffect (entry : Entry) (chain : List ChainBlock) (o p : Open) (made : Kept) (old : Image) (later : Kept) (new : Disk) : Type 0 where
+  pub effect : Effect (first_of o.recording.out.blocks) made (HasDirectory chain) old later new
+  pub takes : (text : List ℕ) (entries : List Entry) (n : ℕ) → IsShown old o text entries n → IsShown new.blocks p text (entries ++ entry ∷ []) n
+
+-- a tick: the clock is set; while a file is recorded, it takes in the time
 abbrev pub TickEffectIn : Work → Work → Tick → Kept → Disk → Kept → Disk → Type 0
 TickEffectIn (idle chain) now tick k old later new = Effect (length old.blocks) (record k { tick = Some tick }) (HasDirectory chain) old.blocks later new
 TickEffectIn (recording chain o) (recording made p) tick k old later new =
-    Effect (first_of o.recording.out.blocks) (record k { work = recording chain p; tick = Some tick }) (HasDirectory chain) old.blocks later new
+    EntryEffect (time_entry_at k.config.time tick.count tick.civil) chain o p (record k { work = recording chain p; tick = Some tick }) old.blocks later new
 TickEffectIn was now tick k old later new = ⊥
 
 abbrev pub TickEffect : Tick → Kept → Disk → Kept → Disk → Type 0
 TickEffect tick k old later new = TickEffectIn k.work later.work tick k old later new
 
--- an event: the last event's count is set
-abbrev pub EventEffect : ℕ → Kept → Disk → Kept → Disk → Type 0
-EventEffect count k old later new =
+-- an event: the last event's count is set, and the file takes in the event, which tells how many of its number came before it
+abbrev pub EventEffect : ℕ → ℕ → Kept → Disk → Kept → Disk → Type 0
+EventEffect number count k old later new =
     WhereRecording k.work (λ chain o. WhereRecording later.work (λ made p.
-    Effect (first_of o.recording.out.blocks) (record k { work = recording chain p; last_event = Some count }) (HasDirectory chain) old.blocks later new))
+    EntryEffect (next_event o.recording number count) chain o p (record k { work = recording chain p; last_event = Some count }) old.blocks later new))
 
 -- a pump: the channel's number of what was taken in rises
 abbrev pub PumpEffect : Kept → Disk → Kept → Disk → Type 0

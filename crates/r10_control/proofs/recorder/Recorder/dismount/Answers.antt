@@ -10,7 +10,7 @@ use Rattle.r10_control.specs.State.{RecorderState}
 use Rattle.r10_control.specs.Work.{work_of}
 use Rattle.r10_control.specs.declared.work.Doing.{Doing}
 use Rattle.r10_control.proofs.Bytes.{holds_of}
-use Rattle.r10_control.proofs.Dismounts.{dismount_done, dismount_fails, dismount_refused, held}
+use Rattle.r10_control.proofs.Dismounts.{asks_none, dismount_done, dismount_fails, dismount_refused, held}
 use Rattle.r10_machine.specs.declared.event.Event.TheVariants as events
 use Rattle.r10_machine.specs.declared.reply.Reply.TheVariants as replies
 use Rattle.r10_control.proofs.Effecting.{dismount_effect, idle_usable, one_block, some_reserved}
@@ -145,3 +145,6 @@ returns-in-Err-dismount-clause-stops g c =
     let later = disk c.dismount.new.medium in
     subst (λ (v : RecorderState _ _). StaysSafe whichever v.kept events.Dismount (replies.Refused refusals.Medium) (disk v.medium) (record k { work = work_of c.turn-in-Err-dismount.new.work }) later) c.self.view_is
     (failed_safely whichever k (record k { work = work_of c.turn-in-Err-dismount.new.work }) events.Dismount (replies.Refused refusals.Medium) (disk w.medium) later (ap work_of c.turn-in-Err-dismount.ensures) (makes_none whichever k events.Dismount (disk w.medium) later (idle_leaves k (disk w.medium) later c.in-Idle.directory (ap work_of c.in-Idle.is) (λ files held settled. c.dismount.ensures.moments k.config files held settled))))
+
+pub returns-in-Err-clause-memory : goal.returns-in-Err-clause-memory
+returns-in-Err-clause-memory g c = λ same. asks_none c.mode_in.result c.in-Err.refusal c.in-Err.ensures same
