@@ -4,11 +4,14 @@ use Rattle.std.specs.List.{flat_map}
 use Rattle.std.specs.Io.KnownBytes.{Appends}
 use Rattle.r10_medium.specs.Disk.{Image}
 use Rattle.r10_body.specs.declared.entry.Entry.{Entry}
+use Rattle.r10_images.specs.Faults.{IsLineFault}
 use Rattle.r10_images.specs.Listing.{refusal_line}
 use Rattle.r10_images.specs.declared.listing.Outcome.{Outcome}
 use Rattle.r10_images.specs.declared.listing.Outcome.TheVariants.{Done, Refused}
 use Rattle.r10_lines.specs.Line.{entry_line}
 use Rattle.r10_playback.specs.Played.{IsInstalment, IsPlayRefusal}
+use Rattle.r10_playback.specs.declared.play.PlayStop.{PlayStop}
+use Rattle.r10_playback.specs.declared.play.PlayStop.TheVariants as play_stops
 use Rattle.r10_playback.specs.declared.selection.Selection.{Selection}
 use Rattle.r10_playback.specs.declared.selection.PlayRefusal.{PlayRefusal}
 use Rattle.r10_playback.specs.declared.selection.PlayRefusal.TheVariants as play_refusals
@@ -28,6 +31,11 @@ play_refusal_text play_refusals.NotStrict = codes "not strict\n"
 abbrev pub Prints : Selection → Image → Outcome → List ℕ → Type 0
 Prints s image Done text = (entries : List Entry) × IsInstalment image s entries × (text ≡ entry_lines entries)
 Prints s image Refused text = (refusal : PlayRefusal) × IsPlayRefusal image s refusal × (text ≡ play_refusal_text refusal)
+
+-- a replay that was not printed: the medium failed, memory was refused, or the writer failed
+abbrev pub IsStopFault : PlayStop → Type 0
+IsStopFault play_stops.Medium = Unit {0}
+IsStopFault (play_stops.Output fault) = IsLineFault fault
 
 -- a writer was given them
 abbrev pub Plays : Selection → Image → Outcome → Option (List ℕ) → Option (List ℕ) → Type 0

@@ -1,7 +1,8 @@
 //! Entries and refusals in lines.
 
-ghost use Rattle.std.specs.Prelude.{◌≡◌, OnOk};
+ghost use Rattle.std.specs.Prelude.{◌≡◌, IfErr, OnOk};
 ghost use Rattle.std.specs.Io.KnownBytes.{Appends};
+ghost use Rattle.r10_images.specs.Faults.{IsLineFault};
 ghost use Rattle.r10_lines.specs.Line.{entry_line};
 ghost use Rattle.r10_playback.specs.Lines.{entry_lines, play_refusal_text};
 
@@ -10,7 +11,7 @@ use r10_body::Entry;
 use r10_cursor::Reading;
 use r10_images::{StreamFault, write_refusal};
 use r10_lines::entry_line;
-use std::alloc::Global;
+use std::alloc::{AllocError, Global};
 use std::io::Write;
 
 /// Writes the line of each entry that a cursor has yet to give, one after the other.
@@ -19,7 +20,8 @@ pub(crate) fn write_entries<W: Write>(
     cursor: &mut Reading,
     writer: &mut W,
 ) -> Result<(), StreamFault>
-    ensures { OnOk result (Appends (W.contents writer.old) (W.contents writer.new) (entry_lines cursor.old.queue)) }
+    ensures lines { OnOk result (Appends (W.contents writer.old) (W.contents writer.new) (entry_lines cursor.old.queue)) }
+    ensures fault { IfErr result IsLineFault }
 {
     while let Some(entry) = cursor.next() {
         write_entry(alloc, entry, writer)?;
@@ -29,9 +31,12 @@ pub(crate) fn write_entries<W: Write>(
 
 /// Writes the line of an entry, which is done with then.
 fn write_entry<W: Write>(alloc: Global, entry: Entry, writer: &mut W) -> Result<(), StreamFault>
-    ensures { OnOk result (Appends (W.contents writer.old) (W.contents writer.new) (entry_line entry)) }
+    ensures line { OnOk result (Appends (W.contents writer.old) (W.contents writer.new) (entry_line entry)) }
+    ensures fault { IfErr result IsLineFault }
 {
-    let line = entry_line(alloc, &entry)?;
+    let Ok(line) = entry_line(alloc, &entry) else {
+        return Err(StreamFault::Memory(AllocError));
+    };
     write(line.as_bytes(), writer)
 }
 
@@ -41,7 +46,8 @@ pub(crate) fn write_reason<W: Write>(
     refusal: PlayRefusal,
     writer: &mut W,
 ) -> Result<(), StreamFault>
-    ensures { OnOk result (Appends (W.contents writer.old) (W.contents writer.new) (play_refusal_text refusal)) }
+    ensures line { OnOk result (Appends (W.contents writer.old) (W.contents writer.new) (play_refusal_text refusal)) }
+    ensures fault { IfErr result IsLineFault }
 {
     match refusal {
         PlayRefusal::CountRange => write(b"refused 10 CountRange\n", writer),
@@ -52,7 +58,8 @@ pub(crate) fn write_reason<W: Write>(
 }
 
 fn write<W: Write>(bytes: &[u8], writer: &mut W) -> Result<(), StreamFault>
-    ensures { OnOk result (Appends (W.contents writer.old) (W.contents writer.new) bytes.now) }
+    ensures bytes { OnOk result (Appends (W.contents writer.old) (W.contents writer.new) bytes.now) }
+    ensures fault { IfErr result IsLineFault }
 {
     writer.write_all(bytes).map_err(StreamFault::Write)
 }

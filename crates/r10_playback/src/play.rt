@@ -3,8 +3,9 @@
 ghost use Rattle.std.specs.Prelude.{◌≡◌, [], IfErr, IfOk, IfSome, OnOk};
 ghost use Rattle.std.specs.Io.Buffered.{writer_buffer, writer_contents};
 ghost use Rattle.r10_medium.specs.Disk.{Rose};
+ghost use Rattle.r10_images.specs.Faults.{IsListFault};
 ghost use Rattle.r10_images.specs.Image.{image_blocks};
-ghost use Rattle.r10_playback.specs.Lines.{Plays};
+ghost use Rattle.r10_playback.specs.Lines.{IsStopFault, Plays};
 ghost use Rattle.r10_playback.specs.declared.play.PlayStop.TheVariants as play_stops;
 
 use crate::lines::{write_entries, write_reason};
@@ -38,6 +39,7 @@ pub fn play_input<R: Read, W: Write + Drop>(
 ) -> Result<Outcome, StreamFault>
     ensures plays { IfOk result (λ outcome. IfSome (R.remaining reader.old) (λ input. Plays selection.now (image_blocks input) outcome (writer_contents W.contents writer.old) (writer_contents W.contents writer.new))) }
     ensures sent { OnOk result (writer_buffer writer.new ≡ []) }
+    ensures fault { IfErr result IsListFault }
 {
     let mut image = Image::of(read_whole(alloc, reader)?);
     let outcome = match play_medium(alloc, selection, &mut image, writer) {
@@ -57,6 +59,7 @@ fn play_medium<M: BlockMedium, W: Write>(
 ) -> Result<Outcome, PlayStop>
     ensures plays { IfOk result (λ outcome. Plays selection.now (M.disk medium.old).blocks outcome (W.contents writer.old) (W.contents writer.new)) }
     ensures cause { IfErr result (λ stop. stop ≡ play_stops.Medium → Rose (M.disk medium.old).failures (M.disk medium.new).failures) }
+    ensures fault { IfErr result IsStopFault }
 {
     match replay(alloc, medium, selection) {
         Ok(mut cursor) => match write_entries(alloc, &mut cursor, writer) {

@@ -11,6 +11,6 @@ returns-clause-checks g c =
     let contents = writer_contents g.W.Write.contents in
     let bytes = c.in_ok-bytes.bytes.items in
     let outcome = c.in_ok-outcome.outcome in
-    let checked : Checks bytes outcome (contents c.args.writer.now) (contents c.check_bytes.new.writer) = rw c.as_slice.ensures.value at c.in_ok-outcome.ensures in
+    let checked : Checks bytes outcome (contents c.args.writer.now) (contents c.check_bytes.new.writer) = rw c.as_slice.ensures.value at c.in_ok-outcome.ensures.checks in
     let kept : Keeps (contents c.check_bytes.new.writer) (contents c.flush.new.self) = search rules in
     IfSome_then (g.R.Read.remaining c.args.reader.now) c.in_ok-bytes.ensures.whole (λ left is. checked_kept bytes left outcome _ _ _ is checked kept)

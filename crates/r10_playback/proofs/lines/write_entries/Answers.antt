@@ -12,6 +12,6 @@ loop-entry-preserved g c =
     let so_far = c.loop-entry.invariant in
     let left : c.next.new.self.queue ≡ drop 1 c.loop-entry.cursor.queue = ap (λ (r : Reading). r.queue) c.next.ensures.left in (
       so_far.0 ++ entry_line c.in-Some.entry,
-      Appends-trans (contents c.args.writer.now) (contents c.loop-entry.writer) (contents c.write_entry.new.writer) so_far.0 (entry_line c.in-Some.entry) so_far.1 c.in_ok-write_entry.ensures,
+      Appends-trans (contents c.args.writer.now) (contents c.loop-entry.writer) (contents c.write_entry.new.writer) so_far.0 (entry_line c.in-Some.entry) so_far.1 c.in_ok-write_entry.ensures.line,
       one_given so_far.0 (entry_lines c.args.cursor.now.queue) c.loop-entry.cursor.queue c.next.new.self.queue c.next.result c.in-Some.entry c.next.ensures.given c.in-Some.is left so_far.2,
     )
