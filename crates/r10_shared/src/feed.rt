@@ -1,12 +1,12 @@
 //! Sources with the lines of their channels.
 
 ghost use Rattle.std.specs.Prelude.{◌≡◌, Some, None, IsSomeAnd};
-ghost use Rattle.r10_shared.specs.Naming.{ring_for};
+ghost use Rattle.r10_held.specs.Naming.{ring_for};
 ghost use Rattle.r10_shared.specs.Feeding.{FedFrom};
 
 use crate::gate::Gate;
 use crate::line::Line;
-use crate::rings::Rings;
+use r10_held::Rings;
 use r10_port::Port;
 use r10_source::{ChannelSource, pump_source};
 use std::sync::atomic::{AtomicU64, Ordering};

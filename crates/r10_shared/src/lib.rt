@@ -4,11 +4,10 @@
 mod feed;
 mod gate;
 mod line;
-mod rings;
 mod running;
 
 pub use feed::{AnySource, Feed};
 pub use gate::{Gate, Open};
 pub use line::Line;
-pub use rings::Rings;
+pub use r10_held::Rings;
 pub use running::run_feeds;

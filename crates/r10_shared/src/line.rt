@@ -1,9 +1,9 @@
 //! A channel with the sending end of its lane.
 
 ghost use Rattle.std.specs.Prelude.{◌≡◌, Some};
-ghost use Rattle.r10_shared.specs.Naming.{ring_for};
+ghost use Rattle.r10_held.specs.Naming.{ring_for};
 
-use crate::rings::Rings;
+use r10_held::Rings;
 use r10_port::Port;
 use std::marker::{Model, PhantomData};
 
@@ -17,7 +17,8 @@ pub struct Line<N: Rings> {
 
 impl<N: Rings> Model for Line<N> {
     ghost use Rattle.std.specs.Prelude.{◌≡◌, Some};
-    ghost use Rattle.r10_shared.specs.Naming.{SendingLine, ring_for};
+    ghost use Rattle.r10_held.specs.Naming.{ring_for};
+    ghost use Rattle.r10_shared.specs.Naming.{SendingLine};
 
     ghost Value = { SendingLine };
 

@@ -5,7 +5,7 @@ ghost use Rattle.r10_shared.specs.Feeding.{HasRun};
 
 use crate::feed::{Feed, run_feed};
 use crate::gate::Gate;
-use crate::rings::Rings;
+use r10_held::Rings;
 use std::sync::atomic::AtomicU64;
 use std::thread;
 use std::thread::Threads;

@@ -6,7 +6,7 @@ use std::marker::Brand;
 /// recorder, and hands them to a function of its own over any such names; each call of that function picks them.
 pub trait Rings {
     ghost use Rattle.std.specs.Prelude.{List};
-    ghost use Rattle.r10_shared.specs.Naming.{ChannelRing};
+    ghost use Rattle.r10_held.specs.Naming.{ChannelRing};
 
     ghost rings: { List ChannelRing };
 }

@@ -1,0 +1,4 @@
+pub mod Accounts
+pub mod Leavings
+pub mod Keeps
+pub mod Firsts

@@ -1,0 +1,6 @@
+use Rattle.r10_held.proofs.Keeps.{erase_known}
+use Rattle.r10_held.proofs.held.Held.erase.Goals as goal
+
+pub invariant_of-self : goal.invariant_of-self
+invariant_of-self g c =
+    erase_known _ g.N.Rings.rings c.self.inside.recorder c.erase-emptied.new.self _ _ c.erase-emptied.result _ c.erase-emptied.ensures.passed c.erase-emptied.ensures.effect c.erase-emptied.ensures.refused c.erase-emptied.ensures.owned c.erase-emptied.ensures.lanes c.erase-emptied.ensures.config c.publish_if_done.ensures.grows c.self.invariant

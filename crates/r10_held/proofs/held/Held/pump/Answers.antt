@@ -1,0 +1,9 @@
+use Rattle.r10_held.proofs.Keeps.{pump_known}
+use Rattle.r10_held.proofs.held.Held.pump.Goals as goal
+
+pub invariant_of-self : goal.invariant_of-self
+invariant_of-self g c =
+    pump_known _ g.N.Rings.rings c.self.inside.recorder c.pump.new.self _ c.args.channel c.args.most _ _ _ _ _ _ _ _ _ _ c.pump.result c.pump.ensures.passed c.pump.ensures.effect c.pump.ensures.refused c.pump.ensures.takes c.pump.ensures.config c.self.invariant
+
+pub returns-clause-takes : goal.returns-clause-takes
+returns-clause-takes g c = rw (← c.self.view_is) c.pump.ensures.takes

@@ -1,0 +1,48 @@
+-- What is known of a recorder that alone took from its lanes, whatever lanes they are and whatever other files its medium has.
+use Rattle.std.specs.Prelude.{◌≡◌, ◌⊎◌, ℕ, ◌+◌, List, [], ◌∷◌, ◌++◌, length, map, replicate}
+use Rattle.std.specs.List.{AllByRecursion}
+use Rattle.r10_body.specs.Files.{on_channel}
+use Rattle.r10_body.specs.declared.entry.Entry.{Entry}
+use Rattle.r10_body.specs.declared.entry.Sample.{Sample}
+use Rattle.r10_body.specs.declared.spec.ChannelSpec.{ChannelSpec}
+use Rattle.r10_control.specs.Own.{AreOwn}
+use Rattle.r10_control.specs.State.{RecorderState}
+use Rattle.r10_machine.specs.Machine.{saturated}
+use Rattle.r10_means.specs.Kept.{failed}
+use Rattle.r10_medium.specs.Disk.{Disk}
+use Rattle.r10_pump.specs.Pumping.{entries_on}
+
+-- A channel's part, of its own lane alone: what the lane received is what erases took, and then what the recorder's own files have of the channel. Their numbers are kept, each up to 2^64 - 1.
+pub record ChannelAccount {L : Type 0} (spec_of : L → ChannelSpec) (received_of : L → List Sample) (own : List Entry) (spec : ChannelSpec) (taken erased : ℕ) (lane : L) : Type 0 where
+  pub spec_is : spec_of lane ≡ spec
+  pub gone : List Sample
+  pub filed : List Sample
+  pub received_is : received_of lane ≡ gone ++ filed
+  pub erased_is : erased ≡ saturated (length gone)
+  pub taken_is : taken ≡ saturated (length gone + length filed)
+  pub entries_are : on_channel spec.id own ≡ entries_on spec.id filed
+
+-- channel by channel, in the order of the settings
+abbrev pub ChannelAccounts : {L : Type 0} → (L → ChannelSpec) → (L → List Sample) → List Entry → List ChannelSpec → List ℕ → List ℕ → List L → Type 0
+ChannelAccounts spec_of received_of own [] [] [] [] = Unit {0}
+ChannelAccounts spec_of received_of own (spec ∷ specs) (t ∷ taken) (e ∷ erased) (lane ∷ lanes) =
+    ChannelAccount spec_of received_of own spec t e lane × ChannelAccounts spec_of received_of own specs taken erased lanes
+ChannelAccounts spec_of received_of own specs taken erased lanes = ⊥
+
+-- over the entries of the recorder's own files
+pub record IsAccounted {M L : Type 0} (disk : M → Disk) (spec_of : L → ChannelSpec) (received_of : L → List Sample) (r : RecorderState M L) : Type 0 where
+  pub own : List Entry
+  pub is_own : AreOwn r.kept.work (disk r.medium).blocks own
+  pub each : ChannelAccounts spec_of received_of own r.kept.config.channels r.kept.taken r.kept.erased r.lanes
+
+-- unless the recorder failed
+abbrev pub Accounted : {M L : Type 0} → (M → Disk) → (L → ChannelSpec) → (L → List Sample) → RecorderState M L → Type 0
+Accounted disk spec_of received_of r = (r.kept.work ≡ failed) ⊎ IsAccounted disk spec_of received_of r
+
+-- a recorder as it is made, over lanes of which nothing was received
+pub record IsNew {M L : Type 0} (disk : M → Disk) (spec_of : L → ChannelSpec) (received_of : L → List Sample) (r : RecorderState M L) : Type 0 where
+  pub specs : map spec_of r.lanes ≡ r.kept.config.channels
+  pub received : AllByRecursion (λ (lane : L). received_of lane ≡ []) r.lanes
+  pub taken : r.kept.taken ≡ replicate (length r.kept.config.channels) 0
+  pub erased : r.kept.erased ≡ replicate (length r.kept.config.channels) 0
+  pub owned : AreOwn r.kept.work (disk r.medium).blocks []

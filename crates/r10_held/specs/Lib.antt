@@ -1,0 +1,5 @@
+pub mod Naming
+pub mod Account
+pub mod State
+pub mod Publishing
+pub mod LockFact

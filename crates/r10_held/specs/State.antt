@@ -1,0 +1,12 @@
+-- What contracts see of what the lock keeps.
+use Rattle.std.specs.Prelude.{List}
+use Rattle.atomic_table.specs.Seated.{TableId}
+use Rattle.r10_body.specs.declared.refusal.Glance.{Glance}
+use Rattle.r10_control.specs.State.{RecorderState}
+use Rattle.r10_port.specs.Ends.{Receiving}
+
+-- the recorder, which gauge its publishing end is of, and all that was published there, the three zeros of its making first
+pub record HeldState (M : Type 0) : Type 0 where
+  pub recorder : RecorderState M Receiving
+  pub cell : TableId
+  pub published : List Glance
