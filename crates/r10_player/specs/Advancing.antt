@@ -1,0 +1,61 @@
+-- How a player takes its next instalment.
+use Rattle.std.specs.Prelude.{◌≡◌, ℕ, ◌<◌, ◌≤◌, List, [], length, None, Result, Err, IfErr, IfOk, OnErr, OnOk}
+use Rattle.r10_body.specs.Packets.{Packet}
+use Rattle.r10_body.specs.declared.refusal.Glance.{Glance}
+use Rattle.r10_body.specs.declared.refusal.Refusal.{Refusal}
+use Rattle.r10_body.specs.declared.refusal.Refusal.TheVariants.{Behind}
+use Rattle.r10_control.specs.Checks.{advancing_checks}
+use Rattle.r10_control.specs.Reading.{IsReadAt, IsReadFileRefusal, ShowsAt}
+use Rattle.r10_control.specs.Refused.{RefusesCall}
+use Rattle.r10_control.specs.State.{RecorderState}
+use Rattle.r10_count.specs.Checks.{first_broken}
+use Rattle.r10_cursor.specs.Replays.{AdvancesReading}
+use Rattle.r10_cursor.specs.declared.cursor.Cursor.{Cursor}
+use Rattle.r10_gauge.specs.Published.{commits_of, last_triple}
+use Rattle.r10_held.specs.Publishing.{StaysPublished}
+use Rattle.r10_held.specs.State.{HeldState}
+use Rattle.r10_means.specs.Kept.{mode_of}
+use Rattle.r10_medium.specs.Disk.{Disk, Unchanged}
+
+-- the recorder's advance of a cursor, with this answer
+pub record AdvancesRecorder {M L : Type 0} (disk : M → Disk) (old new : RecorderState M L) (cursor later : Cursor) (result : Result ℕ Refusal) : Type 0 where
+  pub passed : OnOk result (first_broken (advancing_checks (mode_of old.kept.work) old.kept.generation cursor) ≡ None)
+  pub refused : IfErr result (RefusesCall disk (first_broken (advancing_checks (mode_of old.kept.work) old.kept.generation cursor)) (IsReadFileRefusal old.kept.work (disk old.medium).blocks cursor.file) old.kept new.kept old.medium new.medium)
+  pub advances : (packets : List Packet) → ShowsAt old.kept.work (disk old.medium).blocks cursor.file packets → OnOk result (AdvancesReading cursor.reading later.reading packets)
+  pub queued : IfOk result (λ n. n ≡ length later.reading.queue)
+  pub stays : OnErr result (later ≡ cursor)
+  pub place : (later.file ≡ cursor.file) × (later.generation ≡ cursor.generation)
+  pub there : OnOk result (IsReadAt old.kept.work (disk old.medium).blocks cursor.file)
+  pub kept : OnOk result (new.kept ≡ old.kept)
+  pub same : Unchanged (disk old.medium) (disk new.medium)
+  pub no_fewer : (disk old.medium).failures ≤ (disk new.medium).failures
+  pub lanes : new.lanes ≡ old.lanes
+  pub config : new.kept.config ≡ old.kept.config
+
+-- a refusal is Behind only where this is so
+abbrev pub SaysBehind : Type 0 → Refusal → Type 0
+SaysBehind so (Behind seen) = so
+SaysBehind so r = Unit {0}
+
+-- of a lock's value: refused Behind, with the last that was seen, exactly where less was published than was seen, and then nothing changes; else
+-- the recorder's advance
+pub record AdvancesHeld {M : Type 0} (disk : M → Disk) (seen : List Glance) (old new : HeldState M) (cursor later : Cursor) (result : Result ℕ Refusal) : Type 0 where
+  pub at_least : OnOk result (commits_of seen ≤ commits_of old.published)
+  pub behind : commits_of old.published < commits_of seen → (result ≡ Err (Behind (last_triple seen))) × (later ≡ cursor) × (new ≡ old)
+  pub only_behind : IfErr result (SaysBehind (commits_of old.published < commits_of seen))
+  pub advances : commits_of seen ≤ commits_of old.published → AdvancesRecorder disk old.recorder new.recorder cursor later result
+  pub gauge : StaysPublished old new
+
+-- so it was of what the lock had when it was taken
+pub record AdvancesUnderLock {M : Type 0} (disk : M → Disk) (seen : List Glance) (cursor later : Cursor) (result : Result ℕ Refusal) : Type 0 where
+  pub old : HeldState M
+  pub new : HeldState M
+  pub advances : AdvancesHeld disk seen old new cursor later result
+
+-- the cursor had given all that it had, and took, of some packets, those that it wants and had not covered: so many, in order
+pub record TakesInstalment (old new : Cursor) (n : ℕ) : Type 0 where
+  pub given : old.reading.queue ≡ []
+  pub packets : List Packet
+  pub advances : AdvancesReading old.reading new.reading packets
+  pub place : (new.file ≡ old.file) × (new.generation ≡ old.generation)
+  pub length_is : n ≡ length new.reading.queue
