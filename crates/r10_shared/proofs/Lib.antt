@@ -1,1 +1,10 @@
 pub mod Turns
+pub mod Apart
+pub mod Looking
+pub mod Counting
+pub mod Matching
+pub mod Draining
+pub mod Accounts
+pub mod Settles
+pub mod Moved
+pub mod Written

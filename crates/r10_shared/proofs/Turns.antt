@@ -9,13 +9,17 @@ use Rattle.r10_source.specs.declared.pump.Pumped.{Pumped}
 use Rattle.r10_source.specs.Pumps.{Tried, PumpsSource, is_accepted, is_refused}
 use Rattle.r10_source.proofs.Feeding.{offers_join, offers_sent, offers_same}
 use Rattle.r10_shared.specs.Feeding.{FedFrom}
+use Rattle.r10_shared.specs.declared.source.Tally.{Tally}
 
 -- so much was done, and this is left
-abbrev pub FedTo : List Timed → List Timed → Sending → Sending → ℕ → ℕ → Type 0
-FedTo a b p q accepted refused = (fed : FedFrom a p q accepted refused) × (fed.left ≡ b)
+abbrev pub FedTo : List Timed → List Timed → Sending → Sending → Tally → Type 0
+FedTo a b p q tally = (fed : FedFrom a p q tally) × (fed.left ≡ b)
+
+abbrev none_tallied : Tally
+none_tallied = record { accepted = 0; refused = 0 }
 
 -- nothing yet
-pub fed_none : (a : List Timed) (p : Sending) → FedTo a a p p 0 0
+pub fed_none : (a : List Timed) (p : Sending) → FedTo a a p p none_tallied
 fed_none a p = (
   record {
     tried = [];
@@ -34,9 +38,9 @@ abbrev items_of : List Tried → List Timed
 items_of tried = map (λ (t : Tried). t.item) tried
 
 -- so far, and then a pump of the rest
-pub fed_join : (n : ℕ) (a b c : List Timed) (p q r : Sending) (x : Pumped) (accepted refused accepted' refused' : ℕ) → FedTo a b p q accepted refused → PumpsSource n b c q r x
-    → accepted' ≡ saturated (accepted + x.accepted) → refused' ≡ saturated (refused + x.refused) → FedTo a c p r accepted' refused'
-fed_join n a b c p q r x accepted refused accepted' refused' (fed, left) pumps more others =
+pub fed_join : (n : ℕ) (a b c : List Timed) (p q r : Sending) (x : Pumped) (tally : Tally) (accepted refused : ℕ) → FedTo a b p q tally → PumpsSource n b c q r x
+    → accepted ≡ saturated (tally.accepted + x.accepted) → refused ≡ saturated (tally.refused + x.refused) → FedTo a c p r (record { accepted = accepted; refused = refused })
+fed_join n a b c p q r x tally accepted refused (fed, left) pumps more others =
     let tried = fed.tried ++ pumps.tried in
     let offers = offers_join p q r fed.tried pumps.tried fed.offers pumps.offers in (
       record {
@@ -53,6 +57,7 @@ fed_join n a b c p q r x accepted refused accepted' refused' (fed, left) pumps m
       refl,
     )
 
--- where it has come to an end, between ends that are known by other names
-pub fed_ends : (a b : List Timed) (p q r p' r' : Sending) (accepted refused accepted' refused' : ℕ) → p' ≡ p → r' ≡ r → FedTo a b p q accepted refused → r ≡ q → accepted' ≡ accepted → refused' ≡ refused → FedFrom a p' r' accepted' refused'
-fed_ends a b p q r p' r' accepted refused accepted' refused' first last (fed, left) at more others = rw (first, last, at, more, others) fed
+-- where it has come to an end, which is known by other names
+pub fed_ends : (a b : List Timed) (p q r : Sending) (accepted refused accepted' refused' : ℕ) → FedTo a b p q (record { accepted = accepted; refused = refused }) → r ≡ q → accepted' ≡ accepted → refused' ≡ refused
+    → FedFrom a p r (record { accepted = accepted'; refused = refused' })
+fed_ends a b p q r accepted refused accepted' refused' (fed, left) at more others = rw (at, more, others) fed

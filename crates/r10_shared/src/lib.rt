@@ -1,13 +1,30 @@
-//! A recorder between threads: workers that feed its lanes from sources.
+//! A recorder between threads: workers that feed its lanes from sources, write, give orders and read, and what became of each message.
 #![tactic(auto)]
 
+mod ending;
 mod feed;
 mod gate;
 mod line;
+mod order;
+mod reading;
+mod report;
+mod room;
 mod running;
+mod session;
+mod source;
+mod working;
 
-pub use feed::{AnySource, Feed};
+pub use ending::{end_held, end_session};
+pub use feed::Feed;
 pub use gate::{Gate, Open};
 pub use line::Line;
-pub use r10_held::Rings;
+pub use order::Order;
+pub use r10_gauge::Pass;
+pub use r10_held::{Cabinet, Held, Rings};
+pub use r10_player::Player;
+pub use r10_transcript::{Instalment, Transcript};
+pub use reading::Reading;
+pub use report::{FeedReport, SessionReport, audit};
 pub use running::run_feeds;
+pub use session::{Session, run_session};
+pub use source::{AnySource, Tally};

@@ -1,11 +1,18 @@
 //! A channel with the sending end of its lane.
 
-ghost use Rattle.std.specs.Prelude.{◌≡◌, Some};
+ghost use Rattle.std.specs.Prelude.{◌≡◌, ◌-◌, ◌++◌, Some, length, take, vec_capacity};
+ghost use Rattle.r10_machine.specs.Machine.{saturated};
+ghost use Rattle.r10_port.specs.Ends.{TookReceived, sent, unreceived};
+ghost use Rattle.r10_shared.specs.Feeding.{FedFrom};
 ghost use Rattle.r10_held.specs.Naming.{ring_for};
 
+use crate::gate::Gate;
+use crate::source::{AnySource, Tally, feed_port};
+use r10_body::Sample;
 use r10_held::Rings;
-use r10_port::Port;
+use r10_port::{Outlet, Port};
 use std::marker::{Model, PhantomData};
+use std::sync::atomic::AtomicU64;
 
 /// A channel, with the sending end of its lane: that of the ring which `N` names for the channel. Contracts see both.
 #[derive(Drop)]
@@ -40,16 +47,48 @@ impl<N: Rings> Line<N> {
         }
     }
 
-    /// The channel, and the sending end.
-    pub(crate) fn open(self) -> (u16, Port)
-        ensures parts { (result.0 ≡ self.channel) × (result.1 ≡ self.port) }
-        ensures ring { ring_for self.channel N.rings ≡ Some self.port.ring }
+    /// The channel.
+    pub(crate) fn channel(&self) -> u16
+        ensures { result ≡ self.now.channel }
     {
-        let Line {
-            channel,
-            port,
-            of: _,
-        } = self;
-        (channel, port)
+        self.channel
+    }
+
+    /// How many messages were sent, up to `u64::MAX`.
+    pub(crate) fn sent(&self) -> u64
+        ensures { result ≡ saturated (length (sent self.now.port)) }
+    {
+        self.port.sent()
+    }
+
+    /// The ring of the sending end is the one that is named for the channel.
+    pub(crate) fn is_named(&self)
+        ensures { ring_for self.now.channel N.rings ≡ Some self.now.port.ring }
+    {
+        let _ = &self.port;
+    }
+
+    /// Passes the gate, and then offers to the port what the source gives, until the source ends.
+    pub(crate) fn feed<G: Gate>(
+        &mut self,
+        gate: &G,
+        worker: usize,
+        source: AnySource,
+        over: &AtomicU64,
+    ) -> Tally
+        ensures channel { self.new.channel ≡ self.old.channel }
+        ensures fed { FedFrom (rest source) self.old.port self.new.port result }
+    {
+        feed_port(gate, worker, source, &mut self.port, over)
+    }
+
+    /// Moves what is left between the two ends behind what `into` has, as much of it as `into` has room for. It takes no memory.
+    pub(crate) fn drain(&mut self, outlet: &mut Outlet, into: &mut Vec<Sample>)
+        requires { outlet.old.ring ≡ self.old.port.ring }
+        ensures all { sent self.old.port ≡ outlet.old.received ++ unreceived outlet.old self.old.port }
+        ensures spec { outlet.new.spec ≡ outlet.old.spec }
+        ensures moved { into.new.items ≡ into.old.items ++ take (vec_capacity into.old - length into.old.items) (unreceived outlet.old self.old.port) }
+    {
+        outlet.rest_into(&mut self.port, into);
     }
 }

@@ -3,7 +3,7 @@
 ghost use Rattle.std.specs.Prelude.{◌≡◌, ◌<◌, ℕ, slice_index_or, length};
 ghost use Rattle.r10_shared.specs.Feeding.{HasRun};
 
-use crate::feed::{Feed, run_feed};
+use crate::feed::Feed;
 use crate::gate::Gate;
 use r10_held::Rings;
 use std::sync::atomic::AtomicU64;
@@ -12,10 +12,10 @@ use std::thread::Threads;
 
 /// Runs a feed that waits.
 fn work<N: Rings, G: Gate>(gate: &G, worker: usize, feed: &mut Feed<N>, over: &AtomicU64)
-    ensures { HasRun (λ w. w.line) (λ w. rest w.source) (λ r. r.line) (λ r. r.accepted) (λ r. r.refused) feed.old.waiting feed.old.ran feed.new.ran }
+    ensures { HasRun (λ s. rest s) feed.old.source feed.old.line feed.old.tally feed.new.line feed.new.tally }
 {
-    if let Some(waiting) = feed.waiting.take() {
-        feed.ran = Some(run_feed(gate, worker, waiting, over));
+    if let Some(source) = feed.source.take() {
+        feed.tally = feed.line.feed(gate, worker, source, over);
     }
 }
 
@@ -27,7 +27,7 @@ pub fn run_feeds<N: Rings + Send + Sync, R: Threads + Sync, G: Gate + Sync>(
     feeds: &mut [Feed<N>],
     over: &AtomicU64,
 )
-    ensures { (i : ℕ) (d : _) → i < length feeds.old → HasRun (λ w. w.line) (λ w. rest w.source) (λ r. r.line) (λ r. r.accepted) (λ r. r.refused) (slice_index_or feeds.old i d).waiting (slice_index_or feeds.old i d).ran (slice_index_or feeds.new i d).ran }
+    ensures { (i : ℕ) (d : _) → i < length feeds.old → HasRun (λ s. rest s) (slice_index_or feeds.old i d).source (slice_index_or feeds.old i d).line (slice_index_or feeds.old i d).tally (slice_index_or feeds.new i d).line (slice_index_or feeds.new i d).tally }
 {
     let threads = feeds.len();
     if threads > 0 {
@@ -36,7 +36,7 @@ pub fn run_feeds<N: Rings + Send + Sync, R: Threads + Sync, G: Gate + Sync>(
             feeds,
             threads,
             &|worker: usize, feed: &mut Feed<N>|
-                ensures { HasRun (λ w. w.line) (λ w. rest w.source) (λ r. r.line) (λ r. r.accepted) (λ r. r.refused) feed.old.waiting feed.old.ran feed.new.ran }
+                ensures { HasRun (λ s. rest s) feed.old.source feed.old.line feed.old.tally feed.new.line feed.new.tally }
             { work(gate, worker, feed, over) },
         );
     }

@@ -1,0 +1,132 @@
+-- What a player wrote down, turn by turn.
+use Rattle.std.proofs.Common.{◌≡◌, ℕ, ◌<◌, ◌≤◌, List, [], ◌∷◌, ◌++◌, map, length, get_or, take, drop, refl, sym, ap, subst, ◌∙◌, append_assoc, arith}
+use Rattle.std.specs.List.{AllByRecursion}
+use Rattle.atomic_table.specs.Seated.{TableId}
+use Rattle.std.proofs.lemmas.List.{append-nil, drop_all, get_or-map, length-map, map-append, take_all}
+use Rattle.r10_body.specs.Packets.{file_entries}
+use Rattle.r10_body.specs.declared.entry.Entry.{Entry}
+use Rattle.r10_cursor.specs.Replays.{Reading as CursorReading}
+use Rattle.r10_cursor.specs.declared.cursor.Cursor.{Cursor}
+use Rattle.r10_machine.specs.Replay.{Ordered, wanted}
+use Rattle.r10_player.specs.Advancing.{TakesInstalment}
+use Rattle.r10_player.specs.declared.player.Player.{Player}
+use Rattle.r10_shared.specs.Readings.{GoesOn, HasRead, IsAlike, IsTaken, ReadsFrom, ReadsOn}
+use Rattle.r10_shared.specs.declared.reading.Reading.{Reading}
+use Rattle.r10_transcript.specs.declared.transcript.Instalment.{Instalment}
+
+goes_join : (a b c : ℕ) (xs ys : List Instalment) → GoesOn a xs b → GoesOn b ys c → GoesOn a (xs ++ ys) c
+goes_join a b c [] ys first second = subst (λ (n : ℕ). GoesOn n ys c) first second
+goes_join a b c (x ∷ xs) ys first second = (first.0, goes_join x.to b c xs ys first.1 second)
+
+all_join : {X : Type 0} (P : X → Type 0) (xs ys : List X) → AllByRecursion P xs → AllByRecursion P ys → AllByRecursion P (xs ++ ys)
+all_join P [] ys first second = second
+all_join P (x ∷ xs) ys first second = (first.0, all_join P xs ys first.1 second)
+
+alike_stays : (a : Cursor) → IsAlike a a
+alike_stays a = record { file = refl; generation = refl; channels = refl; first = refl; last = refl }
+
+alike_joins : (a b c : Cursor) → IsAlike a b → IsAlike b c → IsAlike a c
+alike_joins a b c one other = record {
+  file = other.file ∙ one.file;
+  generation = other.generation ∙ one.generation;
+  channels = other.channels ∙ one.channels;
+  first = other.first ∙ one.first;
+  last = other.last ∙ one.last;
+}
+
+-- nothing is written
+pub reads_none : (player : Player) (before : List Instalment) (new : Reading) → new.player.pass.cell ≡ player.pass.cell → IsAlike player.cursor new.player.cursor → new.player.cursor.reading.covered ≡ player.cursor.reading.covered
+    → new.instalments.items ≡ before → ReadsFrom player before new
+reads_none player before new gauge alike covered written = record { gauge = gauge; alike = alike; more = []; written = written ∙ sym (append-nil before); goes_on = covered; taken = tt }
+
+pub reads_nothing : (player : Player) (before : List Instalment) (new : Reading) → new.player.pass.cell ≡ player.pass.cell → new.player.cursor ≡ player.cursor → new.instalments.items ≡ before → ReadsFrom player before new
+reads_nothing player before new gauge same written =
+    reads_none player before new gauge (subst (IsAlike player.cursor) (sym same) (alike_stays player.cursor)) (ap (λ (c : Cursor). c.reading.covered) same) written
+
+-- what was still to be given is dropped
+pub reads_over : (player : Player) (before : List Instalment) (new : Reading) → new.player.pass ≡ player.pass → new.player.cursor ≡ record player.cursor { reading = record player.cursor.reading { queue = [] } } → new.instalments.items ≡ before → ReadsFrom player before new
+reads_over player before new pass dropped written =
+    reads_none player before new (ap (λ p. p.cell) pass) (subst (IsAlike player.cursor) (sym dropped) (record { file = refl; generation = refl; channels = refl; first = refl; last = refl })) (ap (λ (c : Cursor). c.reading.covered) dropped) written
+
+module _ (player : Player) (b : Cursor) (n : ℕ) (takes : TakesInstalment player.cursor b n) where
+  alike_then : IsAlike player.cursor b
+  alike_then = record {
+    file = takes.place.0;
+    generation = takes.place.1;
+    channels = ap (λ (r : CursorReading). r.channels) takes.advances.covers;
+    first = ap (λ (r : CursorReading). r.from) takes.advances.covers;
+    last = ap (λ (r : CursorReading). r.to) takes.advances.covers;
+  }
+
+  alike_emptied : IsAlike player.cursor (record b { reading = record b.reading { queue = [] } })
+  alike_emptied = record { file = alike_then.file; generation = alike_then.generation; channels = alike_then.channels; first = alike_then.first; last = alike_then.last }
+
+  -- an instalment is written
+  pub reads_taken : (before : List Instalment) (i : Instalment) (new : Reading) → i.from ≡ player.cursor.reading.covered → i.to ≡ b.reading.covered → i.entries ≡ b.reading.queue
+      → new.player.pass.cell ≡ player.pass.cell → new.player.cursor ≡ record b { reading = record b.reading { queue = [] } } → new.instalments.items ≡ before ++ i ∷ [] → ReadsFrom player before new
+  reads_taken before i new begins ends has gauge same written = record {
+    gauge = gauge;
+    alike = subst (IsAlike player.cursor) (sym same) alike_emptied;
+    more = i ∷ [];
+    written = written;
+    goes_on = (begins, ap (λ (c : Cursor). c.reading.covered) same ∙ sym ends);
+    taken = (
+      record {
+        packets = takes.packets;
+        to_is = ends ∙ ap (λ (r : CursorReading). r.covered) takes.advances.covers;
+        entries = rw (begins, has) takes.advances.queues;
+      },
+      tt,
+    );
+  }
+
+  -- nothing came to it
+  pub reads_idle : (before : List Instalment) (new : Reading) → b.reading.covered ≡ player.cursor.reading.covered → new.player.pass.cell ≡ player.pass.cell → new.player.cursor ≡ record b { reading = record b.reading { queue = [] } }
+      → new.instalments.items ≡ before → ReadsFrom player before new
+  reads_idle before new covered gauge same written =
+      reads_none player before new gauge (subst (IsAlike player.cursor) (sym same) alike_emptied) (ap (λ (c : Cursor). c.reading.covered) same ∙ covered) written
+
+-- one turn, and then others
+pub reads_join : (player : Player) (before : List Instalment) (mid new : Reading) → ReadsFrom player before mid → ReadsOn mid new → ReadsFrom player before new
+reads_join player before mid new first second = record {
+  gauge = second.gauge ∙ first.gauge;
+  alike = alike_joins player.cursor mid.player.cursor new.player.cursor first.alike second.alike;
+  more = first.more ++ second.more;
+  written = second.written ∙ ap (λ (l : List Instalment). l ++ second.more) first.written ∙ append_assoc before first.more second.more;
+  goes_on = goes_join player.cursor.reading.covered mid.player.cursor.reading.covered new.player.cursor.reading.covered first.more second.more first.goes_on second.goes_on;
+  taken = all_join (IsTaken player.cursor.reading.channels player.cursor.reading.from player.cursor.reading.to) first.more second.more first.taken
+      (subst (λ (cs : List ℕ). AllByRecursion (IsTaken cs player.cursor.reading.from player.cursor.reading.to) second.more) first.alike.channels
+      (subst (λ (n : ℕ). AllByRecursion (IsTaken mid.player.cursor.reading.channels n player.cursor.reading.to) second.more) first.alike.first
+      (subst (λ (n : ℕ). AllByRecursion (IsTaken mid.player.cursor.reading.channels mid.player.cursor.reading.from n) second.more) first.alike.last second.taken)));
+}
+
+-- ---- players, at first and at last
+
+-- one more player
+pub players_more : (xs : List Reading) (x : Reading) (before rest all : List Player) → map (λ (r : Reading). r.player) xs ++ before ≡ all → before ≡ x.player ∷ rest → map (λ (r : Reading). r.player) (xs ++ x ∷ []) ++ rest ≡ all
+players_more xs x before rest all so next =
+    ap (λ (l : List Player). l ++ rest) (map-append (λ (r : Reading). r.player) xs (x ∷ [])) ∙ append_assoc (map (λ (r : Reading). r.player) xs) (x.player ∷ []) rest ∙ ap (λ (l : List Player). map (λ (r : Reading). r.player) xs ++ l) (sym next) ∙ so
+
+module _ (readings : List Reading) (players : List Player) (is : map (λ (r : Reading). r.player) readings ≡ players) where
+  pub as_many : length players ≡ length readings
+  as_many = ap (λ (l : List Player). length l) (sym is) ∙ length-map readings (λ (r : Reading). r.player)
+
+  player_is : (i : ℕ) (d : Player) (e : Reading) → i < length readings → get_or players i d ≡ (get_or readings i e).player
+  player_is i d e inside = ap (λ (l : List Player). get_or l i d) (sym is) ∙ get_or-map (λ (r : Reading). r.player) readings i e d inside
+
+  -- what is known of each player's gauge is known of each reading's
+  pub at_gauge : (cell : TableId) → ((k : ℕ) (d : Player) → k < length players → (get_or players k d).pass.cell ≡ cell) → (k : ℕ) (d : Reading) → k < length readings → (get_or readings k d).player.pass.cell ≡ cell
+  at_gauge cell known k d inside = ap (λ (p : Player). p.pass.cell) (sym (player_is k d.player d inside)) ∙ known k d.player (omega (arith, inside, as_many))
+
+  -- each has read, where each read on from nothing
+  pub have_read : (later : List Reading) → ((k : ℕ) (d : Reading) → k < length readings → (get_or readings k d).instalments.items ≡ []) → ((i : ℕ) (e : Reading) → i < length readings → ReadsOn (get_or readings i e) (get_or later i e))
+      → (i : ℕ) (d : Player) (e : Reading) → i < length players → HasRead (get_or players i d) (get_or later i e)
+  have_read later none reads i d e inside =
+      let here : i < length readings = omega (arith, inside, as_many) in
+      subst (λ (p : Player). ReadsFrom p [] (get_or later i e)) (sym (player_is i d e here)) (subst (λ (l : List Instalment). ReadsFrom (get_or readings i e).player l (get_or later i e)) (none i e here) (reads i e here))
+
+-- what a slice of all leaves is all
+pub whole_slice : {X : Type 0} (n : ℕ) (new old : List X) → n ≡ length old → length new ≡ length old → take n (new ++ drop (length new) old) ≡ new
+whole_slice n new old all same =
+    let none = drop_all (length new) old (omega (arith, same)) in
+    ap (λ l. take n (new ++ l)) none ∙ ap (λ l. take n l) (append-nil new) ∙ take_all n new (omega (arith, all, same))

@@ -1,0 +1,44 @@
+-- What a player wrote down.
+use Rattle.std.specs.Prelude.{◌≡◌, ℕ, List, [], ◌∷◌, ◌++◌, length, drop}
+use Rattle.std.specs.List.{AllByRecursion}
+use Rattle.r10_body.specs.Packets.{Packet, file_entries}
+use Rattle.r10_cursor.specs.declared.cursor.Cursor.{Cursor}
+use Rattle.r10_machine.specs.Replay.{Ordered, wanted}
+use Rattle.r10_player.specs.declared.player.Player.{Player}
+use Rattle.r10_shared.specs.declared.reading.Reading.{Reading}
+use Rattle.r10_transcript.specs.declared.transcript.Instalment.{Instalment}
+
+-- a cursor on the same file, with the same wishes
+pub record IsAlike (old new : Cursor) : Type 0 where
+  pub file : new.file ≡ old.file
+  pub generation : new.generation ≡ old.generation
+  pub channels : new.reading.channels ≡ old.reading.channels
+  pub first : new.reading.from ≡ old.reading.from
+  pub last : new.reading.to ≡ old.reading.to
+
+-- an instalment has, in order, what was wanted of some packets from its beginning on, up to the last of them
+pub record IsTaken (channels : List ℕ) (first last : ℕ) (i : Instalment) : Type 0 where
+  pub packets : List Packet
+  pub to_is : i.to ≡ length packets
+  pub entries : Ordered (wanted channels first last (file_entries (drop i.from packets))) i.entries
+
+-- each goes on where the one before it ended, from a place up to another
+abbrev pub GoesOn : ℕ → List Instalment → ℕ → Type 0
+GoesOn at [] end = end ≡ at
+GoesOn at (i ∷ instalments) end = (i.from ≡ at) × GoesOn i.to instalments end
+
+-- a player has read on, at the same gauge, and what it took is written down behind these
+pub record ReadsFrom (player : Player) (before : List Instalment) (new : Reading) : Type 0 where
+  pub gauge : new.player.pass.cell ≡ player.pass.cell
+  pub alike : IsAlike player.cursor new.player.cursor
+  pub more : List Instalment
+  pub written : new.instalments.items ≡ before ++ more
+  pub goes_on : GoesOn player.cursor.reading.covered more new.player.cursor.reading.covered
+  pub taken : AllByRecursion (IsTaken player.cursor.reading.channels player.cursor.reading.from player.cursor.reading.to) more
+
+abbrev pub ReadsOn : Reading → Reading → Type 0
+ReadsOn old new = ReadsFrom old.player old.instalments.items new
+
+-- from nothing written
+abbrev pub HasRead : Player → Reading → Type 0
+HasRead player new = ReadsFrom player [] new

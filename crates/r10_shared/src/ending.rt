@@ -1,0 +1,88 @@
+//! The end of a session.
+
+ghost use Rattle.std.specs.Prelude.{◌≡◌, ◌↔◌, IfErr, IfOk, IsTrue};
+ghost use Rattle.r10_means.specs.Kept.{failed};
+ghost use Rattle.r10_shared.specs.Settling.{AreWrittenDown, IsEndRefusal, Settles, is_failed as told_failed};
+
+use crate::report::SessionReport;
+use crate::room::{drain_all, hand_over, rooms_for, transcripts_for};
+use crate::session::Session;
+use r10_body::Refusal;
+use r10_held::{Cabinet, Held, Rings};
+use r10_medium::BlockMedium;
+use std::alloc::Global;
+
+/// Whether a refusal is that the recorder failed.
+fn is_failed(refusal: Refusal) -> bool
+    ensures { result ≡ told_failed refusal }
+{
+    matches!(refusal, Refusal::Failed)
+}
+
+/// Whether the recorder failed.
+fn has_failed<M: BlockMedium, N: Rings>(held: &Held<M, N>) -> bool
+    ensures { IsTrue result ↔ (held.now.recorder.kept.work ≡ failed) }
+{
+    match held.files() {
+        Ok(_) => false,
+        Err(refusal) => is_failed(refusal),
+    }
+}
+
+/// The end of a session, by what the lock kept.
+pub fn end_held<M: BlockMedium, N: Rings>(
+    alloc: Global,
+    held: Held<M, N>,
+    session: Session<N>,
+) -> Result<SessionReport<M>, (Held<M, N>, Session<N>, Refusal)>
+    ensures settled { IfOk result (λ report. Settles (λ feed. feed.line) (λ feed. feed.tally) report.recorder.kept.work (M.disk report.recorder.medium).blocks session.feeds.items report.feeds.items) }
+    ensures recorder { IfOk result (λ report. (report.recorder.kept ≡ held.recorder.kept) × (report.recorder.medium ≡ held.recorder.medium)) }
+    ensures transcripts { IfOk result (λ report. AreWrittenDown session.readings.items report.transcripts.items) }
+    ensures refused { IfErr result (λ back. (back.0 ≡ held) × (back.1 ≡ session) × IsEndRefusal held.recorder.kept.work back.2) }
+{
+    held.look();
+    if has_failed(&held) {
+        return Err((held, session, Refusal::Failed));
+    }
+    let Some(reports) = rooms_for(alloc, &held, session.feeds.as_slice()) else {
+        return Err((held, session, Refusal::OutOfMemory));
+    };
+    let Some(transcripts) = transcripts_for(alloc, session.readings.as_slice()) else {
+        return Err((held, session, Refusal::OutOfMemory));
+    };
+    match held.apart() {
+        Ok((recorder, outlets)) => {
+            let Session { feeds, readings } = session;
+            let mut outlets = outlets;
+            let mut feeds = feeds;
+            let mut readings = readings;
+            let mut reports = reports;
+            let mut transcripts = transcripts;
+            drain_all(&mut outlets, &mut feeds, &mut reports);
+            hand_over(&mut transcripts, &mut readings);
+            Ok(SessionReport {
+                recorder,
+                feeds: reports,
+                transcripts,
+            })
+        }
+        Err(back) => Err((back, session, Refusal::OutOfMemory)),
+    }
+}
+
+/// The end of a session, once no thread shares the cabinet any more.
+pub fn end_session<M: BlockMedium, N: Rings>(
+    alloc: Global,
+    cabinet: Cabinet<M, N>,
+    session: Session<N>,
+) -> Result<SessionReport<M>, (Cabinet<M, N>, Session<N>, Refusal)>
+    ensures settled { IfOk result (λ report. Settles (λ feed. feed.line) (λ feed. feed.tally) report.recorder.kept.work (M.disk report.recorder.medium).blocks session.feeds.items report.feeds.items) }
+    ensures transcripts { IfOk result (λ report. AreWrittenDown session.readings.items report.transcripts.items) }
+    ensures refused { IfErr result (λ back. (back.0 ≡ cabinet) × (back.1 ≡ session)) }
+{
+    let (held, watch) = cabinet.into_parts();
+    match end_held(alloc, held, session) {
+        Ok(report) => Ok(report),
+        Err((held, session, refusal)) => Err((Cabinet::of_parts(held, watch), session, refusal)),
+    }
+}

@@ -1,0 +1,51 @@
+//! What became of a session.
+
+ghost use Rattle.std.specs.Prelude.{◌≡◌, ◌↔◌, IfErr, IfOk, IsTrue, None, OnOk};
+ghost use Rattle.r10_control.specs.Reading.{OnlyReads};
+ghost use Rattle.r10_control.specs.Refused.{RefusesCall};
+ghost use Rattle.r10_transcript.specs.Auditing.{IsFirstRefused, audit_refusal};
+ghost use Rattle.r10_transcript.specs.Transcripts.{AllAgree};
+
+use r10_body::{Refusal, Sample};
+use r10_control::Recorder;
+use r10_lane::Spent;
+use r10_medium::BlockMedium;
+use r10_transcript::{Transcript, audit_all};
+use std::alloc::Global;
+
+/// What became of the messages of a feed, each number up to `u64::MAX`.
+#[derive(Debug, Drop)]
+pub struct FeedReport {
+    pub channel: u16,
+    /// The messages that were sent: the erased ones, then the filed ones, then the rest.
+    pub accepted: u64,
+    /// The messages that the port refused.
+    pub refused: u64,
+    /// The messages that erases took.
+    pub erased: u64,
+    /// The messages in the recorder's own files.
+    pub filed: u64,
+    /// The messages that the recorder did not take in, in order.
+    pub rest: Vec<Sample>,
+}
+
+/// What became of a session: the recorder, with lanes that give nothing; of each feed its report; and what the players wrote down.
+#[derive(Drop)]
+pub struct SessionReport<M: BlockMedium> {
+    pub recorder: Recorder<M, Spent>,
+    pub feeds: Vec<FeedReport>,
+    pub transcripts: Vec<Transcript>,
+}
+
+/// Whether what the players wrote down agrees with the recorder's files as they stand: each transcript's file is there, each instalment begins where
+/// the one before it ended, and has what was wanted between its places, in order. Refused: Failed, BadFile of the first that doesn't agree,
+/// Medium, OutOfMemory.
+pub fn audit<M: BlockMedium>(alloc: Global, report: &mut SessionReport<M>) -> Result<bool, Refusal>
+    ensures agrees { IfOk result (λ yes. IsTrue yes ↔ AllAgree report.old.recorder.kept.work (M.disk report.old.recorder.medium).blocks report.old.transcripts.items) }
+    ensures passed { OnOk result (audit_refusal report.old.recorder.kept ≡ None) }
+    ensures refused { IfErr result (RefusesCall M.disk (audit_refusal report.old.recorder.kept) (IsFirstRefused report.old.recorder.kept.work (M.disk report.old.recorder.medium).blocks report.old.transcripts.items) report.old.recorder.kept report.new.recorder.kept report.old.recorder.medium report.new.recorder.medium) }
+    ensures reads { OnlyReads M.disk report.old.recorder report.new.recorder result }
+    ensures same { (report.new.feeds ≡ report.old.feeds) × (report.new.transcripts ≡ report.old.transcripts) }
+{
+    audit_all(alloc, &mut report.recorder, report.transcripts.as_slice())
+}

@@ -1,0 +1,162 @@
+//! A session: all workers at the same time.
+
+ghost use Rattle.std.specs.Prelude.{◌≡◌, ◌<◌, ◌≤◌, ℕ, All, IfErr, IfOk, [], length, map, slice_index_or, vec_capacity, vec_len};
+ghost use Rattle.r10_shared.specs.Feeding.{HasRun};
+ghost use Rattle.r10_shared.specs.Readings.{HasRead, ReadsOn};
+
+use crate::feed::Feed;
+use crate::gate::Gate;
+use crate::order::Order;
+use crate::reading::{Reading, read_all};
+use crate::running::run_feeds;
+use crate::working::{Progress, give_orders, write_on};
+use r10_held::{Cabinet, Rings};
+use r10_medium::BlockMedium;
+use r10_player::Player;
+use std::alloc::Global;
+use std::sync::Wait;
+use std::sync::atomic::{AtomicBool, AtomicU64};
+use std::thread;
+use std::thread::Threads;
+
+/// The feeds of a session as they were run, and its players with what they wrote down.
+#[derive(Drop)]
+pub struct Session<N: Rings> {
+    pub(crate) feeds: Vec<Feed<N>>,
+    pub(crate) readings: Vec<Reading>,
+}
+
+/// Writes, gives the orders and reads, all at the same time. The workers' numbers go on from the first.
+fn write_and_read<
+    M: BlockMedium + Send,
+    N: Rings + Send + Sync,
+    R: Threads + Wait + Sync,
+    G: Gate + Sync,
+>(
+    rt: &R,
+    alloc: Global,
+    cabinet: &Cabinet<M, N>,
+    gate: &G,
+    first: usize,
+    orders: &[Order],
+    readings: &mut [Reading],
+    progress: &Progress,
+)
+    requires { All (λ reading. reading.player.pass.cell ≡ cabinet.now) readings.old }
+    ensures { (i : ℕ) (d : _) → i < length readings.old → ReadsOn (slice_index_or readings.old i d) (slice_index_or readings.new i d) }
+{
+    let mut writing = || {
+        thread::join(
+            rt,
+            || give_orders(rt, cabinet, gate, first.wrapping_add(1), orders, progress),
+            || write_on(rt, cabinet, gate, first, progress),
+        );
+    };
+    let mut reading = ||
+        requires { All (λ reading. reading.player.pass.cell ≡ cabinet.now) readings.now }
+        ensures { (i : ℕ) (d : _) → i < length readings.entry.now → ReadsOn (slice_index_or readings.entry.now i d) (slice_index_or readings.exit.now i d) }
+    {
+        read_all(
+            rt,
+            alloc,
+            cabinet,
+            gate,
+            first.wrapping_add(2),
+            readings,
+            progress,
+        )
+    };
+    thread::join_mut(rt, &mut writing, &mut reading);
+}
+
+/// All workers at the same time.
+fn run_all<M: BlockMedium + Send, N: Rings + Send + Sync, R: Threads + Wait + Sync, G: Gate + Sync>(
+    rt: &R,
+    alloc: Global,
+    cabinet: &Cabinet<M, N>,
+    gate: &G,
+    feeds: &mut [Feed<N>],
+    orders: &[Order],
+    readings: &mut [Reading],
+)
+    requires { All (λ reading. reading.player.pass.cell ≡ cabinet.now) readings.old }
+    ensures feeds { (i : ℕ) (d : _) → i < length feeds.old → HasRun (λ s. rest s) (slice_index_or feeds.old i d).source (slice_index_or feeds.old i d).line (slice_index_or feeds.old i d).tally (slice_index_or feeds.new i d).line (slice_index_or feeds.new i d).tally }
+    ensures readings { (i : ℕ) (d : _) → i < length readings.old → ReadsOn (slice_index_or readings.old i d) (slice_index_or readings.new i d) }
+{
+    let first = feeds.len();
+    let progress = Progress {
+        over: AtomicU64::new(0),
+        all: (first as u64).saturating_add(1),
+        written: AtomicBool::new(false),
+    };
+    let along = &progress;
+    let mut feeding = ||
+        ensures { (i : ℕ) (d : _) → i < length feeds.entry.now → HasRun (λ s. rest s) (slice_index_or feeds.entry.now i d).source (slice_index_or feeds.entry.now i d).line (slice_index_or feeds.entry.now i d).tally (slice_index_or feeds.exit.now i d).line (slice_index_or feeds.exit.now i d).tally }
+    { run_feeds(rt, gate, feeds, &along.over) };
+    let mut others = ||
+        requires { All (λ reading. reading.player.pass.cell ≡ cabinet.now) readings.now }
+        ensures { (i : ℕ) (d : _) → i < length readings.entry.now → ReadsOn (slice_index_or readings.entry.now i d) (slice_index_or readings.exit.now i d) }
+    { write_and_read(rt, alloc, cabinet, gate, first, orders, readings, along) };
+    thread::join_mut(rt, &mut feeding, &mut others);
+}
+
+/// The players, that have written down nothing, in room that is there.
+fn unread(alloc: Global, players: Vec<Player>, room: Vec<Reading>) -> Vec<Reading>
+    requires room { vec_len players ≤ vec_capacity room }
+    requires empty { room.items ≡ [] }
+    ensures players { map (λ reading. reading.player) result.items ≡ players.items }
+    ensures none { All (λ reading. reading.instalments.items ≡ []) result.items }
+{
+    let mut readings = room;
+    for player in players {
+        readings.push_reserved(Reading {
+            player,
+            instalments: Vec::new(alloc),
+        });
+    }
+    readings
+}
+
+/// Runs feeds, orders and players at the same time, beside a writer, each in a worker of its own as far as threads can be made. Each worker passes
+/// the gate first, by its number: the feeds from 0 on, then the writer, then the one that gives the orders, then the players. A feed is
+/// pumped one turn each time until its source ends. The writer goes round the channels, takes in at most 64 messages of each, and commits
+/// behind a round that moved something. A player drops what it has still to give, and then takes instalments and writes them down. When feeds and
+/// orders have ended and a round has moved nothing, the writer commits once more and ends; and then each player takes one more instalment.
+/// Failed or OutOfMemory ends the worker that meets it; other refusals are passed over.
+///
+/// Memory is asked for before any worker starts; where it is refused, all come back.
+pub fn run_session<
+    M: BlockMedium + Send,
+    N: Rings + Send + Sync,
+    R: Threads + Wait + Sync,
+    G: Gate + Sync,
+>(
+    rt: &R,
+    alloc: Global,
+    cabinet: &Cabinet<M, N>,
+    gate: &G,
+    feeds: Vec<Feed<N>>,
+    orders: Vec<Order>,
+    players: Vec<Player>,
+) -> Result<Session<N>, (Vec<Feed<N>>, Vec<Order>, Vec<Player>)>
+    requires { All (λ player. player.pass.cell ≡ cabinet.now) players.items }
+    ensures feeds { IfOk result (λ session. (length session.feeds.items ≡ length feeds.items) × ((i : ℕ) (d : _) → i < length feeds.items → HasRun (λ s. rest s) (slice_index_or feeds.items i d).source (slice_index_or feeds.items i d).line (slice_index_or feeds.items i d).tally (slice_index_or session.feeds.items i d).line (slice_index_or session.feeds.items i d).tally)) }
+    ensures players { IfOk result (λ session. (length session.readings.items ≡ length players.items) × ((i : ℕ) (d : _) (e : _) → i < length players.items → HasRead (slice_index_or players.items i d) (slice_index_or session.readings.items i e))) }
+    ensures refused { IfErr result (λ back. (back.0.items ≡ feeds.items) × (back.1.items ≡ orders.items) × (back.2.items ≡ players.items)) }
+{
+    let Ok(room) = Vec::with_capacity(alloc, players.len()) else {
+        return Err((feeds, orders, players));
+    };
+    let mut readings = unread(alloc, players, room);
+    let mut feeds = feeds;
+    run_all(
+        rt,
+        alloc,
+        cabinet,
+        gate,
+        feeds.as_mut_slice(),
+        orders.as_slice(),
+        readings.as_mut_slice(),
+    );
+    Ok(Session { feeds, readings })
+}

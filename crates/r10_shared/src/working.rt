@@ -1,0 +1,155 @@
+//! The workers beside the feeds: one that writes, and one that gives orders.
+
+use crate::gate::Gate;
+use crate::order::Order;
+use r10_body::Refusal;
+use r10_held::{Cabinet, Held, Rings};
+use r10_medium::BlockMedium;
+use std::sync::Wait;
+use std::sync::atomic::{AtomicBool, AtomicU64, Ordering};
+use std::thread;
+
+/// How far the workers of a session are: how many feeds and orders have ended, of so many, and whether the writer has.
+#[derive(Drop)]
+pub(crate) struct Progress {
+    pub(crate) over: AtomicU64,
+    pub(crate) all: u64,
+    pub(crate) written: AtomicBool,
+}
+
+/// Whether a refusal ends the worker that meets it.
+pub(crate) fn is_end(refusal: Refusal) -> bool {
+    matches!(refusal, Refusal::Failed | Refusal::OutOfMemory)
+}
+
+/// What came of a turn of the writer.
+#[derive(Clone, Copy, Debug, PartialEq, Eq)]
+enum Turn {
+    Moved,
+    Idle,
+    Over,
+}
+
+/// The channel at a place of the settings.
+fn channel_at<M: BlockMedium, N: Rings>(held: &Held<M, N>, place: usize) -> Option<u16> {
+    match held.channels().get(place) {
+        Some(spec) => Some(spec.id),
+        None => None,
+    }
+}
+
+/// How many channels there are.
+fn channels_of<M: BlockMedium, N: Rings, R: Wait>(rt: &R, cabinet: &Cabinet<M, N>) -> usize {
+    let held = cabinet.hold(rt);
+    held.channels().len()
+}
+
+/// Pumps the channel at a place of the settings.
+fn pump_at<M: BlockMedium, N: Rings, R: Wait>(
+    rt: &R,
+    cabinet: &Cabinet<M, N>,
+    place: usize,
+) -> Turn {
+    let mut held = cabinet.hold(rt);
+    let Some(channel) = channel_at(&held, place) else {
+        return Turn::Idle;
+    };
+    match held.pump(channel, 64) {
+        Ok(moved) => { if moved > 0 { Turn::Moved } else { Turn::Idle } }
+        Err(refusal) => {
+            if is_end(refusal) {
+                Turn::Over
+            } else {
+                Turn::Idle
+            }
+        }
+    }
+}
+
+/// Goes round the channels once.
+fn go_round<M: BlockMedium, N: Rings, R: Wait>(rt: &R, cabinet: &Cabinet<M, N>) -> Turn {
+    let mut turn = Turn::Idle;
+    for place in 0..channels_of(rt, cabinet) {
+        match pump_at(rt, cabinet, place) {
+            Turn::Moved => turn = Turn::Moved,
+            Turn::Idle => {}
+            Turn::Over => return Turn::Over,
+        }
+    }
+    turn
+}
+
+/// Shows what the file has. Whether the writer goes on.
+fn commit<M: BlockMedium, N: Rings, R: Wait>(rt: &R, cabinet: &Cabinet<M, N>) -> bool {
+    let mut held = cabinet.hold(rt);
+    match held.commit(rt) {
+        Ok(()) => true,
+        Err(refusal) => !is_end(refusal),
+    }
+}
+
+/// Goes round the channels, and shows what the file has behind a round that moved something. Ends behind a round that moved nothing and
+/// before which all feeds and orders had ended, and shows what the file has once more.
+fn go_round_and_round<M: BlockMedium, N: Rings, R: Wait>(
+    rt: &R,
+    cabinet: &Cabinet<M, N>,
+    progress: &Progress,
+) {
+    for _ in rt.forever() {
+        let last = progress.over.load(Ordering::SeqCst) >= progress.all;
+        let turn = go_round(rt, cabinet);
+        if turn == Turn::Over {
+            return;
+        }
+        let moved = turn == Turn::Moved;
+        if (moved || last) && !commit(rt, cabinet) {
+            return;
+        }
+        if last && !moved {
+            return;
+        }
+        thread::yield_now();
+    }
+}
+
+/// Passes the gate, and then writes until nothing more comes.
+pub(crate) fn write_on<M: BlockMedium, N: Rings, R: Wait, G: Gate>(
+    rt: &R,
+    cabinet: &Cabinet<M, N>,
+    gate: &G,
+    worker: usize,
+    progress: &Progress,
+) {
+    if gate.pass(worker) {
+        go_round_and_round(rt, cabinet, progress);
+    }
+    progress.written.store(true, Ordering::SeqCst);
+}
+
+/// Asks an order of the recorder. Whether control goes on.
+fn ask<M: BlockMedium, N: Rings, R: Wait>(rt: &R, cabinet: &Cabinet<M, N>, order: &Order) -> bool {
+    let mut held = cabinet.hold(rt);
+    match order.perform(rt, &mut held) {
+        Ok(_) => true,
+        Err(refusal) => !is_end(refusal),
+    }
+}
+
+/// Passes the gate, and then gives the orders in turn.
+pub(crate) fn give_orders<M: BlockMedium, N: Rings, R: Wait, G: Gate>(
+    rt: &R,
+    cabinet: &Cabinet<M, N>,
+    gate: &G,
+    worker: usize,
+    orders: &[Order],
+    progress: &Progress,
+) {
+    if gate.pass(worker) {
+        for order in orders {
+            if !ask(rt, cabinet, order) {
+                break;
+            }
+        }
+    }
+    progress.over.fetch_add(1, Ordering::SeqCst);
+}
