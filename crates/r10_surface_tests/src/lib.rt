@@ -1,0 +1,18 @@
+//! The public calls of the recorder's lower crates, lowest first, as a caller writes them: each type, variant, field and call by its
+//! name at its crate, each call once.
+#![tactic(auto)]
+
+#[cfg(test)]
+mod bodies;
+#[cfg(test)]
+mod builders;
+#[cfg(test)]
+mod files;
+#[cfg(test)]
+mod made;
+#[cfg(test)]
+mod media;
+#[cfg(test)]
+mod messages;
+#[cfg(test)]
+mod packets;
