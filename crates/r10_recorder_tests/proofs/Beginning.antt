@@ -1,6 +1,8 @@
 -- A file of one channel begins.
-use Rattle.std.proofs.Common.{◌≡◌, ℕ, ◌<◌, ◌≤◌, List, [], ◌∷◌, length, refl, sym, subst, arith, lit<, lit≤}
+use Rattle.std.proofs.Common.{◌≡◌, ◌∙◌, ℕ, ◌<◌, ◌≤◌, List, [], ◌∷◌, length, refl, sym, subst, ap, arith, lit<, lit≤}
+use Rattle.std.specs.Prelude.{replicate}
 use Rattle.std.specs.List.{AllByRecursion}
+use Rattle.std.proofs.lemmas.List.{length-replicate}
 use Rattle.r10_count.specs.declared.civil.Parts.{Parts}
 use Rattle.r10_medium.specs.Disk.{Image}
 use Rattle.r10_blockout.specs.Output.{first_of}
@@ -33,12 +35,13 @@ stands builders out text count civil is = record {
   differ = λ e. omega (arith, e);
 }
 
-pub begins : (r : Recording) (image : Image) (text : List ℕ) (count : ℕ) (civil : Parts) → Records r image text (time_entry_at 1 count civil ∷ []) → first_of r.out.blocks ≡ 1 → 64 ≤ length image → IsOpen r image count 32256
-begins r image text count civil carried first long = record {
+pub begins : (r : Recording) (image : Image) (text : List ℕ) (count : ℕ) (civil : Parts) → Records r image text (time_entry_at 1 count civil ∷ []) → first_of r.out.blocks ≡ 1 → 64 ≤ length image → r.counts ≡ replicate 4096 0 → IsOpen r image count 32256
+begins r image text count civil carried first long none = record {
   text = text;
   entries = time_entry_at 1 count civil ∷ [];
   carries = carried;
   ends = (omega arith, tt);
   within = omega (arith, first, long);
   small = lit< tt;
+  counted = ap (λ (l : List ℕ). length l) none ∙ length-replicate {A = ℕ} 4096 0;
 }

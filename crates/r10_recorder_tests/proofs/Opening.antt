@@ -1,5 +1,5 @@
 -- A file that is written goes on.
-use Rattle.std.proofs.Common.{◌≡◌, ℕ, ◌+◌, ◌-◌, ◌^◌, ◌<◌, ◌≤◌, Bool, true, false, cond, ◌==◌, List, [], ◌∷◌, ◌++◌, length, sym, subst, ap, arith}
+use Rattle.std.proofs.Common.{◌≡◌, ◌∙◌, ℕ, ◌+◌, ◌-◌, ◌^◌, ◌<◌, ◌≤◌, Bool, true, false, cond, ◌==◌, List, [], ◌∷◌, ◌++◌, length, sym, subst, ap, arith}
 use Rattle.std.specs.Prelude.{min, count_by}
 use Rattle.std.specs.List.{AllByRecursion, sum_by}
 use Rattle.std.proofs.lemmas.List.{append-nil}
@@ -77,12 +77,13 @@ readied old new image last area open_now same carries = record {
   ends = open_now.ends;
   within = omega (arith, ap (λ (o : Writing). first_of o.blocks) same.out, open_now.within);
   small = open_now.small;
+  counted = ap (λ (r : Recording). length r.counts) same.rest ∙ open_now.counted;
 }
 
 -- it goes on behind an entry that was taken
 pub taken : (old new : Recording) (before after : Disk) (last area : ℕ) (e : Entry) (open_now : IsOpen old before.blocks last area) → last ≤ e.count → IsSameFile old new → length after.blocks ≡ length before.blocks
-    → (MayCome open_now.entries (e ∷ []) → LeadsToRecords old before open_now.text open_now.entries open_now.carries new after (open_now.entries ++ e ∷ [])) → IsOpen new after.blocks e.count area
-taken old new before after last area e open_now le same blocks leads =
+    → length new.counts ≡ length old.counts → (MayCome open_now.entries (e ∷ []) → LeadsToRecords old before open_now.text open_now.entries open_now.carries new after (open_now.entries ++ e ∷ [])) → IsOpen new after.blocks e.count area
+taken old new before after last area e open_now le same blocks counts leads =
     let led = leads (may_come old before.blocks open_now.text open_now.entries last e open_now.carries open_now.ends le) in
     record {
       text = open_now.text;
@@ -91,23 +92,29 @@ taken old new before after last area e open_now le same blocks leads =
       ends = all_later last e.count open_now.entries e le (omega arith) open_now.ends;
       within = omega (arith, same.first, blocks, open_now.within);
       small = open_now.small;
+      counted = counts ∙ open_now.counted;
     }
 
 -- and where nothing was
 pub flushed : (old new : Recording) (before after : Disk) (last area : ℕ) (open_now : IsOpen old before.blocks last area) → IsSameFile old new → length after.blocks ≡ length before.blocks
-    → LeadsToRecords old before open_now.text open_now.entries open_now.carries new after open_now.entries → IsOpen new after.blocks last area
-flushed old new before after last area open_now same blocks led = record {
+    → length new.counts ≡ length old.counts → LeadsToRecords old before open_now.text open_now.entries open_now.carries new after open_now.entries → IsOpen new after.blocks last area
+flushed old new before after last area open_now same blocks counts led = record {
   text = open_now.text;
   entries = open_now.entries;
   carries = led.carries;
   ends = open_now.ends;
   within = omega (arith, same.first, blocks, open_now.within);
   small = open_now.small;
+  counted = counts ∙ open_now.counted;
 }
 
 -- there is memory for the packets that are open
 pub few_open : (r : Recording) (n : ℕ) → IsReady r.out 1000 → n ≡ min (packets_of r) (2 ^ 64 - 1) → n ≤ 1000 → IsReady r.out (count_by is_open_builder r.builders)
 few_open r n ready is few = ready_fewer r.out 1000 (count_by is_open_builder r.builders) (omega (arith, is, few)) ready
+
+-- and for one more
+pub one_more : (r : Recording) (n : ℕ) → IsReady r.out 1000 → count_by is_open_builder r.builders ≤ n → n ≤ 999 → IsReady r.out (count_by is_open_builder r.builders + 1)
+one_more r n ready open_now few = ready_fewer r.out 1000 (count_by is_open_builder r.builders + 1) (omega (arith, open_now, few)) ready
 
 -- what is shown has room
 pub has_room : (r : Recording) (image : Image) (last area cost : ℕ) (open_now : IsOpen r image last area) → length (file_bytes open_now.carries.packets) ≤ cost → cost ≤ area → HasRoomOnMedium r.out.blocks 0 (length image)
@@ -123,6 +130,7 @@ committed r before after last area open_now blocks carries = record {
   ends = open_now.ends;
   within = omega (arith, blocks, open_now.within);
   small = open_now.small;
+  counted = open_now.counted;
 }
 
 -- few are named

@@ -21,7 +21,7 @@ const LEAP_DAY: Parts = Parts {
 };
 
 /// The first recording: setup, time, two UART messages, node and root, a header a line and then its body
-const FIRST: [u8; 272] = [
+pub(crate) const FIRST: [u8; 272] = [
     0x25, 0xEB, 0, 0, 0x20, 0, 0, 0, 8, 0, 0, 0, 8, 0, 0, 1, 0xE8, 3, 0, 0, 0, 0, 0x3D, 0xF0, //
     0x0C, 0, 0, 0, 0x41, 0x42, 0x43, 0x44, //
     0x25, 0xEB, 1, 0, 0x24, 0, 0, 0, 12, 0, 0, 0, 8, 0, 0, 0x11, 0xE8, 3, 0, 0, 0, 0, 0x46, 0, //

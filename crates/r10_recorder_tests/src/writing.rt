@@ -3,6 +3,7 @@
 ghost use Rattle.std.specs.Prelude.{◌≡◌, ◌≤◌, length, IfOk, OnOk};
 ghost use Rattle.r10_recorder_tests.specs.Open.{IsOpen, line};
 
+use crate::recording::FIRST;
 use r10_body::{ChannelSpec, Kind, Message, Sample};
 use r10_builder::Builders;
 use r10_count::{Civil, Count, Items, Parts};
@@ -10,26 +11,6 @@ use r10_medium::{BlockMedium, Choice, Crashing, Faulty, Memory};
 use r10_mux::Mux;
 use std::alloc::Global;
 use std::test::Fail;
-
-/// The first recording: setup, time, two UART messages, node and root, a header a line and then its body
-const FIRST: [u8; 272] = [
-    0x25, 0xEB, 0, 0, 0x20, 0, 0, 0, 8, 0, 0, 0, 8, 0, 0, 1, 0xE8, 3, 0, 0, 0, 0, 0x3D, 0xF0, //
-    0x0C, 0, 0, 0, 0x41, 0x42, 0x43, 0x44, //
-    0x25, 0xEB, 1, 0, 0x24, 0, 0, 0, 12, 0, 0, 0, 8, 0, 0, 0x11, 0xE8, 3, 0, 0, 0, 0, 0x46, 0, //
-    0x01, 0x03, 0, 0, 0x78, 0x56, 0x34, 0x12, 0x29, 0x02, 0x24, 0x20, //
-    0x25, 0xEB, 5, 0, 0x38, 0, 0, 0, 32, 0, 0, 0, 8, 0, 0, 0x50, 0xE8, 3, 0, 0, 0, 0, 0x72, 0x3F, //
-    0, 0, 0, 0x80, 0xE8, 3, 0, 0, 0, 0, 0, 0, 3, 0, 0, 0, 0x41, 0x42, 0x43, 0, //
-    0xF2, 3, 0, 0, 0, 0, 0, 0, 0, 0, 0, 0, //
-    0x25, 0xEB, 0, 0, 0x58, 0, 0, 0, 64, 0, 0, 0, 8, 1, 0, 3, 0xE8, 3, 0, 0, 0, 0, 0xAD, 0xF3, //
-    3, 0, 0, 0x80, //
-    0xE8, 3, 0, 0, 0, 0, 0, 0, 0, 0, 0x01, 0, 0, 0, 0, 0, 0, 0, 0, 0, //
-    0xE8, 3, 0, 0, 0, 0, 0, 0, 1, 0, 0x11, 0, 32, 0, 0, 0, 0, 0, 0, 0, //
-    0xE8, 3, 0, 0, 0, 0, 0, 0, 5, 0, 0x50, 0, 68, 0, 0, 0, 0, 0, 0, 0, //
-    0x25, 0xEB, 0, 0, 0x3C, 0, 0, 0, 36, 0, 0, 0, 8, 2, 0, 3, 0xE8, 3, 0, 0, 0, 0, 0x75, 0xF4, //
-    2, 0, 0, 0, //
-    0xE8, 3, 0, 0, 0, 0, 0, 0, 124, 0, 0, 0, 0, 0, 0, 0, //
-    0xE8, 3, 0, 0, 0, 0, 0, 0, 212, 0, 0, 0, 0, 0, 0, 0,
-];
 
 /// How many bytes a file may have on 64 blocks, behind the first.
 const AREA: u64 = 32_256;
@@ -121,6 +102,65 @@ fn take<M: BlockMedium>(
         return Err(Stop::Refused);
     };
     let Ok(()) = mux.take(medium, channel, &sample) else {
+        return Err(Stop::Medium);
+    };
+    Ok(count)
+}
+
+/// Takes a time that isn't before the last entry, and answers its count.
+fn tick<M: BlockMedium>(
+    mux: &mut Mux,
+    medium: &mut M,
+    last: Count,
+    area: u64,
+    count: Count,
+) -> Result<Count, Stop>
+    requires { IsOpen mux.old (M.disk medium.old).blocks last area }
+    ensures { IfOk result (λ last. IsOpen mux.new (M.disk medium.new).blocks last area) }
+{
+    let Some(civil) = first_time() else {
+        return Err(Stop::Refused);
+    };
+    let Ok(()) = mux.ready(1000) else {
+        return Err(Stop::Memory);
+    };
+    if count.get() < last.get() {
+        return Err(Stop::Refused);
+    }
+    if mux.channels() > 999 {
+        return Err(Stop::Refused);
+    }
+    let None = mux.fits_alone(8, 1000, area) else {
+        return Err(Stop::Refused);
+    };
+    let Ok(()) = mux.tick(medium, count, civil) else {
+        return Err(Stop::Medium);
+    };
+    Ok(count)
+}
+
+/// Takes an event of number 3 that isn't before the last entry, and answers its count.
+fn mark<M: BlockMedium>(
+    alloc: Global,
+    mux: &mut Mux,
+    medium: &mut M,
+    last: Count,
+    area: u64,
+    count: Count,
+) -> Result<Count, Stop>
+    requires { IsOpen mux.old (M.disk medium.old).blocks last area }
+    ensures { IfOk result (λ last. IsOpen mux.new (M.disk medium.new).blocks last area) }
+{
+    let Ok(()) = mux.ready(1) else {
+        return Err(Stop::Memory);
+    };
+    if count.get() < last.get() {
+        return Err(Stop::Refused);
+    }
+    let None = mux.fits_alone(12, 1000, area) else {
+        return Err(Stop::Refused);
+    };
+    let Ok(()) = mux.event(alloc, medium, 3, count) else {
         return Err(Stop::Medium);
     };
     Ok(count)
@@ -231,6 +271,19 @@ fn record_gap<M: BlockMedium>(alloc: Global, medium: &mut M) -> Result<(), Stop>
     commit(&mut mux, medium, last, AREA)
 }
 
+/// An event and a time behind it, shown: how many packets there are, and what they cost.
+fn record_marks<M: BlockMedium>(alloc: Global, medium: &mut M) -> Result<(usize, u64), Stop> {
+    let last = start()?;
+    let mut mux = begin(alloc, medium, b"ABCD", last)?;
+    let last = mark(alloc, &mut mux, medium, last, AREA, last)?;
+    let Some(next) = Count::of(2000) else {
+        return Err(Stop::Refused);
+    };
+    let last = tick(&mut mux, medium, last, AREA, next)?;
+    commit(&mut mux, medium, last, AREA)?;
+    Ok((mux.packets(), mux.cost()))
+}
+
 /// 257 messages, each shown, and then the file is closed.
 fn record_many<M: BlockMedium>(alloc: Global, medium: &mut M) -> Result<(), Stop> {
     let mut last = start()?;
@@ -251,6 +304,23 @@ fn the_first_recording_goes_through_a_multiplexer(rt: HostRuntime) -> Result<(),
     assert_eq!(rt;
         (told, image.get(512..784)),
         (Ok(()), Some(FIRST.as_slice()))
+    );
+    Ok(())
+}
+
+// the event's body, and the front of the second time's packet
+#[test]
+fn an_event_and_a_time_are_put(rt: HostRuntime) -> Result<(), Fail> {
+    let mut medium = Memory::new(rt.alloc(), 64)?;
+    let told = record_marks(rt.alloc(), &mut medium);
+    let image = medium.image(rt.alloc())?;
+    let marks = [
+        1, 0, 0, 0, 0xE8, 3, 0, 0, 0, 0, 0, 0, 3, 0, 0, 0x10, 0x25, 0xEB, 1, 0, 36, 0, 0, 0, 12, 0,
+        0, 0, 8, 1,
+    ];
+    assert_eq!(rt;
+        (told, image.get(604..634)),
+        (Ok((4, 496)), Some(marks.as_slice()))
     );
     Ok(())
 }

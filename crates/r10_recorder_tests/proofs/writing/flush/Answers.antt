@@ -1,4 +1,5 @@
-use Rattle.std.proofs.Common.{arith}
+use Rattle.std.proofs.Common.{ap, arith, length}
+use Rattle.r10_packetout.specs.Carries.{Recording}
 use Rattle.r10_recorder_tests.proofs.Opening.{few_open, flushed, may_end, readied}
 use Rattle.r10_recorder_tests.proofs.writing.flush.Goals as goal
 
@@ -16,5 +17,5 @@ pub returns : goal.returns
 returns g c =
     let before = g.M.BlockMedium.disk c.args.medium.now in
     let open_now = readied c.args.mux.now c.ready.new.self before.blocks c.args.last c.args.area c.requires c.in-Ok.ensures.same c.in-Ok.ensures.carries in
-    flushed c.ready.new.self c.flush.new.self before (g.M.BlockMedium.disk c.flush.new.medium) c.args.last c.args.area open_now c.in-Ok-flush.ensures.file c.in-Ok-flush.ensures.blocks
+    flushed c.ready.new.self c.flush.new.self before (g.M.BlockMedium.disk c.flush.new.medium) c.args.last c.args.area open_now c.in-Ok-flush.ensures.file c.in-Ok-flush.ensures.blocks (ap (λ (r : Recording). length r.counts) c.flush.ensures.rest)
     (c.in-Ok-flush.ensures.flushed open_now.text open_now.entries open_now.carries)
