@@ -1,0 +1,74 @@
+#!/usr/bin/env python3
+"""share_libraries.py TOP SOURCE: gives the checkout TOP the libraries that stand built in the checkout SOURCE, also those of a gate's run that goes on there.
+
+A library is given where all files of its crate and of those below are the same, and those below are the very same libraries; with a stamp, so that
+`rt check` and `rt lib` take it as built. It proves nothing: no verdict of `rt ci` rests on it. Prints how many were given.
+"""
+import importlib.machinery
+import importlib.util
+import os
+import shutil
+import sys
+
+sys.dont_write_bytecode = True
+
+
+def tool():
+    """The functions of the installed `rt`."""
+    path = f"{os.path.dirname(os.path.realpath(shutil.which('rt')))}/rtlib.py"
+    if not os.path.isfile(path):
+        sys.exit("share_libraries: the installed rt has no rtlib.py beside it")
+    loader = importlib.machinery.SourceFileLoader("rtlib", path)
+    made = importlib.util.module_from_spec(importlib.util.spec_from_loader("rtlib", loader))
+    sys.modules["rtlib"] = made
+    loader.exec_module(made)
+    return made
+
+
+def link(one, other):
+    try:
+        os.link(one, other)
+    except OSError:
+        shutil.copyfile(one, other)
+
+
+def main():
+    if len(sys.argv) != 3:
+        sys.exit(__doc__.strip())
+    rtlib = tool()
+    made, seen = rtlib.Crate.stamp, {}
+
+    def stamp(crate):
+        if crate.folder not in seen:
+            seen[crate.folder] = made(crate)
+        return seen[crate.folder]
+
+    rtlib.Crate.stamp = stamp
+
+    def crates(top):
+        os.chdir(top)
+        return {it.name: it for it in rtlib.crates_below(top)}
+
+    def is_same(one, other):
+        return rtlib.sum_of(f"{one.rlib}/format") == rtlib.sum_of(f"{other.rlib}/format")
+
+    theirs, given = crates(os.path.realpath(sys.argv[2])), 0
+    for name, crate in crates(os.path.realpath(sys.argv[1])).items():
+        other = theirs.get(name)
+        if other is None or crate.is_program or crate.is_built() or not os.path.isfile(f"{other.rlib}/format") or stamp(crate) != stamp(other):
+            continue
+        if any(not it.is_built() or not is_same(it, theirs[it.name]) for it in crate.below()):
+            continue
+        out = f"{crate.folder}/out"
+        os.makedirs(out, exist_ok=True)
+        shutil.rmtree(f"{out}/rlib", ignore_errors=True)
+        shutil.rmtree(f"{out}/given", ignore_errors=True)
+        shutil.copytree(os.path.dirname(other.rlib), f"{out}/given", copy_function=link)
+        with open(f"{out}/given/stamp", "w", encoding="utf-8") as it:
+            it.write(stamp(crate))
+        os.rename(f"{out}/given", f"{out}/rlib")
+        given += 1
+    print(f"{given} libraries given")
+
+
+main()
