@@ -35,10 +35,6 @@ same_specs (b ∷ builders) (suc i) d new same = ap (λ (ss : List ChannelSpec).
 
 -- ---- packets that keep to settings
 
-pub all_more : {A : Type 0} (P : A → Type 0) (xs : List A) (x : A) → AllByRecursion P xs → P x → AllByRecursion P (xs ++ x ∷ [])
-all_more P [] x all here = (here, tt)
-all_more P (y ∷ ys) x all here = (all.0, all_more P ys x all.1 here)
-
 pub kept_at : (p : Packet) (builders : List BuilderState) (i : ℕ) (d : BuilderState) → i < length builders → KeepsSettings (specs_of builders) p → p.channel ≡ (get_or builders i d).spec.id → KeepsSpec (get_or builders i d).spec p
 kept_at p [] i d lt kept on = absurd (omega arith)
 kept_at p (b ∷ builders) zero d lt kept on = kept.0 on

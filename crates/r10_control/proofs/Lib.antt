@@ -31,7 +31,7 @@ mod Closes
 mod Stops
 mod Leaves
 mod Moments
-mod Stopped
+mod StopPoints
 mod Works
 mod Effecting
 mod Making

@@ -37,7 +37,7 @@ use Rattle.r10_control.proofs.Erases.{checked as erase_checked, same_check as er
 use Rattle.r10_control.proofs.Pumps.{last_changes}
 use Rattle.r10_control.proofs.Seals.{Left, checked as seal_checked, left_open, same_check as seal_check, seals_so}
 use Rattle.r10_control.proofs.Starts.{same_check as start_check}
-use Rattle.r10_control.proofs.Stopped.{IsLeftEither, LeavesShown, idle_becomes, recorded_becomes, settled_idle}
+use Rattle.r10_control.proofs.StopPoints.{IsLeftEither, LeavesShown, idle_becomes, recorded_becomes, settled_idle}
 
 -- ---- a commit
 

@@ -23,6 +23,8 @@ mod work;
 
 pub use lanes::lanes_stay_the_machines;
 pub use own_laws::{own_entries_are_meant, own_entries_stay};
-pub use r10_machine::{ChannelStatus, FileInfo, Found, Mode, Settings, SettingsFault, Status};
+pub use r10_machine::{
+    ChannelStatus, FileInfo, Found, Mode, Settings, SettingsFault, Status, Stopped,
+};
 pub use recorder::Recorder;
 pub use status::{LaneStatus, RecorderStatus};

@@ -84,12 +84,12 @@ time_fits counter (p ∷ ps) is fits = time_fits (cond (is_time p) p.counter cou
 
 -- ---- the entries
 
-entries_length : (offset : ℕ) (ps : List Packet) → length (node_entries offset ps) ≡ length ps
+pub entries_length : (offset : ℕ) (ps : List Packet) → length (node_entries offset ps) ≡ length ps
 entries_length offset [] = refl
 entries_length offset (p ∷ ps) = omega (arith, entries_length (offset + length (packet_bytes p)) ps)
 
 -- the entries of packets that fit have their fields in range
-entries_fit : (offset : ℕ) (ps : List Packet) → AllByRecursion FitsPacket ps → offset + length (file_bytes ps) < 2 ^ 64 → AllByRecursion FitsNode (node_entries offset ps)
+pub entries_fit : (offset : ℕ) (ps : List Packet) → AllByRecursion FitsPacket ps → offset + length (file_bytes ps) < 2 ^ 64 → AllByRecursion FitsNode (node_entries offset ps)
 entries_fit offset [] fits short = tt
 entries_fit offset (p ∷ ps) fits short =
     let long : length (file_bytes (p ∷ ps)) ≡ length (packet_bytes p) + length (file_bytes ps) = length-append (packet_bytes p) (file_bytes ps) in (

@@ -21,6 +21,7 @@ use Rattle.r10_strict.proofs.Written.{packet_foreign}
 use Rattle.r10_body.proofs.Indexes.{counted, no_nodes, no_roots}
 use Rattle.r10_body.proofs.Rules.{follows_more, follows_fit, bytes_more, entries_more}
 use Rattle.r10_body.proofs.Sentences.{type_fits, rest_length}
+use Rattle.r10_index.proofs.Behind.{entries_fit, entries_length}
 use Rattle.r10_tracks.specs.Broken as broken_later
 use Rattle.r10_judge.specs.Judged.{KeepRules, BreaksIn, broken_rule, in_open_file, stopped_at}
 use Rattle.r10_judge.specs.Copies.{copy, copies, node_of_99}
@@ -142,18 +143,6 @@ known zero le = record {
 known (suc n) le = copy_more n (copies n) (omega (arith, le)) (known n (omega (arith, le)))
 
 -- ---- a node of 99 entries
-
-entries_length : (offset : ℕ) (ps : List Packet) → length (node_entries offset ps) ≡ length ps
-entries_length offset [] = refl
-entries_length offset (p ∷ ps) = omega (arith, entries_length (offset + length (packet_bytes p)) ps)
-
-entries_fit : (offset : ℕ) (ps : List Packet) → AllByRecursion FitsPacket ps → offset + length (file_bytes ps) < 2 ^ 64 → AllByRecursion FitsNode (node_entries offset ps)
-entries_fit offset [] fits short = tt
-entries_fit offset (p ∷ ps) fits short =
-    let long : length (file_bytes (p ∷ ps)) ≡ length (packet_bytes p) + length (file_bytes ps) = length-append (packet_bytes p) (file_bytes ps) in (
-      record { counter = fits.0.counter; data_type = type_fits p.content; channel = fits.0.channel; offset = omega (arith, short) },
-      entries_fit (offset + length (packet_bytes p)) ps fits.1 (omega (arith, short, long)),
-    )
 
 all_taken : {A : Type 0} (P : A → Type 0) (n : ℕ) (xs : List A) → AllByRecursion P xs → AllByRecursion P (take n xs)
 all_taken P zero xs all = tt

@@ -23,6 +23,7 @@ use Rattle.r10_dirchain.specs.declared.chain.ChainBlock.{ChainBlock}
 use Rattle.r10_dirchain.proofs.Directories.{some_block, still_holds}
 use Rattle.r10_dirchain.proofs.Turning.{on_ok}
 use Rattle.r10_volume.specs.Holding.{HoldsFiles, IsCarried}
+use Rattle.r10_volume.proofs.Turning.{on_both}
 use Rattle.r10_machine.specs.Config.{Config}
 use Rattle.r10_machine.specs.Machine.{File}
 use Rattle.r10_machine.specs.Room.{next_block}
@@ -31,10 +32,6 @@ use Rattle.r10_openfile.specs.Begun.{IsBegun, MayList}
 use Rattle.r10_openfile.proofs.BehindAll.{behind_holds, behind_moments}
 use Rattle.r10_openfile.proofs.BackToBack.{same_from}
 use Rattle.r10_openfile.proofs.ListedTurning.{begun_held, begun_moments, begun_reads, begun_settled, sure_says}
-
-pub on_both : {T E : Type 0} (result : Result T E) (P Q R : Type 0) → (P → Q → R) → OnOk result P → OnOk result Q → OnOk result R
-on_both (Ok x) P Q R gives p q = gives p q
-on_both (Err e) P Q R gives p q = p
 
 -- ---- whatever the medium has: its directory stays while blocks behind it are put
 

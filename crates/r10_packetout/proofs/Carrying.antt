@@ -22,7 +22,7 @@ use Rattle.r10_body.specs.Sequence.{numbered}
 use Rattle.r10_builder.proofs.Following.{says_so}
 use Rattle.r10_builder.proofs.Growing.{cost_more}
 use Rattle.r10_builder.specs.Packed.{HandsOn, TakesInSamples}
-use Rattle.r10_builder.proofs.Places.{all_more}
+use Rattle.r10_builder.proofs.Lists.{all_more}
 use Rattle.r10_packetout.specs.Output.{Has, Writing}
 use Rattle.r10_packetout.specs.Carries.{Records, HasNoEvents, Recording, Says, StandApart}
 use Rattle.r10_packetout.proofs.Events.{counted_on, held_closed, held_joined, no_events}

@@ -24,7 +24,7 @@ use Rattle.r10_builder.proofs.Following.{event_follows, grows_on, time_follows}
 use Rattle.r10_builder.proofs.Growing.{between, both, none_held}
 use Rattle.r10_builder.specs.Packed.{Packed}
 use Rattle.r10_builder.specs.Settings.{KeepsSettings, specs_of}
-use Rattle.r10_builder.proofs.Places.{all_more}
+use Rattle.r10_builder.proofs.Lists.{all_more}
 use Rattle.r10_packetout.specs.Output.{Has, Writing}
 use Rattle.r10_packetout.specs.Carries.{EventsAreCounted, Records, Recording, Says, StandApart, next_event_entry, occurrences, time_entry_at}
 use Rattle.r10_packetout.proofs.Carrying.{costs_more, entries_more, last_same}

@@ -2,20 +2,10 @@
 use Rattle.std.specs.Prelude.{ℕ, List, ◌++◌, Option, Some, None, codes}
 use Rattle.std.specs.Fmt.{decimal}
 use Rattle.r10_body.specs.declared.fault.FileFault.{FileFault}
-use Rattle.r10_body.specs.declared.fault.FileFault.TheVariants.{Truncated, Sync, HeaderSum, Length, DataSum, Body, Rule}
+use Rattle.r10_lines.specs.Refusals.{fault_text}
 use Rattle.r10_checker.specs.declared.check.Verdict.{Verdict}
 use Rattle.r10_checker.specs.declared.check.Verdict.TheVariants.{Strict, Lenient, Faulty}
 use Rattle.r10_strict.specs.declared.file.Fault.{Fault}
-
--- a fault's word, and behind it the number of a rule
-abbrev pub fault_text : FileFault → List ℕ
-fault_text Truncated = codes "Truncated"
-fault_text Sync = codes "Sync"
-fault_text HeaderSum = codes "HeaderSum"
-fault_text Length = codes "Length"
-fault_text DataSum = codes "DataSum"
-fault_text Body = codes "Body"
-fault_text (Rule number) = codes "Rule " ++ decimal number
 
 -- an offset and a fault
 abbrev pub place_text : ℕ → FileFault → List ℕ

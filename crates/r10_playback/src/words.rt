@@ -1,10 +1,10 @@
 //! The words of verdicts and faults.
 
 ghost use Rattle.std.specs.Prelude.{◌≡◌, IfOk, string_bytes};
-ghost use Rattle.r10_playback.specs.Words.{fault_text, found_line, verdict_line};
+ghost use Rattle.r10_playback.specs.Words.{found_line, verdict_line};
 
-use r10_body::FileFault;
 use r10_checker::Verdict;
+use r10_lines::fault_text;
 use r10_strict::Fault;
 use std::alloc::{AllocError, Global};
 
@@ -33,20 +33,5 @@ pub(crate) fn found_line(alloc: Global, found: Option<Fault>) -> Result<String, 
             let word = fault_text(alloc, at.fault)?;
             format!(in alloc; "{offset} {word}\n")
         }
-    }
-}
-
-/// The word of a fault, and behind it the number of a rule.
-fn fault_text(alloc: Global, fault: FileFault) -> Result<String, AllocError>
-    ensures { IfOk result (λ text. string_bytes text ≡ fault_text fault) }
-{
-    match fault {
-        FileFault::Truncated => String::from_str(alloc, "Truncated"),
-        FileFault::Sync => String::from_str(alloc, "Sync"),
-        FileFault::HeaderSum => String::from_str(alloc, "HeaderSum"),
-        FileFault::Length => String::from_str(alloc, "Length"),
-        FileFault::DataSum => String::from_str(alloc, "DataSum"),
-        FileFault::Body => String::from_str(alloc, "Body"),
-        FileFault::Rule(number) => format!(in alloc; "Rule {number}"),
     }
 }

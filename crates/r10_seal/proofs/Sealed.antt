@@ -6,7 +6,7 @@ use Rattle.r10_indexbody.specs.declared.entry.NodeEntry.{NodeEntry}
 use Rattle.r10_body.specs.Files.{PacketsSay, on_channel}
 use Rattle.r10_body.specs.Packets.{Packet, file_bytes, file_entries, packet_bytes}
 use Rattle.r10_body.specs.Rules.{is_data, last_time, node_entries}
-use Rattle.r10_packetout.proofs.Closing.{index_says, named_length}
+use Rattle.r10_packetout.proofs.Closing.{index_long, index_says, named_length}
 use Rattle.r10_index.proofs.Behind.{all_data, index_closes}
 use Rattle.r10_index.specs.Written.{FitsIndex, first_nodes, index_of, node_count, root_packet}
 use Rattle.r10_judge.specs.Judged.{TracksStrictFile}
@@ -45,17 +45,6 @@ behind_bytes packets counter end entries last long named =
     ∙ ap (λ (n : ℕ). file_bytes packets ++ file_bytes (index_packets (last_time 0 packets) n entries)) long
     ∙ ap (λ (es : List NodeEntry). file_bytes packets ++ file_bytes (index_packets (last_time 0 packets) (length (file_bytes packets)) es)) named
     ∙ sym (flat_map-append packet_bytes packets (index_of packets))
-
-index_long : (packets : List Packet) → length (file_bytes (index_of packets)) ≡ index_size (length packets)
-index_long packets =
-    let entries = node_entries 0 packets in
-    let counter = last_time 0 packets in
-    let nodes = first_nodes counter entries (node_count entries) in
-    let last = root_packet counter (length (file_bytes packets)) nodes in
-    let bytes : length (file_bytes (nodes ++ last ∷ [])) ≡ length (file_bytes nodes) + length (packet_bytes last) = ap (λ (b : List ℕ). length b) (bytes_more nodes last) ∙ length-append (file_bytes nodes) (packet_bytes last) in
-    let front : length (file_bytes nodes) ≡ nodes_size (length entries) = nodes_whole counter entries (node_count entries) refl in
-    let back : length (packet_bytes last) ≡ root_size (length entries) = root_size_is counter (length (file_bytes packets)) entries (packet_bytes last) refl in
-    bytes ∙ ap (λ n. n + length (packet_bytes last)) front ∙ ap (λ n. nodes_size (length entries) + n) back ∙ ap index_size (named_length 0 packets)
 
 pub sealed_length : (packets : List Packet) → length (sealed_bytes packets) ≡ length (file_bytes packets) + index_size (length packets)
 sealed_length packets =

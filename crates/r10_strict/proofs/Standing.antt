@@ -17,7 +17,7 @@ use Rattle.r10_strict.specs.declared.packet.ForeignPacket.{ForeignPacket}
 use Rattle.r10_strict.proofs.Fronts.{stays, is_foreign}
 use Rattle.r10_strict.proofs.Ways.{packet_long}
 
-all_more : {A : Type 0} (P : A → Type 0) (xs : List A) (x : A) → AllByRecursion P xs → P x → AllByRecursion P (xs ++ x ∷ [])
+pub all_more : {A : Type 0} (P : A → Type 0) (xs : List A) (x : A) → AllByRecursion P xs → P x → AllByRecursion P (xs ++ x ∷ [])
 all_more P [] x all here = (here, tt)
 all_more P (y ∷ ys) x all here = (all.0, all_more P ys x all.1 here)
 

@@ -1,7 +1,7 @@
 mod Alike
 mod OnChannels
 mod Either
-mod OnTimes
+pub mod OnTimes
 mod OnEvents
 mod Fronts
 mod Named

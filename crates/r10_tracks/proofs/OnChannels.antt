@@ -14,6 +14,7 @@ use Rattle.r10_body.specs.declared.entry.Entry.{Entry}
 use Rattle.r10_body.specs.Sequence.{next_sequence, last_count}
 use Rattle.r10_body.proofs.ChannelLists.{packet_off_channel, channel_same, channel_other, sequence_same, sequence_other, rises}
 use Rattle.r10_body.proofs.Indexes.{counted, counted_first, counted_yes, counted_no}
+use Rattle.r10_strict.proofs.Standing.{all_more}
 use Rattle.r10_strict.specs.Facts.{AreFactsOf, Spans, TellsCounts}
 use Rattle.r10_strict.specs.declared.facts.Facts.{Facts}
 use Rattle.r10_strict.specs.declared.facts.Spread.{Spread}
@@ -44,10 +45,6 @@ same_at channel a b p ps false is some left right rest = rest (omega (arith, som
 pub same_type : (channel a b : ℕ) (ps : List Packet) → 0 < count_by (packet_on channel) ps → HaveType channel a ps → HaveType channel b ps → a ≡ b
 same_type channel a b [] some left right = absurd (omega (arith, some))
 same_type channel a b (p ∷ ps) some left right = same_at channel a b p ps (packet_on channel p) refl some left right (λ more. same_type channel a b ps more left.1 right.1)
-
-pub all_more : {A : Type 0} (P : A → Type 0) (xs : List A) (x : A) → AllByRecursion P xs → P x → AllByRecursion P (xs ++ x ∷ [])
-all_more P [] x all is = (is, tt)
-all_more P (y ∷ xs) x all is = (all.0, all_more P xs x all.1 is)
 
 -- ---- counts
 

@@ -19,7 +19,7 @@ use Rattle.r10_body.proofs.Rules.{bytes_more, follows_fit}
 use Rattle.r10_body.proofs.Sentences.{type_fits}
 use Rattle.r10_index.specs.Counted.{IsBookOf, CountsEntriesUpTo}
 use Rattle.r10_index.specs.Written.{names}
-use Rattle.r10_index.proofs.Behind.{part_fits, last_more}
+use Rattle.r10_index.proofs.Behind.{entries_fit, entries_length, part_fits, last_more}
 use Rattle.r10_strict.specs.Facts.{AreFactsOf, kind_of}
 use Rattle.r10_strict.specs.declared.facts.Facts.{Facts}
 use Rattle.r10_strict.specs.declared.facts.PacketKind.TheVariants.{Node, Root}
@@ -27,7 +27,7 @@ use Rattle.r10_tracks.specs.Index.{IsIndexed}
 use Rattle.r10_tracks.specs.Names.{root_at}
 use Rattle.r10_tracks.specs.declared.index.IndexTracks.{IndexTracks}
 use Rattle.r10_tracks.proofs.Either.{no}
-use Rattle.r10_tracks.proofs.OnChannels.{all_more}
+use Rattle.r10_strict.proofs.Standing.{all_more}
 use Rattle.r10_tracks.proofs.OnTimes.{few}
 
 -- ---- the next hundred
@@ -78,18 +78,6 @@ entries_more offset [] p = let same : offset ≡ offset + 0 = omega arith in ap 
 entries_more offset (q ∷ ps) p =
     let sum : offset + length (packet_bytes q) + length (file_bytes ps) ≡ offset + length (packet_bytes q ++ file_bytes ps) = omega (arith, length-append (packet_bytes q) (file_bytes ps)) in
     ap (λ (es : List NodeEntry). node_entry_of offset q ∷ es) (entries_more (offset + length (packet_bytes q)) ps p ∙ ap (λ n. node_entries (offset + length (packet_bytes q)) ps ++ node_entry_of n p ∷ []) sum)
-
-entries_length : (offset : ℕ) (ps : List Packet) → length (node_entries offset ps) ≡ length ps
-entries_length offset [] = refl
-entries_length offset (p ∷ ps) = omega (arith, entries_length (offset + length (packet_bytes p)) ps)
-
-entries_fit : (offset : ℕ) (ps : List Packet) → AllByRecursion FitsPacket ps → offset + length (file_bytes ps) < 2 ^ 64 → AllByRecursion FitsNode (node_entries offset ps)
-entries_fit offset [] fits short = tt
-entries_fit offset (p ∷ ps) fits short =
-    let long : length (file_bytes (p ∷ ps)) ≡ length (packet_bytes p) + length (file_bytes ps) = length-append (packet_bytes p) (file_bytes ps) in (
-      record { counter = fits.0.counter; data_type = type_fits p.content; channel = fits.0.channel; offset = omega (arith, short) },
-      entries_fit (offset + length (packet_bytes p)) ps fits.1 (omega (arith, short, long)),
-    )
 
 less_at : (test : Packet → Bool) (p : Packet) (ps : List Packet) (b : Bool) → test p ≡ b → length (file_bytes (filter test ps)) ≤ length (file_bytes ps) → length (file_bytes (filter test (p ∷ ps))) ≤ length (file_bytes (p ∷ ps))
 less_at test p ps true is rest = rw is (omega (arith, rest, length-append (packet_bytes p) (file_bytes ps), length-append (packet_bytes p) (file_bytes (filter test ps))))

@@ -1,20 +1,12 @@
 -- What a refused call leaves, behind another that only read.
 use Rattle.std.proofs.Common.{◌≡◌, ◌≤◌, ◌<◌, ◌⊎◌, ◌-◌, ◌^◌, ℕ, Option, None, sym, ◌∙◌, subst, arith, inl, inr}
-use Rattle.std.proofs.lemmas.Bool.{cases_order}
 use Rattle.r10_body.specs.declared.refusal.Refusal.{Refusal}
 use Rattle.r10_body.specs.declared.refusal.Refusal.TheVariants as refusals
 use Rattle.r10_control.specs.Refused.{RefusesCall}
 use Rattle.r10_means.specs.Kept.{Kept}
 use Rattle.r10_medium.specs.Disk.{Disk, Rose, Unchanged}
+use Rattle.r10_medium.proofs.Failures.{rose_later}
 use Rattle.r10_medium.proofs.Stops.{unchanged_twice}
-
-rose_later : (a b c : ℕ) → a ≤ b → b ≤ c → Rose b c → Rose a c
-rose_later a b c le more rose = λ few. by (cases_order a b) few
-  where
-    by : ((a ≡ b) ⊎ ((a < b) ⊎ (b < a))) → a < 2 ^ 64 - 1 → a < c
-    by (inl same) few = let up : b < c = rose (omega (arith, same, few)) in omega (arith, same, up)
-    by (inr (inl less)) few = omega (arith, less, more)
-    by (inr (inr above)) few = absurd (omega (arith, le, above))
 
 -- a call that only read, and then one that is refused, where what is lacking then was lacking before
 pub refused_behind : {M : Type 0} (disk : M → Disk) (lacks lacked : Refusal → Type 0) (k later : Kept) (a b c : M) (r : Refusal) → ((x : Refusal) → lacks x → lacked x)

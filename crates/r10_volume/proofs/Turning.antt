@@ -212,7 +212,7 @@ pub on_err : {T E : Type 0} (result : Result T E) (P : Type 0) → P → OnErr r
 on_err (Ok x) P holds = tt
 on_err (Err e) P holds = holds
 
-on_both : {T E : Type 0} (result : Result T E) (P Q R : Type 0) → (P → Q → R) → OnOk result P → OnOk result Q → OnOk result R
+pub on_both : {T E : Type 0} (result : Result T E) (P Q R : Type 0) → (P → Q → R) → OnOk result P → OnOk result Q → OnOk result R
 on_both (Ok x) P Q R gives p q = gives p q
 on_both (Err e) P Q R gives p q = tt
 

@@ -1,7 +1,7 @@
 use Rattle.std.proofs.Common.{◌≡◌, ℕ, ◌≤◌, ◌-◌, ◌^◌, rules, arith, inl, inr, sym, subst, ◌∙◌}
-use Rattle.std.proofs.lemmas.Bool.{cases_lt}
 use Rattle.std.specs.Prelude.{filter}
-use Rattle.r10_medium.specs.Disk.{Image, Rose}
+use Rattle.r10_medium.specs.Disk.{Image}
+use Rattle.r10_medium.proofs.Failures.{rose_later}
 use Rattle.r10_dirblock.specs.Block.{is_closed}
 use Rattle.r10_body.specs.Rules.{is_data}
 use Rattle.r10_judge.specs.Judged.{TracksStrictFile}
@@ -11,12 +11,6 @@ use Rattle.r10_cursor.specs.Shown.{IsShown}
 use Rattle.r10_playback.specs.Played.{HasCounts}
 use Rattle.r10_playback.proofs.Playing.{instalment, kept_shown}
 use Rattle.r10_playback.proofs.replay.replay.Goals as goal
-
-later : (a b c : ℕ) → a ≤ b → b ≤ c → Rose b c → Rose a c
-later a b c up on rose = λ lt. elim (cases_lt b (2 ^ 64 - 1)) [
-  | inl less ↦ omega (arith, up, rose less)
-  | inr more ↦ omega (arith, lt, more, on)
-]
 
 pub returns-in-Err-Medium-clause-counts : goal.returns-in-Err-Medium-clause-counts
 returns-in-Err-Medium-clause-counts g c =
@@ -29,7 +23,7 @@ returns-in-Err-Medium-clause-counts g c =
     let on : mid ≤ now = read.no_fewer in
     record {
       no_fewer = omega (arith, up, on);
-      cause = λ is. later before mid now up on (read.cause c.in-Err-Medium.field-0-is);
+      cause = λ is. rose_later before mid now up on (read.cause c.in-Err-Medium.field-0-is);
     }
 
 pub returns-in-Ok-advance-clause-entries : goal.returns-in-Ok-advance-clause-entries

@@ -25,7 +25,7 @@ use Rattle.r10_medium.proofs.Stops.{unchanged, whole_reads}
 use Rattle.r10_medium.specs.Disk.{Image}
 use Rattle.r10_stops.proofs.Behind.{failed_safely, refused_safely, synced_safely}
 use Rattle.r10_stops.specs.Left.{StaysSafe, whichever}
-use Rattle.r10_control.proofs.Stopped.{makes_none, unmounted_leaves}
+use Rattle.r10_control.proofs.StopPoints.{makes_none, unmounted_leaves}
 use Rattle.r10_control.proofs.recorder.Recorder.mount.Goals as goal
 
 pub returns-in-Err-clause-steps : goal.returns-in-Err-clause-steps
