@@ -35,6 +35,8 @@ some_reserved reserved image chain usable =
 pub one_block : {T E : Type 0} (reserved first : ℕ) (chain made : List ChainBlock) (old new : Disk) (result : Result T E) → 1 ≤ reserved → Turns chain made [] (1 ∷ []) old new result → KeepsFront reserved first old.blocks new.blocks
 one_block reserved first chain made old new result some turns = record {
   size = ⊎_elim (λ was. was.others.size) (λ is. is.others.size) turns.reads;
+  zeroth = λ less. ⊎_elim (λ was. was.others.others 0 (All-nil (λ (n : ℕ). 0 ≢ n)))
+      (λ is. is.others.others 0 (All-cons (λ (n : ℕ). 0 ≢ n) 1 [] (λ e. absurd (omega (arith, e))) (All-nil (λ (n : ℕ). 0 ≢ n)))) turns.reads;
   blocks = λ k behind less. ⊎_elim (λ was. was.others.others k (All-nil (λ (n : ℕ). k ≢ n)))
       (λ is. is.others.others k (All-cons (λ (n : ℕ). k ≢ n) 1 [] (λ e. absurd (omega (arith, e, behind, some))) (All-nil (λ (n : ℕ). k ≢ n)))) turns.reads;
 }
@@ -130,7 +132,7 @@ stop_effect k old new chain made o tick taken at ticked is front =
 -- ---- what is put into the file that is recorded, and not shown yet
 
 pub idle_tick_effect : (k : Kept) (disk : Disk) (chain : List ChainBlock) (tick : Tick) → k.work ≡ idle chain → IsDirectory disk.blocks chain → TickEffect tick k disk (record k { tick = Some tick }) disk
-idle_tick_effect k disk chain tick at is = rw at (record { kept = refl; front = record { size = refl; blocks = λ n behind less. refl }; directory = is })
+idle_tick_effect k disk chain tick at is = rw at (record { kept = refl; front = record { size = refl; zeroth = λ less. refl; blocks = λ n behind less. refl }; directory = is })
 
 pub tick_effect : (k : Kept) (old new : Disk) (chain : List ChainBlock) (o p : Open) (tick : Tick) → k.work ≡ recording chain o → KeepsFront k.config.directory (first_of o.recording.out.blocks) old.blocks new.blocks → IsDirectory new.blocks chain
     → ((text : List ℕ) (entries : List Entry) (n : ℕ) → IsShown old.blocks o text entries n → IsShown new.blocks p text (entries ++ time_entry_at k.config.time tick.count tick.civil ∷ []) n)

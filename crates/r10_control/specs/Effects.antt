@@ -29,7 +29,7 @@ abbrev pub WhereRecording : Work → (List ChainBlock → Open → Type 0) → T
 WhereRecording (recording chain o) holds = holds chain o
 WhereRecording work holds = ⊥
 
--- This is kept then, and nothing else was changed; the blocks behind the reserved ones and in front of this one stay, so that all files in front of it keep their bytes; and this is said of the medium's directory.
+-- This is kept then, and nothing else was changed; block 0, and the blocks behind the reserved ones and in front of this one, stay, so that all files in front of it keep their bytes; and this is said of the medium's directory.
 pub record Effect (first : ℕ) (made : Kept) (directory_is : Disk → Type 0) (old : Image) (later : Kept) (new : Disk) : Type 0 where
   pub kept : later ≡ made
   pub front : KeepsFront made.config.directory first old new.blocks

@@ -62,6 +62,16 @@ written_reserved reserved blocks e chain some mounts made =
         let next = placed reserved 1 (extended e chain) (usable_of reserved blocks (extended e chain) made).placed (length chain) (extended_longer e chain) in
         All-cons (λ (n : ℕ). n ≤ reserved) (next_number chain) [] (omega (arith, next.1)) (All-nil (λ (n : ℕ). n ≤ reserved))
 
+-- and none of them is block 0
+pub written_some : (reserved blocks : ℕ) (chain : List ChainBlock) → 0 < length chain → first_broken (mount_rules reserved blocks chain) ≡ None → All (λ (n : ℕ). 1 ≤ n) ((last_block chain).number ∷ spare chain)
+written_some reserved blocks chain some mounts =
+    let last = placed reserved 1 chain (usable_of reserved blocks chain mounts).placed (last_place chain) (omega (arith, some)) in
+    All-cons (λ (n : ℕ). 1 ≤ n) (last_block chain).number (spare chain) (omega (arith, last.0)) (by (last_is_full chain))
+  where
+    by : (b : Bool) → All (λ (n : ℕ). 1 ≤ n) (if b then next_number chain ∷ [] else [])
+    by false = All-nil (λ (n : ℕ). 1 ≤ n)
+    by true = All-cons (λ (n : ℕ). 1 ≤ n) (next_number chain) [] (omega arith) (All-nil (λ (n : ℕ). 1 ≤ n))
+
 last_is : (o : Option File) (files : List File) (f : File) → last_or o (files ++ f ∷ []) ≡ Some f
 last_is o [] f = refl
 last_is o (g ∷ files) f = last_is (Some g) files f

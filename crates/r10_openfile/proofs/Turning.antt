@@ -26,6 +26,9 @@ use Rattle.r10_openfile.specs.Keeping.{Becomes, StopKeepsFiles, Keeps}
 pub others : (reserved k : ℕ) (numbers : List ℕ) → reserved < k → All (λ (n : ℕ). n ≤ reserved) numbers → All (λ (n : ℕ). k ≢ n) numbers
 others reserved k numbers less all i d lt is = omega (arith, is, less, all i d lt)
 
+pub none_zeroth : (numbers : List ℕ) → All (λ (n : ℕ). 1 ≤ n) numbers → All (λ (n : ℕ). 0 ≢ n) numbers
+none_zeroth numbers some i d lt is = omega (arith, is, some i d lt)
+
 -- a file of this recorder's own need not be found
 pub found_still : (s : Config) (old : Image) (chain : List ChainBlock) (files : List File) (f g : File) (e : DirectoryEntry) → Relists s old chain files f g e → (new : Image) → Turned (updated e chain) (written_in chain) old new
     → OthersAreFound old (files ++ f ∷ []) → g.own ≡ true → OthersAreFound new (files ++ g ∷ [])
