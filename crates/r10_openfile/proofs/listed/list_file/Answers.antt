@@ -9,7 +9,8 @@ use Rattle.r10_dirchain.proofs.Turning.{published}
 use Rattle.r10_dirchain.specs.declared.chain.ChainBlock.{ChainBlock}
 use Rattle.r10_volume.specs.Holding.{HoldsFiles}
 use Rattle.r10_machine.specs.Says.{MediumSays}
-use Rattle.r10_openfile.proofs.Calls.{directory_stays, front_listed, front_put, last_holds, last_moments, listed_carried, listed_holds, listed_moments, listed_reads, listed_settled, on_both, turned_size}
+use Rattle.r10_volume.proofs.Turning.{on_both}
+use Rattle.r10_openfile.proofs.Calls.{directory_stays, front_listed, front_put, last_holds, last_moments, listed_carried, listed_holds, listed_moments, listed_reads, listed_settled, turned_size}
 use Rattle.r10_openfile.proofs.listed.list_file.Goals as goal
 
 pub returns-in-Err-clause-either : goal.returns-in-Err-clause-either
