@@ -98,7 +98,7 @@ after_lane (Some waiting) o' xs a b low high n erased stands climbs number share
 
 -- ---- parts that are each of a channel of its own
 
-abbrev channels_of : List Part → List ℕ
+abbrev pub channels_of : List Part → List ℕ
 channels_of parts = map (λ (p : Part). p.channel) parts
 
 own_part : (front : List Part) (p : Part) (parts : List Part) → count_by (λ c. c == p.channel) (channels_of (front ++ p ∷ parts)) ≤ 1 → samples_on p.channel (front ++ p ∷ parts) ≡ p.samples
@@ -122,7 +122,7 @@ own_part front p parts few =
     ∙ ap (λ (xs : List Sample). p.samples ++ xs) behind
     ∙ append-nil p.samples
 
-own_parts : (front parts : List Part) → ((channel : ℕ) → count_by (λ c. c == channel) (channels_of (front ++ parts)) ≤ 1) → AllByRecursion (λ (p : Part). samples_on p.channel (front ++ parts) ≡ p.samples) parts
+pub own_parts : (front parts : List Part) → ((channel : ℕ) → count_by (λ c. c == channel) (channels_of (front ++ parts)) ≤ 1) → AllByRecursion (λ (p : Part). samples_on p.channel (front ++ parts) ≡ p.samples) parts
 own_parts front [] few = tt
 own_parts front (p ∷ parts) few =
     let seam : (front ++ p ∷ []) ++ parts ≡ front ++ p ∷ parts = append_assoc front (p ∷ []) parts in (
@@ -167,7 +167,7 @@ module _ {L : Type 0} (quiet : L → Option (List Sample)) (reached : L → ℕ)
 module _ {L : Type 0} (took : L → List Sample → L → Type 0) (quiet : L → Option (List Sample)) (reached : L → ℕ) (spec_of : L → ChannelSpec) (keeps : (a b : L) (xs : List Sample) → took a xs b → spec_of b ≡ spec_of a)
     (gives : (a b : L) (xs : List Sample) → took a xs b → Gives (spec_of a) (reached a) xs (reached b))
     (stays : (a b : L) (xs waiting : List Sample) → took a xs b → quiet a ≡ Some waiting → (rest : List Sample) × (quiet b ≡ Some rest) × (waiting ≡ xs ++ rest)) where
-  specs_are : (lanes : List L) (machines : List Lane) → StandFor quiet reached spec_of lanes machines → map (λ (l : Lane). l.spec) machines ≡ map spec_of lanes
+  pub specs_are : (lanes : List L) (machines : List Lane) → StandFor quiet reached spec_of lanes machines → map (λ (l : Lane). l.spec) machines ≡ map spec_of lanes
   specs_are [] [] stands = refl
   specs_are [] (a ∷ machines) stands = absurd stands
   specs_are (x ∷ lanes) [] stands = absurd stands
@@ -224,12 +224,12 @@ module _ {L : Type 0} (took : L → List Sample → L → Type 0) (quiet : L →
     waits_all whole p lanes machines stands tells.1 bare.1 own,
   )
 
-  wait_all : (whole parts : List Part) (lanes : List L) (machines : List Lane) → StandFor quiet reached spec_of lanes machines → AllByRecursion (TellsWaiting quiet spec_of lanes) parts → AllByRecursion (NoneBehind quiet spec_of lanes) parts
+  pub wait_all : (whole parts : List Part) (lanes : List L) (machines : List Lane) → StandFor quiet reached spec_of lanes machines → AllByRecursion (TellsWaiting quiet spec_of lanes) parts → AllByRecursion (NoneBehind quiet spec_of lanes) parts
       → AllByRecursion (λ (p : Part). samples_on p.channel whole ≡ p.samples) parts → AllByRecursion (HasWaiting (lanes_with quiet spec_of whole lanes machines)) parts
   wait_all whole [] lanes machines stands tells bare own = tt
   wait_all whole (p ∷ parts) lanes machines stands tells bare own = (waits_all whole p lanes machines stands tells.0 bare.0 own.0, wait_all whole parts lanes machines stands tells.1 bare.1 own.1)
 
-  stand_after : StaysShared took quiet → (parts : List Part) (lanes lanes' : List L) (machines later : List Lane) → StandFor quiet reached spec_of lanes machines → TookAll took spec_of parts lanes lanes'
+  pub stand_after : StaysShared took quiet → (parts : List Part) (lanes lanes' : List L) (machines later : List Lane) → StandFor quiet reached spec_of lanes machines → TookAll took spec_of parts lanes lanes'
       → AreLeft (taken_of parts) (lanes_with quiet spec_of parts lanes machines) later → StandFor quiet reached spec_of lanes' later
   stand_after shared parts [] [] [] [] stands took_all left = tt
   stand_after shared parts [] [] [] (b ∷ later) stands took_all left = absurd left
@@ -254,11 +254,11 @@ module _ {L : Type 0} (took : L → List Sample → L → Type 0) (quiet : L →
   most_behind spec specs [] differ most = tt
   most_behind spec specs (x ∷ lanes) differ most = (rw (most_of, ne_eqb spec.id (spec_of x).id (λ same. differ.0 (sym same))) most.0, most_behind spec specs lanes differ.1 most.1)
 
-  most_each : (lanes : List L) → ChannelsAreApart (map spec_of lanes) → AllByRecursion (λ (x : L). most_of (map spec_of lanes) (spec_of x).id ≡ (spec_of x).capacity) lanes
+  pub most_each : (lanes : List L) → ChannelsAreApart (map spec_of lanes) → AllByRecursion (λ (x : L). most_of (map spec_of lanes) (spec_of x).id ≡ (spec_of x).capacity) lanes
   most_each [] apart = tt
   most_each (x ∷ lanes) apart = (rw (most_of, eq-eqb (spec_of x).id (spec_of x).id refl) refl, most_behind (spec_of x) (map spec_of lanes) lanes apart.0 (most_each lanes apart.1))
 
-  few_each : (parts : List Part) (specs : List ChannelSpec) (lanes : List L) → ((channel : ℕ) → length (samples_on channel parts) ≤ most_of specs channel) → AllByRecursion (λ (x : L). most_of specs (spec_of x).id ≡ (spec_of x).capacity) lanes
+  pub few_each : (parts : List Part) (specs : List ChannelSpec) (lanes : List L) → ((channel : ℕ) → length (samples_on channel parts) ≤ most_of specs channel) → AllByRecursion (λ (x : L). most_of specs (spec_of x).id ≡ (spec_of x).capacity) lanes
       → AllByRecursion (λ (x : L). length (samples_on (spec_of x).id parts) ≤ (spec_of x).capacity) lanes
   few_each parts specs [] few most = tt
   few_each parts specs (x ∷ lanes) few most = (omega (arith, few (spec_of x).id, most.0), few_each parts specs lanes few most.1)
@@ -287,7 +287,7 @@ module _ {L : Type 0} (took : L → List Sample → L → Type 0) (quiet : L →
       by modes.Recording was = works was
 
   -- with what was taken waiting in its lanes it is meant too
-  meant_with : (k : Kept) (image : Image) (failures : ℕ) (m : Machine) (parts : List Part) (lanes lanes' : List L) → KeptStandsFor k image failures m → StandFor quiet reached spec_of lanes m.lanes → TookAll took spec_of parts lanes lanes'
+  pub meant_with : (k : Kept) (image : Image) (failures : ℕ) (m : Machine) (parts : List Part) (lanes lanes' : List L) → KeptStandsFor k image failures m → StandFor quiet reached spec_of lanes m.lanes → TookAll took spec_of parts lanes lanes'
       → AllByRecursion (λ (x : L). length (samples_on (spec_of x).id parts) ≤ (spec_of x).capacity) lanes → KeptStandsFor k image failures (with_lanes (lanes_with quiet spec_of parts lanes m.lanes) m)
   meant_with k image failures m parts lanes lanes' means stands took_all few =
       let sound = means.sound in

@@ -38,3 +38,4 @@ mod Making
 mod Owning
 mod Meant
 mod Alike
+mod Alone

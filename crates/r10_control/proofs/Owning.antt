@@ -235,12 +235,22 @@ number_reserved reserved image chain usable some =
     let place = placed reserved 1 chain (place_rules_hold reserved (length image) chain usable.rules) found.0 found.1.within in
     subst (λ (i : ℕ). (at_place chain i).number ≤ reserved) (sym (last_listing_is chain found.0 found.1)) (omega (arith, place.0, place.1))
 
+number_some : (reserved : ℕ) (image : Image) (chain : List ChainBlock) → IsUsable reserved image chain → 0 < length (listed_files chain) → 1 ≤ (at_place chain (last_listing chain)).number
+number_some reserved image chain usable some =
+    let found = last_of chain some in
+    let place = placed reserved 1 chain (place_rules_hold reserved (length image) chain usable.rules) found.0 found.1.within in
+    subst (λ (i : ℕ). 1 ≤ (at_place chain i).number) (sym (last_listing_is chain found.0 found.1)) (omega (arith, place.0))
+
 sealed_front : (reserved : ℕ) (old new : Image) (chain made : List ChainBlock) (e : DirectoryEntry) (packets : List Packet) → IsUsable reserved old chain → 0 < length (listed_files chain) → ListsSealed e packets chain made old new → KeepsFront reserved e.first_block old new
 sealed_front reserved old new chain made e packets usable some closed =
     let number = (at_place chain (last_listing chain)).number in
     let low : number ≤ reserved = number_reserved reserved old chain usable some in
+    let high : 1 ≤ number = number_some reserved old chain usable some in
     record {
       size = closed.turned.others.size ∙ closed.puts.size;
+      zeroth = λ less.
+          closed.turned.others.others 0 (All-cons (λ (m : ℕ). 0 ≢ m) number [] (λ same. absurd (omega (arith, same, high))) (All-nil (λ (m : ℕ). 0 ≢ m)))
+          ∙ (below_puts e.first_block _ old closed.between closed.puts).blocks 0 less;
       blocks = λ n behind less.
           closed.turned.others.others n (All-cons (λ (m : ℕ). n ≢ m) number [] (λ same. absurd (omega (arith, same, behind, low))) (All-nil (λ (m : ℕ). n ≢ m)))
           ∙ (below_puts e.first_block _ old closed.between closed.puts).blocks n less;

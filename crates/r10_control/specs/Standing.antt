@@ -13,7 +13,9 @@ use Rattle.r10_control.specs.Leading.{KeptStepsTaking}
 use Rattle.r10_control.specs.Taking.{taken_of}
 use Rattle.r10_machine.specs.declared.event.Event.{Event as EventValue}
 use Rattle.r10_machine.specs.declared.reply.Reply.{Reply as ReplyValue}
-use Rattle.r10_machine.specs.declared.reply.Reply.TheVariants.{Refused}
+use Rattle.r10_machine.specs.declared.event.Event.TheVariants.{Stop}
+use Rattle.r10_machine.specs.declared.mode.Stopped.{Stopped as StoppedValue}
+use Rattle.r10_machine.specs.declared.reply.Reply.TheVariants.{Refused, Stopped}
 
 -- ---- lanes
 
@@ -68,3 +70,20 @@ abbrev pub StepsAlike : {L T : Type 0} → (L → List Sample → L → Type 0) 
 StepsAlike took quiet reached spec_of bare k old before event reply result later new now lanes lanes' =
     bare result → StaysShared took quiet → (m : Machine) → KeptStandsFor k old before m → StandFor quiet reached spec_of lanes m.lanes
     → MatchResult result (λ v. StepsWith took quiet reached spec_of k old before event (reply v) later new now lanes lanes' m) (λ r. StepsWith took quiet reached spec_of k old before event (Refused r) later new now lanes lanes' m)
+
+-- ---- whatever else waits
+
+-- nothing is known of what waits in a lane
+abbrev pub unknown : {L : Type 0} → L → Option (List Sample)
+unknown lane = None
+
+-- as many taken, and none left
+abbrev pub none_left : StoppedValue → StoppedValue
+none_left said = record said { left = 0 }
+
+-- A stop is a step from each machine that is meant and has accepted nothing that the lanes have not reached, once what was taken, and nothing else, waits in its lanes: as many were taken, and none is left.
+abbrev pub StopsAlone : {L : Type 0} → (L → List Sample → L → Type 0) → (L → ℕ) → (L → ChannelSpec) → Kept → Image → ℕ → Result StoppedValue Refusal → Kept → Image → ℕ → List L → List L → Type 0
+StopsAlone took reached spec_of k old before result later new now lanes lanes' =
+    (m : Machine) → KeptStandsFor k old before m → StandFor unknown reached spec_of lanes m.lanes
+    → MatchResult result (λ said. StepsWith took unknown reached spec_of k old before Stop (Stopped (none_left said)) later new now lanes lanes' m)
+    (λ r. StepsWith took unknown reached spec_of k old before Stop (Refused r) later new now lanes lanes' m)

@@ -10,10 +10,10 @@ ghost use Rattle.r10_machine.specs.declared.event.Event.TheVariants as events;
 ghost use Rattle.r10_machine.specs.declared.reply.Reply.TheVariants as replies;
 ghost use Rattle.r10_machine.specs.Machine.{rising as in_rising_order};
 ghost use Rattle.r10_pump.specs.Stopping.{most_of};
-ghost use Rattle.r10_control.specs.Standing.{StepsAlike};
+ghost use Rattle.r10_control.specs.Standing.{StepsAlike, StopsAlone};
 ghost use Rattle.r10_control.specs.Taking.{CountsMoved, FirstLacks, HadRoom, IsStopped, LeftNone, RefusesReadied, StepsByTaking};
 ghost use Rattle.r10_machine.specs.Limits.{channel_ids};
-ghost use Rattle.r10_control.specs.Safely.{StopsSafely};
+ghost use Rattle.r10_control.specs.Safely.{LeavesTaking, StopsSafely};
 ghost use Rattle.r10_port.specs.Ends.{TookReceived, reached_by_outlet};
 ghost use Rattle.r10_held.specs.LockFact.{outlet_quiet, outlet_spec};
 ghost use Rattle.r10_held.specs.Publishing.{Publishes, StaysPublished};
@@ -56,8 +56,11 @@ impl<M: BlockMedium, N: Rings> Held<M, N> {
             self.new.recorder.kept (M.disk self.new.recorder.medium).blocks (M.disk self.new.recorder.medium).failures self.old.recorder.lanes self.new.recorder.lanes }
         ensures stands { StepsAlike TookReceived outlet_quiet reached_by_outlet outlet_spec LeftNone self.old.recorder.kept (M.disk self.old.recorder.medium).blocks (M.disk self.old.recorder.medium).failures events.Stop (λ said. replies.Stopped said) result
             self.new.recorder.kept (M.disk self.new.recorder.medium).blocks (M.disk self.new.recorder.medium).failures self.old.recorder.lanes self.new.recorder.lanes }
+        ensures alone { StopsAlone TookReceived reached_by_outlet outlet_spec self.old.recorder.kept (M.disk self.old.recorder.medium).blocks (M.disk self.old.recorder.medium).failures result
+            self.new.recorder.kept (M.disk self.new.recorder.medium).blocks (M.disk self.new.recorder.medium).failures self.old.recorder.lanes self.new.recorder.lanes }
         ensures bytes { MachinesKeepShown self.old.recorder.kept (M.disk self.old.recorder.medium).blocks (M.disk self.old.recorder.medium).failures (M.disk self.new.recorder.medium).blocks }
         ensures stops { StopsSafely outlet_quiet outlet_spec self.old.recorder.lanes self.old.recorder.kept (M.disk self.old.recorder.medium) result self.new.recorder.kept (M.disk self.new.recorder.medium) }
+        ensures leaves { LeavesTaking TookReceived reached_by_outlet outlet_spec self.old.recorder.kept (M.disk self.old.recorder.medium) (M.disk self.new.recorder.medium) self.old.recorder.lanes self.new.recorder.lanes }
         ensures effect { OnOk result (StopEffect self.old.recorder.kept (M.disk self.old.recorder.medium) self.new.recorder.kept (M.disk self.new.recorder.medium)) }
         ensures config { self.new.recorder.kept.config ≡ self.old.recorder.kept.config }
         ensures publishes { Publishes result self.old self.new }
