@@ -52,7 +52,24 @@ impl Reading {
         }
     }
 
-    /// Takes instalments until the writer has ended, and then once more.
+    /// Takes the next instalment where one is due, and writes it down. Whether the player goes on.
+    fn read_if_due<M: BlockMedium, N: Rings, R: Wait>(
+        &mut self,
+        rt: &R,
+        alloc: Global,
+        cabinet: &Cabinet<M, N>,
+        due: bool,
+    ) -> bool
+        requires { self.old.player.pass.cell ≡ cabinet.now }
+        ensures { ReadsOn self.old self.new }
+    {
+        if due {
+            return self.read_next(rt, alloc, cabinet);
+        }
+        true
+    }
+
+    /// Takes an instalment whenever the writer has shown what the file has, until it has ended, and then once more.
     fn read_on<M: BlockMedium, N: Rings, R: Wait>(
         &mut self,
         rt: &R,
@@ -63,11 +80,14 @@ impl Reading {
         requires { self.old.player.pass.cell ≡ cabinet.now }
         ensures { ReadsOn self.old self.new }
     {
+        let mut seen = u64::MAX;
         for _ in rt.forever() {
             let last = progress.written.load(Ordering::SeqCst);
-            if !self.read_next(rt, alloc, cabinet) || last {
+            let shown = progress.shown.load(Ordering::SeqCst);
+            if !self.read_if_due(rt, alloc, cabinet, last || shown != seen) || last {
                 return;
             }
+            seen = shown;
             thread::yield_now();
         }
     }

@@ -86,6 +86,7 @@ fn run_all<M: BlockMedium + Send, N: Rings + Send + Sync, R: Threads + Wait + Sy
     let first = feeds.len();
     let progress = Progress {
         over: AtomicU64::new(0),
+        shown: AtomicU64::new(0),
         all: (first as u64).saturating_add(1),
         written: AtomicBool::new(false),
     };

@@ -9,11 +9,13 @@ use std::sync::Wait;
 use std::sync::atomic::{AtomicBool, AtomicU64, Ordering};
 use std::thread;
 
-/// How far the workers of a session are: how many feeds and orders have ended, of so many, and whether the writer has.
+/// How far the workers of a session are: how many feeds and orders have ended, of so many, how often the writer has shown what the file has, and
+/// whether it has ended.
 #[derive(Drop)]
 pub(crate) struct Progress {
     pub(crate) over: AtomicU64,
     pub(crate) all: u64,
+    pub(crate) shown: AtomicU64,
     pub(crate) written: AtomicBool,
 }
 
@@ -38,20 +40,9 @@ fn channel_at<M: BlockMedium, N: Rings>(held: &Held<M, N>, place: usize) -> Opti
     }
 }
 
-/// How many channels there are.
-fn channels_of<M: BlockMedium, N: Rings, R: Wait>(rt: &R, cabinet: &Cabinet<M, N>) -> usize {
-    let held = cabinet.hold(rt);
-    held.channels().len()
-}
-
 /// Pumps the channel at a place of the settings.
-fn pump_at<M: BlockMedium, N: Rings, R: Wait>(
-    rt: &R,
-    cabinet: &Cabinet<M, N>,
-    place: usize,
-) -> Turn {
-    let mut held = cabinet.hold(rt);
-    let Some(channel) = channel_at(&held, place) else {
+fn pump_at<M: BlockMedium, N: Rings>(held: &mut Held<M, N>, place: usize) -> Turn {
+    let Some(channel) = channel_at(held, place) else {
         return Turn::Idle;
     };
     match held.pump(channel, 64) {
@@ -67,10 +58,10 @@ fn pump_at<M: BlockMedium, N: Rings, R: Wait>(
 }
 
 /// Goes round the channels once.
-fn go_round<M: BlockMedium, N: Rings, R: Wait>(rt: &R, cabinet: &Cabinet<M, N>) -> Turn {
+fn go_round<M: BlockMedium, N: Rings>(held: &mut Held<M, N>) -> Turn {
     let mut turn = Turn::Idle;
-    for place in 0..channels_of(rt, cabinet) {
-        match pump_at(rt, cabinet, place) {
+    for place in 0..held.channels().len() {
+        match pump_at(held, place) {
             Turn::Moved => turn = Turn::Moved,
             Turn::Idle => {}
             Turn::Over => return Turn::Over,
@@ -80,12 +71,35 @@ fn go_round<M: BlockMedium, N: Rings, R: Wait>(rt: &R, cabinet: &Cabinet<M, N>) 
 }
 
 /// Shows what the file has. Whether the writer goes on.
-fn commit<M: BlockMedium, N: Rings, R: Wait>(rt: &R, cabinet: &Cabinet<M, N>) -> bool {
-    let mut held = cabinet.hold(rt);
-    match held.commit(rt) {
+fn commit<M: BlockMedium, N: Rings, R: Wait>(
+    rt: &R,
+    held: &mut Held<M, N>,
+    progress: &Progress,
+) -> bool {
+    let committed = held.commit(rt);
+    progress.shown.fetch_add(1, Ordering::SeqCst);
+    match committed {
         Ok(()) => true,
         Err(refusal) => !is_end(refusal),
     }
+}
+
+/// Goes round the channels under one lock, and there shows what the file has, where the round moved something, and where it is to be the last.
+fn go_and_show<M: BlockMedium, N: Rings, R: Wait>(
+    rt: &R,
+    cabinet: &Cabinet<M, N>,
+    last: bool,
+    progress: &Progress,
+) -> Turn {
+    let mut held = cabinet.hold(rt);
+    let turn = go_round(&mut held);
+    if turn == Turn::Over {
+        return Turn::Over;
+    }
+    if (turn == Turn::Moved || last) && !commit(rt, &mut held, progress) {
+        return Turn::Over;
+    }
+    turn
 }
 
 /// Goes round the channels, and shows what the file has behind a round that moved something. Ends behind a round that moved nothing and
@@ -97,15 +111,8 @@ fn go_round_and_round<M: BlockMedium, N: Rings, R: Wait>(
 ) {
     for _ in rt.forever() {
         let last = progress.over.load(Ordering::SeqCst) >= progress.all;
-        let turn = go_round(rt, cabinet);
-        if turn == Turn::Over {
-            return;
-        }
-        let moved = turn == Turn::Moved;
-        if (moved || last) && !commit(rt, cabinet) {
-            return;
-        }
-        if last && !moved {
+        let turn = go_and_show(rt, cabinet, last, progress);
+        if turn == Turn::Over || (last && turn == Turn::Idle) {
             return;
         }
         thread::yield_now();
