@@ -88,7 +88,7 @@ impl Reading {
                 return;
             }
             seen = shown;
-            thread::yield_now();
+            progress.wait(rt, shown);
         }
     }
 

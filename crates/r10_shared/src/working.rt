@@ -19,6 +19,19 @@ pub(crate) struct Progress {
     pub(crate) written: AtomicBool,
 }
 
+impl Progress {
+    /// Tells the readers that the writer has shown what the file has, or ended.
+    fn tell(&self) {
+        self.shown.fetch_add(1, Ordering::SeqCst);
+        self.shown.wake_all();
+    }
+
+    /// Waits until that is told again, where it was told so often.
+    pub(crate) fn wait<R: Wait>(&self, rt: &R, shown: u64) {
+        self.shown.park(rt, (shown % 0x1_0000_0000) as u32);
+    }
+}
+
 /// Whether a refusal ends the worker that meets it.
 pub(crate) fn is_end(refusal: Refusal) -> bool {
     matches!(refusal, Refusal::Failed | Refusal::OutOfMemory)
@@ -77,7 +90,7 @@ fn commit<M: BlockMedium, N: Rings, R: Wait>(
     progress: &Progress,
 ) -> bool {
     let committed = held.commit(rt);
-    progress.shown.fetch_add(1, Ordering::SeqCst);
+    progress.tell();
     match committed {
         Ok(()) => true,
         Err(refusal) => !is_end(refusal),
@@ -115,7 +128,9 @@ fn go_round_and_round<M: BlockMedium, N: Rings, R: Wait>(
         if turn == Turn::Over || (last && turn == Turn::Idle) {
             return;
         }
-        thread::yield_now();
+        if turn == Turn::Idle {
+            thread::yield_now();
+        }
     }
 }
 
@@ -131,6 +146,7 @@ pub(crate) fn write_on<M: BlockMedium, N: Rings, R: Wait, G: Gate>(
         go_round_and_round(rt, cabinet, progress);
     }
     progress.written.store(true, Ordering::SeqCst);
+    progress.tell();
 }
 
 /// Asks an order of the recorder. Whether control goes on.
