@@ -1,7 +1,7 @@
-// Whole bodies and whole files.
+// Messages and refusals.
 
-use r10_body::{Entry, FileFault, Glance, Message, Refusal, Sample, Timed, decode, encode};
-use r10_count::{Civil, Count, Items, Parts, Reading};
+use r10_body::{Entry, FileFault, Glance, Message, Refusal, Sample};
+use r10_count::{Civil, Count, Items, Parts};
 use std::alloc::{AllocError, Global};
 use std::test::Fail;
 
@@ -51,27 +51,6 @@ fn one_of_each(alloc: Global) -> Result<[Message; 7], Fail> {
             count: 1,
         },
     ])
-}
-
-/// A word of a slow bus.
-const WORD: Message = Message::Arinc {
-    bus: 1,
-    format: false,
-    parity: false,
-    high: false,
-    word: 0x1234_5678,
-};
-
-#[test]
-fn a_body_is_said_again(rt: HostRuntime) -> Result<(), Fail> {
-    let alloc = rt.alloc();
-    let count = Count::of(1000).ok_or("no count")?;
-    let body = encode(alloc, 0, count, &WORD)?;
-    let said = decode(alloc, 0x38, count, &body)?;
-    let message = WORD;
-    let one = vec![in alloc; Timed { count, message }]?;
-    assert!(rt; said == Reading::Strict(Items::of(one)));
-    Ok(())
 }
 
 /// Whether a message, and an entry and a sample of it, are equal to their copies.

@@ -4,13 +4,7 @@
 #[cfg(test)]
 mod base;
 #[cfg(test)]
-mod bodies;
-#[cfg(test)]
 mod contents;
-#[cfg(test)]
-mod indexes;
-#[cfg(test)]
-mod judging;
 #[cfg(test)]
 mod strict;
 #[cfg(test)]

@@ -9,8 +9,6 @@ mod builders;
 #[cfg(test)]
 mod failures;
 #[cfg(test)]
-mod parts;
-#[cfg(test)]
 mod recording;
 #[cfg(test)]
 mod writing;

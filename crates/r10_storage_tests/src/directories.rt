@@ -1,7 +1,7 @@
 // Directories of files.
 use r10_count::{Civil, Parts};
 use r10_dirblock::{DirBlock, Entries, Entry, encode, pad};
-use r10_dirchain::{format, read_chain};
+use r10_dirchain::read_chain;
 use r10_medium::{BlockMedium, Memory};
 use std::alloc::Global;
 use std::process::Abort;
@@ -110,48 +110,5 @@ fn the_last_block_is_filled(rt: HostRuntime) -> Result<(), Fail> {
         listed[usize::from(n) + 1] = files_listed(rt.alloc(), &mut medium);
     }
     assert_eq!(rt; listed, [252, 253, 254, 255, 256]);
-    Ok(())
-}
-
-// Writes the last file again, and says whether that went well.
-fn update(alloc: Global, medium: &mut Memory, entry: Entry) -> bool {
-    let Ok(mut directory) = read_chain(alloc, medium) else {
-        return false;
-    };
-    let Ok(files) = directory.files(alloc) else {
-        return false;
-    };
-    !files.is_empty() && entry.has_room() && directory.update(medium, entry).is_ok()
-}
-
-fn mark_in_use(alloc: Global, medium: &mut Memory) -> bool {
-    match read_chain(alloc, medium) {
-        Ok(mut directory) => directory.set_shutdown(medium, 0).is_ok(),
-        Err(_) => false,
-    }
-}
-
-fn erase(alloc: Global, medium: &mut Memory) -> bool {
-    match read_chain(alloc, medium) {
-        Ok(mut directory) => directory.erase(medium).is_ok(),
-        Err(_) => false,
-    }
-}
-
-#[test]
-fn each_step_once(rt: HostRuntime) -> Result<(), Fail> {
-    let time = leap_day(&rt);
-    let mut medium = Memory::new(rt.alloc(), BLOCKS)?;
-    assert!(rt; medium.blocks() == BLOCKS);
-    let steps = [
-        format(&mut medium, RESERVED, b"VOL").is_ok(),
-        add(rt.alloc(), &mut medium, file(0, time)),
-        update(rt.alloc(), &mut medium, file(0, time).sized(68)),
-        mark_in_use(rt.alloc(), &mut medium),
-        files_listed(rt.alloc(), &mut medium) == 1,
-        erase(rt.alloc(), &mut medium),
-        files_listed(rt.alloc(), &mut medium) == 0,
-    ];
-    assert_eq!(rt; steps, [true; 7]);
     Ok(())
 }

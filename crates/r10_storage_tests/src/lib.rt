@@ -10,13 +10,9 @@ mod inputs;
 #[cfg(test)]
 mod media;
 #[cfg(test)]
-mod outputs;
-#[cfg(test)]
 mod packets;
 #[cfg(test)]
 mod readers;
-#[cfg(test)]
-mod replays;
 #[cfg(test)]
 mod verdicts;
 #[cfg(test)]

@@ -1,5 +1,5 @@
 // Media of blocks.
-use r10_medium::{BlockMedium, Choice, Crashing, Faulty, Memory, publish};
+use r10_medium::{BlockMedium, Choice, Crashing, Memory, publish};
 use std::alloc::Global;
 use std::process::Abort;
 use std::test::Fail;
@@ -32,12 +32,6 @@ fn write_fails<M: BlockMedium>(
     medium.write(n, block).is_err()
 }
 
-fn read_fails<M: BlockMedium>(rt: &impl Abort, medium: &mut M, n: usize) -> bool {
-    let mut block = [0; 512];
-    assert!(rt; n < medium.blocks());
-    medium.read(n, &mut block).is_err()
-}
-
 #[test]
 fn a_published_block(rt: HostRuntime) -> Result<(), Fail> {
     let mut medium = Memory::new(rt.alloc(), 3)?;
@@ -53,27 +47,6 @@ fn a_published_block(rt: HostRuntime) -> Result<(), Fail> {
 fn a_large_medium(rt: HostRuntime) -> Result<(), Fail> {
     let medium = Memory::new(rt.alloc(), 16_777_216)?;
     assert_eq!(rt; medium.blocks(), 16_777_216);
-    Ok(())
-}
-
-// which calls of a write, a sync, a read and a write fail
-fn failed_calls<M: BlockMedium>(rt: &impl Abort, medium: &mut M) -> [bool; 4] {
-    [
-        write_fails(rt, medium, 0, &A),
-        medium.sync().is_err(),
-        read_fails(rt, medium, 0),
-        write_fails(rt, medium, 1, &B),
-    ]
-}
-
-#[test]
-fn one_call_fails(rt: HostRuntime) -> Result<(), Fail> {
-    let mut medium = Faulty::new(Memory::new(rt.alloc(), 2)?, 3);
-    let failed = failed_calls(&rt, &mut medium);
-    assert_eq!(rt;
-        (failed, medium.failures(), medium.into_medium().failures()),
-        ([false, false, true, false], 1, 0)
-    );
     Ok(())
 }
 
@@ -99,15 +72,5 @@ fn each_choice_of_a_stop(rt: HostRuntime) -> Result<(), Fail> {
     ] {
         assert_eq!(rt; left_after(&rt, rt.alloc(), k, choice)?, left);
     }
-    Ok(())
-}
-
-#[test]
-fn the_image_of_an_image(rt: HostRuntime) -> Result<(), Fail> {
-    let mut bytes = [65; 1024];
-    bytes[1023] = 66;
-    let medium = Memory::of_image(rt.alloc(), &bytes)?;
-    let image = medium.image(rt.alloc())?;
-    assert_eq!(rt; ends(&image), [65, 65, 65, 66, 255, 255, 255]);
     Ok(())
 }

@@ -1,13 +1,13 @@
-// Files of a directory, read by number.
+// Files of a directory, read by number, and a packet that is read alone.
 use crate::packets::FIRST;
 use r10_body::FileFault;
 use r10_count::{Civil, Count, Items, Parts};
-use r10_cursor::{Cursor, ReadRefusal, Reader};
+use r10_cursor::{Cursor, ReadRefusal, Reader, read_packet};
 use r10_dirblock::{DirBlock, Entries, Entry, encode, pad};
 use r10_dirchain::{Directory, read_chain};
 use r10_medium::{BlockMedium, Memory};
 use r10_strict::Fault;
-use std::alloc::Global;
+use std::alloc::{AllocError, Global};
 use std::process::Abort;
 use std::test::Fail;
 
@@ -128,5 +128,24 @@ fn an_instalment_is_taken_once(rt: HostRuntime) -> Result<(), Fail> {
         (first, left, given, second, of),
         (Ok(1), 1, Some(1010), Ok(0), (0, 7))
     );
+    Ok(())
+}
+
+// a medium that has the recording from block 0 on
+fn unlisted(alloc: Global) -> Result<Memory, AllocError> {
+    let mut block = [0; 512];
+    block[..272].copy_from_slice(&FIRST);
+    Memory::of_image(alloc, &block)
+}
+
+#[test]
+fn a_packet_is_read(rt: HostRuntime) -> Result<(), Fail> {
+    let mut medium = unlisted(rt.alloc())?;
+    let mut buffer = Vec::new(rt.alloc());
+    let counts = match read_packet(rt.alloc(), &mut medium, 0, 68, &mut buffer) {
+        Ok(entries) => [0, 1, 2].map(|n| entries.get(n).map(|entry| entry.count.get())),
+        Err(_) => [None; 3],
+    };
+    assert_eq!(rt; counts, [Some(1000), Some(1010), None]);
     Ok(())
 }

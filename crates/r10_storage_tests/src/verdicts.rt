@@ -1,9 +1,11 @@
-// All files of a medium, each with its verdict.
+// All files of a medium, each with its verdict, and the first fault of a file.
 use crate::packets::FIRST;
 use r10_body::{FileFault, Refusal};
-use r10_checker::{Verdict, check_medium};
+use r10_checker::{Verdict, check_medium, find_fault};
 use r10_dirblock::{DirBlock, Entries, Entry, encode, pad};
+use r10_judge::Judge;
 use r10_medium::{BlockMedium, Faulty, Memory};
+use r10_strict::Fault;
 use std::alloc::{AllocError, Global};
 use std::process::Abort;
 use std::test::Fail;
@@ -86,5 +88,25 @@ fn a_failing_medium_has_no_verdicts(rt: HostRuntime) -> Result<(), Fail> {
     let files = [file(0, 272, true), file(0, 212, false), file(0, 1, true)];
     let mut medium = Faulty::new(medium(&rt, rt.alloc(), &files)?, 2);
     assert_eq!(rt; told(rt.alloc(), &mut medium), Err(Refusal::Medium));
+    Ok(())
+}
+
+#[test]
+fn an_unclosed_file_has_no_index(rt: HostRuntime) -> Result<(), Fail> {
+    let found = find_fault(rt.alloc(), &FIRST, false)?;
+    let offset = 124;
+    let fault = FileFault::Rule(8);
+    assert!(rt; found == Some(Fault { offset, fault }));
+    Ok(())
+}
+
+#[test]
+fn a_setup_alone_lacks_a_time(rt: HostRuntime) -> Result<(), Fail> {
+    let alloc = rt.alloc();
+    let mut judge = Judge::new(alloc, false);
+    judge.take(alloc, &FIRST[..32])?;
+    let offset = 32;
+    let fault = FileFault::Rule(4);
+    assert!(rt; judge.end() == Some(Fault { offset, fault }));
     Ok(())
 }
