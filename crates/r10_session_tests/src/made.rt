@@ -1,0 +1,102 @@
+// A recorder of two channels, and the lock round it.
+
+ghost use Rattle.std.specs.Prelude.{◌≡◌, [], ◌∷◌, IfOk};
+ghost use Rattle.r10_held.specs.Account.{IsNew};
+ghost use Rattle.r10_held.specs.LockFact.{outlet_received, outlet_spec};
+ghost use Rattle.r10_held.specs.Naming.{AreNamed};
+ghost use Rattle.r10_medium.specs.MemoryDisk.{memory_disk};
+
+use r10_body::{ChannelSpec, Kind};
+use r10_control::Recorder;
+use r10_held::new_recorders_account_for_their_lanes;
+use r10_machine::Settings;
+use r10_medium::{BlockMedium, Memory};
+use r10_port::{Outlet, Port, lane};
+use r10_shared::{Cabinet, Pass, Rings};
+use r10_volume::format;
+use std::alloc::{AllocError, Global};
+use std::test::Fail;
+
+/// 64 blocks, 2 of them for the directory, and these channels.
+fn settings(alloc: Global, one: ChannelSpec, other: ChannelSpec) -> Result<Settings, Fail>
+    ensures { IfOk result (λ s. s.channels ≡ one ∷ other ∷ []) }
+{
+    let channels = Vec::from_slice(alloc, &[one, other])?;
+    let volume = Vec::from_slice(alloc, b"VOL")?;
+    let settings = Settings::of(64, 2, volume, 100, 1, 2, channels).ok();
+    Ok(settings.ok_or("settings that are not good")?)
+}
+
+/// A medium of these settings without files.
+fn formatted(alloc: Global, settings: &Settings) -> Result<Memory, Fail> {
+    let mut medium = Memory::new(alloc, settings.blocks())?;
+    format(&mut medium, settings)?;
+    Ok(medium)
+}
+
+/// Two lanes.
+fn both(alloc: Global, one: Outlet, other: Outlet) -> Result<Vec<Outlet>, AllocError>
+    ensures { IfOk result (λ lanes. lanes.items ≡ one ∷ other ∷ []) }
+{
+    let mut lanes = Vec::with_capacity(alloc, 2)?;
+    lanes.push_reserved(one);
+    lanes.push_reserved(other);
+    Ok(lanes)
+}
+
+/// A recorder of the UART channels 5 and 6, of which nothing was asked, and the sending ends of its lanes.
+#[derive(Drop)]
+pub struct Made {
+    pub recorder: Recorder<Memory, Outlet>,
+    pub five: Port,
+    pub six: Port,
+}
+
+/// A recorder over a medium without files, with lanes of this capacity.
+pub fn make(alloc: Global, capacity: usize) -> Result<Made, Fail>
+    ensures new { IfOk result (λ made. IsNew memory_disk outlet_spec outlet_received made.recorder) }
+    ensures named { IfOk result (λ made. AreNamed (record { channel = 5; ring = made.five.ring } ∷ record { channel = 6; ring = made.six.ring } ∷ []) made.recorder.lanes) }
+{
+    let one = ChannelSpec {
+        id: 5,
+        kind: Kind::Uart,
+        capacity,
+        check: 0,
+        bytes: 524_288,
+        number: 65_535,
+        bits: 0,
+    };
+    let other = ChannelSpec { id: 6, ..one };
+    let settings = settings(alloc, one, other)?;
+    let medium = formatted(alloc, &settings)?;
+    if medium.blocks() != settings.blocks() {
+        return Err(Fail::new("a medium of other settings"));
+    }
+    let (five, first) = lane(alloc, one)?;
+    let (six, second) = lane(alloc, other)?;
+    let lanes = both(alloc, first, second)?;
+    match Recorder::new(alloc, settings, medium, lanes) {
+        Ok(recorder) => Ok(Made {
+            recorder,
+            five,
+            six,
+        }),
+        Err(_) => Err(Fail::new("no memory")),
+    }
+}
+
+/// The lock round it, and the first pass.
+pub fn cabinet_of<N: Rings>(
+    alloc: Global,
+    recorder: Recorder<Memory, Outlet>,
+) -> Result<(Cabinet<Memory, N>, Pass), Fail>
+    requires new { IsNew memory_disk outlet_spec outlet_received recorder }
+    requires named { AreNamed N.rings recorder.lanes }
+    ensures { IfOk result (λ made. made.1.cell ≡ made.0) }
+{
+    new_recorders_account_for_their_lanes::<Memory, N>();
+    match Cabinet::<Memory, N>::new(alloc, recorder) {
+        Ok(made) => Ok(made),
+        Err(_) => Err(Fail::new("no memory")),
+    }
+}

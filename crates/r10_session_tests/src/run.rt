@@ -1,0 +1,233 @@
+// Sessions, and what is told of them.
+
+ghost use Rattle.std.specs.Prelude.{◌≡◌, [], ◌∷◌, All, IfOk, Some};
+ghost use Rattle.r10_held.specs.Account.{IsNew};
+ghost use Rattle.r10_held.specs.LockFact.{outlet_received, outlet_spec};
+ghost use Rattle.r10_held.specs.Naming.{AreNamed, ring_for};
+ghost use Rattle.r10_medium.specs.MemoryDisk.{memory_disk};
+
+use crate::made::{Made, cabinet_of};
+use r10_body::Refusal;
+use r10_count::{Items, Parts};
+use r10_cursor::Cursor;
+use r10_medium::{BlockMedium, Memory};
+use r10_port::Port;
+use r10_shared::{
+    AnySource, Cabinet, Feed, FeedReport, Gate, Open, Order, Player, Rings, SessionReport, audit,
+    end_session, run_session,
+};
+use std::alloc::{AllocError, Global};
+use std::sync::Wait;
+use std::test::Fail;
+use std::thread::Threads;
+
+const LEAP_DAY: Parts = Parts {
+    year: 2024,
+    month: 2,
+    day: 29,
+    hour: 12,
+    minute: 34,
+    second: 56,
+    centi: 78,
+};
+
+/// The largest count.
+const LAST: u64 = 281_474_976_710_655;
+
+/// A mount and a tick.
+fn mount_and_tick(alloc: Global) -> Result<Vec<Order>, AllocError> {
+    let mut orders = Vec::with_capacity(alloc, 2)?;
+    orders.push_reserved(Order::Mount);
+    orders.push_reserved(Order::Tick {
+        count: 1000,
+        parts: LEAP_DAY,
+    });
+    Ok(orders)
+}
+
+/// These, and the start of a file.
+fn begin(alloc: Global) -> Result<Vec<Order>, AllocError> {
+    let mut orders = mount_and_tick(alloc)?;
+    orders.push(Order::Start {
+        name: Items::of(Vec::from_slice(alloc, b"FLT1")?),
+        setup: Items::of(Vec::from_slice(alloc, b"ABCD")?),
+    })?;
+    Ok(orders)
+}
+
+/// A session that only begins a file, and then a cursor on both channels in it.
+fn begun<M: BlockMedium + Send, N: Rings + Send + Sync, R: Threads + Wait + Sync>(
+    rt: &R,
+    alloc: Global,
+    cabinet: &Cabinet<M, N>,
+) -> Result<Cursor, Fail> {
+    let orders = begin(alloc)?;
+    let session = run_session(
+        rt,
+        alloc,
+        cabinet,
+        &Open,
+        Vec::new(alloc),
+        orders,
+        Vec::new(alloc),
+    );
+    if session.is_err() {
+        return Err(Fail::new("no memory"));
+    }
+    let channels = Items::of(Vec::from_slice(alloc, &[5, 6])?);
+    let cursor = cabinet.hold(rt).cursor(0, channels, 0, LAST);
+    Ok(cursor?)
+}
+
+/// A player alone.
+fn alone(alloc: Global, player: Player) -> Result<Vec<Player>, AllocError>
+    ensures { IfOk result (λ players. players.items ≡ player ∷ []) }
+{
+    let mut players = Vec::with_capacity(alloc, 1)?;
+    players.push_reserved(player);
+    Ok(players)
+}
+
+/// Feeds of the channels 5 and 6.
+fn two_feeds<N: Rings>(
+    alloc: Global,
+    five: Port,
+    six: Port,
+    first: AnySource,
+    second: AnySource,
+) -> Result<Vec<Feed<N>>, AllocError>
+    requires five { ring_for 5 N.rings ≡ Some five.ring }
+    requires six { ring_for 6 N.rings ≡ Some six.ring }
+{
+    let mut feeds = Vec::with_capacity(alloc, 2)?;
+    feeds.push_reserved(Feed::new(5, first, five));
+    feeds.push_reserved(Feed::new(6, second, six));
+    Ok(feeds)
+}
+
+/// A feed of the channel 5.
+fn one_feed<N: Rings>(
+    alloc: Global,
+    five: Port,
+    source: AnySource,
+) -> Result<Vec<Feed<N>>, AllocError>
+    requires { ring_for 5 N.rings ≡ Some five.ring }
+{
+    let mut feeds = Vec::with_capacity(alloc, 1)?;
+    feeds.push_reserved(Feed::new(5, source, five));
+    Ok(feeds)
+}
+
+/// Runs a session and ends it.
+fn run_and_end<
+    M: BlockMedium + Drop + Send,
+    N: Rings + Send + Sync,
+    R: Threads + Wait + Sync,
+    G: Gate + Sync,
+>(
+    rt: &R,
+    alloc: Global,
+    gate: &G,
+    cabinet: Cabinet<M, N>,
+    feeds: Vec<Feed<N>>,
+    orders: Vec<Order>,
+    players: Vec<Player>,
+) -> Result<SessionReport<M>, Fail>
+    requires { All (λ player. player.pass.cell ≡ cabinet) players.items }
+{
+    let Ok(session) = run_session(rt, alloc, &cabinet, gate, feeds, orders, players) else {
+        return Err(Fail::new("no memory"));
+    };
+    match end_session(alloc, cabinet, session) {
+        Ok(report) => Ok(report),
+        Err(_) => Err(Fail::new("no memory, or the recorder failed")),
+    }
+}
+
+/// Two feeds and a reader of both, while a file is recorded.
+pub fn run_two<N: Rings + Send + Sync, R: Threads + Wait + Sync, G: Gate + Sync>(
+    rt: &R,
+    alloc: Global,
+    gate: &G,
+    made: Made,
+    first: AnySource,
+    second: AnySource,
+) -> Result<SessionReport<Memory>, Fail>
+    requires new { IsNew memory_disk outlet_spec outlet_received made.recorder }
+    requires named { AreNamed N.rings made.recorder.lanes }
+    requires five { ring_for 5 N.rings ≡ Some made.five.ring }
+    requires six { ring_for 6 N.rings ≡ Some made.six.ring }
+{
+    let Made {
+        recorder,
+        five,
+        six,
+    } = made;
+    let (cabinet, pass) = cabinet_of::<N>(alloc, recorder)?;
+    let cursor = begun(rt, alloc, &cabinet)?;
+    let feeds = two_feeds(alloc, five, six, first, second)?;
+    let players = alone(alloc, Player::new(cursor, pass))?;
+    run_and_end(rt, alloc, gate, cabinet, feeds, Vec::new(alloc), players)
+}
+
+/// A feed of the channel 5, while no file is recorded.
+pub fn run_one<N: Rings + Send + Sync, R: Threads + Wait + Sync>(
+    rt: &R,
+    alloc: Global,
+    made: Made,
+    source: AnySource,
+) -> Result<SessionReport<Memory>, Fail>
+    requires new { IsNew memory_disk outlet_spec outlet_received made.recorder }
+    requires named { AreNamed N.rings made.recorder.lanes }
+    requires five { ring_for 5 N.rings ≡ Some made.five.ring }
+{
+    let Made { recorder, five, .. } = made;
+    let (cabinet, _pass) = cabinet_of::<N>(alloc, recorder)?;
+    let feeds = one_feed(alloc, five, source)?;
+    let orders = mount_and_tick(alloc)?;
+    run_and_end(rt, alloc, &Open, cabinet, feeds, orders, Vec::new(alloc))
+}
+
+/// What is told of a feed: its channel, how many messages were accepted, refused, erased and filed, and how many are left.
+pub type Told = (u16, u64, u64, u64, u64, usize);
+
+fn told_of(report: &FeedReport) -> Told {
+    (
+        report.channel,
+        report.accepted,
+        report.refused,
+        report.erased,
+        report.filed,
+        report.rest.len(),
+    )
+}
+
+/// What is told of a session: of the first two feeds, how many entries were read, and what the audit says.
+#[derive(Debug, Drop, PartialEq, Eq)]
+pub struct Outcome {
+    pub feeds: [Option<Told>; 2],
+    pub entries: usize,
+    pub audited: Result<bool, Refusal>,
+}
+
+/// How many entries were read.
+fn entries_in<M: BlockMedium>(report: &SessionReport<M>) -> usize {
+    let mut entries = 0usize;
+    for transcript in &report.transcripts {
+        for instalment in &transcript.instalments {
+            entries = entries.wrapping_add(instalment.entries.as_slice().len());
+        }
+    }
+    entries
+}
+
+pub fn end_of<M: BlockMedium + Drop>(alloc: Global, report: SessionReport<M>) -> Outcome {
+    let mut report = report;
+    let audited = audit(alloc, &mut report);
+    let feeds = report.feeds.as_slice();
+    Outcome {
+        feeds: [feeds.get(0).map(told_of), feeds.get(1).map(told_of)],
+        entries: entries_in(&report),
+        audited,
+    }
+}

@@ -1,0 +1,78 @@
+// Sessions of a recorder with the channels 5 and 6.
+
+use crate::made::make;
+use crate::meeting::{Meet, Meeting, Place, Shut};
+use crate::run::{Outcome, end_of, run_one, run_two};
+use crate::sources::Listed;
+use r10_shared::{AnySource, Open};
+use std::marker::Brand;
+use std::test::Fail;
+
+/// What is told of two feeds of ten messages that were all filed, and all read by one reader.
+fn all_filed_and_read() -> Outcome {
+    Outcome {
+        feeds: [Some((5, 10, 0, 0, 10, 0)), Some((6, 10, 0, 0, 10, 0))],
+        entries: 20,
+        audited: Ok(true),
+    }
+}
+
+#[test]
+fn two_feeds_are_filed_and_read(rt: HostRuntime) -> Result<(), Fail> {
+    let alloc = rt.alloc();
+    let first: AnySource = Box::new(alloc, Listed::of(alloc, 10)?)?;
+    let second: AnySource = Box::new(alloc, Listed::of(alloc, 10)?)?;
+    let made = make(alloc, 1000)?;
+    let report = run_two::<Brand, _, _>(&rt, alloc, &Open, made, first, second)?;
+    assert_eq!(rt; end_of(alloc, report), all_filed_and_read());
+    Ok(())
+}
+
+#[test]
+fn what_no_file_took_is_the_rest(rt: HostRuntime) -> Result<(), Fail> {
+    let alloc = rt.alloc();
+    let source: AnySource = Box::new(alloc, Listed::of(alloc, 6)?)?;
+    let made = make(alloc, 4)?;
+    let report = run_one::<Brand, _>(&rt, alloc, made, source)?;
+    assert_eq!(rt;
+        end_of(alloc, report),
+        Outcome {
+            feeds: [Some((5, 4, 2, 0, 0, 4)), None],
+            entries: 0,
+            audited: Ok(true),
+        }
+    );
+    Ok(())
+}
+
+#[test]
+fn all_workers_run_at_the_same_time(rt: HostRuntime) -> Result<(), Fail> {
+    let alloc = rt.alloc();
+    let meet = Meet::of(5);
+    let place = Place::new(alloc)?;
+    let first: AnySource = Box::new(alloc, Meeting::of(alloc, &place, false, 10)?)?;
+    let second: AnySource = Box::new(alloc, Meeting::of(alloc, &place, true, 10)?)?;
+    let made = make(alloc, 1000)?;
+    let report = run_two::<Brand, _, _>(&rt, alloc, &meet, made, first, second)?;
+    assert_eq!(rt; (meet.in_vain(), place.in_vain()), (false, false));
+    assert_eq!(rt; end_of(alloc, report), all_filed_and_read());
+    Ok(())
+}
+
+#[test]
+fn nobody_works_behind_a_shut_gate(rt: HostRuntime) -> Result<(), Fail> {
+    let alloc = rt.alloc();
+    let first: AnySource = Box::new(alloc, Listed::of(alloc, 10)?)?;
+    let second: AnySource = Box::new(alloc, Listed::of(alloc, 10)?)?;
+    let made = make(alloc, 1000)?;
+    let report = run_two::<Brand, _, _>(&rt, alloc, &Shut, made, first, second)?;
+    assert_eq!(rt;
+        end_of(alloc, report),
+        Outcome {
+            feeds: [Some((5, 0, 0, 0, 0, 0)), Some((6, 0, 0, 0, 0, 0))],
+            entries: 0,
+            audited: Ok(true),
+        }
+    );
+    Ok(())
+}

@@ -1,0 +1,42 @@
+// A source that gives what it was made of.
+
+use r10_body::{Message, Timed};
+use r10_count::{Count, Items};
+use r10_source::{ChannelSource, Given};
+use std::alloc::Global;
+use std::collections::VecDeque;
+use std::test::Fail;
+
+/// Messages that wait.
+#[derive(Drop)]
+pub struct Listed {
+    pub left: VecDeque<Timed>,
+}
+
+impl ChannelSource for Listed {
+    ghost rest = { λ source. source.left.items };
+
+    fn next(&mut self) -> Given {
+        match self.left.pop_front() {
+            Some(Timed { count, message }) => Given::Item(count, message),
+            None => Given::End,
+        }
+    }
+}
+
+impl Listed {
+    /// So many messages without bytes, which take no memory, at the counts from 2000 on.
+    pub fn of(alloc: Global, messages: u64) -> Result<Listed, Fail> {
+        let mut left = VecDeque::new(alloc);
+        for place in 0..messages {
+            let count = Count::of(place.wrapping_add(2000)).ok_or("no count")?;
+            let message = Message::Uart {
+                parity: false,
+                sub: 0,
+                bytes: Items::of(Vec::new(alloc)),
+            };
+            left.push_back(Timed { count, message })?;
+        }
+        Ok(Listed { left })
+    }
+}
