@@ -13,12 +13,15 @@ It stands on scripts/read_chapter10.py, knows no rule of this recorder's own, an
 not read are passed over and counted as opaque. What stands before the first fault is answered, and then the status is 1.
 """
 import argparse
+import gc
 import json
 import mmap
 import os
 import re
 import stat
 import sys
+from itertools import product
+from operator import itemgetter
 
 sys.dont_write_bytecode = True  # a filter leaves nothing behind
 
@@ -274,14 +277,20 @@ def of_row(row, clock, number, file):
 # ---- entries
 
 def chosen(asked, data):
-    """The entries that a call asks for, each with its civil time, and the fault that ends them, if there is one."""
+    """The entries that a call asks for, some at a time, with the civil time of each, and the fault that ends them, if there is one."""
     _, begin, end = one_part(data, asked.file)
     survey = Survey(data, begin, end)
     if survey.fault and not survey.rows:
         raise survey.fault
-    within = Range(asked.first, asked.last, survey.clock)
-    return survey, ((entry, survey.clock and survey.clock.text(entry[0]))
-                    for entry in replayed(data, begin, survey, asked.channel) if within.is_all or within.has(entry[0]))
+    return survey, timed(asked, data, begin, survey, Range(asked.first, asked.last, survey.clock))
+
+
+def timed(asked, data, begin, survey, within):
+    for some in replayed(data, begin, survey, asked.channel):
+        if not within.is_all:
+            some = [entry for entry in some if within.has(entry[0])]
+        counts = [entry[0] for entry in some]
+        yield some, survey.clock.texts(counts) if survey.clock else [None] * len(counts)
 
 
 COLUMNS = ('channel', 'count', 'time', 'lost', 'type', 'value', 'sub', 'parity', 'format', 'data_error', 'bus', 'high', 'status', 'gap',
@@ -294,37 +303,52 @@ NUMBERS = ('sub', 'bus', 'number', 'occurrence')
 
 
 def csv_forms():
-    """Of each type, what an entry's line looks like behind its type, with a place for each of its values."""
+    """Of each type, what an entry's line looks like behind its type, and the values that go into it, in their order."""
     forms = {}
     for kind, body in BODIES.items():
         if body.keys:
-            places = {'value' if key in VALUES else key: '{%d}' % place for place, key in enumerate(body.keys)}
-            forms[kind] = ',%s,%s' % (body.name, ','.join(places.get(column, '') for column in COLUMNS[5:]))
+            places = {'value' if key in VALUES else key: place for place, key in enumerate(body.keys)}
+            columns = [column for column in COLUMNS[5:] if column in places]
+            forms[kind] = (',%s,%s' % (body.name, ','.join('%s' if column in places else '' for column in COLUMNS[5:])),
+                           itemgetter(*[places[column] for column in columns]))
     return forms
 
 
-def plain(values):
-    """The values of an entry, with an empty text for no bytes."""
-    return ['' if value == '-' else value for value in values] if '-' in values else values
+def written(out, lines, empty, none):
+    """Writes some lines, with the text for no bytes in place of the reader's."""
+    if lines:
+        lines.append('')
+        out.write('\n'.join(lines).replace(empty, none).encode('ascii', 'replace'))
 
 
 def as_csv(asked, data, out):
-    survey, some = chosen(asked, data)
+    survey, parts = chosen(asked, data)
     out.line(','.join(COLUMNS))
     forms = csv_forms()
-    for (count, channel, _, kind, lost, values), when in some:
-        out.line('%d,%d,%s,%d' % (channel, count, when or '', lost) + forms[kind].format(*plain(values)))
+    for some, times in parts:
+        lines = []
+        for (count, channel, _, kind, lost, values), when in zip(some, times):
+            form, ordered = forms[kind]
+            lines.append(f'{channel},{count},{when or ""},{lost}{form % ordered(values)}')
+        written(out, lines, ',-,', ',,')
     if survey.fault:
         raise survey.fault
 
 
 def json_forms():
-    """Of each type, what an entry's line looks like from its type on, and which of its values are truth values."""
+    """Of each type what an entry's line looks like from its type on, by its truth values; where these stand, and the others."""
     forms = {}
     for kind, body in BODIES.items():
         if body.keys:
-            places = ['"%s": %s' % (key, '%s' if key in TRUTHS + NUMBERS else '"%s"') for key in body.keys]
-            forms[kind] = '"type": "%s", %s}' % (body.name, ', '.join(places)), [key in TRUTHS for key in body.keys]
+            truths = [place for place, key in enumerate(body.keys) if key in TRUTHS]
+            others = [place for place, key in enumerate(body.keys) if key not in TRUTHS]
+            made = {}
+            for held in product((0, 1), repeat=len(truths)):
+                said = dict(zip(truths, held))
+                places = ['"%s": %s' % (key, TRUTH[said[place]] if place in said else '%s' if key in NUMBERS else '"%s"')
+                          for place, key in enumerate(body.keys)]
+                made[held[0] if len(held) == 1 else held] = '"type": "%s", %s}' % (body.name, ', '.join(places))
+            forms[kind] = made, itemgetter(*truths) if truths else lambda values: (), itemgetter(*others)
     return forms
 
 
@@ -332,13 +356,15 @@ TRUTH = ('false', 'true')
 
 
 def as_json(asked, data, out):
-    survey, some = chosen(asked, data)
+    survey, parts = chosen(asked, data)
     forms = json_forms()
-    for (count, channel, _, kind, lost, values), when in some:
-        form, truths = forms[kind]
-        values = tuple([TRUTH[value] if is_truth else value for value, is_truth in zip(plain(values), truths)])
-        out.line('{"channel": %d, "count": %d, "time": %s, "lost": %s, ' % (channel, count, '"%s"' % when if when else 'null', TRUTH[lost])
-                 + form % values)
+    for some, times in parts:
+        lines = []
+        for (count, channel, _, kind, lost, values), when in zip(some, times):
+            made, truths, others = forms[kind]
+            when = f'"{when}"' if when else 'null'
+            lines.append(f'{{"channel": {channel}, "count": {count}, "time": {when}, "lost": {TRUTH[lost]}, {made[truths(values)] % others(values)}')
+        written(out, lines, '": "-"', '": ""')
     if survey.fault:
         raise survey.fault
 
@@ -575,6 +601,7 @@ def say(line):
 
 
 def main(words):
+    gc.disable()  # what is made here leads to itself nowhere, and there is much of it
     try:
         status, line = answer(words, given, standard_output)
     except KeyboardInterrupt:

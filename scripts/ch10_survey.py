@@ -65,6 +65,19 @@ class Clock:
             self.second, self.said = second, civil(second * 10 ** 7, self.dated)
         return self.said and '%s.%s' % (self.said, ('%07d' % part)[:places])
 
+    def texts(self, counts):
+        """The text of each of some counts, which is faster than `text` where they are in order."""
+        found, low, said = [], None, None
+        for count in counts:
+            if low is None or not (low <= count < high):
+                second = self.at(count) // 10 ** 7
+                said = civil(second * 10 ** 7, self.dated)
+                low = max(second * 10 ** 7 - self.ahead, self.start)
+                high = min((second + 1) * 10 ** 7 - self.ahead, self.stop)
+                ahead = self.ahead - second * 10 ** 7
+            found.append(said and '%s.%07d' % (said, count + ahead))
+        return found
+
 
 # ---- one pass over a recording
 
@@ -172,7 +185,7 @@ def ends_of(rows):
 # ---- entries in order
 
 def replayed(data, begin, survey, channels):
-    """The entries by count, then channel, then place: (count, channel, place, type, lost, values).
+    """The entries by count, then channel, then place, some at a time: (count, channel, place, type, lost, values).
 
     An entry is held until no later packet has one that comes before it.
     """
@@ -184,16 +197,17 @@ def replayed(data, begin, survey, channels):
     held, limit, place = [], 1 << 15, 0
     for number, packet in enumerate(packets(data, begin, begin + survey.size, judged=False), 1):
         if channels is None or packet.channel in channels:
-            lost, channel, kind = packet.flags >> 4 & 1, packet.channel, packet.kind
-            for count, values in entries(packet):
-                held.append((count, channel, place, kind, lost, values))
-                place += 1
-                lost = 0
+            channel, kind, found = packet.channel, packet.kind, entries(packet)
+            if found and packet.flags & 0x10:
+                held.append((found[0][0], channel, place, kind, 1, found[0][1]))
+                place, found = place + 1, found[1:]
+            held += [(count, channel, here, kind, 0, values) for here, (count, values) in enumerate(found, place)]
+            place += len(found)
         if len(held) >= limit:
             held.sort()
             cut = bisect_left(held, (later[number],))
-            yield from held[:cut]
+            yield held[:cut]
             del held[:cut]
             limit = max(1 << 15, 2 * len(held))
     held.sort()
-    yield from held
+    yield held
