@@ -1,14 +1,14 @@
 #!/usr/bin/env python3
 """Mangles recordings and images, and compares what r10 says of each with what the rules of docs/FORMAT.md say.
 
-    scripts/mangle.py run PROGRAM [--rows ROWS] [--seed SEED] [--count COUNT]     # says what differs, and how many came to what
+    scripts/mangle.py run [PROGRAM] [--rows ROWS] [--seed SEED] [--count COUNT]   # says what differs, and how many came to what
     scripts/mangle.py case PROGRAM NUMBER [--seed SEED]                           # writes the mangled bytes of one
     scripts/mangle.py kept                                                    # judges the kept ones, the rows `mangled-..` of crates/r10_rows
 
 PROGRAM is the program, and ROWS that of crates/r10_rows, by which each recording is also judged under a closed and an unclosed entry, rules
-included. The seed is 1 and the count 10,000 where none is given. Half of the mangled are recordings, which `check` judges, and `play`
+included; without PROGRAM each call is made through ROWS, of fifty mangled ones in one run of it. The seed is 1 and the count 10,000 where none is given. Half of the mangled are recordings, which `check` judges, and `play`
 on a medium with that file alone; half are images, for `files` and `play`. What is right is said by judge_recording.py and judge_image.py,
-which take nothing from the recorder. What is mangled are the recordings and images of check_cases.py and play_cases.py, and what PROGRAM
+which take nothing from the recorder. What is mangled are the recordings and images of check_cases.py and play_cases.py, and what the program
 records of the examples and of the scripts in crates/r10_rows.
 """
 import argparse
@@ -16,6 +16,7 @@ import collections
 import concurrent.futures
 import hashlib
 import pathlib
+import re
 import subprocess
 import sys
 
@@ -339,17 +340,34 @@ def scripts():
             yield b'\n'.join(lines) + b'\n'
 
 
+def recorded(program, script):
+    """The image that the program records of a script, None where it records none."""
+    done = subprocess.run([program, 'sim', '--image'], input=script, capture_output=True)
+    return done.stdout if done.returncode == 0 else None
+
+
+def recorded_by_rows(rows, script):
+    """The same, through the program of the rows, which shows so many bytes of an image in hex digits. None of more than 128 blocks."""
+    blocks = int(re.search(rb'^blocks = (\d+)', script, re.M)[1])
+    if blocks > 128:
+        return None
+    case = '== image sim --image\n0 hex bytes 0 %d\n%s\n' % (blocks * BLOCK, script.hex())
+    done = subprocess.run([rows], input=case.encode(), capture_output=True)
+    lines = done.stdout.decode('ascii', 'replace').split('\n')
+    return bytes.fromhex(lines[2]) if lines[1:2] == ['0'] else None
+
+
 class Bases:
     """Recordings and images without a fault."""
 
-    def __init__(self, program):
+    def __init__(self, program, rows=None):
         self.recordings = [FIRST, FIRST[:124], KINDS, b''.join(lost()), b''.join(ONE), b''.join(TWO), b''.join(CLOSED), b''.join(OPENING),
                            b''.join(LONG + LONG_INDEX), b''.join(MANY + index_of(MANY, 1000, 1))]
         self.images = [alone(FIRST), alone(FIRST[:124], False), alone(KINDS), PAIR, chain_of_five()]
         for script in scripts():
-            done = subprocess.run([program, 'sim', '--image'], input=script, capture_output=True)
-            if done.returncode == 0 and done.stdout not in self.images and len(done.stdout) <= 128 * BLOCK:
-                self.images.append(done.stdout)
+            image = recorded(program, script) if program else recorded_by_rows(rows, script)
+            if image is not None and image not in self.images and len(image) <= 128 * BLOCK:
+                self.images.append(image)
         for image in self.images:
             for entry in listed(image):
                 if entry.data(image) not in self.recordings:
@@ -438,16 +456,17 @@ def word_for(words, lines, status):
 def judge(words, bases, numbers):
     """What differs in the cases of these numbers, and how often which answer is wanted."""
     asked = [it for which in numbers for it in asked_in(bases, words.seed, which)]
-    calls, judged = [it for it in asked if it[1][0] != 'judge'], [it for it in asked if it[1][0] == 'judge' and words.rows]
-    asked = calls + judged
-    seen = [by_itself(words.program, *it[1:]) for it in calls] + (by_rows(words.rows, judged) if judged else [])
+    calls = [it for it in asked if words.program and it[1][0] != 'judge']
+    rows = [it for it in asked if words.rows and (it[1][0] == 'judge' or not words.program)]
+    asked = calls + rows
+    seen = [by_itself(words.program, *it[1:]) for it in calls] + (by_rows(words.rows, rows) if rows else [])
     wrong = ['%s: %s: wanted %r, %s' % (name, ' '.join(words), lines, came) for (name, words, _, lines, _), came in zip(asked, seen) if came]
     return wrong, collections.Counter(word_for(*it[1:2], *it[3:]) for it in asked)
 
 
 def run(words):
     """Compares, and answers how many answers differ."""
-    bases = Bases(words.program)
+    bases = Bases(words.program, words.rows)
     counts, wrong = collections.Counter(), []
     groups = [range(at, min(at + 50, words.count)) for at in range(0, words.count, 50)]
     with concurrent.futures.ThreadPoolExecutor(words.lanes) as pool:
@@ -510,8 +529,8 @@ def main(words):
     words = parser.parse_args(words)
     if words.task == 'kept':
         return int(kept() > 0)
-    if words.program is None or (words.task == 'case' and words.number is None):
-        parser.error('PROGRAM is missing, or the number of a case')
+    if words.program is None and (words.task == 'case' or words.rows is None) or (words.task == 'case' and words.number is None):
+        parser.error('PROGRAM is missing, or ROWS, or the number of a case')
     if words.task == 'run':
         return int(run(words) > 0)
     if words.task == 'case':
