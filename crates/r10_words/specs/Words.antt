@@ -1,5 +1,5 @@
 -- What words ask for.
-use Rattle.std.specs.Prelude.{◌≡◌, ◌⊎◌, ℕ, ◌+◌, ◌<◌, ◌≤◌, ◌==◌, Bool, false, List, [], ◌∷◌, ◌++◌, codes, length, slice_index_or, string_bytes}
+use Rattle.std.specs.Prelude.{◌≡◌, ◌⊎◌, ℕ, ◌+◌, ◌<◌, ◌≤◌, ◌==◌, Bool, true, false, List, [], ◌∷◌, ◌++◌, codes, length, slice_index_or, string_bytes}
 use Rattle.std.specs.List.{starts_with}
 use Rattle.std.specs.Fmt.{decimal}
 use Rattle.r10_words.specs.declared.asked.Asked.{Asked}
@@ -35,6 +35,10 @@ AsksFiles words = AsksOnly (codes "files") words
 abbrev pub AsksCheck : List (List ℕ) → Type 0
 AsksCheck words = AsksOnly (codes "check") words
 
+-- behind the program's own name `run` alone
+abbrev pub AsksRun : List (List ℕ) → Type 0
+AsksRun words = AsksOnly (codes "run") words
+
 abbrev pub word_at : List (List ℕ) → ℕ → List ℕ
 word_at words i = slice_index_or words i []
 
@@ -68,12 +72,24 @@ pub record GivesSelection (words : List (List ℕ)) (play : PlayWords) : Type 0 
   pub from : GivesOr words (codes "--from") play.from 0
   pub to : GivesOr words (codes "--to") play.to 281474976710655
 
--- a formatted medium or entries as the options say, or help or the version
+-- the first word behind the program's own name
+abbrev pub AsksCommand : List ℕ → List (List ℕ) → Type 0
+AsksCommand command words = word_at words 1 ≡ command
+
+-- a word behind the program's own name begins with this one
+abbrev pub HasWord : List (List ℕ) → List ℕ → Type 0
+HasWord words option = (i : ℕ) × (1 ≤ i) × (i < length words) × (begins (word_at words i) option ≡ true)
+
+-- the words ask for help or the version
+abbrev pub AsksText : List (List ℕ) → Type 0
+AsksText words = AsksCommand (codes "help") words ⊎ (HasWord words (codes "-h") ⊎ (HasWord words (codes "--help") ⊎ (HasWord words (codes "-V") ⊎ HasWord words (codes "--version"))))
+
+-- a formatted medium or entries as the options say, each by its own command; or help or the version, where the words ask for that
 abbrev pub AsksOther : List (List ℕ) → Asked → Type 0
 AsksOther words Sim = ⊥
 AsksOther words Image = ⊥
 AsksOther words Files = ⊥
 AsksOther words Check = ⊥
-AsksOther words (Play play) = GivesSelection words play
-AsksOther words (Format format) = GivesAll words format
-AsksOther words (Text text) = Unit {0}
+AsksOther words (Play play) = AsksCommand (codes "play") words × GivesSelection words play
+AsksOther words (Format format) = AsksCommand (codes "format") words × GivesAll words format
+AsksOther words (Text text) = AsksText words

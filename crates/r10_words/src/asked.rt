@@ -2,7 +2,7 @@
 
 ghost use Rattle.std.specs.Prelude.{◌≡◌, ◌↔◌, IsTrue, Ok, IfOk, codes, map, string_bytes};
 ghost use Rattle.std.specs.Fmt.{decimal};
-ghost use Rattle.r10_words.specs.Words.{AsksSim, AsksImage, AsksFiles, AsksCheck, AsksOnly, AsksOther, GivesOption, GivesAll, GivesOr, GivesSelection, IsLeftOut, begins};
+ghost use Rattle.r10_words.specs.Words.{AsksSim, AsksImage, AsksFiles, AsksCheck, AsksRun, AsksOnly, AsksCommand, AsksOther, AsksText, GivesOption, GivesAll, GivesOr, GivesSelection, HasWord, IsLeftOut, begins};
 ghost use Rattle.r10_words.specs.declared.asked.Asked.TheVariants.{Sim, Image, Files, Check};
 
 use crate::usage::{ASK_NOTHING, Called, command_line, help_hint, usage_line};
@@ -92,6 +92,14 @@ pub fn read_words(alloc: Global, words: &[String]) -> Result<Asked, WordsFault>
     read_other(alloc, words)
 }
 
+/// Whether the words ask for a session: `run` alone behind the program's own name. It starts threads, so it is none of those that
+/// `read_words` reads.
+pub fn asks_run(words: &[String]) -> bool
+    ensures { IsTrue result ↔ AsksRun (map string_bytes words.now) }
+{
+    asks_only(words, "run")
+}
+
 fn asks_sim(words: &[String]) -> bool
     ensures { IsTrue result ↔ AsksSim (map string_bytes words.now) }
 {
@@ -140,7 +148,7 @@ fn read_other(alloc: Global, words: &[String]) -> Result<Asked, WordsFault>
         Ok(matches) => read_matches(alloc, words, &matches),
         Err(error) => match error.kind() {
             ErrorKind::OutOfMemory => Err(WordsFault::Memory(AllocError)),
-            ErrorKind::DisplayHelp | ErrorKind::DisplayVersion => {
+            ErrorKind::DisplayHelp | ErrorKind::DisplayVersion if asks_text(words) => {
                 Ok(Asked::Text(error.to_string(alloc)?))
             }
             _ => Err(WordsFault::Wrong(usage_line(alloc, words)?)),
@@ -181,7 +189,7 @@ fn read_format(alloc: Global, words: &[String], found: &ArgMatches<'_>) -> Resul
         directory,
         volume,
     };
-    if gives_all(alloc, words, &format)? {
+    if asks_command(words, "format") && gives_all(alloc, words, &format)? {
         Ok(Asked::Format(format))
     } else {
         Err(wrong(alloc, NUMBERS, Called::Format)?)
@@ -199,7 +207,7 @@ fn read_play(alloc: Global, words: &[String], found: &ArgMatches<'_>) -> Result<
         from: found.get_one::<u64>("from").unwrap_or(0),
         to: found.get_one::<u64>("to").unwrap_or(LAST_COUNT),
     };
-    if gives_selection(alloc, words, &play)? {
+    if asks_command(words, "play") && gives_selection(alloc, words, &play)? {
         Ok(Asked::Play(play))
     } else {
         Err(wrong(alloc, NUMBERS, Called::Play)?)
@@ -214,6 +222,38 @@ fn wrong(alloc: Global, line: &str, called: Called) -> Result<WordsFault, AllocE
     let mut line = String::from_str(alloc, line)?;
     line.push_str(help_hint(called))?;
     Ok(WordsFault::Wrong(line))
+}
+
+/// Whether this command is the first word behind the program's own name.
+fn asks_command(words: &[String], command: &str) -> bool
+    ensures { IsTrue result → AsksCommand command.now (map string_bytes words.now) }
+{
+    words.len() > 1 && is_text(&words[1], command)
+}
+
+/// Whether the words ask for help or the version.
+fn asks_text(words: &[String]) -> bool
+    ensures { IsTrue result → AsksText (map string_bytes words.now) }
+{
+    if asks_command(words, "help") {
+        return true;
+    }
+    if has_word(words, "-h") || has_word(words, "--help") {
+        return true;
+    }
+    has_word(words, "-V") || has_word(words, "--version")
+}
+
+/// Whether a word behind the program's own name begins with the option.
+fn has_word(words: &[String], option: &str) -> bool
+    ensures { IsTrue result → HasWord (map string_bytes words.now) option.now }
+{
+    for i in 1..words.len() {
+        if begins_with(&words[i], option) {
+            return true;
+        }
+    }
+    false
 }
 
 /// Whether the words give these values.

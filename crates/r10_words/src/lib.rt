@@ -4,4 +4,4 @@
 mod asked;
 mod usage;
 
-pub use asked::{Asked, FormatWords, PlayWords, WordsFault, read_words};
+pub use asked::{Asked, FormatWords, PlayWords, WordsFault, asks_run, read_words};

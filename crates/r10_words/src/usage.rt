@@ -17,6 +17,23 @@ in place of the lines, its blocks of 512 bytes one after the other. An example, 
 
   r10 sim --image < examples/first.toml | r10 files";
 
+const ABOUT_RUN: &str =
+    "Runs a session script on a recorder between threads and prints what came of it";
+
+const MORE_RUN: &str =
+    "A session script is read from standard input: a script, whose steps are done first, in turn. Behind them its
+[[feed]], [[order]] and [[reader]] tables go at the same time, each feed and each reader in a thread of its
+own. Printed are a line for each step, a line for each feed and each reader, and whether what the readers
+read is what the files have, all of the channels and counts that they want, in order:
+
+  feed CHANNEL accepted A refused R erased E filed F rest K
+  reader NUMBER entries K
+  audit yes
+
+With audit no the status is 1. A reader whose cursor is refused has the refusal for its line. An example:
+
+  r10 run < examples/session.toml";
+
 const ABOUT_FORMAT: &str = "Writes the image of a formatted medium";
 
 const MORE_FORMAT: &str =
@@ -102,8 +119,9 @@ files, status, cursor, advance, next, close, find, count_at.
 docs/FORMAT.md has the keys of scripts, the form of the lines, the format of the
 files and the refusals by number; examples/ has a script for each kind of channel.
 
-Exit status: 0; 1 where an image is refused, a file of it is not strict or a recording is
-faulty; 2 for a wrong command line or script; 3 where memory, reading or writing fails.";
+Exit status: 0; 1 where an image is refused, a file of it is not strict, a recording is
+faulty, or an audit says no; 2 for a wrong command line or script; 3 where memory, reading or
+writing fails.";
 
 /// What is said of words that are not refused and ask for nothing.
 pub(crate) const ASK_NOTHING: &str = "these words ask for nothing";
@@ -120,6 +138,9 @@ pub(crate) fn command_line<'a>(alloc: Global) -> Result<Command<'a>, AllocError>
             "image",
             "Write the medium's image in place of the lines",
         ))?;
+    let run = Command::new(alloc, "run")
+        .about(ABOUT_RUN)
+        .after_help(MORE_RUN);
     let format = Command::new(alloc, "format")
         .about(ABOUT_FORMAT)
         .after_help(MORE_FORMAT)
@@ -143,6 +164,7 @@ pub(crate) fn command_line<'a>(alloc: Global) -> Result<Command<'a>, AllocError>
         .about(ABOUT)
         .after_help(MORE)
         .subcommand(sim)?
+        .subcommand(run)?
         .subcommand(format)?
         .subcommand(files)?
         .subcommand(play)?
@@ -205,6 +227,7 @@ pub(crate) enum Called {
     /// None: that word is missing, or no command's name.
     Program,
     Sim,
+    Run,
     Format,
     Files,
     Play,
@@ -222,6 +245,8 @@ fn command_of(word: &String) -> Called {
     let word = word.as_str();
     if word == "sim" {
         Called::Sim
+    } else if word == "run" {
+        Called::Run
     } else if word == "format" {
         Called::Format
     } else if word == "files" {
@@ -239,6 +264,7 @@ fn command_of(word: &String) -> Called {
 fn stream_hint(called: Called) -> &'static str {
     match called {
         Called::Program | Called::Sim => "; a script comes from standard input: r10 < SCRIPT",
+        Called::Run => "; a session script comes from standard input: r10 run < SCRIPT",
         Called::Format => "; the image goes to standard output: r10 format .. > IMAGE",
         Called::Files => "; an image comes from standard input: r10 files < IMAGE",
         Called::Play => "; an image comes from standard input: r10 play < IMAGE",
@@ -251,6 +277,7 @@ pub(crate) fn help_hint(called: Called) -> &'static str {
     match called {
         Called::Program => "; see r10 --help",
         Called::Sim => "; see r10 sim --help",
+        Called::Run => "; see r10 run --help",
         Called::Format => "; see r10 format --help",
         Called::Files => "; see r10 files --help",
         Called::Play => "; see r10 play --help",
