@@ -1,6 +1,7 @@
--- What is done where the words ask for a formatted image.
-use Rattle.std.proofs.Common.{◌≡◌, ℕ, List, Option, Result, Ok, IfOk, inl, inr, refl, subst}
-use Rattle.r10_words.specs.Words.{AsksSim, AsksImage, AsksFiles, AsksCheck, AsksOther, GivesAll}
+-- What is done where the words ask for a formatted image, or for a text.
+use Rattle.std.proofs.Common.{◌≡◌, ℕ, List, Option, codes, Result, Ok, IfOk, String, Global, inl, inr, refl, subst}
+use Rattle.std.specs.Io.KnownBytes.{Appends}
+use Rattle.r10_words.specs.Words.{AsksSim, AsksImage, AsksFiles, AsksCheck, AsksCommand, AsksText, AsksOther, GivesAll}
 use Rattle.r10_words.specs.declared.asked.Asked.{Asked}
 use Rattle.r10_words.specs.declared.asked.Asked.TheVariants as asked
 use Rattle.r10_words.specs.declared.asked.FormatWords.{FormatWords}
@@ -31,6 +32,33 @@ formats words input old new r f is sim image files check other written = record 
   files = λ asks. absurd (not_files r f (files asks) is);
   check = λ asks. absurd (not_check r f (check asks) is);
   other = λ no_sim no_image no_files no_check.
-      let gives : GivesAll words f = subst (λ (s : Result Asked WordsFault). IfOk s (AsksOther words)) is (other no_sim no_image no_files no_check) in
+      let gives : AsksCommand (codes "format") words × GivesAll words f = subst (λ (s : Result Asked WordsFault). IfOk s (AsksOther words)) is (other no_sim no_image no_files no_check) in
       inr (refl, inl (f, gives, written));
+}
+
+not_sim_text : (r : Result Asked WordsFault) (text : String Global) → r ≡ Ok asked.Sim → r ≡ Ok (asked.Text text) → ⊥
+not_sim_text r text a b = cc
+
+not_image_text : (r : Result Asked WordsFault) (text : String Global) → r ≡ Ok asked.Image → r ≡ Ok (asked.Text text) → ⊥
+not_image_text r text a b = cc
+
+not_files_text : (r : Result Asked WordsFault) (text : String Global) → r ≡ Ok asked.Files → r ≡ Ok (asked.Text text) → ⊥
+not_files_text r text a b = cc
+
+not_check_text : (r : Result Asked WordsFault) (text : String Global) → r ≡ Ok asked.Check → r ≡ Ok (asked.Text text) → ⊥
+not_check_text r text a b = cc
+
+-- a text is written, where the words ask for one
+pub texts : (words : List (List ℕ)) (input old new : Option (List ℕ)) (r : Result Asked WordsFault) (text : String Global) (said : List ℕ) → r ≡ Ok (asked.Text text)
+    → (AsksSim words → r ≡ Ok asked.Sim) → (AsksImage words → r ≡ Ok asked.Image) → (AsksFiles words → r ≡ Ok asked.Files) → (AsksCheck words → r ≡ Ok asked.Check)
+    → ((AsksSim words → ⊥) → (AsksImage words → ⊥) → (AsksFiles words → ⊥) → (AsksCheck words → ⊥) → IfOk r (AsksOther words))
+    → Appends old new said → DoesCommand words input old new Done
+texts words input old new r text said is sim image files check other written = record {
+  sim = λ asks. absurd (not_sim_text r text (sim asks) is);
+  image = λ asks. absurd (not_image_text r text (image asks) is);
+  files = λ asks. absurd (not_files_text r text (files asks) is);
+  check = λ asks. absurd (not_check_text r text (check asks) is);
+  other = λ no_sim no_image no_files no_check.
+      let asks : AsksText words = subst (λ (s : Result Asked WordsFault). IfOk s (AsksOther words)) is (other no_sim no_image no_files no_check) in
+      inr (refl, inr (asks, (said, written)));
 }

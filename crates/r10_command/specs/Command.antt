@@ -1,7 +1,7 @@
 -- What a command does that did not fail.
-use Rattle.std.specs.Prelude.{◌≡◌, ◌⊎◌, ℕ, List, Option, IfSome}
+use Rattle.std.specs.Prelude.{◌≡◌, ◌⊎◌, ℕ, List, Option, IfSome, codes}
 use Rattle.std.specs.Io.KnownBytes.{Appends}
-use Rattle.r10_words.specs.Words.{AsksSim, AsksImage, AsksFiles, AsksCheck, GivesAll, GivesSelection}
+use Rattle.r10_words.specs.Words.{AsksSim, AsksImage, AsksFiles, AsksCheck, AsksCommand, AsksText, GivesAll, GivesSelection}
 use Rattle.r10_words.specs.declared.asked.FormatWords.{FormatWords}
 use Rattle.r10_words.specs.declared.asked.PlayWords.{PlayWords}
 use Rattle.r10_images.specs.Image.{image_blocks}
@@ -14,21 +14,21 @@ use Rattle.r10_playback.specs.Checked.{Checks}
 use Rattle.r10_command.specs.Sim.{Simulates, WritesLeft}
 use Rattle.r10_command.specs.Written.{WritesFormatted}
 
--- the options of `format` are among the words, and the image was written
+-- the words are those of `format`, with its options, and the image was written
 abbrev pub Formats : List (List ℕ) → Option (List ℕ) → Option (List ℕ) → Type 0
-Formats words old new = (format : FormatWords) × GivesAll words format × WritesFormatted format old new
+Formats words old new = (format : FormatWords) × (AsksCommand (codes "format") words × GivesAll words format) × WritesFormatted format old new
 
 -- the entries that the words ask for
 abbrev pub selected : PlayWords → Selection
 selected play = record { file = play.file; channel = play.channel; from = play.from; to = play.to }
 
--- the options of `play` are among the words, or are left out, and the entries of the image were written, or why there are none
+-- the words are those of `play`, with its options, or some are left out, and the entries of the image were written, or why there are none
 abbrev pub PlaysBack : List (List ℕ) → Option (List ℕ) → Option (List ℕ) → Option (List ℕ) → Outcome → Type 0
-PlaysBack words input old new outcome = (play : PlayWords) × GivesSelection words play × IfSome input (λ bytes. Plays (selected play) (image_blocks bytes) outcome old new)
+PlaysBack words input old new outcome = (play : PlayWords) × (AsksCommand (codes "play") words × GivesSelection words play) × IfSome input (λ bytes. Plays (selected play) (image_blocks bytes) outcome old new)
 
--- help, or the version, was written
-abbrev pub WritesText : Option (List ℕ) → Option (List ℕ) → Type 0
-WritesText old new = (text : List ℕ) × Appends old new text
+-- the words ask for help or the version, and a text was written
+abbrev pub WritesText : List (List ℕ) → Option (List ℕ) → Option (List ℕ) → Type 0
+WritesText words old new = AsksText words × ((text : List ℕ) × Appends old new text)
 
 -- The words are those of a call, the input is what the reader had left, and a writer that held `old` then held `new`.
 pub record DoesCommand (words : List (List ℕ)) (input old new : Option (List ℕ)) (outcome : Outcome) : Type 0 where
@@ -42,4 +42,4 @@ pub record DoesCommand (words : List (List ℕ)) (input old new : Option (List �
   pub check : AsksCheck words → IfSome input (λ bytes. Checks bytes outcome old new)
   -- all else
   pub other : (AsksSim words → ⊥) → (AsksImage words → ⊥) → (AsksFiles words → ⊥) → (AsksCheck words → ⊥)
-      → PlaysBack words input old new outcome ⊎ ((outcome ≡ Done) × (Formats words old new ⊎ WritesText old new))
+      → PlaysBack words input old new outcome ⊎ ((outcome ≡ Done) × (Formats words old new ⊎ WritesText words old new))

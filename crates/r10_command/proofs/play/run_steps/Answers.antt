@@ -1,9 +1,9 @@
 use Rattle.std.proofs.Common.{rules, arith, ◌≡◌, ◌+◌, ◌≤◌, ◌-◌, [], length, length-drop, take, drop, vec_len, refl}
 use Rattle.std.proofs.lemmas.List.{take_all}
 use Rattle.r10_world.specs.Telling.{WorldRuns}
-use Rattle.r10_command.specs.Lines.{RunsAndWrites, WritesLines}
+use Rattle.r10_command.specs.Lines.{WritesLines}
 use Rattle.r10_command.proofs.Rounds.{no_lines}
-use Rattle.r10_command.proofs.Running.{Done, round_more}
+use Rattle.r10_command.proofs.Running.{round_more}
 use Rattle.r10_command.proofs.play.run_steps.Goals as goal
 
 pub loop-done-init : goal.loop-done-init
