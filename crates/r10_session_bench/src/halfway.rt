@@ -1,0 +1,87 @@
+//! Sources that say when half of their messages were asked for, and a gate that lets the one who gives orders wait for it.
+
+use r10_body::{Message, Timed};
+use r10_count::{Count, Items};
+use r10_shared::Gate;
+use r10_source::{ChannelSource, Given};
+use std::alloc::{AllocError, Global};
+use std::collections::VecDeque;
+use std::sync::Arc;
+use std::sync::atomic::{AtomicBool, Ordering};
+use std::thread;
+use std::time::{Clock, Duration};
+
+/// How many turns are waited at most.
+const TURNS: u32 = 1_000_000;
+
+/// A source of messages that are there already.
+#[derive(Drop)]
+pub struct Listed {
+    left: VecDeque<Timed>,
+    half: usize,
+    signal: Arc<AtomicBool, Global>,
+}
+
+impl ChannelSource for Listed {
+    ghost rest = { λ source. source.left.items };
+
+    fn next(&mut self) -> Given {
+        if self.left.len() == self.half {
+            self.signal.store(true, Ordering::SeqCst);
+        }
+        match self.left.pop_front() {
+            Some(Timed { count, message }) => Given::Item(count, message),
+            None => Given::End,
+        }
+    }
+}
+
+/// The message of this number with these bytes, at the count that is one more.
+fn message(alloc: Global, number: u32, bytes: &[u8]) -> Result<Timed, AllocError> {
+    let Some(count) = Count::of(u64::from(number).wrapping_add(1)) else {
+        unreachable!()
+    };
+    let message = Message::Uart {
+        parity: false,
+        sub: 0,
+        bytes: Items::of(Vec::from_slice(alloc, bytes)?),
+    };
+    Ok(Timed { count, message })
+}
+
+/// A source of so many messages with these bytes.
+pub fn source_of(
+    alloc: Global,
+    messages: u32,
+    bytes: &[u8],
+    signal: Arc<AtomicBool, Global>,
+) -> Result<Listed, AllocError> {
+    let mut left = VecDeque::new(alloc);
+    for number in 0..messages {
+        left.push_back(message(alloc, number, bytes)?)?;
+    }
+    let half = left.len() / 2;
+    Ok(Listed { left, half, signal })
+}
+
+/// A gate at which this worker waits until half of the messages were asked for, as long as its turns last.
+#[derive(Drop)]
+pub struct Halfway<'a, R: Clock> {
+    pub clock: &'a R,
+    pub worker: usize,
+    pub signal: Arc<AtomicBool, Global>,
+}
+
+impl<R: Clock> Gate for Halfway<'_, R> {
+    fn pass(&self, worker: usize) -> bool {
+        if worker == self.worker {
+            for _ in 0..TURNS {
+                if self.signal.load(Ordering::SeqCst) {
+                    return true;
+                }
+                thread::sleep(self.clock, Duration::from_micros(100));
+            }
+        }
+        true
+    }
+}
