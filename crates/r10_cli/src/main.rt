@@ -31,8 +31,7 @@ fn main(rt: HostRuntime) -> ExitCode {
     let Ok(mut writer) = BufWriter::new(alloc, io::writer(&rt)) else {
         return ExitCode::from(r10_command::report(&mut faults, &Fault::Memory(AllocError)));
     };
-    ExitCode::from(r10_running::run(
-        &rt,
+    ExitCode::from(r10_command::run(
         alloc,
         words.as_slice(),
         &mut reader,

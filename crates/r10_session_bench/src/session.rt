@@ -60,20 +60,14 @@ fn orders_of(alloc: Global) -> Result<Vec<Order>, AllocError> {
     Ok(orders)
 }
 
-/// A source of so many messages with these bytes.
-fn source(
-    alloc: Global,
-    messages: u32,
-    bytes: &[u8],
-    signal: &Arc<AtomicBool, Global>,
-) -> Result<AnySource, AllocError> {
-    let listed = source_of(alloc, messages, bytes, Arc::try_clone(signal)?)?;
-    Ok(Box::new(alloc, listed)?)
-}
-
 /// A signal that was not given yet.
 fn signal_of(alloc: Global) -> Result<Arc<AtomicBool, Global>, AllocError> {
     Ok(Arc::new(alloc, AtomicBool::new(false))?)
+}
+
+/// The same signal.
+fn again(signal: &Arc<AtomicBool, Global>) -> Result<Arc<AtomicBool, Global>, AllocError> {
+    Ok(Arc::try_clone(signal)?)
 }
 
 /// Counts in what became of a feed's messages. Whether its account adds up: each of so many that were offered was accepted or refused, and each that was
@@ -227,10 +221,22 @@ pub fn run<R: Threads + Wait + Clock + Sync>(
     bytes: &[u8],
 ) -> Result<Figures, Fault> {
     let signal = signal_of(alloc)?;
-    let first = source(alloc, messages, bytes, &signal)?;
-    let second = source(alloc, messages, bytes, &signal)?;
-    let third = source(alloc, messages, bytes, &signal)?;
-    let fourth = source(alloc, messages, bytes, &signal)?;
+    let listed = source_of(alloc, messages, bytes, again(&signal)?)?;
+    let Ok(first) = Box::new(alloc, listed) else {
+        return Err(Fault::Memory(AllocError));
+    };
+    let listed = source_of(alloc, messages, bytes, again(&signal)?)?;
+    let Ok(second) = Box::new(alloc, listed) else {
+        return Err(Fault::Memory(AllocError));
+    };
+    let listed = source_of(alloc, messages, bytes, again(&signal)?)?;
+    let Ok(third) = Box::new(alloc, listed) else {
+        return Err(Fault::Memory(AllocError));
+    };
+    let listed = source_of(alloc, messages, bytes, again(&signal)?)?;
+    let Ok(fourth) = Box::new(alloc, listed) else {
+        return Err(Fault::Memory(AllocError));
+    };
     let gate = Halfway {
         clock: rt,
         worker: CONTROL,
