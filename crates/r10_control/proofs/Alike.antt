@@ -63,11 +63,11 @@ last_reached last low (x ∷ xs) high less (first, climbs) = last_reached (Some 
 
 -- ---- one lane
 
-same_spec : (o : Option (List Sample)) (xs : List Sample) (a : Lane) → (with_taken o xs a).spec ≡ a.spec
+pub same_spec : (o : Option (List Sample)) (xs : List Sample) (a : Lane) → (with_taken o xs a).spec ≡ a.spec
 same_spec None xs a = refl
 same_spec (Some waiting) xs a = refl
 
-sound_lane : (o : Option (List Sample)) (xs : List Sample) (a : Lane) (spec : ChannelSpec) (low high : ℕ) → a.spec ≡ spec → Gives spec low xs high → length xs ≤ spec.capacity → IsSoundLane a → IsSoundLane (with_taken o xs a)
+pub sound_lane : (o : Option (List Sample)) (xs : List Sample) (a : Lane) (spec : ChannelSpec) (low high : ℕ) → a.spec ≡ spec → Gives spec low xs high → length xs ≤ spec.capacity → IsSoundLane a → IsSoundLane (with_taken o xs a)
 sound_lane None xs a spec low high same gives few sound = record {
   held = omega (arith, few, ap (λ (s : ChannelSpec). s.capacity) same);
   messages = subst (λ (s : ChannelSpec). AllByRecursion (λ (x : Sample). first_broken (message_checks s x.message) ≡ None) xs) (sym same) gives.passes;
@@ -75,7 +75,7 @@ sound_lane None xs a spec low high same gives few sound = record {
 }
 sound_lane (Some waiting) xs a spec low high same gives few sound = sound
 
-climbs_lane : (o : Option (List Sample)) (files : List File) (xs : List Sample) (a : Lane) (spec : ChannelSpec) (low high : ℕ) → IsReachedBy o low a → Gives spec low xs high → LaneClimbs files a → LaneClimbs files (with_taken o xs a)
+pub climbs_lane : (o : Option (List Sample)) (files : List File) (xs : List Sample) (a : Lane) (spec : ChannelSpec) (low high : ℕ) → IsReachedBy o low a → Gives spec low xs high → LaneClimbs files a → LaneClimbs files (with_taken o xs a)
 climbs_lane None files xs a spec low high stands gives climbs =
     climbs_joined 0 (count_or_0 a.last) (count_or_0 (last_behind a.last xs)) (counts_on a.spec.id files) (counts_of xs)
     (climbs_front 0 (counts_on a.spec.id files) (counts_of a.waiting) (count_or_0 a.last) climbs) (climbs_behind a.last low xs high stands gives.climbs)
@@ -173,7 +173,7 @@ module _ {L : Type 0} (took : L → List Sample → L → Type 0) (quiet : L →
   specs_are (x ∷ lanes) [] stands = absurd stands
   specs_are (x ∷ lanes) (a ∷ machines) (same, here, stands) = ap (λ (s : ChannelSpec). s ∷ map (λ (l : Lane). l.spec) machines) same ∙ ap (λ (ss : List ChannelSpec). spec_of x ∷ ss) (specs_are lanes machines stands)
 
-  specs_stay : (parts : List Part) (lanes : List L) (machines : List Lane) → map (λ (l : Lane). l.spec) (lanes_with quiet spec_of parts lanes machines) ≡ map (λ (l : Lane). l.spec) machines
+  pub specs_stay : (parts : List Part) (lanes : List L) (machines : List Lane) → map (λ (l : Lane). l.spec) (lanes_with quiet spec_of parts lanes machines) ≡ map (λ (l : Lane). l.spec) machines
   specs_stay parts [] machines = refl
   specs_stay parts (x ∷ lanes) [] = refl
   specs_stay parts (x ∷ lanes) (a ∷ machines) =
@@ -200,7 +200,7 @@ module _ {L : Type 0} (took : L → List Sample → L → Type 0) (quiet : L →
     climb_all parts files lanes lanes' machines stands took_all climbs.1,
   )
 
-  counted_all : (parts : List Part) (files : List File) (lanes : List L) (specs : List ChannelSpec) (taken erased : List ℕ) (machines : List Lane) → LanesAreCounted files specs taken erased machines → LanesAreCounted files specs taken erased (lanes_with quiet spec_of parts lanes machines)
+  pub counted_all : (parts : List Part) (files : List File) (lanes : List L) (specs : List ChannelSpec) (taken erased : List ℕ) (machines : List Lane) → LanesAreCounted files specs taken erased machines → LanesAreCounted files specs taken erased (lanes_with quiet spec_of parts lanes machines)
   counted_all parts files [] specs taken erased machines are = are
   counted_all parts files (x ∷ lanes) specs taken erased [] are = are
   counted_all parts files (x ∷ lanes) [] [] [] (a ∷ machines) are = absurd are
@@ -265,7 +265,7 @@ module _ {L : Type 0} (took : L → List Sample → L → Type 0) (quiet : L →
 
   -- ---- the machine
 
-  numbers_stay : (k : Kept) (m : Machine) (lanes : List Lane) → (LanesAreCounted m.files k.config.channels k.taken k.erased m.lanes → LanesAreCounted m.files k.config.channels k.taken k.erased lanes) → NumbersAre k m → NumbersAre k (with_lanes lanes m)
+  pub numbers_stay : (k : Kept) (m : Machine) (lanes : List Lane) → (LanesAreCounted m.files k.config.channels k.taken k.erased m.lanes → LanesAreCounted m.files k.config.channels k.taken k.erased lanes) → NumbersAre k m → NumbersAre k (with_lanes lanes m)
   numbers_stay k m lanes counted numbers = by k.work numbers
     where
       by : (w : Work) → NumbersAre (record k { work = w }) m → NumbersAre (record k { work = w }) (with_lanes lanes m)
@@ -274,7 +274,7 @@ module _ {L : Type 0} (took : L → List Sample → L → Type 0) (quiet : L →
       by (recording chain o) (event, generation, are) = (event, generation, counted are)
       by failed are = tt
 
-  work_sound : (s : Config) (m : Machine) (lanes : List Lane) → (AllByRecursion (LaneClimbs m.files) m.lanes → AllByRecursion (LaneClimbs m.files) lanes) → SoundWork m.mode s m → SoundWork m.mode s (with_lanes lanes m)
+  pub work_sound : (s : Config) (m : Machine) (lanes : List Lane) → (AllByRecursion (LaneClimbs m.files) m.lanes → AllByRecursion (LaneClimbs m.files) lanes) → SoundWork m.mode s m → SoundWork m.mode s (with_lanes lanes m)
   work_sound s m lanes climb sound = by m.mode sound
     where
       works : IsSoundWork s m → IsSoundWork s (with_lanes lanes m)

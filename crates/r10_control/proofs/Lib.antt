@@ -39,3 +39,4 @@ mod Owning
 mod Meant
 mod Alike
 mod Alone
+mod Shown

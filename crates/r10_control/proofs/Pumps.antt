@@ -115,7 +115,7 @@ first_left taken channel n (l ∷ lanes) some none apart = by (l.spec.id == chan
         )
     by false is rest = (left_less taken l 0 (none l.spec.id (λ same. no (sym (eq-eqb l.spec.id channel same) ∙ is))), rest)
 
-left_alike : (a b : ℕ → ℕ) (lanes later : List Lane) → ((c : ℕ) → a c ≡ b c) → AreLeft a lanes later → AreLeft b lanes later
+pub left_alike : (a b : ℕ → ℕ) (lanes later : List Lane) → ((c : ℕ) → a c ≡ b c) → AreLeft a lanes later → AreLeft b lanes later
 left_alike a b [] [] same left = tt
 left_alike a b [] (y ∷ later) same left = absurd left
 left_alike a b (x ∷ lanes) [] same left = absurd left
@@ -257,6 +257,13 @@ module _ (law : StepsStaySound) (led : PumpsAreLed) (k : Kept) (old new : Image)
       let said = moves k.config chain its.front its.file split (end its.front its.file split) nodes_are (area_is its.front its.file split) lane.lane lane.id waits in
       leads_readied none_taken (taken_of (one_part channel samples rest ∷ [])) k m (Pump channel most) (replies.Refused (refusal_of_full f)) new now chain o after at readied (none_of channel samples rest none)
       (full_leads f (lacks_first k.config m its.file channel lane.lane most [] rest f after.recording lane.is is_last said) same)
+
+  -- and none was taken from any lane
+  pub pump_shown : (f : Full) → samples ≡ [] → IsAskedFor o after → new ≡ old → MovesAny ends channel most nodes area 0 [] rest (Some f) o old after
+      → KeptStepsTaking none_taken k m (Pump channel most) (replies.Refused (refusal_of_full f)) (record k { work = recording chain after }) new now
+  pump_shown f none readied same moves =
+      let leads = pump_full f none readied same moves in
+      record { machine = leads.machine; led = leads.led; lanes = left_alike (taken_of (one_part channel samples rest ∷ [])) none_taken m.lanes leads.machine.lanes (λ c. sym (none_of channel samples rest none c)) leads.lanes; cursors = leads.cursors; sizes = leads.sizes }
 
   has_room_first : IfSome (slice_get (take most (samples ++ rest)) 0) (λ x. o.recording.cost + entry_cost (entry_on channel x) ≤ area) → entry_has_room k.config m (Pump channel most) ≡ true
   has_room_first fits =

@@ -1,16 +1,19 @@
 -- Machines whose lanes stand for lanes of any kind.
-use Rattle.std.specs.Prelude.{◌≡◌, ℕ, ◌≤◌, List, [], ◌∷◌, Option, None, Some, Result, MatchOption, MatchResult}
+use Rattle.std.specs.Prelude.{◌≡◌, ℕ, ◌≤◌, List, [], ◌∷◌, Option, None, Some, Result, IfErr, MatchOption, MatchResult, slice_get}
+use Rattle.std.specs.List.{AllByRecursion}
 use Rattle.r10_body.specs.declared.entry.Sample.{Sample}
 use Rattle.r10_body.specs.declared.refusal.Refusal.{Refusal}
+use Rattle.r10_body.specs.declared.refusal.Refusal.TheVariants.{IndexFull, MediumFull}
 use Rattle.r10_body.specs.declared.spec.ChannelSpec.{ChannelSpec}
+use Rattle.r10_lane.specs.Lanes.{Gives}
 use Rattle.r10_machine.specs.Machine.{Lane, Machine}
 use Rattle.r10_machine.specs.SoundParts.{count_or_0}
 use Rattle.r10_means.specs.Kept.{Kept}
 use Rattle.r10_means.specs.Means.{KeptStandsFor}
 use Rattle.r10_medium.specs.Disk.{Image}
 use Rattle.r10_pump.specs.Stopping.{Part, TookAll, samples_on}
-use Rattle.r10_control.specs.Leading.{KeptStepsTaking}
-use Rattle.r10_control.specs.Taking.{taken_of}
+use Rattle.r10_control.specs.Leading.{KeptStepsTaking, none_taken}
+use Rattle.r10_control.specs.Taking.{one_part, taken_of}
 use Rattle.r10_machine.specs.declared.event.Event.{Event as EventValue}
 use Rattle.r10_machine.specs.declared.reply.Reply.{Reply as ReplyValue}
 use Rattle.r10_machine.specs.declared.event.Event.TheVariants.{Stop}
@@ -87,3 +90,41 @@ StopsAlone took reached spec_of k old before result later new now lanes lanes' =
     (m : Machine) → KeptStandsFor k old before m → StandFor unknown reached spec_of lanes m.lanes
     → MatchResult result (λ said. StepsWith took unknown reached spec_of k old before Stop (Stopped (none_left said)) later new now lanes lanes' m)
     (λ r. StepsWith took unknown reached spec_of k old before Stop (Refused r) later new now lanes lanes' m)
+
+-- ---- a sample that is shown
+
+-- the machine's lanes, where this sample waits in that of a channel and was accepted last; that of a quiet lane as it is
+abbrev pub lanes_showing : {L : Type 0} → (L → Option (List Sample)) → (L → ChannelSpec) → ℕ → Sample → List L → List Lane → List Lane
+lanes_showing quiet spec_of channel first lanes machines = lanes_with quiet spec_of (one_part channel (first ∷ []) [] ∷ []) lanes machines
+
+-- the channel's lane, where it isn't quiet, may give this sample next: it passes the channel's check, and its count isn't below what the lane has reached. That is what the lane's next `take` says of it.
+abbrev pub MayGive : {L : Type 0} → (L → Option (List Sample)) → (L → ℕ) → (L → ChannelSpec) → ℕ → Sample → List L → Type 0
+MayGive quiet reached spec_of channel first lanes = AllByRecursion (λ lane. (spec_of lane).id ≡ channel → quiet lane ≡ None → Gives (spec_of lane) (reached lane) (first ∷ []) first.count) lanes
+
+-- With the sample waiting first in the channel's lane the machine is meant too, and a call that is refused so is its step. The machine without the sample is meant behind it, and stands for the lanes then.
+pub record StepsShowing {L : Type 0} (quiet : L → Option (List Sample)) (reached : L → ℕ) (spec_of : L → ChannelSpec)
+    (k : Kept) (old : Image) (before : ℕ) (channel : ℕ) (first : Sample) (event : EventValue) (r : Refusal) (later : Kept) (new : Image) (now : ℕ) (lanes lanes' : List L) (m : Machine) : Type 0 where
+  pub means : KeptStandsFor k old before (with_lanes (lanes_showing quiet spec_of channel first lanes m.lanes) m)
+  pub waits : AllByRecursion (λ (a : Lane). a.spec.id ≡ channel → slice_get a.waiting 0 ≡ Some first) (lanes_showing quiet spec_of channel first lanes m.lanes)
+  pub leads : KeptStepsTaking none_taken k (with_lanes (lanes_showing quiet spec_of channel first lanes m.lanes) m) event (Refused r) later new now
+  pub stays : KeptStandsFor later new now m
+  pub stands : StandFor quiet reached spec_of lanes' m.lanes
+
+-- The channel's lane shows a sample, which is the one that it gives next; and where the lane may give that, the call is a step so, from each machine that is meant and stands for the lanes.
+pub record RefusesShown {L : Type 0} (took : L → List Sample → L → Type 0) (shows : L → Sample → Type 0) (quiet : L → Option (List Sample)) (reached : L → ℕ) (spec_of : L → ChannelSpec)
+    (k : Kept) (old : Image) (before : ℕ) (channel : ℕ) (event : EventValue) (r : Refusal) (later : Kept) (new : Image) (now : ℕ) (lanes lanes' : List L) : Type 0 where
+  pub first : Sample
+  pub shown : AllByRecursion (λ lane. (spec_of lane).id ≡ channel → shows lane first) lanes'
+  pub steps : StaysShared took quiet → MayGive quiet reached spec_of channel first lanes → (m : Machine) → KeptStandsFor k old before m → StandFor quiet reached spec_of lanes m.lanes
+      → StepsShowing quiet reached spec_of k old before channel first event r later new now lanes lanes' m
+
+-- this, where the refusal is for want of room
+abbrev pub WhereNoRoom : Refusal → Type 0 → Type 0
+WhereNoRoom IndexFull P = P
+WhereNoRoom MediumFull P = P
+WhereNoRoom r P = Unit {0}
+
+-- a pump that has no room for the first sample of a channel is refused so
+abbrev pub PumpShows : {L : Type 0} → (L → List Sample → L → Type 0) → (L → Sample → Type 0) → (L → Option (List Sample)) → (L → ℕ) → (L → ChannelSpec) → ℕ → EventValue → Kept → Image → ℕ → Result ℕ Refusal → Kept → Image → ℕ → List L → List L → Type 0
+PumpShows took shows quiet reached spec_of channel event k old before result later new now lanes lanes' =
+    IfErr result (λ r. WhereNoRoom r (RefusesShown took shows quiet reached spec_of k old before channel event r later new now lanes lanes'))

@@ -168,8 +168,19 @@ MovedNone disk ends ends' channel most nodes area samples rest old medium new me
 abbrev pub UnlessFull : Result ℕ PumpFault → Type 0 → Type 0
 UnlessFull result P = IfErr result (λ fault. elim fault [ pump_faults.Full full ↦ Unit {0} | _ ↦ P ]) × IfOk result (λ n. P)
 
--- From the lane of a channel these samples were taken, at most so many and no more than it has room for, and the rest waits behind them, which is bare unless the first has no room.
-pub record PumpedLane {M : Type 0} (took : List Sample → Type 0) (left : List Sample → List Sample → Type 0) (bare : List Sample → Type 0) (ends ends' : List Entry → Type 0) (disk : M → Disk) (channel capacity most nodes area : ℕ)
+-- this, where the first has no room
+abbrev pub WhereFull : Result ℕ PumpFault → Type 0 → Type 0
+WhereFull result P = IfErr result (λ fault. elim fault [ pump_faults.Full full ↦ P | _ ↦ Unit {0} ])
+
+-- a lane shows this sample, the first of what waits, and of a lane that isn't quiet all that is told
+pub record ShowsFirst (shows : Sample → Type 0) (single : Sample → List Sample → Type 0) (rest : List Sample) : Type 0 where
+  pub first : Sample
+  pub shown : shows first
+  pub front : slice_get rest 0 ≡ Some first
+  pub alone : single first rest
+
+-- From the lane of a channel these samples were taken, at most so many and no more than it has room for, and the rest waits behind them, which is bare unless the first has no room: that one is shown then.
+pub record PumpedLane {M : Type 0} (took : List Sample → Type 0) (left : List Sample → List Sample → Type 0) (bare : List Sample → Type 0) (showing : List Sample → Type 0) (ends ends' : List Entry → Type 0) (disk : M → Disk) (channel capacity most nodes area : ℕ)
     (old : Open) (medium : M) (new : Open) (medium' : M) (result : Result ℕ PumpFault) : Type 0 where
   pub samples : List Sample
   pub rest : List Sample
@@ -178,4 +189,5 @@ pub record PumpedLane {M : Type 0} (took : List Sample → Type 0) (left : List 
   pub within : length samples ≤ most
   pub few : length samples ≤ capacity
   pub alone : UnlessFull result (bare rest)
+  pub shown : WhereFull result (showing rest)
   pub moved : MatchResult result (MovedSamples ends ends' channel most nodes area samples rest old (disk medium).blocks new (disk medium').blocks) (MovedNone disk ends ends' channel most nodes area samples rest old medium new medium')

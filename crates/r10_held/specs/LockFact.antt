@@ -1,11 +1,11 @@
 -- What whoever gets the lock knows.
-use Rattle.std.specs.Prelude.{List, Option, None}
+use Rattle.std.specs.Prelude.{◌≡◌, List, Option, None, Some}
 use Rattle.r10_body.specs.declared.entry.Sample.{Sample}
 use Rattle.r10_body.specs.declared.refusal.Glance.{Glance}
 use Rattle.r10_body.specs.declared.spec.ChannelSpec.{ChannelSpec}
 use Rattle.r10_control.specs.State.{RecorderState}
 use Rattle.r10_medium.specs.Disk.{Disk}
-use Rattle.r10_port.specs.Ends.{Receiving}
+use Rattle.r10_port.specs.Ends.{Receiving, next_known}
 use Rattle.r10_held.specs.Account.{Accounted}
 use Rattle.r10_held.specs.Naming.{ChannelRing, AreNamed}
 use Rattle.r10_held.specs.Publishing.{LastIsShown}
@@ -19,6 +19,10 @@ outlet_received outlet = outlet.received
 -- an outlet is never known to be quiet
 abbrev pub outlet_quiet : Receiving → Option (List Sample)
 outlet_quiet outlet = None
+
+-- the sample that an outlet gives next, where that is known
+abbrev pub outlet_shows : Receiving → Sample → Type 0
+outlet_shows outlet first = next_known outlet.ahead ≡ Some first
 
 -- the lanes are those of the rings that are named for their channels, and the recorder alone took from them
 pub record LanesAccounted {M : Type 0} (disk : M → Disk) (rings : List ChannelRing) (r : RecorderState M Receiving) : Type 0 where

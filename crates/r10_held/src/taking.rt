@@ -10,12 +10,12 @@ ghost use Rattle.r10_machine.specs.declared.event.Event.TheVariants as events;
 ghost use Rattle.r10_machine.specs.declared.reply.Reply.TheVariants as replies;
 ghost use Rattle.r10_machine.specs.Machine.{rising as in_rising_order};
 ghost use Rattle.r10_pump.specs.Stopping.{most_of};
-ghost use Rattle.r10_control.specs.Standing.{StepsAlike, StopsAlone};
+ghost use Rattle.r10_control.specs.Standing.{PumpShows, StepsAlike, StopsAlone};
 ghost use Rattle.r10_control.specs.Taking.{CountsMoved, FirstLacks, HadRoom, IsStopped, LeftNone, RefusesReadied, StepsByTaking};
 ghost use Rattle.r10_machine.specs.Limits.{channel_ids};
 ghost use Rattle.r10_control.specs.Safely.{LeavesTaking, StopsSafely};
 ghost use Rattle.r10_port.specs.Ends.{TookReceived, reached_by_outlet};
-ghost use Rattle.r10_held.specs.LockFact.{outlet_quiet, outlet_spec};
+ghost use Rattle.r10_held.specs.LockFact.{outlet_quiet, outlet_shows, outlet_spec};
 ghost use Rattle.r10_held.specs.Publishing.{Publishes, StaysPublished};
 
 use crate::held::Held;
@@ -36,6 +36,8 @@ impl<M: BlockMedium, N: Rings> Held<M, N> {
         ensures takes { StepsByTaking TookReceived outlet_quiet outlet_spec (channel ∷ []) (λ _. most) CountsMoved HadRoom self.old.recorder.kept (M.disk self.old.recorder.medium).blocks (M.disk self.old.recorder.medium).failures (events.Pump channel most) (λ n. replies.Moved n) result
             self.new.recorder.kept (M.disk self.new.recorder.medium).blocks (M.disk self.new.recorder.medium).failures self.old.recorder.lanes self.new.recorder.lanes }
         ensures stands { StepsAlike TookReceived outlet_quiet reached_by_outlet outlet_spec HadRoom self.old.recorder.kept (M.disk self.old.recorder.medium).blocks (M.disk self.old.recorder.medium).failures (events.Pump channel most) (λ n. replies.Moved n) result
+            self.new.recorder.kept (M.disk self.new.recorder.medium).blocks (M.disk self.new.recorder.medium).failures self.old.recorder.lanes self.new.recorder.lanes }
+        ensures shows { PumpShows TookReceived outlet_shows outlet_quiet reached_by_outlet outlet_spec channel (events.Pump channel most) self.old.recorder.kept (M.disk self.old.recorder.medium).blocks (M.disk self.old.recorder.medium).failures result
             self.new.recorder.kept (M.disk self.new.recorder.medium).blocks (M.disk self.new.recorder.medium).failures self.old.recorder.lanes self.new.recorder.lanes }
         ensures bytes { MachinesKeepShown self.old.recorder.kept (M.disk self.old.recorder.medium).blocks (M.disk self.old.recorder.medium).failures (M.disk self.new.recorder.medium).blocks }
         ensures stops { AnswersSafely self.old.recorder.kept (M.disk self.old.recorder.medium) (events.Pump channel most) (λ n. replies.Moved n) result self.new.recorder.kept (M.disk self.new.recorder.medium) }

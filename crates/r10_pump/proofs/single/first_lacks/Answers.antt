@@ -19,3 +19,8 @@ pub returns-in-Full-clause-looks : goal.returns-in-Full-clause-looks
 returns-in-Full-clause-looks g c =
     let (first, shows, waits, lacks) = c.in-Full.ensures.sees in
     first_lacks (g.L.LaneOut.quiet c.args.lane.now) c.args.mux.now (g.L.LaneOut.spec_of c.args.lane.now).id c.args.nodes c.args.area c.args.most c.in-Full.full first (omega (arith, c.if-most-eq0.false)) waits lacks
+
+pub returns-in-Full-clause-shows : goal.returns-in-Full-clause-shows
+returns-in-Full-clause-shows g c =
+    let (first, shows, waits, lacks) = c.in-Full.ensures.sees in
+    record { first = first; shown = shows; front = waits; lacks = lacks }
