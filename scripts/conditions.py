@@ -4,11 +4,15 @@
     scripts/conditions.py                  each condition, in the order of crates.txt
     scripts/conditions.py CRATE..          those of these crates
     scripts/conditions.py --functions      how many public functions each crate has, and how many of them have a condition
-    scripts/conditions.py --missing        the functions with a condition that docs/DECISIONS.md does not name; status 1 where there is one
+    scripts/conditions.py --missing        what docs/DECISIONS.md lacks in its part "What a caller must know", or has too much; status 1 where there is anything
 
 A function is public where another crate can call it: it is `pub` in a public module or brought out by `pub use`, a `pub` function
 of such a type, or one of such a trait. What a trait's function asks stands at the trait, and its impls are not listed; nor are crates
-of tests. docs/DECISIONS.md names a function by `crate::function`, or all of a type's by `crate::Type`, in its part "What a caller must know".
+of tests.
+
+docs/DECISIONS.md has a line in a table for each function with a condition: the function as `crate::function` or `crate::Type::function`, what it asks, and how its
+caller knows that it holds. The last has parts between semicolons, each of which begins with a word: number; granted, with words that stand in the list above
+the table; or test, with public functions, of the same crate where no crate is named.
 """
 import re
 import sys
@@ -88,16 +92,47 @@ def functions(crate):
                 yield '%s::%s' % (name, found['name']), conditions_of(text, found.start())
 
 
-def named():
-    """The names that the page gives in its part on conditions."""
-    text = PAGE.read_text(encoding='utf-8')
-    part = text.partition(PART)[2].split('\n## ')[0]
-    return set(re.findall(r'`(\w+(?:::\w+)+)`', part))
+LINE = re.compile(r'^\| `(r10_[\w:]+)` \| (.+) \| (.+) \|$', re.M)
 
 
-def is_named(names, crate, function):
-    whole = '%s::%s' % (crate, function)
-    return whole in names or whole.rsplit('::', 1)[0] in names - {crate}
+def page():
+    """The lines of the page's table, and the words of the list above it."""
+    part = PAGE.read_text(encoding='utf-8').partition(PART)[2].split('\n## ')[0]
+    return LINE.findall(part), set(re.findall(r'^- \*\*(\w+)\*\*:', part, re.M))
+
+
+def wrong_parts(function, answer, public, granted):
+    """What is wrong in how a caller is to know that a function's conditions hold."""
+    crate = function.partition('::')[0]
+    for it in answer.split('; '):
+        word, _, rest = it.partition(' ')
+        names = re.findall(r'`([\w:]+)`', rest)
+        words = re.findall(r'\*\*(\w+)\*\*', rest)
+        if word not in ('number', 'granted', 'test') or (word == 'number') != (not rest) or (word == 'granted') != bool(words) or (word == 'test') != bool(names):
+            yield '%s: no such answer: %s' % (function, it)
+        for name in names:
+            if not {name, '%s::%s' % (crate, name)} & public:
+                yield '%s: no public function: %s' % (function, name)
+        for name in words:
+            if name not in granted:
+                yield '%s: not in the list: %s' % (function, name)
+
+
+def missing():
+    """What the page lacks, or has too much."""
+    lines, granted = page()
+    public, asking = set(), []
+    for crate in crates():
+        for name, asked in functions(crate):
+            public.add('%s::%s' % (crate, name))
+            if asked:
+                asking.append('%s::%s' % (crate, name))
+    told = [function for function, _, _ in lines]
+    yield from ('%s: no line' % it for it in asking if it not in told)
+    yield from ('%s: it asks nothing' % it for it in told if it not in asking)
+    yield from ('%s: more than one line' % it for it in sorted(set(told)) if told.count(it) > 1)
+    for function, _, answer in lines:
+        yield from wrong_parts(function, answer, public, granted)
 
 
 def main(words):
@@ -108,11 +143,9 @@ def main(words):
             print('| `%s` | %d | %d |' % (crate, len(found), sum(bool(asked) for _, asked in found)))
         return 0
     if words == ['--missing']:
-        names = named()
-        missing = ['%s::%s' % (crate, name) for crate in crates() for name, asked in functions(crate)
-                   if asked and not is_named(names, crate, name)]
-        print('\n'.join(missing) if missing else 'none')
-        return int(bool(missing))
+        found = list(missing())
+        print('\n'.join(found) if found else 'none')
+        return int(bool(found))
     if any(word not in crates() for word in words):
         print(__doc__)
         return 2

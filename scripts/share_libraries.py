@@ -52,8 +52,12 @@ def main():
     def is_same(one, other):
         return rtlib.sum_of(f"{one.rlib}/format") == rtlib.sum_of(f"{other.rlib}/format")
 
-    theirs, given = crates(os.path.realpath(sys.argv[2])), 0
-    for name, crate in crates(os.path.realpath(sys.argv[1])).items():
+    # (both before the folder changes: else a TOP such as '.' would be SOURCE, whose libraries would be removed)
+    top, source = os.path.realpath(sys.argv[1]), os.path.realpath(sys.argv[2])
+    if top == source:
+        sys.exit("share_libraries: TOP and SOURCE are one checkout")
+    theirs, given = crates(source), 0
+    for name, crate in crates(top).items():
         other = theirs.get(name)
         if other is None or crate.is_program or crate.is_built() or not os.path.isfile(f"{other.rlib}/format") or stamp(crate) != stamp(other):
             continue

@@ -1,0 +1,127 @@
+//! A recorder over a medium in memory, with a lane between threads for each of two UART channels.
+
+ghost use Rattle.std.specs.Prelude.{◌≡◌, [], ◌∷◌, IfOk};
+ghost use Rattle.r10_held.specs.Account.{IsNew};
+ghost use Rattle.r10_held.specs.LockFact.{outlet_received, outlet_spec};
+ghost use Rattle.r10_held.specs.Naming.{AreNamed};
+ghost use Rattle.r10_medium.specs.MemoryDisk.{memory_disk};
+
+use crate::fault::{Fault, fault_of};
+use r10_body::{ChannelSpec, Kind};
+use r10_control::Recorder;
+use r10_count::Parts;
+use r10_machine::Settings;
+use r10_medium::{BlockMedium, Memory};
+use r10_port::{Outlet, Port, lane};
+use r10_volume::format;
+use std::alloc::{AllocError, Global};
+
+/// The time at count 1000.
+pub const START: Parts = Parts {
+    year: 2024,
+    month: 2,
+    day: 29,
+    hour: 12,
+    minute: 34,
+    second: 56,
+    centi: 78,
+};
+
+/// The largest count.
+pub const LAST: u64 = 281_474_976_710_655;
+
+/// A UART channel with a lane of 1,000 messages.
+const FIVE: ChannelSpec = ChannelSpec {
+    id: 5,
+    kind: Kind::Uart,
+    capacity: 1000,
+    check: 0,
+    bytes: 524_288,
+    number: 65_535,
+    bits: 0,
+};
+
+/// The recorder, and the sending ends of its lanes.
+#[derive(Drop)]
+pub struct Apparatus {
+    pub recorder: Recorder<Memory, Outlet>,
+    pub five: Port,
+    pub six: Port,
+}
+
+/// 64 blocks, 2 of them for the directory, and these channels.
+fn settings_for(alloc: Global, five: ChannelSpec, six: ChannelSpec) -> Result<Settings, Fault>
+    ensures { IfOk result (λ s. s.channels ≡ five ∷ six ∷ []) }
+{
+    let channels = Vec::from_slice(alloc, &[five, six])?;
+    let volume = Vec::from_slice(alloc, b"VOL")?;
+    let Ok(settings) = Settings::of(64, 2, volume, 100, 1, 2, channels) else {
+        return Err(Fault::Settings);
+    };
+    Ok(settings)
+}
+
+/// Two lanes.
+fn both(alloc: Global, five: Outlet, six: Outlet) -> Result<Vec<Outlet>, AllocError>
+    ensures { IfOk result (λ lanes. lanes.items ≡ five ∷ six ∷ []) }
+{
+    let mut lanes = Vec::with_capacity(alloc, 2)?;
+    lanes.push_reserved(five);
+    lanes.push_reserved(six);
+    Ok(lanes)
+}
+
+/// A new recorder over this medium.
+fn over(
+    alloc: Global,
+    settings: Settings,
+    medium: Memory,
+    five: ChannelSpec,
+    six: ChannelSpec,
+) -> Result<Apparatus, Fault>
+    requires channels { settings.channels ≡ five ∷ six ∷ [] }
+    requires five { five.id ≡ 5 }
+    requires six { six.id ≡ 6 }
+    ensures new { IfOk result (λ a. IsNew memory_disk outlet_spec outlet_received a.recorder) }
+    ensures named { IfOk result (λ a. AreNamed (record { channel = 5; ring = a.five.ring } ∷ record { channel = 6; ring = a.six.ring } ∷ []) a.recorder.lanes) }
+{
+    if medium.blocks() != settings.blocks() {
+        return Err(Fault::Settings);
+    }
+    let (at_five, first) = lane(alloc, five)?;
+    let (at_six, second) = lane(alloc, six)?;
+    let lanes = both(alloc, first, second)?;
+    match Recorder::new(alloc, settings, medium, lanes) {
+        Ok(recorder) => Ok(Apparatus {
+            recorder,
+            five: at_five,
+            six: at_six,
+        }),
+        Err(_) => Err(Fault::Memory(AllocError)),
+    }
+}
+
+/// A new recorder over a medium that was formatted for it.
+pub fn formatted(alloc: Global) -> Result<Apparatus, Fault>
+    ensures new { IfOk result (λ a. IsNew memory_disk outlet_spec outlet_received a.recorder) }
+    ensures named { IfOk result (λ a. AreNamed (record { channel = 5; ring = a.five.ring } ∷ record { channel = 6; ring = a.six.ring } ∷ []) a.recorder.lanes) }
+{
+    let six = ChannelSpec { id: 6, ..FIVE };
+    let settings = settings_for(alloc, FIVE, six)?;
+    let mut medium = Memory::new(alloc, settings.blocks())?;
+    if let Err(refusal) = format(&mut medium, &settings) {
+        return Err(fault_of(refusal));
+    }
+    over(alloc, settings, medium, FIVE, six)
+}
+
+/// A new recorder over a medium that reads as these bytes.
+pub fn over_image(alloc: Global, image: &[u8]) -> Result<Apparatus, Fault> {
+    if image.len() % 512 != 0 {
+        return Err(Fault::Settings);
+    }
+    let medium = Memory::of_image(alloc, image)?;
+    let six = ChannelSpec { id: 6, ..FIVE };
+    let settings = settings_for(alloc, FIVE, six)?;
+    over(alloc, settings, medium, FIVE, six)
+}

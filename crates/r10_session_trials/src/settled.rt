@@ -1,0 +1,192 @@
+//! What became of each message, compared with the files that are found.
+
+use crate::course::Course;
+use crate::fault::{Fault, fault_of};
+use crate::found::{Found, found_on};
+use crate::listed::{MESSAGES, is_message};
+use crate::notes::Notes;
+use crate::standing::{CHANNELS, Standing};
+use r10_body::{Entry, Refusal};
+use r10_control::Recorder;
+use r10_lane::LaneOut;
+use r10_medium::{BlockMedium, Memory};
+use r10_shared::{FeedReport, SessionReport, audit};
+use std::alloc::Global;
+
+/// The messages of a channel among those that were found are these of its source, each once and in order, from this number on. It answers
+/// how many there are, or None where one is another.
+fn filed_from(entries: &[Entry], channel: u16, from: u64) -> Option<u64> {
+    let mut filed = 0u64;
+    for entry in entries {
+        if entry.channel == channel {
+            let number = from.saturating_add(filed);
+            if !is_message(number, entry.count, &entry.message, entry.gap) {
+                return None;
+            }
+            filed = filed.saturating_add(1);
+        }
+    }
+    Some(filed)
+}
+
+/// Whether what is left are the messages of the source from this number on.
+fn is_rest(report: &FeedReport, from: u64) -> bool {
+    let mut number = from;
+    for sample in &report.rest {
+        if !is_message(number, sample.count, &sample.message, sample.gap) {
+            return false;
+        }
+        number = number.saturating_add(1);
+    }
+    true
+}
+
+/// A feed's account: all messages were sent, and those that were erased, those that are found in the files and those that are left are
+/// the source's, each once and in order; and the numbers are those that the recorder had under its lock.
+fn settle_feed(
+    report: &FeedReport,
+    found: &Found,
+    place: usize,
+    standing: &Standing,
+    notes: &mut Notes,
+) {
+    let (erased, filed) = (report.erased, report.filed);
+    let taken = erased.saturating_add(filed);
+    let rest = report.rest.len() as u64;
+    notes.want(
+        report.channel == CHANNELS[place.min(1)],
+        "a report is of another channel",
+    );
+    notes.want(
+        report.accepted == u64::from(MESSAGES) && report.refused == 0,
+        "not all messages of a feed were sent",
+    );
+    notes.want(
+        taken.saturating_add(rest) == report.accepted,
+        "the numbers of a feed don't add up",
+    );
+    notes.want(
+        Some(erased) == standing.erased[place.min(1)]
+            && Some(taken) == standing.taken[place.min(1)],
+        "the end tells other numbers than the recorder had",
+    );
+    notes.want(
+        filed_from(found.entries.as_slice(), report.channel, erased) == Some(filed),
+        "the files have other messages than the account says",
+    );
+    notes.want(
+        is_rest(report, taken),
+        "other messages are left than the account says",
+    );
+}
+
+/// How many messages the reader wrote down.
+fn read_in(report: &SessionReport<Memory>) -> u64 {
+    let mut read = 0u64;
+    for transcript in &report.transcripts {
+        for instalment in &transcript.instalments {
+            let entries = instalment.entries.as_slice().len() as u64;
+            read = read.saturating_add(entries);
+        }
+    }
+    read
+}
+
+/// Whether what the reader wrote down agrees with the files; asked again where memory was refused.
+fn agrees(
+    alloc: Global,
+    report: &mut SessionReport<Memory>,
+    notes: &mut Notes,
+) -> Result<bool, Fault> {
+    match audit(alloc, report) {
+        Ok(yes) => return Ok(yes),
+        Err(Refusal::OutOfMemory) => notes.do_again("the audit was made again"),
+        Err(refusal) => return Err(fault_of(refusal)),
+    }
+    match audit(alloc, report) {
+        Ok(yes) => Ok(yes),
+        Err(refusal) => Err(fault_of(refusal)),
+    }
+}
+
+/// Closes the file that is recorded, if one is, so that all that the recorder took in is shown; again where memory was refused.
+fn close<M: BlockMedium, L: LaneOut>(
+    recorder: &mut Recorder<M, L>,
+    notes: &mut Notes,
+) -> Result<(), Fault> {
+    match recorder.stop_file() {
+        Ok(_) | Err(Refusal::NotRecording) => return Ok(()),
+        Err(Refusal::OutOfMemory) => notes.do_again("the file was closed again"),
+        Err(refusal) => return Err(fault_of(refusal)),
+    }
+    match recorder.stop_file() {
+        Ok(_) => Ok(()),
+        Err(refusal) => Err(fault_of(refusal)),
+    }
+}
+
+/// What is compared of a session that has ended, and the medium that it leaves.
+#[derive(Drop)]
+pub struct Ended {
+    medium: Memory,
+    feeds: Vec<FeedReport>,
+    /// How many messages the reader wrote down.
+    read: u64,
+    /// How the recorder was before the end.
+    standing: Standing,
+}
+
+/// Audits what the reader wrote down, and closes the file.
+pub fn finish(
+    alloc: Global,
+    report: SessionReport<Memory>,
+    standing: Standing,
+    course: Course,
+    notes: &mut Notes,
+) -> Result<Ended, Fault> {
+    let mut report = report;
+    let agreed = agrees(alloc, &mut report, notes)?;
+    notes.want(
+        agreed || course == Course::Erased,
+        "the reader wrote down what no file has",
+    );
+    let read = read_in(&report);
+    let SessionReport {
+        recorder,
+        feeds,
+        ..
+    } = report;
+    let mut recorder = recorder;
+    close(&mut recorder, notes)?;
+    Ok(Ended {
+        medium: recorder.into_medium(),
+        feeds,
+        read,
+        standing,
+    })
+}
+
+/// Compares the account of a session with the files that a new recorder finds on the medium.
+pub fn settle(
+    alloc: Global,
+    ended: &Ended,
+    course: Course,
+    notes: &mut Notes,
+) -> Result<(), Fault> {
+    let image = ended.medium.image(alloc)?;
+    let found = found_on(alloc, image.as_slice())?;
+    notes.want(found.strict, "a file is not strict");
+    notes.want(ended.feeds.len() == 2, "there are not two reports");
+    let mut left = 0u64;
+    for (place, feed) in ended.feeds.iter().enumerate() {
+        settle_feed(feed, &found, place, &ended.standing, notes);
+        left = left.saturating_add(feed.rest.len() as u64);
+    }
+    let all = u64::from(MESSAGES).saturating_mul(2);
+    if course == Course::Unwritten {
+        notes.want(left == all, "something was written");
+    } else if left > 0 || (course == Course::Plain && ended.read < all) {
+        notes.do_again("a worker ended early");
+    }
+    Ok(())
+}
