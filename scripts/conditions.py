@@ -21,7 +21,7 @@ from pathlib import Path
 TOP = Path(__file__).resolve().parent.parent
 PAGE = TOP / 'docs' / 'DECISIONS.md'
 PART = '## What a caller must know'
-FUNCTION = re.compile(r'^(?P<indent> *)(?P<public>pub(?P<within>\([a-z ]+\))? )?(?:const )?(?:unsafe )?fn (?P<name>\w+)', re.M)
+FUNCTION = re.compile(r'^(?P<indent> *)(?P<public>pub(?P<within>\([a-z ]+\))? )?(?:const )?(?:unsafe )?(?:extern "C" )?fn (?P<name>\w+)', re.M)
 HEAD = re.compile(r'^(?:pub )?(?:unsafe )?(?P<kind>impl|trait)\b(?P<rest>[^{;]*)\{', re.M)
 
 

@@ -12,7 +12,7 @@ from pathlib import Path
 
 TOP = Path(__file__).resolve().parent.parent
 PAGE = TOP / "docs" / "PROOFS.md"
-PUBLIC = re.compile(r"^\s*pub (?:const )?fn ", re.MULTILINE)
+PUBLIC = re.compile(r"^\s*pub (?:const |extern \"C\" )?fn ", re.MULTILINE)
 
 HEAD = """# What each crate promises
 
@@ -32,7 +32,7 @@ class Fault(Exception):
 def crate_names():
     """The crates that crates.txt lists, in its order."""
     lines = (TOP / "crates.txt").read_text(encoding="utf-8").splitlines()
-    return [line.split(":")[0].strip() for line in lines if line.strip() and not line.startswith("#")]
+    return [line.split(":")[0].split()[0] for line in lines if line.strip() and not line.startswith("#")]
 
 
 def promise_of(name):

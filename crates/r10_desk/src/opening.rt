@@ -1,0 +1,65 @@
+//! A medium is formatted, and a recorder is opened over it, with the settings of a script.
+
+ghost use Rattle.std.specs.Prelude.{◌≡◌, ◌⊎◌, IfErr, IfOk, length};
+ghost use Rattle.r10_medium.specs.Disk.{Rose};
+ghost use Rattle.r10_desk.specs.Opening.{Formats, HasOtherBlocks, IsSettings, Opens};
+
+use crate::desk::Desk;
+use crate::told::{BLOCKS, MEDIUM, OUT_OF_MEMORY, SCRIPT};
+use r10_lines::ScriptFault;
+use r10_machine::Settings;
+use r10_medium::BlockMedium;
+use r10_script::{Script, read_script};
+use r10_world::World;
+use std::alloc::Global;
+
+/// The settings of a script of so many blocks, or 30, 40 where it is none, or 41 where it has another number of blocks. Its steps are not done.
+fn settings_of(alloc: Global, script: &[u8], blocks: usize) -> Result<Settings, u32>
+    ensures settings { IfOk result (λ s. IsSettings script.now s × (blocks ≡ s.blocks)) }
+    ensures refused { IfErr result (λ n. (n ≡ 30) ⊎ (n ≡ 40) ⊎ (n ≡ 41)) }
+    ensures other { IfErr result (λ n. n ≡ 41 → HasOtherBlocks script.now blocks) }
+{
+    match read_script(alloc, script) {
+        Ok(Script { settings, .. }) => {
+            if settings.blocks() == blocks {
+                Ok(settings)
+            } else {
+                Err(BLOCKS)
+            }
+        }
+        Err(ScriptFault::OutOfMemory(_)) => Err(OUT_OF_MEMORY),
+        Err(_) => Err(SCRIPT),
+    }
+}
+
+/// Writes the directory of a medium without files, as the settings of this script say: 0, or 28 where the medium failed, 30, 40 where the script
+/// can't be taken, or 41 where the medium has another number of blocks.
+pub fn format<M: BlockMedium>(alloc: Global, medium: &mut M, script: &[u8]) -> u32
+    ensures formats { result ≡ 0 → Formats script.now (M.disk medium.new) }
+    ensures untouched { (result ≡ 30) ⊎ (result ≡ 40) ⊎ (result ≡ 41) → medium.new ≡ medium.old }
+    ensures failed { result ≡ 28 → Rose (M.disk medium.old).failures (M.disk medium.new).failures }
+    ensures other { result ≡ 41 → HasOtherBlocks script.now (length (M.disk medium.old).blocks) }
+    ensures numbers { (result ≡ 0) ⊎ (result ≡ 28) ⊎ (result ≡ 30) ⊎ (result ≡ 40) ⊎ (result ≡ 41) }
+{
+    match settings_of(alloc, script, medium.blocks()) {
+        Ok(settings) => match r10_volume::format(medium, &settings) {
+            Ok(()) => 0,
+            Err(_) => MEDIUM,
+        },
+        Err(number) => number,
+    }
+}
+
+/// A recorder with the settings of this script over the medium, not mounted, and without readers. Its number is 30, 40 where the script can't be
+/// taken, or 41 where the medium has another number of blocks.
+pub fn open<M: BlockMedium + Drop>(alloc: Global, medium: M, script: &[u8]) -> Result<Desk<M>, u32>
+    ensures opens { IfOk result (λ d. Opens M.disk script.now medium d.world) }
+    ensures refused { IfErr result (λ n. (n ≡ 30) ⊎ (n ≡ 40) ⊎ (n ≡ 41)) }
+    ensures other { IfErr result (λ n. n ≡ 41 → HasOtherBlocks script.now (length (M.disk medium).blocks)) }
+{
+    let settings = settings_of(alloc, script, medium.blocks())?;
+    match World::new(alloc, settings, medium) {
+        Ok(world) => Ok(Desk { alloc, world }),
+        Err(_) => Err(OUT_OF_MEMORY),
+    }
+}

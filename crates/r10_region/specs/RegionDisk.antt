@@ -1,0 +1,55 @@
+-- What lent memory reads as, and what a stop leaves of the disk that does what it is told.
+use Rattle.std.specs.Prelude.{◌≡◌, ℕ, ◌-◌, ◌^◌, ◌≤◌, ◌<◌, List, length, take, min, refl}
+use Rattle.std.proofs.Common.{arith, sym, ap, subst}
+use Rattle.std.proofs.lemmas.List.{take_all}
+use Rattle.rtrb.specs.Ring.{sent}
+use Rattle.r10_medium.specs.Disk.{Disk, Image, Block, IsWhole, PicksEach, block_at}
+use Rattle.r10_region.specs.Device.{Device, device_of, at_rest, MayHold, IsLeft, IsStoppedSince, AreWhole, all_sound, all_whole, rest_is_sound, rest_is_whole}
+use Rattle.r10_region.specs.declared.operation.Operation.{Operation as OperationValue}
+use Rattle.r10_region.specs.declared.region.Region.{Region}
+
+-- what was lent
+abbrev pub lent_to : Region → Image
+lent_to r = r.was.value.held
+
+-- what the disk was told to do, in order
+abbrev pub asked : Region → List OperationValue
+asked r = sent r.device
+
+pub stays_in_range : (n : ℕ) → min n (2 ^ 64 - 1) ≤ 2 ^ 64 - 1
+stays_in_range n = omega arith
+
+module _ (start : Image) (ops : List OperationValue) (blocks : Image) (reads : (device_of start ops).reads ≡ blocks) where
+  pub read_stands : (n : ℕ) → MayHold (device_of start ops) n (block_at blocks n)
+  read_stands n = subst (λ (l : Image). MayHold (device_of start ops) n (block_at l n)) reads ((all_sound (at_rest start) ops (rest_is_sound start)).stands n)
+
+  pub held_whole : IsWhole start → AreWhole ops → (n : ℕ) (c : Block) → n < length blocks → MayHold (device_of start ops) n c → length c ≡ 512
+  held_whole whole are n c lt holds = all_whole (at_rest start) ops (rest_is_sound start) are (rest_is_whole start whole) n c (omega (arith, lt, ap length reads)) holds
+
+  pub left_now : (t : ℕ) (image : Image) → t ≤ length ops → PicksEach blocks (MayHold (device_of start ops)) image → IsStoppedSince start ops t image
+  left_now t image le picks = record {
+    done = length ops;
+    later = le;
+    within = omega arith;
+    left = subst (λ (l : List OperationValue). IsLeft (device_of start l) image) (sym (take_all (length ops) ops (omega arith)))
+        (subst (λ (l : Image). PicksEach l (MayHold (device_of start ops)) image) (sym reads) picks);
+  }
+
+  pub now_left : (image : Image) → IsStoppedSince start ops (length ops) image → PicksEach blocks (MayHold (device_of start ops)) image
+  now_left image s = subst (λ (l : Image). PicksEach l (MayHold (device_of start ops)) image) reads
+      (subst (λ (l : List OperationValue). IsLeft (device_of start l) image) (take_all s.done ops s.later) s.left)
+
+abbrev pub region_disk : Region → Disk
+region_disk r = record {
+  blocks = r.blocks.now;
+  may_hold = MayHold (device_of (lent_to r) (asked r));
+  moment = length (asked r);
+  since = IsStoppedSince (lent_to r) (asked r);
+  failures = min r.failures (2 ^ 64 - 1);
+  stands = λ n lt. read_stands (lent_to r) (asked r) r.blocks.now r.reads n;
+  whole = held_whole (lent_to r) (asked r) r.blocks.now r.reads r.whole r.each_whole;
+  counts_now = left_now (lent_to r) (asked r) r.blocks.now r.reads;
+  only_now = now_left (lent_to r) (asked r) r.blocks.now r.reads;
+  fits = r.fits;
+  at_most = stays_in_range r.failures;
+}

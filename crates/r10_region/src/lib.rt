@@ -1,0 +1,13 @@
+//! A medium over memory that a program lends, and what a disk has to do so that it holds the same.
+#![tactic(auto)]
+
+mod operation;
+mod orders;
+mod region;
+mod strip;
+mod telling;
+
+pub use operation::Operation;
+pub use orders::{OrderOut, Orders};
+pub use region::Region;
+pub use strip::Strip;

@@ -1,0 +1,193 @@
+/* Calls each function of the library on plain memory, with arguments that can be told apart, and prints what it answers. */
+#include <inttypes.h>
+#include <stdio.h>
+#include <string.h>
+
+#include "r10.h"
+
+static const char script[] = "blocks = 64\n"
+                             "directory = 2\n"
+                             "volume = \"VOL\"\n"
+                             "nodes = 100\n"
+                             "time = 1\n"
+                             "event = 2\n"
+                             "[[channel]]\nid = 3\nkind = \"uart\"\ncapacity = 2\ncheck = 0\nbytes = 4096\nnumber = 100\n"
+                             "[[channel]]\nid = 4\nkind = \"1553\"\ncapacity = 2\ncheck = 8\nbytes = 4096\nnumber = 100\n"
+                             "[[channel]]\nid = 5\nkind = \"arinc\"\ncapacity = 2\ncheck = 16\nbytes = 4096\nnumber = 100\n"
+                             "[[channel]]\nid = 6\nkind = \"discrete\"\nbits = 12\ncapacity = 2\ncheck = 32\nbytes = 4096\nnumber = 100\n"
+                             "[[channel]]\nid = 7\nkind = \"message\"\ncapacity = 2\ncheck = 0\nbytes = 4096\nnumber = 100\n";
+
+static unsigned char memory[64 * 512];
+static uint8_t bytes[65535];
+static uint16_t words[36];
+static r10 recorder;
+
+static unsigned char disk[64 * 512];
+static bool is_open;
+
+static unsigned long unsure;
+
+/* What a disk does behind each call; then it has to hold what the region holds. */
+static void settle(void) {
+    r10_order_info order;
+    uint8_t block[512];
+    while (r10_order(&recorder, &order, block, sizeof block) == R10_OK && order.kind != R10_NOTHING) {
+        if (order.kind == R10_SYNC)
+            unsure = 0;
+        else {
+            unsure++;
+            memcpy(disk + 512 * order.block, block, sizeof block);
+        }
+    }
+    if (memcmp(disk, memory, sizeof disk) != 0)
+        printf("  the disk holds something else\n");
+}
+
+static void say(const char *what, uint32_t number) {
+    printf("%s: %u\n", what, number);
+    if (is_open)
+        settle();
+}
+
+/* Of a call that answers 0 only where it is sure what it did. */
+static void say_sure(const char *what, uint32_t number) {
+    say(what, number);
+    if (number == R10_OK)
+        printf("  %s\n", unsure == 0 ? "sure" : "not sure");
+}
+
+static void show(const r10_entry *e) {
+    printf("  kind %u channel %u count %" PRIu64 " gap %d", e->kind, e->channel, e->count, e->gap);
+    switch (e->kind) {
+    case R10_UART:
+        printf(" parity %d sub %u: %.*s", e->parity, e->sub, (int)e->length, (const char *)bytes);
+        break;
+    case R10_1553:
+        printf(" status %04x gap times %04x:", e->status, e->gap_times);
+        for (size_t i = 0; i < e->length; i++)
+            printf(" %04x", words[i]);
+        break;
+    case R10_ARINC:
+        printf(" bus %u format %d parity %d high %d: %08" PRIx32, e->bus, e->format, e->parity, e->high, e->word);
+        break;
+    case R10_DISCRETE:
+        printf(": %08" PRIx32, e->word);
+        break;
+    case R10_MESSAGE:
+        printf(" data error %d format %d sub %u: %.*s", e->data_error, e->format, e->sub, (int)e->length, (const char *)bytes);
+        break;
+    case R10_TIME:
+        printf(": %04u-%02u-%02u %02u:%02u:%02u.%02u", e->year, e->month, e->day, e->hour, e->minute, e->second, e->centi);
+        break;
+    case R10_EVENT:
+        printf(" number %u occurrence %u", e->number, e->occurrence);
+        break;
+    }
+    printf("\n");
+}
+
+static void status(void) {
+    r10_status_info info;
+    say("status", r10_status(&recorder, &info));
+    printf("  mode %u ticked %d tick %" PRIu64 " files %zu free %" PRIu64 " channels %zu\n", info.mode, info.ticked, info.tick, info.files, info.free,
+           info.channels);
+}
+
+int main(void) {
+    r10_region region = {memory, 64};
+    r10_civil civil = {2024, 2, 29, 12, 34, 56, 78}, later = {2024, 2, 29, 12, 34, 57, 0}, earlier = {2024, 2, 29, 12, 34, 56, 77}, none = {2024, 2, 30, 0, 0, 0, 0};
+    const uint16_t bus_words[3] = {0x0821, 0xABCD, 0x0001}, one_channel[1] = {5};
+    size_t moved = 9, taken = 9, left = 9, files = 9, cursor = 9, second = 9, queued = 9, number = 9;
+    uint64_t count = 9;
+    bool there = true;
+    r10_entry entry;
+    r10_file_info file;
+    r10_order_info order;
+    r10_channel_info channel;
+    uint8_t name[56];
+    r10_region small = {memory, 63};
+
+    say("format, another size", r10_format(small, 64, script, strlen(script)));
+    say("format, no script", r10_format(region, 64, "blocks", 6));
+    say("format", r10_format(region, 64, script, strlen(script)));
+    say("open, another size", r10_open(small, 64, script, strlen(script), &recorder));
+    memcpy(disk, memory, sizeof disk);
+    say("open", r10_open(region, 64, script, strlen(script), &recorder));
+    is_open = true;
+    status();
+    say("order, no room", r10_order(&recorder, &order, bytes, 511));
+    say_sure("commit", r10_commit(&recorder));
+    say("mount", r10_mount(&recorder));
+    say("mount", r10_mount(&recorder));
+    say("tick, no such date", r10_tick(&recorder, 1000, &none));
+    say("tick", r10_tick(&recorder, 1000, &civil));
+    say("start, no name", r10_start(&recorder, "", 0, "ABCD", 4));
+    say_sure("start", r10_start(&recorder, "FLT1", 4, "ABCD", 4));
+    say("offer uart", r10_offer_uart(&recorder, 3, 1001, true, 16383, "one", 3));
+    say("offer uart", r10_offer_uart(&recorder, 3, 1002, false, 2, "", 0));
+    say("offer uart", r10_offer_uart(&recorder, 3, 1003, false, 3, "three", 5));
+    say("offer 1553", r10_offer_1553(&recorder, 4, 1004, 0x2000, 0x1234, bus_words, 3));
+    say("offer arinc", r10_offer_arinc(&recorder, 5, 1005, 7, true, false, true, 0x89ABCDEF));
+    say("offer discrete", r10_offer_discrete(&recorder, 6, 1006, 0xA5A));
+    say("offer discrete, 13 bits", r10_offer_discrete(&recorder, 6, 1007, 0x1000));
+    say("offer message", r10_offer_message(&recorder, 7, 1008, true, false, 77, "another", 7));
+    say("offer to another channel", r10_offer_discrete(&recorder, 8, 1009, 0));
+    for (size_t place = 0; place < 6; place++) {
+        uint32_t answer = r10_channel(&recorder, place, &channel);
+        say("channel", answer);
+        if (answer == R10_OK)
+            printf("  %u waiting %zu lost %" PRIu64 " erased %" PRIu64 "\n", channel.channel, channel.waiting, channel.lost, channel.erased);
+    }
+    for (uint16_t id = 3; id <= 7; id++) {
+        say("pump", r10_pump(&recorder, id, 9, &moved));
+        printf("  moved %zu\n", moved);
+    }
+    say("offer uart", r10_offer_uart(&recorder, 3, 1010, false, 0, "four", 4));
+    say("event", r10_event(&recorder, 4095, 1011));
+    say("event, 4096", r10_event(&recorder, 4096, 1012));
+    say_sure("commit", r10_commit(&recorder));
+    say("cursor", r10_cursor(&recorder, 0, NULL, 0, 0, ((uint64_t)1 << 48) - 1, &cursor));
+    say("cursor", r10_cursor(&recorder, 0, one_channel, 1, 1005, 1005, &second));
+    printf("  %zu and %zu\n", cursor, second);
+    say("advance", r10_advance(&recorder, cursor, &queued));
+    printf("  queued %zu\n", queued);
+    say("advance", r10_advance(&recorder, cursor, &queued));
+    say("next, no room", r10_next(&recorder, cursor, &there, &entry, bytes, 100, words, 36));
+    do {
+        say("next", r10_next(&recorder, cursor, &there, &entry, bytes, sizeof bytes, words, 36));
+        if (there)
+            show(&entry);
+    } while (there);
+    say("advance", r10_advance(&recorder, second, &queued));
+    say("next", r10_next(&recorder, second, &there, &entry, bytes, sizeof bytes, words, 36));
+    show(&entry);
+    say("close cursor", r10_close_cursor(&recorder, second));
+    say("close cursor", r10_close_cursor(&recorder, second));
+    say("find", r10_find(&recorder, 0, 3, 1002, &there, &number, &entry, bytes, sizeof bytes, words, 36));
+    printf("  there %d number %zu\n", there, number);
+    show(&entry);
+    say("find", r10_find(&recorder, 0, 3, 1003, &there, &number, &entry, bytes, sizeof bytes, words, 36));
+    printf("  there %d\n", there);
+    say("count at", r10_count_at(&recorder, 0, &later, &there, &count));
+    printf("  there %d count %" PRIu64 "\n", there, count);
+    say("count at", r10_count_at(&recorder, 0, &earlier, &there, &count));
+    printf("  there %d\n", there);
+    status();
+    say_sure("erase", r10_erase(&recorder));
+    say_sure("stop", r10_stop(&recorder, &taken, &left));
+    printf("  taken %zu left %zu\n", taken, left);
+    say("seal", r10_seal(&recorder));
+    say("files", r10_files(&recorder, &files));
+    printf("  %zu\n", files);
+    say("file", r10_file(&recorder, 0, &file, name, sizeof name));
+    printf("  %.*s size %" PRIu64 " blocks %" PRIu64 " closed %d\n", (int)file.name_length, (const char *)name, file.size, file.blocks, file.closed);
+    say("file", r10_file(&recorder, 1, &file, name, sizeof name));
+    say_sure("erase", r10_erase(&recorder));
+    say("advance", r10_advance(&recorder, cursor, &queued));
+    status();
+    say("dismount", r10_dismount(&recorder));
+    say("files", r10_files(&recorder, &files));
+    r10_close(&recorder);
+    printf("closed %d\n", recorder.held == NULL);
+    return 0;
+}
