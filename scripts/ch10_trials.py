@@ -395,10 +395,12 @@ def random_trials(program, count, seed):
 # ---- the examples
 
 def example_trials(program):
-    """Each example as it stands, and without its erase. Of one image, calls through the shell's pipes too."""
+    """Each example but a session, as it stands and without its erase. Of one image, calls through the shell's pipes too."""
     draw, bad, files, total = random.Random(1), 0, 0, 0
     other = Program(program)
     for path in sorted((TOP / 'examples').glob('*.toml')):
+        if path.stem == 'session':
+            continue
         steps = path.read_text().split('[[step]]\n')
         for script in ('[[step]]\n'.join(steps), '[[step]]\n'.join(step for step in steps if not step.startswith('do = "erase"'))):
             try:

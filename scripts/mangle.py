@@ -331,9 +331,10 @@ def play_words(dice, image):
 # ---- what is mangled
 
 def scripts():
-    """The examples, and the scripts among the rows."""
+    """The examples but a session, and the scripts among the rows."""
     for script in sorted((TOP / 'examples').glob('*.toml')):
-        yield script.read_bytes()
+        if script.stem != 'session':
+            yield script.read_bytes()
     for case in (TOP / 'crates/r10_rows/stdin').read_bytes().split(b'\n== '):
         head, status, *lines = case.split(b'\n')
         if head.split(b' ')[1:] in ([], [b'sim'], [b'sim', b'--image']) and status.split(b' ')[:1] == [b'0'] and b'hex' not in status:

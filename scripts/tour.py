@@ -19,6 +19,7 @@ from play_cases import KINDS, alone  # noqa: E402
 TOP = pathlib.Path(__file__).resolve().parent.parent
 CRATE = TOP / 'crates' / 'r10_cli'
 FIRST = 'examples/first.toml'
+SESSION = 'session'
 
 
 def give_up(said):
@@ -36,7 +37,8 @@ def stops():
     """Of each stop its title, the line that a reader would type, the program's words, and its input."""
     for script in sorted((TOP / 'examples').glob('*.toml'), key=lambda script: (script.name != 'first.toml', script.name)):
         name = 'examples/' + script.name
-        yield title_of(script), './r10 < ' + name, [], script.read_bytes()
+        words = ['run'] if script.stem == SESSION else []
+        yield title_of(script), ' '.join(['./r10'] + words) + ' < ' + name, words, script.read_bytes()
     image = alone(KINDS)
     yield ('The image of the medium that a script leaves.', './r10 sim --image < %s > first.img' % FIRST, ['sim', '--image'],
            (TOP / FIRST).read_bytes())

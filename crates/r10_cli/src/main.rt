@@ -31,7 +31,8 @@ fn main(rt: HostRuntime) -> ExitCode {
     let Ok(mut writer) = BufWriter::new(alloc, io::writer(&rt)) else {
         return ExitCode::from(r10_command::report(&mut faults, &Fault::Memory(AllocError)));
     };
-    ExitCode::from(r10_command::run(
+    ExitCode::from(r10_running::run(
+        &rt,
         alloc,
         words.as_slice(),
         &mut reader,

@@ -5,8 +5,8 @@ use Rattle.std.specs.Io.KnownBytes.{Appends}
 use Rattle.hex.specs.Hex.{encode_lower}
 use Rattle.r10_images.specs.declared.listing.Outcome.{Outcome}
 use Rattle.r10_playback.specs.Checked.{Judges}
-use Rattle.r10_command.specs.Command.{DoesCommand}
 use Rattle.r10_command.specs.Status.{outcome_status, EndsWithStatus}
+use Rattle.r10_running.specs.Command.{DoesAny}
 use Rattle.r10_rows.specs.Case.{case_length, head_text, spelled, IsCase, IsInput}
 use Rattle.r10_rows.specs.declared.answer.Answer.{Answer}
 use Rattle.r10_rows.specs.declared.case.Case.{Case}
@@ -28,7 +28,7 @@ PrintsJudgement closed input answer = (outcome : Outcome) × (answer.status ≡ 
 
 -- the command ended so, and did its work on the input, or failed
 abbrev pub IsCommanded : List (List ℕ) → List ℕ → Answer → Type 0
-IsCommanded words input answer = EndsWithStatus answer.status (DoesCommand words (Some input) (Some []) (Some answer.lines.items))
+IsCommanded words input answer = EndsWithStatus answer.status (DoesAny words (Some input) (Some []) (Some answer.lines.items))
 
 -- what a case with these words and this input came to
 pub record AnswersCase (words : List (List ℕ)) (input : List ℕ) (answer : Answer) : Type 0 where

@@ -11,6 +11,8 @@ use r10_images::Outcome;
 use r10_playback::judge_closing;
 use std::alloc::{AllocError, Global};
 use std::io::{BufWriter, Write};
+use std::sync::Wait;
+use std::thread::Threads;
 
 /// What a case comes to.
 #[derive(Debug, Drop)]
@@ -24,15 +26,25 @@ pub struct Answer {
 }
 
 /// Runs the case through the commands, or judges its input if the words ask for that; `at` is where it begins in the input.
-pub fn answer_case(alloc: Global, at: usize, case: &Case) -> Result<Answer, RowsFault>
+pub fn answer_case<T: Threads + Wait + Sync>(
+    rt: &T,
+    alloc: Global,
+    at: usize,
+    case: &Case,
+) -> Result<Answer, RowsFault>
     ensures { IfOk result (λ a. IsAnswer case.now a) }
 {
     let input = case.input(alloc, at)?;
-    let answer = answer_words(alloc, case.words.as_slice(), input.as_slice())?;
+    let answer = answer_words(rt, alloc, case.words.as_slice(), input.as_slice())?;
     Ok(answer)
 }
 
-fn answer_words(alloc: Global, words: &[String], input: &[u8]) -> Result<Answer, RowsFault>
+fn answer_words<T: Threads + Wait + Sync>(
+    rt: &T,
+    alloc: Global,
+    words: &[String],
+    input: &[u8],
+) -> Result<Answer, RowsFault>
     ensures { IfOk result (λ a. AnswersCase (map string_bytes words.now) input.now a) }
 {
     if asks_judge(words, "closed") {
@@ -41,16 +53,21 @@ fn answer_words(alloc: Global, words: &[String], input: &[u8]) -> Result<Answer,
     if asks_judge(words, "unclosed") {
         return judge(alloc, input, false);
     }
-    answer_command(alloc, words, input)
+    answer_command(rt, alloc, words, input)
 }
 
-fn answer_command(alloc: Global, words: &[String], input: &[u8]) -> Result<Answer, RowsFault>
+fn answer_command<T: Threads + Wait + Sync>(
+    rt: &T,
+    alloc: Global,
+    words: &[String],
+    input: &[u8],
+) -> Result<Answer, RowsFault>
     ensures { IfOk result (λ a. IsCommanded (map string_bytes words.now) input.now a) }
 {
     let mut reader = input;
     let mut lines = BufWriter::new(alloc, Vec::new(alloc))?;
     let mut said = Vec::new(alloc);
-    let status = r10_command::run(alloc, words, &mut reader, &mut lines, &mut said);
+    let status = r10_running::run(rt, alloc, words, &mut reader, &mut lines, &mut said);
     match lines.into_inner() {
         Ok(lines) => Ok(Answer {
             status,

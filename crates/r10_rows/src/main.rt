@@ -13,12 +13,14 @@ use std::alloc::Global;
 use std::io;
 use std::io::{BufWriter, Write};
 use std::process::ExitCode;
+use std::sync::Wait;
+use std::thread::Threads;
 
-fn run<R: Input + Print + AllocGlobal>(rt: &R) -> Result<(), RowsFault> {
+fn run<R: Input + Print + AllocGlobal + Threads + Wait + Sync>(rt: &R) -> Result<(), RowsFault> {
     let alloc: Global = rt.alloc();
     let text = r10_images::read_whole(alloc, &mut rt.reader())?;
     let mut writer = BufWriter::new(alloc, io::writer(rt))?;
-    rows::answer_all(alloc, text.as_slice(), &mut writer)?;
+    rows::answer_all(rt, alloc, text.as_slice(), &mut writer)?;
     writer.flush()?;
     Ok(())
 }

@@ -10,22 +10,30 @@ use crate::fault::RowsFault;
 use crate::place::first_length;
 use std::alloc::Global;
 use std::io::Write;
+use std::sync::Wait;
+use std::thread::Threads;
 
 /// Runs the cases of the text in order, and prints for each its words, its status and what it printed.
 #[tactic(auto, using(crate::proofs::Parts::nothing_yet, crate::proofs::Parts::all_done, crate::proofs::Parts::first_within))]
-pub fn answer_all<W: Write>(alloc: Global, text: &[u8], writer: &mut W) -> Result<(), RowsFault>
+pub fn answer_all<T: Threads + Wait + Sync, W: Write>(
+    rt: &T,
+    alloc: Global,
+    text: &[u8],
+    writer: &mut W,
+) -> Result<(), RowsFault>
     ensures { OnOk result (AnswersAll text.now (W.contents writer.old) (W.contents writer.new)) }
 {
     let mut at = 0;
     while at < text.len() {
-        let count = answer_first(alloc, at, &text[at..], writer)?;
+        let count = answer_first(rt, alloc, at, &text[at..], writer)?;
         at += count;
     }
     Ok(())
 }
 
 /// Runs the first case of the text, and answers how many bytes it has.
-fn answer_first<W: Write>(
+fn answer_first<T: Threads + Wait + Sync, W: Write>(
+    rt: &T,
     alloc: Global,
     at: usize,
     text: &[u8],
@@ -35,7 +43,7 @@ fn answer_first<W: Write>(
 {
     let count = first_length(text);
     let case = read_case(alloc, at, &text[..count])?;
-    let answer = answer_case(alloc, at, &case)?;
+    let answer = answer_case(rt, alloc, at, &case)?;
     print(alloc, &case, &answer, writer)?;
     Ok(count)
 }

@@ -1,0 +1,13 @@
+mod Weaker
+mod Ordering
+mod Asking
+mod Opening
+mod Playing
+mod Filling
+mod Lanes
+mod Taken
+mod Feeding
+mod Coming
+mod Reading
+mod Summing
+mod Putting

@@ -1,0 +1,45 @@
+-- What came of a session, put together.
+use Rattle.std.proofs.Common.{◌≡◌, ◌↔◌, List, map, IfOk, IsTrue, Option, Result, Ok, Err, sym, subst}
+use Rattle.std.specs.List.{AllZip}
+use Rattle.r10_body.specs.declared.entry.Entry.{Entry}
+use Rattle.r10_body.specs.declared.refusal.Refusal.{Refusal}
+use Rattle.r10_body.specs.declared.spec.ChannelSpec.{ChannelSpec}
+use Rattle.r10_control.specs.Own.{AreOwn}
+use Rattle.r10_cursor.specs.declared.cursor.Cursor.{Cursor}
+use Rattle.r10_ended.specs.declared.ended.Ended.{Ended}
+use Rattle.r10_ended.specs.declared.ended.FeedEnd.{FeedEnd}
+use Rattle.r10_ended.specs.declared.ended.ReaderEnd.{ReaderEnd}
+use Rattle.r10_machine.specs.declared.reply.Reply.{Reply}
+use Rattle.r10_means.specs.Kept.{Work}
+use Rattle.r10_medium.specs.Disk.{Image}
+use Rattle.r10_medium.specs.MemoryDisk.{memory_disk}
+use Rattle.r10_script.specs.declared.session.FeedTable.{FeedTable}
+use Rattle.r10_script.specs.declared.session.ReaderTable.{ReaderTable}
+use Rattle.r10_session.proofs.Reading.{all_read}
+use Rattle.r10_session.specs.Came.{CameOf}
+use Rattle.r10_session.specs.Counting.{entries_in}
+use Rattle.r10_session.specs.Feeds.{FeedCame, feed_end}
+use Rattle.r10_session.specs.Readers.{AreRead, Begins, IsReadOf, fill}
+use Rattle.r10_shared.specs.declared.order.Order.{Order}
+use Rattle.r10_shared.specs.declared.report.FeedReport.{FeedReport}
+use Rattle.r10_transcript.specs.Transcripts.{AllAgree}
+use Rattle.r10_transcript.specs.declared.transcript.Transcript.{Transcript}
+
+pub put_together : {X : Type 0} (r : Result Ended X) (specs : List ChannelSpec) (steps : List Order) (tables : List FeedTable) (readers : List ReaderTable) (work : Work) (image : Image) (own : List Entry) (replies : List Reply) (refused : List (Option Refusal))
+    (cursors : List Cursor) (reports : List FeedReport) (transcripts : List Transcript) → Begins memory_disk steps readers replies refused cursors → AreOwn work image own → AllZip (FeedCame specs own) tables (map feed_end reports)
+    → AllZip IsReadOf cursors transcripts → IfOk r (λ e. e.replies.items ≡ replies) → IfOk r (λ e. e.feeds.items ≡ map feed_end reports) → IfOk r (λ e. e.readers.items ≡ fill refused (map (λ t. entries_in t.instalments.items) transcripts))
+    → IfOk r (λ e. IfOk e.audit (λ yes. IsTrue yes ↔ AllAgree work image transcripts)) → IfOk r (λ e. CameOf specs steps tables readers e)
+put_together (Err x) specs steps tables readers work image own replies refused cursors reports transcripts begun is_own came read a b c d = tt
+put_together (Ok e) specs steps tables readers work image own replies refused cursors reports transcripts begun is_own came read a b c d = record {
+  refused = refused;
+  cursors = cursors;
+  begun = subst (λ (l : List Reply). Begins memory_disk steps readers l refused cursors) (sym a) begun;
+  work = work;
+  image = image;
+  own = own;
+  is_own = is_own;
+  came = subst (λ (l : List FeedEnd). AllZip (FeedCame specs own) tables l) (sym b) came;
+  transcripts = transcripts;
+  read = subst (λ (l : List ReaderEnd). AreRead readers l transcripts) (sym c) (all_read memory_disk readers begun.1 refused cursors begun.2 transcripts begun.4 read);
+  audited = d;
+}
