@@ -49,12 +49,14 @@ here = os.getcwd()
 crate = rtlib.Crate(here, rtlib.root_above(here) or here, {})
 for it in crate.below():
     if not os.path.isdir(it.rlib):
-        sys.exit(f"{it.name} has no library in its out/")
+        print(f"{it.name} has no library in its out/")
+        sys.exit(3)
 sys.exit(crate.build_static([]))
 EOF
     else
         (cd "$crate" && rt lib) >"$crate/out/lib.log" 2>&1
     fi || {
+        [ $? = 3 ] && [ "${1:-}" = over-ci ] && return 3
         tail -n 20 "$crate/out/lib.log" >&2
         give_up "the library was not made: see crates/r10_ffi/out/lib.log"
     }
@@ -131,7 +133,11 @@ behind_ci() {
     if [ "$status" = 0 ]; then
         (
             build over-ci
-            check
+            if [ $? = 3 ]; then
+                echo "ffi: NOT TRIED: rt ci left no libraries to make r10_ffi over"
+            else
+                check
+            fi
         ) || {
             status=1
             last=$(sed 's/^\([0-9]* passed, \)[0-9]* failed/\11 failed/' "$room/last")
