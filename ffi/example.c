@@ -230,7 +230,7 @@ int main(int count, char **words) {
         offered++;
         uint32_t number = r10_pump(&recorder, LINE, 1, &moved);
         settle();
-        if (number == R10_INDEX_FULL || number == R10_MEDIUM_FULL) {
+        if (number == R10_MEDIUM_FULL) {
             /* the message waits for the next file */
             stop();
             start();

@@ -62,7 +62,6 @@ enum {
     R10_NO_CURSOR = 21,     /* no open cursor of this number */
     R10_UNREAD = 22,        /* the cursor's queue is not empty */
     R10_DIRECTORY_FULL = 23,
-    R10_INDEX_FULL = 24,    /* the file has as many packets as its index can name */
     R10_MEDIUM_FULL = 25,
     R10_BAD_DIRECTORY = 26,
     R10_BAD_FILE = 27,      /* the file is not one that this recorder wrote, or does not fit its directory entry */
@@ -168,18 +167,18 @@ uint32_t r10_mount(r10 *recorder);
 uint32_t r10_dismount(r10 *recorder);
 
 /* The clock: the civil time at a count. R10_NOT_MOUNTED, R10_COUNT_RANGE, R10_COUNT_BACK, R10_BAD_CIVIL; while a file is recorded also
- * R10_INDEX_FULL, R10_MEDIUM_FULL, R10_MEDIUM. */
+ * R10_MEDIUM_FULL, R10_MEDIUM. */
 uint32_t r10_tick(r10 *recorder, uint64_t count, const r10_civil *civil);
 
 /* Begins a file, with a setup text of at most 524,260 bytes. R10_NOT_MOUNTED, R10_BUSY, R10_TOO_LONG, R10_NO_TIME, R10_BAD_NAME,
  * R10_NAME_TAKEN, R10_UNSEALED, R10_DIRECTORY_FULL, R10_MEDIUM_FULL, R10_MEDIUM. */
 uint32_t r10_start(r10 *recorder, const void *name, size_t name_length, const void *setup, size_t setup_length);
 
-/* Takes at most so many of a channel's waiting messages into the file. R10_NOT_MOUNTED, R10_NOT_RECORDING, R10_NO_CHANNEL, R10_INDEX_FULL and
- * R10_MEDIUM_FULL (of the first message; else `moved` says how many were taken), R10_MEDIUM. */
+/* Takes at most so many of a channel's waiting messages into the file. R10_NOT_MOUNTED, R10_NOT_RECORDING, R10_NO_CHANNEL, R10_MEDIUM_FULL (of
+ * the first message; else `moved` says how many were taken), R10_MEDIUM. */
 uint32_t r10_pump(r10 *recorder, uint16_t channel, size_t most, size_t *moved);
 
-/* A recording event, of a number up to 4,095. R10_NOT_MOUNTED, R10_NOT_RECORDING, R10_COUNT_RANGE, R10_COUNT_BACK, R10_BAD_EVENT, R10_INDEX_FULL,
+/* A recording event, of a number up to 4,095. R10_NOT_MOUNTED, R10_NOT_RECORDING, R10_COUNT_RANGE, R10_COUNT_BACK, R10_BAD_EVENT,
  * R10_MEDIUM_FULL, R10_MEDIUM. */
 uint32_t r10_event(r10 *recorder, uint16_t number, uint64_t count);
 
@@ -190,7 +189,7 @@ uint32_t r10_commit(r10 *recorder);
  * R10_NOT_MOUNTED, R10_NOT_RECORDING, R10_MEDIUM. */
 uint32_t r10_stop(r10 *recorder, size_t *taken, size_t *left);
 
-/* Closes a last file that was left open; its entries stay. R10_NOT_MOUNTED, R10_BUSY, R10_NO_FILE, R10_INDEX_FULL, R10_MEDIUM_FULL, R10_BAD_FILE,
+/* Closes a last file that was left open; its entries stay. R10_NOT_MOUNTED, R10_BUSY, R10_NO_FILE, R10_MEDIUM_FULL, R10_BAD_FILE,
  * R10_MEDIUM. */
 uint32_t r10_seal(r10 *recorder);
 

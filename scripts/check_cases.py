@@ -32,6 +32,10 @@ def packet(channel, sequence, kind, counter, body, flags=0, version=8, filler=No
     return front + number(total % 65536, 2) + body + filler
 
 
+def size(parts):
+    return sum(map(len, parts))
+
+
 # ---- the first recording
 
 def recording():
@@ -41,22 +45,40 @@ def recording():
     return parts + index_of(parts, 1000, 1)
 
 
-def index_of(parts, counter, sequence, size=100):
-    """Node packets of a hundred entries for these packets, and their root."""
-    places = [(sum(map(len, parts[:k])), part) for k, part in enumerate(parts)]
-    end, nodes = sum(map(len, parts)), []
-    for first in range(0, len(places), size):
-        some = places[first:first + size]
-        nodes.append(packet(0, (sequence + len(nodes)) % 256, INDEX, counter, number(1 << 31 | len(some), 4) + b''.join(
-            part[16:22] + bytes(2) + part[2:4] + part[15:16] + bytes(1) + number(at, 8) for at, part in some)))
-    return nodes + [root_of(nodes, end, counter, (sequence + len(nodes)) % 256)]
+def index_of(parts, counter, sequence, each=None, entries=100):
+    """Node packets for these packets, of a hundred entries or so many, in groups of `each` with a root behind each; or in one group."""
+    places = places_of(parts)
+    some = [places[first:first + entries] for first in range(0, len(places), entries)]
+    each, end, before, index = each or len(some), size(parts), None, []
+    for first in range(0, len(some), each):
+        nodes = [node_of(one, counter, (sequence + len(index) + k) % 256) for k, one in enumerate(some[first:first + each])]
+        at = end + size(index)
+        index += nodes + [root_of(nodes, at, counter, (sequence + len(index) + len(nodes)) % 256, before=before)]
+        before = at + size(nodes)
+    return index
 
 
-def root_of(nodes, end, counter, sequence, own=None):
-    ends = [end + sum(map(len, nodes[:k])) for k in range(len(nodes) + 1)]
+def places_of(parts):
+    """Each packet, with where it stands."""
+    return [(size(parts[:k]), part) for k, part in enumerate(parts)]
+
+
+def node_of(places, counter, sequence):
+    return packet(0, sequence, INDEX, counter, number(1 << 31 | len(places), 4) + b''.join(
+        part[16:22] + bytes(2) + part[2:4] + part[15:16] + bytes(1) + number(at, 8) for at, part in places))
+
+
+def root_of(nodes, end, counter, sequence, own=None, before=None):
+    """The root of these nodes from an offset on. Its last entry is of the root at another offset, or its own."""
+    ends = [end + size(nodes[:k]) for k in range(len(nodes) + 1)]
     own = counter if own is None else own
     body = number(len(ends), 4) + b''.join(number(counter, 8) + number(at, 8) for at in ends[:-1])
-    return packet(0, sequence, INDEX, own, body + number(own, 8) + number(ends[-1], 8))
+    return packet(0, sequence, INDEX, own, body + number(own, 8) + number(ends[-1] if before is None else before, 8))
+
+
+def root_naming(places, counter, sequence):
+    """A root with entries of these offsets."""
+    return packet(0, sequence, INDEX, counter, number(len(places), 4) + b''.join(number(counter, 8) + number(at, 8) for at in places))
 
 
 def letters(count, text, head=0):
@@ -97,8 +119,11 @@ def verdicts():
     yield 'check-longer-message', flipped(FIRST, 68 + 24 + 12, 0x40), 'faulty 68 Body'
     yield 'check-flagged', b''.join(lost()), 'strict'
     yield 'check-report-of-another-recorder', b''.join(lost()[:3] + [REPORT]), 'lenient 1'
-    yield 'check-three-nodes', b''.join(MANY + index_of(MANY, 1000, 1)), 'strict'
-    yield 'check-two-roots', b''.join(two_roots()), 'lenient 0'
+    yield 'check-three-nodes', b''.join(MANY + MANY_INDEX), 'strict'
+    yield 'check-two-roots', b''.join(LONG + CHAIN), 'strict'
+    yield 'check-two-roots-without-the-last-group', b''.join(LONG + CHAIN[:2]), 'lenient 0'
+    yield 'check-two-roots-without-the-last', b''.join(LONG + CHAIN[:3]), 'lenient 0'
+    yield 'check-three-groups-of-which-the-last-has-one-node', b''.join(FAR + FAR_BY_TWO), 'strict'
     for size in range(273):
         yield 'check-cut-to-%d' % size, FIRST[:size], cut(size)
     for name, start in zip(NAMES, STARTS):
@@ -146,22 +171,43 @@ def lost():
 
 
 MANY = OPENING + [uart(k % 256, 1000 + k, b'x', channel=6) for k in range(257)]
+MANY_INDEX = index_of(MANY, 1000, 1)
 REPORT = packet(0, 1, 0, 1000, bytes(4) + b'LOSS' + bytes.fromhex('050000000100000000000000'))
 
 
-def two_roots():
-    """A root behind each node, each naming the root before it: no form of this recorder's."""
-    places = [(100, LONG[:100]), (1, LONG[100:])]
-    counter, at, out, before = 1099, size(LONG), [], None
-    for sequence, (count, parts) in zip((1, 3), places):
-        starts = [size(LONG[:k]) for k, part in enumerate(LONG) if any(part is one for one in parts)]
-        node = packet(0, sequence, INDEX, counter, number(1 << 31 | count, 4) + b''.join(
-            part[16:22] + bytes(2) + part[2:4] + part[15:16] + bytes(1) + number(start, 8) for part, start in zip(parts, starts)))
-        place = at + len(node)
-        body = number(2, 4) + number(counter, 8) + number(at, 8) + number(counter, 8) + number(place if before is None else before, 8)
-        out += [node, packet(0, sequence + 1, INDEX, counter, body)]
-        at, before = place + len(out[-1]), place
-    return LONG + out
+CHAIN = index_of(LONG, 1099, 1, 1)
+FAR = OPENING + [packet(1, k % 256, TIME, 1000 + k, CIVIL) for k in range(1, 400)]
+FAR_BY_TWO = index_of(FAR, 1399, 1, 2)
+
+
+def one_late(part, at):
+    """A node or a root whose offset at a place in it is one more."""
+    return remade_body(part, at, number(int.from_bytes(part[at:at + 8], 'little') + 1, 8))
+
+
+def remade_body(part, at, field):
+    return part[:at] + field + part[at + len(field):]
+
+
+def by_one(count):
+    """The first index packets of the far file: a node, its root, and from there nodes alone."""
+    places = places_of(FAR)
+    nodes = [node_of(places[100 * k:100 * k + 100], 1399, k + 1 + (k > 0)) for k in range(4)]
+    return [nodes[0], root_of(nodes[:1], size(FAR), 1399, 2)][:count] + nodes[1:count - 1]
+
+
+def misnamed():
+    """Name, how many packets of the chain stand before it, and an index packet that names something else than it has to."""
+    node, root = CHAIN[2:]
+    yield 'later-node-of-another-count', 2, remade_body(node, 28, number(1100, 6))
+    yield 'later-node-of-another-channel', 2, remade_body(node, 36, number(2, 2))
+    yield 'later-node-of-another-type', 2, remade_body(node, 38, bytes([EVENT]))
+    yield 'later-node-that-names-the-first-hundred', 2, node_of(places_of(LONG)[:100], 1099, 3)
+    yield 'later-root-of-another-count-of-its-node', 3, remade_body(root, 28, number(1100, 6))
+    yield 'later-root-of-another-count-of-the-root-before', 3, remade_body(root, 44, number(1100, 6))
+    yield 'later-root-that-names-all-nodes', 3, root_naming([size(LONG), size(LONG + CHAIN[:2]), size(LONG + CHAIN[:1])], 1099, 4)
+    yield 'later-root-without-the-root-before', 3, root_naming([size(LONG + CHAIN[:2])], 1099, 4)
+    yield 'node-behind-a-chain', 4, node_of(places_of(LONG)[100:], 1099, 5)
 
 
 def broken():
@@ -196,6 +242,27 @@ def broken():
     yield 'no-index', ONE, [], True, 8
     yield 'no-root', CLOSED[:4], [], True, 8
     yield 'index-in-an-unclosed-file', ONE, CLOSED[3:], False, 8
+    yield 'later-root-that-names-itself', LONG + CHAIN[:3], [root_of(CHAIN[2:3], size(LONG + CHAIN[:2]), 1099, 4)], True, 8
+    yield 'root-whose-nodes-stand-one-later', FAR + FAR_BY_TWO[:2], [one_late(FAR_BY_TWO[2], 36)], True, 8
+    yield 'later-node-that-names-one-later', LONG + CHAIN[:2], [one_late(CHAIN[2], 40)], True, 8
+    yield 'larger-second-group', FAR + by_one(3), by_one(4)[3:], True, 8
+    yield 'smaller-second-group', FAR + FAR_BY_TWO[:4], [root_of(FAR_BY_TWO[3:4], size(FAR + FAR_BY_TWO[:3]), 1399, 5, before=size(FAR + FAR_BY_TWO[:2]))], True, 8
+    yield 'root-behind-a-root', LONG + CHAIN[:2], [root_of(CHAIN[:1], size(LONG), 1099, 3)], True, 8
+    yield 'time-behind-a-root', LONG + CHAIN[:2], [packet(1, 100, TIME, 1100, CIVIL)], True, 8
+    yield 'time-behind-a-chain', LONG + CHAIN, [packet(1, 100, TIME, 1100, CIVIL)], True, 8
+    yield 'chain-without-its-last-group', LONG + CHAIN[:2], [], True, 8
+    yield 'chain-without-its-last-root', LONG + CHAIN[:3], [], True, 8
+    yield 'chain-in-an-unclosed-file', LONG, CHAIN, False, 8
+    for name, at, part in misnamed():
+        yield name, LONG + CHAIN[:at], [part], True, 8
+    yield 'first-root-that-names-the-start', CLOSED[:4], [root_of(CLOSED[3:4], size(ONE), 1000, 2, before=0)], True, 8
+    yield 'third-root-that-names-the-first', FAR + FAR_BY_TWO[:7], [
+        root_naming([size(FAR + FAR_BY_TWO[:6]), size(FAR + FAR_BY_TWO[:2])], 1399, 8)], True, 8
+    yield 'root-without-nodes', ONE, [root_of([], size(ONE), 1000, 1)], True, 8
+    yield 'root-of-one-node-of-two', LONG + LONG_INDEX[:2], [root_of(LONG_INDEX[1:2], size(LONG + LONG_INDEX[:1]), 1099, 3)], True, 8
+    yield 'node-of-99-packets', LONG, [node_of(places_of(LONG)[:99], 1099, 1)], True, 8
+    yield 'node-of-101-packets', LONG, [node_of(places_of(LONG), 1099, 1)], True, 8
+    yield 'last-node-without-the-last-packet', MANY + MANY_INDEX[:2], [node_of(places_of(MANY)[200:-1], 1000, 3)], True, 8
     yield 'setup-of-another-count', OPENING[:1], [packet(1, 0, TIME, 1001, CIVIL)], False, 9
     yield 'root-of-another-count', CLOSED[:4], [root_of(CLOSED[3:4], size(ONE), 1000, 2, 1001)], True, 9
     yield 'second-event-says-none-before', TWO, [event(1, 1002, 0)], False, 10
@@ -211,6 +278,8 @@ def kept():
     yield 'first-unclosed', FIRST[:124], False
     yield 'two-of-each', b''.join(TWO + [event(1, 1002, 1), uart(0, 1002), uart(1, 1002), spanning(1000000, 2)]), False
     yield 'two-nodes', b''.join(LONG + LONG_INDEX), True
+    yield 'two-roots', b''.join(LONG + CHAIN), True
+    yield 'three-groups-of-which-the-last-has-one-node', b''.join(FAR + FAR_BY_TWO), True
 
 
 def checked(body):
@@ -222,10 +291,6 @@ def checked(body):
 def spanning(distance, sequence=1):
     """A UART packet of two entries so far apart."""
     return packet(5, sequence, UART, 1002, number(1 << 31, 4) + letters(1002, b'A') + letters(1002 + distance, b'B'))
-
-
-def size(parts):
-    return sum(map(len, parts))
 
 
 def judged():

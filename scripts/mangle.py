@@ -20,7 +20,8 @@ import re
 import subprocess
 import sys
 
-from check_cases import CLOSED, FIRST, LONG, LONG_INDEX, MANY, ONE, OPAQUE, OPENING, REPORT, TWO, index_of, lost, number
+from check_cases import (CHAIN, CLOSED, FAR, FAR_BY_TWO, FIRST, LONG, LONG_INDEX, MANY, MANY_INDEX, ONE, OPAQUE, OPENING, REPORT, TWO, index_of,
+                         lost, number)
 from judge_image import Refused, answer, listed, said_of
 from judge_recording import INDEX, WIDTHS, first_fault, little, verdict
 from play_cases import KINDS, PAIR, alone, big, case_text as image_text, directory_block, image_of, listed as entry_bytes
@@ -196,13 +197,25 @@ def index_anew(dice, parts):
     data = [part for part in parts if len(part) >= 24 and part[15] != INDEX]
     times = [little(part, 16, 6) for part in data if part[15] == 0x11]
     sequence = sum(little(part, 2, 2) == 0 for part in data)
-    size = 100 if not dice.one_in(8) else dice.pick((1, 2, 99, 101))
+    entries = 100 if not dice.one_in(8) else dice.pick((1, 2, 99, 101))
+    each = dice.pick((None, 1, 1, 2, 3))
     if data and times:
-        parts[:] = data + index_of(data, times[-1], sequence, size)
+        parts[:] = data + index_of(data, times[-1], sequence, each, entries)
+
+
+def change_index(dice, parts, at):
+    """What is done to packets, done to an index packet."""
+    places = [place for place, part in enumerate(parts) if len(part) >= 24 and part[15] == INDEX]
+    if places:
+        at, other = dice.pick(places), dice.pick(places)
+        if dice.one_in(4):
+            parts[at], parts[other] = parts[other], parts[at]
+        else:
+            dice.pick((change_header, change_body, change_body, flip, drop, double, cut))(dice, parts, at)
 
 
 CHANGES = (change_header, change_header, change_body, change_body, change_data, change_data, change_filler, change_channel, shift, shift,
-           flip, flip, drop, double, swap, cut, insert)
+           flip, flip, drop, double, swap, cut, insert, change_index)
 
 
 def mangled_recording(dice, data):
@@ -215,6 +228,10 @@ def mangled_recording(dice, data):
         renumber(parts)
     if anew < 3 or anew == 4:
         index_anew(dice, parts)
+        if dice.one_in(3):
+            change_index(dice, parts, 0)
+            if dice.one_in(2):
+                renumber(parts)
     data = b''.join(parts)
     if dice.one_in(12):
         data = data[:dice.below(len(data) + 1)]
@@ -363,8 +380,9 @@ class Bases:
 
     def __init__(self, program, rows=None):
         self.recordings = [FIRST, FIRST[:124], KINDS, b''.join(lost()), b''.join(ONE), b''.join(TWO), b''.join(CLOSED), b''.join(OPENING),
-                           b''.join(LONG + LONG_INDEX), b''.join(MANY + index_of(MANY, 1000, 1))]
-        self.images = [alone(FIRST), alone(FIRST[:124], False), alone(KINDS), PAIR, chain_of_five()]
+                           b''.join(LONG + LONG_INDEX), b''.join(MANY + MANY_INDEX)]
+        self.chains = [b''.join(it) for it in (LONG + CHAIN, MANY + index_of(MANY, 1000, 1, 1), MANY + index_of(MANY, 1000, 1, 2), FAR + FAR_BY_TWO)]
+        self.images = [alone(FIRST), alone(FIRST[:124], False), alone(KINDS), PAIR, chain_of_five()] + list(map(alone, self.chains))
         for script in scripts():
             image = recorded(program, script) if program else recorded_by_rows(rows, script)
             if image is not None and image not in self.images and len(image) <= 128 * BLOCK:
@@ -393,7 +411,7 @@ def case_of(bases, seed, which):
     """The case of this number: what is mangled, and with which words the program is asked, each with its input."""
     dice = Dice(seed, which)
     if which % 2:
-        data = mangled_recording(dice, KINDS if dice.one_in(4) else dice.pick(bases.recordings))
+        data = mangled_recording(dice, KINDS if dice.one_in(4) else dice.pick(bases.chains if dice.one_in(4) else bases.recordings))
         closed = dice.one_in(2)
         image = alone(data, closed)
         return Case('recording', data, [(['check'], data), (play_words(dice, image) if dice.one_in(4) else ['play'], image)])

@@ -14,7 +14,7 @@ import pathlib
 import subprocess
 import sys
 
-from check_cases import CIVIL, FIRST, OPENING, event, flipped, index_of, letters, lost, number, packet, print_rows
+from check_cases import CHAIN, CIVIL, FIRST, LONG, OPENING, event, flipped, index_of, letters, lost, number, packet, print_rows
 from judge_recording import ARINC, TIME, UART, first_fault
 
 READER = pathlib.Path(__file__).with_name('read_chapter10.py')
@@ -123,6 +123,10 @@ def rows():
     yield 'play-not-closed', 'play --channel 5', alone(FIRST[:124], False), 0, FIRST_LINES[1:]
     yield 'play-closed-without-index', 'play', alone(FIRST[:124]), 1, ['not strict']
     yield 'play-not-closed-with-index', 'play', alone(FIRST, False), 1, ['not strict']
+    yield 'play-a-chain', 'play --from 1098', alone(b''.join(LONG + CHAIN)), 0, [
+        'entry 1 %d 0 time 2024-02-29 12:34:56.78' % count for count in (1098, 1099)]
+    yield 'play-a-chain-without-its-last-group', 'play --from 1098', alone(b''.join(LONG + CHAIN[:2])), 1, ['not strict']
+    yield 'play-a-chain-not-closed', 'play --from 1098', alone(b''.join(LONG + CHAIN), False), 1, ['not strict']
     yield 'play-a-changed-header', 'play', alone(flipped(FIRST, 22, 1)), 1, ['not strict']
     yield 'play-no-bytes', 'play', alone(b''), 1, ['not strict']
     yield 'play-number-behind-the-last', 'play --file 1', first, 1, ['refused 19 NoSuchFile']

@@ -1,22 +1,24 @@
 -- A lane feeds a file.
 use Rattle.std.proofs.Common.{◌≡◌, ℕ, ◌≤◌, Bool, true, false, ◌==◌, List, [], ◌∷◌, ◌++◌, length, Some, refl, sym, ap, subst, ◌∙◌, arith}
-use Rattle.std.specs.Prelude.{◌-◌, ◌^◌, slice_get, min, count_by}
+use Rattle.std.specs.Prelude.{slice_get, count_by}
 use Rattle.std.proofs.lemmas.Bool.{eqb-true}
-use Rattle.std.proofs.lemmas.List.{append-nil}
+use Rattle.std.proofs.lemmas.List.{append-nil, length-map}
 use Rattle.std.proofs.lemmas.List.Elements.{filter-append}
+use Rattle.std.proofs.lemmas.List.Sums.{count_by-le-length}
 use Rattle.r10_medium.specs.Disk.{Disk, Image}
 use Rattle.r10_blockout.specs.Output.{first_of}
 use Rattle.r10_body.specs.Files.{on_channel}
 use Rattle.r10_body.specs.Rules.{Rise, is_entry_on}
 use Rattle.r10_body.specs.declared.entry.Entry.{Entry}
 use Rattle.r10_body.specs.declared.entry.Sample.{Sample}
+use Rattle.r10_body.specs.declared.spec.ChannelSpec.{ChannelSpec}
 use Rattle.r10_body.specs.Sequence.{last_count}
 use Rattle.r10_builder.specs.State.{BuilderState}
 use Rattle.r10_builder.specs.Settings.{specs_of}
 use Rattle.r10_builder.specs.Grows.{is_open_builder}
 use Rattle.r10_packetout.specs.Output.{IsReady, Writing}
 use Rattle.r10_packetout.proofs.Having.{ready_fewer}
-use Rattle.r10_packetout.specs.Carries.{Records, Recording, packets_of}
+use Rattle.r10_packetout.specs.Carries.{Records, Recording}
 use Rattle.r10_mux.specs.Writes.{IsSame, IsSameFile, LeadsToRecords, MayGrow}
 use Rattle.r10_machine.specs.Machine.{Lane}
 use Rattle.r10_machine.specs.SoundParts.{count_or_0}
@@ -141,10 +143,16 @@ flushed old new before after last area fed same blocks led = record {
   small = fed.small;
 }
 
--- there is memory for the packets that are open
-pub few_open : (r : Recording) (n m : ℕ) → IsReady r.out n → m ≡ min (packets_of r) (2 ^ 64 - 1) → m ≤ n → n ≤ 3_276_500 → IsReady r.out (count_by is_open_builder r.builders)
-few_open r n m ready is few most = ready_fewer r.out n (count_by is_open_builder r.builders) (omega (arith, is, few, most)) ready
-
--- few are named
-pub few_named : (r : Recording) (n : ℕ) → n ≡ min (packets_of r) (2 ^ 64 - 1) → n ≤ 3_276_500 → length r.out.entries ≤ 3_276_500
-few_named r n is few = omega (arith, is, few)
+-- there is memory for the packets that are open, where it was asked for one of each channel
+pub few_open : (old new : Recording) (n : ℕ) → IsSame old new → n ≡ length old.builders → IsReady new.out n → IsReady new.out (count_by is_open_builder new.builders)
+few_open old new n same is ready =
+    ready_fewer new.out n (count_by is_open_builder new.builders)
+    (omega (
+      arith,
+      is,
+      count_by-le-length is_open_builder new.builders,
+      ap (λ (specs : List ChannelSpec). length specs) same.specs,
+      length-map new.builders (λ (b : BuilderState). b.spec),
+      length-map old.builders (λ (b : BuilderState). b.spec),
+    ))
+    ready

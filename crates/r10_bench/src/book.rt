@@ -1,15 +1,17 @@
 //! The book of a file's packets: searches in it, and the index that it writes.
 
+ghost use Rattle.std.specs.Prelude.{◌≡◌, ◌≤◌, length, IfOk};
+
 use crate::fault::Fault;
 use r10_count::Count;
-use r10_index::IndexBook;
+use r10_index::{IndexBook, IndexPlace};
 use r10_indexbody::NodeEntry;
 use std::alloc::Global;
 use std::fmt;
 use std::time::{CpuClock, Duration};
 
 /// How many packets a book has at most.
-const MOST: u32 = 1_000_000;
+const MOST: u32 = 10_000_000;
 
 /// How many counts a packet begins behind the one before it.
 const STEP: u64 = 20_000;
@@ -40,7 +42,9 @@ fn entry(number: u32) -> NodeEntry {
 }
 
 /// A book of so many packets.
-fn fill(alloc: Global, packets: u32) -> Result<IndexBook, Fault> {
+fn fill(alloc: Global, packets: u32) -> Result<IndexBook, Fault>
+    ensures { IfOk result (λ book. length book.entries ≡ packets) }
+{
     let mut book = IndexBook::new(alloc);
     for number in 0..packets {
         book.add(entry(number), 1)?;
@@ -71,17 +75,16 @@ fn search(book: &IndexBook, packets: u32) -> u64 {
     found
 }
 
-/// Writes nodes and root into one buffer, one after the other, and answers how many bytes they have.
-fn write_index(alloc: Global, book: &IndexBook) -> Result<u64, Fault> {
+/// Writes nodes and roots into one buffer, one after the other, in groups of 32,765 nodes, and answers how many bytes they have.
+fn write_index(alloc: Global, book: &IndexBook) -> Result<u64, Fault>
+    requires { length book.now.entries ≤ MOST }
+{
     let counter = entry(0).counter;
     let mut buffer = Vec::with_capacity(alloc, 2028)?;
     let mut bytes = 0u64;
-    for before in 0..book.nodes() {
-        book.write_node(counter, before, &mut buffer)?;
-        bytes = bytes.wrapping_add(buffer.len() as u64);
-    }
-    if book.entries().len() <= 3_276_500 {
-        book.write_root(counter, 64, &mut buffer)?;
+    let mut place = IndexPlace::first(1, 64);
+    for _ in 0..2 * book.nodes() {
+        book.write_next(counter, 32_765, &mut place, &mut buffer)?;
         bytes = bytes.wrapping_add(buffer.len() as u64);
     }
     Ok(bytes)

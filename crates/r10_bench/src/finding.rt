@@ -11,7 +11,7 @@ use std::fmt;
 use std::time::{CpuClock, Duration};
 
 /// How many packets a file has at most.
-const MOST: u32 = 3_000_000;
+const MOST: u32 = 10_000_000;
 
 /// How often an entry is looked for.
 const SEARCHES: u32 = 10_000;
@@ -35,7 +35,7 @@ pub struct FindFigures {
 }
 
 /// Records so many packets of one message each, so many counts apart, and answers the processor time of that.
-fn fill<R: CpuClock>(
+pub(crate) fn fill<R: CpuClock>(
     rt: &R,
     alloc: Global,
     recorder: &mut InMemory,

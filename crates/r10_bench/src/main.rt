@@ -1,13 +1,14 @@
 //! The program `r10_bench`, run by hand: how many small UART messages a second go through a lane and a builder, beside a
 //! plain copy of the same bytes, how many go through lanes of one thread and between two, how long searches in the book
 //! of a file's packets take, and its index, how many messages a second are recorded onto a medium in memory, by the layers and
-//! by the whole recorder, how many entries a second it replays, how long it takes to find one in a file of many packets, and
-//! how many bytes of a file are judged in a second.
+//! by the whole recorder, how many entries a second it replays, how long it takes to find one in a file of many packets, how
+//! many bytes of index a second it writes where it closes one, and how many bytes of a file are judged in a second.
 #![tactic(auto)]
 
 mod bench;
 mod book;
 mod check;
+mod closing;
 mod copy;
 mod fault;
 mod figures;
@@ -27,18 +28,47 @@ use std::io;
 use std::process::ExitCode;
 use std::rt::Env;
 
-/// How many messages the command line asks for.
-fn number_of<R: Env + AllocGlobal>(rt: &R) -> io::Result<Option<u32>> {
-    match std::env::args(rt)?.nth(1) {
-        Some(word) => Ok(word.parse().ok()),
-        None => Ok(None),
+/// What the command line asks for.
+#[derive(Clone, Copy)]
+enum Asked {
+    /// All parts, of so many messages.
+    All(u32),
+    /// Only the part that closes a file, of so many packets.
+    Close(u32),
+}
+
+fn read_words<R: Env + AllocGlobal>(rt: &R) -> io::Result<Option<Asked>> {
+    let mut words = std::env::args(rt)?;
+    let Some(first) = words.nth(1) else {
+        return Ok(None);
+    };
+    if first.as_str() != "close" {
+        let Ok(number) = first.parse() else {
+            return Ok(None);
+        };
+        return Ok(Some(Asked::All(number)));
     }
+    let Some(second) = words.next() else {
+        return Ok(None);
+    };
+    let Ok(number) = second.parse() else {
+        return Ok(None);
+    };
+    Ok(Some(Asked::Close(number)))
 }
 
 fn main(rt: HostRuntime) -> Result<ExitCode, Fault> {
-    let Some(number) = number_of(&rt)? else {
-        println!(rt; "usage: r10_bench MESSAGES")?;
-        return Ok(ExitCode::from(2));
+    let number = match read_words(&rt)? {
+        Some(Asked::All(number)) => number,
+        Some(Asked::Close(number)) => {
+            let figures = closing::run(&rt, rt.alloc(), number)?;
+            print!(rt; "{figures}")?;
+            return Ok(ExitCode::SUCCESS);
+        }
+        None => {
+            println!(rt; "usage: r10_bench MESSAGES, or r10_bench close PACKETS")?;
+            return Ok(ExitCode::from(2));
+        }
     };
     let figures = bench::run(&rt, rt.alloc(), number)?;
     print!(rt; "{figures}")?;
@@ -58,6 +88,8 @@ fn main(rt: HostRuntime) -> Result<ExitCode, Fault> {
         let figures = finding::run(&rt, rt.alloc(), step, number)?;
         print!(rt; "{figures}")?;
     }
+    let figures = closing::run(&rt, rt.alloc(), number)?;
+    print!(rt; "{figures}")?;
     for shape in &check::SHAPES {
         let figures = check::run(&rt, rt.alloc(), shape, number)?;
         print!(rt; "{figures}")?;

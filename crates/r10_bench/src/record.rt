@@ -72,7 +72,7 @@ fn move_all<M: BlockMedium>(
     }
     let most = lane.len();
     let most = ready_pump(mux, lane, most, area)?;
-    let Ok(number) = pump(mux, medium, lane, most, 32_765, area) else {
+    let Ok(number) = pump(mux, medium, lane, most, area) else {
         return Err(Fault::Lost);
     };
     if lane.len() > 0 {
@@ -132,11 +132,8 @@ pub(crate) fn finish<M: BlockMedium>(
 ) -> Result<usize, Fault>
     requires { IsFed mux.old (M.disk medium.old).blocks last area }
 {
-    let packets = mux.packets();
-    mux.ready(packets)?;
-    if mux.packets() > packets || packets > 3_276_500 {
-        return Err(Fault::Lost);
-    }
+    let channels = mux.channels();
+    mux.ready(channels)?;
     if mux.cost() > area {
         return Err(Fault::Lost);
     }
@@ -144,11 +141,8 @@ pub(crate) fn finish<M: BlockMedium>(
         return Err(Fault::Lost);
     };
     mux.ready(0)?;
-    if mux.packets() > 3_276_500 {
-        return Err(Fault::Lost);
-    }
-    let Ok(()) = mux.close(medium) else {
+    let Ok(()) = mux.close(medium, 32_765) else {
         return Err(Fault::Lost);
     };
-    Ok(mux.packets())
+    Ok(mux.named().len())
 }

@@ -81,7 +81,7 @@ fn show(recorder: &mut InMemory, round: u32) -> Result<u64, Refusal> {
 }
 
 /// The bytes of the file.
-fn size_of_file(recorder: &InMemory) -> Result<u64, Refusal> {
+pub(crate) fn size_of_file(recorder: &InMemory) -> Result<u64, Refusal> {
     let files = recorder.files()?;
     match files.last() {
         Some(file) => Ok(file.size),

@@ -1,14 +1,14 @@
 -- Each rule of a file: a packet that keeps it and one that breaks it, behind the first recording's packets.
-use Rattle.std.specs.Prelude.{ℕ, true, false, List, [], ◌∷◌, ◌++◌, length, take, replicate, refl}
+use Rattle.std.specs.Prelude.{◌≡◌, ℕ, true, false, List, [], ◌∷◌, ◌++◌, length, take, drop, replicate, refl}
 use Rattle.std.specs.List.{sum_by}
-use Rattle.std.proofs.Common.{lit<, lit≤, arith, sym, ap, ◌≤◌}
+use Rattle.std.proofs.Common.{inl, lit<, lit≤, arith, sym, ap, ◌≤◌}
 use Rattle.r10_indexbody.specs.Vectors.{a_node_entry, a_root_entry}
 use Rattle.r10_indexbody.specs.declared.entry.RootEntry.{RootEntry}
 use Rattle.r10_uart.specs.declared.entry.UartEntry.{UartEntry}
 use Rattle.r10_body.specs.Content.{event, uart, node, root}
 use Rattle.r10_packet.specs.Header.{header_bytes}
 use Rattle.r10_body.specs.Packets.{Packet, packet_bytes, file_bytes}
-use Rattle.r10_body.specs.Rules.{KeepsChecksums, KeepsStart, KeepsChannels, KeepsSequence, KeepsCounts, KeepsIndex, KeepsCounters, KeepsEvents, node_entries}
+use Rattle.r10_body.specs.Rules.{KeepsChecksums, KeepsStart, KeepsChannels, KeepsSequence, KeepsCounts, KeepsIndex, KeepsCounters, KeepsEvents, node_entries, has_whole_index}
 use Rattle.r10_body.specs.Faults.{IsAtFault, KeepsHeader, KeepsFiller, ReadsPacket, BreaksRule, first_packet, rule, no_time, no_index}
 use Rattle.r10_body.specs.Faults as broken_rules
 use Rattle.r10_body.specs.Foreign.{IsForeignPacket}
@@ -85,35 +85,76 @@ other-counter ((first, end), rise, near) = omega (arith, first)
 
 -- rule 8: the index
 pub data-behind-node : KeepsIndex (data_packets ++ a_node_packet ∷ []) (next_packet 1 1010 1010) → ⊥
-data-behind-node (roots, nodes) = omega (arith, nodes)
+data-behind-node keeps = omega (arith, keeps)
 
 pub node-behind-root : KeepsIndex a_recording a_node_packet → ⊥
-node-behind-root (roots, entries) = omega (arith, roots)
+node-behind-root (place, entries) = omega (arith, ap length entries)
 
 pub root-without-node : KeepsIndex data_packets a_root_packet → ⊥
-root-without-node (roots, (named, entries)) = omega (arith, named)
+root-without-node ((some, ends), entries) = omega (arith, some)
 
 -- a node without the last packet, and one without the setup packet
 pub entry-left-out : KeepsIndex data_packets (record a_node_packet { content = node (a_node_entry 0x01 0 0 ∷ a_node_entry 0x11 1 32 ∷ []) }) → ⊥
-entry-left-out (roots, entries) = omega (arith, ap length entries)
+entry-left-out (place, entries) = omega (arith, ap length entries)
 
 pub setup-left-out : KeepsIndex data_packets (record a_node_packet { content = node (a_node_entry 0x11 1 32 ∷ a_node_entry 0x50 5 68 ∷ []) }) → ⊥
-setup-left-out (roots, entries) = omega (arith, ap length entries)
+setup-left-out (place, entries) = omega (arith, ap length entries)
 
 -- a node of 99 entries where there are 101 packets
 abbrev many : List Packet
 many = a_setup_packet ∷ a_time_packet ∷ replicate 99 uart_packet
 
 pub ninety-nine : KeepsIndex many (record a_node_packet { content = node (take 99 (node_entries 0 many)) }) → ⊥
-ninety-nine (roots, entries) = omega (arith, ap length entries)
+ninety-nine (place, entries) = omega (arith, ap length entries)
 
 -- a root that doesn't name itself, and one that names itself where the node stands
 pub root-not-named : KeepsIndex (data_packets ++ a_node_packet ∷ []) (record a_root_packet { content = root (a_root_entry 124 ∷ []) }) → ⊥
-root-not-named (roots, (named, entries)) = omega (arith, ap length entries)
+root-not-named (ends, entries) = omega (arith, ap length entries)
 
 pub root-names-another : KeepsIndex (data_packets ++ a_node_packet ∷ []) (record a_root_packet { content = root (a_root_entry 124 ∷ a_root_entry 124 ∷ []) }) → ⊥
 unfolding packet_bytes header_bytes
-root-names-another (roots, (named, entries)) = omega (arith, ap (sum_by (λ (e : RootEntry). e.offset)) entries)
+root-names-another (ends, entries) = omega (arith, ap (sum_by (λ (e : RootEntry). e.offset)) entries)
+
+-- of a hundred times behind the setup the first group has a node of a hundred packets, and so has the second one node
+abbrev times : List Packet
+times = a_setup_packet ∷ replicate 100 a_time_packet
+
+abbrev first_group : List Packet
+first_group = record a_node_packet { content = node (take 100 (node_entries 0 times)) } ∷ record a_root_packet { content = root (a_root_entry 3632 ∷ a_root_entry 5660 ∷ []) } ∷ []
+
+abbrev second_node : Packet
+second_node = record a_node_packet { sequence = 3; content = node (drop 100 (node_entries 0 times)) }
+
+abbrev second_root : RootEntry → Packet
+second_root link = record a_root_packet { sequence = 4; content = root (a_root_entry 5720 ∷ link ∷ []) }
+
+pub first-group : KeepsIndex (times ++ take 1 first_group) (record a_root_packet { content = root (a_root_entry 3632 ∷ a_root_entry 5660 ∷ []) })
+unfolding packet_bytes header_bytes
+first-group = ((lit< tt, inl refl), refl)
+
+pub next-group : KeepsIndex (times ++ first_group) second_node
+unfolding packet_bytes header_bytes
+next-group = (λ some. lit< tt, refl)
+
+pub linked-root : KeepsIndex (times ++ first_group ++ second_node ∷ []) (second_root (a_root_entry 5660))
+unfolding packet_bytes header_bytes
+linked-root = ((lit< tt, inl refl), refl)
+
+-- not itself, though it would be right in the first group
+pub unlinked-root : KeepsIndex (times ++ first_group ++ second_node ∷ []) (second_root (a_root_entry 5768)) → ⊥
+unfolding packet_bytes header_bytes
+unlinked-root (ends, entries) = omega (arith, ap (sum_by (λ (e : RootEntry). e.offset)) entries)
+
+-- nor may the file end with the first group
+pub group-missing : has_whole_index (times ++ first_group) ≡ false
+group-missing = refl
+
+pub whole-chain : has_whole_index (times ++ first_group ++ second_node ∷ second_root (a_root_entry 5660) ∷ []) ≡ true
+whole-chain = refl
+
+pub chain-length : length (file_bytes (times ++ first_group ++ second_node ∷ second_root (a_root_entry 5660) ∷ [])) ≡ 5828
+unfolding packet_bytes header_bytes
+chain-length = refl
 
 -- rule 9: the counter of the setup packet and of the index
 pub setup-counter : KeepsCounters (record a_setup_packet { counter = 999 } ∷ []) a_time_packet → ⊥

@@ -1,6 +1,6 @@
 -- Packets of an index among others: how many there are, and how long they are together.
-use Rattle.std.proofs.Common.{◌≡◌, ℕ, ◌+◌, ◌-◌, ◌*◌, ◌/◌, ◌%◌, ◌<◌, ◌≤◌, Bool, true, false, ◌==◌, List, [], ◌∷◌, ◌++◌, length, drop, refl, sym, ap, subst, ◌∙◌, arith, append_assoc}
-use Rattle.std.specs.Prelude.{count_by, filter, min}
+use Rattle.std.proofs.Common.{◌≡◌, ℕ, suc, ◌+◌, ◌-◌, ◌*◌, ◌/◌, ◌%◌, ◌<◌, ◌≤◌, Bool, true, false, ◌==◌, List, [], ◌∷◌, ◌++◌, length, drop, refl, sym, ap, subst, ◌∙◌, arith, append_assoc}
+use Rattle.std.specs.Prelude.{count_by, filter, min, cond, ◌&&◌}
 use Rattle.std.specs.List.{sum_by}
 use Rattle.std.proofs.lemmas.List.{append-nil, length-append, length-drop, length-take}
 use Rattle.std.proofs.lemmas.List.Sums.{sum_by-append, sum_by-cons, length-filter}
@@ -13,7 +13,7 @@ use Rattle.r10_indexbody.proofs.Roots.{body-length as root_length}
 use Rattle.r10_body.proofs.Lone.{packet-length}
 use Rattle.r10_body.specs.Content.{Content, setup, time, event, uart, bus, arinc, discrete, message, node, root, type_of, body_of}
 use Rattle.r10_body.specs.Packets.{Packet, packet_bytes, file_bytes}
-use Rattle.r10_body.specs.Rules.{MayFollow, EachFollows, KeepsChecksums, IsNextNode, IsNextRoot, is_index, is_data, is_node, is_root, is_closed_file, node_entries, root_entries, root_entry_of}
+use Rattle.r10_body.specs.Rules.{MayFollow, EachFollows, KeepsChecksums, IsNextNode, IsNextRoot, HasPlace, is_index, is_data, is_node, is_root, is_closed_file, all_named, has_whole_index, node_entries, root_entry_of, last_nodes, unnamed, last_root}
 use Rattle.r10_body.proofs.Sentences.{rest_length}
 
 -- ---- what a packet is
@@ -87,6 +87,17 @@ pub not_closed : (ps : List Packet) → count_by is_index ps ≡ 0 → is_closed
 not_closed [] none = refl
 not_closed (p ∷ ps) none = let parts = none_at p ps (part_of p) none in rw parts.2 (not_closed ps parts.3)
 
+-- an index is whole only behind a root
+pub not_whole : (ps : List Packet) → is_closed_file ps ≡ false → has_whole_index ps ≡ false
+not_whole ps unclosed = rw unclosed refl
+
+both_first : (a b : Bool) → a && b ≡ true → a ≡ true
+both_first true b e = refl
+both_first false b e = e
+
+pub whole_closed : (ps : List Packet) → has_whole_index ps ≡ true → is_closed_file ps ≡ true
+whole_closed ps whole = both_first (is_closed_file ps) (all_named ps) whole
+
 -- ---- how long an index packet is
 
 index_body : (c : Content) (counter : ℕ) → type_of c == 3 ≡ true → (length (body_of counter c) + 24 ≡ index_len c) × (length (body_of counter c) % 4 ≡ 0)
@@ -118,23 +129,35 @@ index_bytes ps = sum_by (λ p. index_len p.content) ps
 pub bytes_more : (ps : List Packet) (p : Packet) → index_bytes (ps ++ p ∷ []) ≡ index_bytes ps + index_len p.content
 bytes_more ps p = omega (arith, sum_by-append (λ (q : Packet). index_len q.content) ps (p ∷ []), sum_by-cons (λ (q : Packet). index_len q.content) p [])
 
--- nodes name each packet of data at most once, and a hundred at most each; a root names the nodes and itself
-pub data Sized (ps : List Packet) : Type 0 where
-  growing : (named : ℕ) → count_by is_root ps ≡ 0 → index_bytes ps ≤ 28 * count_by is_node ps + 20 * named → named ≤ 100 * count_by is_node ps → named ≤ count_by is_data ps
-      → count_by is_node ps ≤ count_by is_data ps → Sized ps
-  ended : count_by is_root ps ≡ 1 → index_bytes ps ≤ 64 * count_by is_data ps + 44 → Sized ps
+-- how many nodes stand last, with a packet more
+unnamed_by : (p : Packet) (b : Bool) → is_node p ≡ b → (offset : ℕ) (names : List RootEntry) → length (last_nodes offset names (p ∷ [])) ≡ cond b (suc (length names)) 0
+unnamed_by p true is offset names = rw is (omega (arith, length-append names (root_entry_of offset p ∷ [])))
+unnamed_by p false is offset names = rw is refl
+
+unnamed_from : (offset : ℕ) (names : List RootEntry) (ps : List Packet) (p : Packet) (b : Bool) → is_node p ≡ b
+    → length (last_nodes offset names (ps ++ p ∷ [])) ≡ cond b (suc (length (last_nodes offset names ps))) 0
+unnamed_from offset names [] p b is = unnamed_by p b is offset names
+unnamed_from offset names (q ∷ ps) p b is = unnamed_from (offset + length (packet_bytes q)) (cond (is_node q) (names ++ root_entry_of offset q ∷ []) []) ps p b is
+
+pub unnamed_more : (ps : List Packet) (p : Packet) (b : Bool) → is_node p ≡ b → length (unnamed (ps ++ p ∷ [])) ≡ cond b (suc (length (unnamed ps))) 0
+unnamed_more ps p b is = unnamed_from 0 [] ps p b is
+
+-- Nodes name each packet of data at most once, and a hundred at most each, and all but the last a hundred; a root names at least one node, and
+-- the root before it or itself.
+pub record Sized (ps : List Packet) : Type 0 where
+  pub named : ℕ
+  pub bytes : index_bytes ps + 16 * length (unnamed ps) ≤ 44 * count_by is_node ps + 20 * named + 44 * count_by is_root ps
+  pub once : named ≤ count_by is_data ps
+  pub few : named ≤ 100 * count_by is_node ps
+  pub whole : 100 * count_by is_node ps < count_by is_data ps + 100
+  pub roots : count_by is_root ps + length (unnamed ps) ≤ count_by is_node ps
 
 pub sized_within : (ps : List Packet) → Sized ps → index_bytes ps ≤ 64 * count_by is_data ps + 44
-sized_within ps (growing named roots bytes few once nodes) = omega arith
-sized_within ps (ended roots bytes) = bytes
+sized_within ps s = omega (arith, s.bytes, s.once, s.whole, s.roots)
 
 nodes-length : (offset : ℕ) (ps : List Packet) → length (node_entries offset ps) ≡ length ps
 nodes-length offset [] = refl
 nodes-length offset (p ∷ ps) = omega (arith, nodes-length (offset + length (packet_bytes p)) ps)
-
-roots-length : (offset : ℕ) (ps : List Packet) → length (root_entries offset ps) ≡ length ps
-roots-length offset [] = refl
-roots-length offset (p ∷ ps) = omega (arith, roots-length (offset + length (packet_bytes p)) ps)
 
 taken : (n a b : ℕ) → n ≡ min 100 (a - b) → 0 < n → (b < a) × (n ≤ 100) × (n + b ≤ a)
 taken n a b is some = (omega (arith, is, some), omega (arith, is, some), omega (arith, is, some))
@@ -149,42 +172,59 @@ next_named before entries some next =
     ap (λ (es : List NodeEntry). length es) next ∙ length-take 100 (drop (100 * count_by is_node before) all) ∙ ap (min 100) (length-drop (100 * count_by is_node before) all ∙ ap (λ n. n - 100 * count_by is_node before) most) in
     taken (length entries) (count_by is_data before) (100 * count_by is_node before) size some
 
-next_names : (before : List Packet) (p : Packet) (entries : List RootEntry) → IsNextRoot before p entries → length entries ≡ count_by is_node before + 1
+next_names : (before : List Packet) (p : Packet) (entries : List RootEntry) → IsNextRoot before p entries → length entries ≡ length (unnamed before) + 1
 next_names before p entries next =
-    let nodes = filter is_node before in
-    let front = root_entries (length (file_bytes (filter is_data before))) nodes in
-    let own = root_entry_of (length (file_bytes before)) p in
-    omega (
-      arith,
-      ap (λ (es : List RootEntry). length es) next.1,
-      length-append front (own ∷ []),
-      roots-length (length (file_bytes (filter is_data before))) nodes,
-      length-filter is_node before,
-    )
+    let link = last_root 0 (root_entry_of (length (file_bytes before)) p) before in
+    omega (arith, ap (λ (es : List RootEntry). length es) next.1, length-append (unnamed before) (link ∷ []))
 
 sized_more : (before : List Packet) (p : Packet) → MayFollow before p → Part p → Sized before → Sized (before ++ p ∷ [])
-sized_more before p may part (ended roots bytes) = absurd (omega (arith, roots, may.index.0))
-sized_more before p may (datum i n r len) (growing named roots bytes few once nodes) =
+sized_more before p may (datum i n r len) s =
     let datas : count_by is_data (before ++ p ∷ []) ≡ count_by is_data before + 1 = omega (arith, counted is_data before p, data_yes p i) in
     let same : count_by is_node (before ++ p ∷ []) ≡ count_by is_node before = omega (arith, counted is_node before p, counted_no is_node p n) in
-    let none : count_by is_root (before ++ p ∷ []) ≡ 0 = omega (arith, roots, counted is_root before p, counted_no is_root p r) in
+    let none : count_by is_root (before ++ p ∷ []) ≡ count_by is_root before = omega (arith, counted is_root before p, counted_no is_root p r) in
     let long : index_bytes (before ++ p ∷ []) ≡ index_bytes before = omega (arith, bytes_more before p, len) in
-    growing named none (omega (arith, long, same, bytes)) (omega (arith, same, few)) (omega (arith, datas, once)) (omega (arith, datas, same, nodes))
-sized_more before p may (node_here es e i n r len) (growing named roots bytes few once nodes) =
+    let last : length (unnamed (before ++ p ∷ [])) ≡ 0 = unnamed_more before p false n in
+    record {
+      named = s.named;
+      bytes = omega (arith, long, last, same, none, s.bytes);
+      once = omega (arith, datas, s.once);
+      few = omega (arith, same, s.few);
+      whole = omega (arith, same, datas, s.whole);
+      roots = omega (arith, none, last, same, s.roots);
+    }
+sized_more before p may (node_here es e i n r len) s =
     let datas : count_by is_data (before ++ p ∷ []) ≡ count_by is_data before = omega (arith, counted is_data before p, data_no p i) in
     let more : count_by is_node (before ++ p ∷ []) ≡ count_by is_node before + 1 = omega (arith, counted is_node before p, counted_yes is_node p n) in
-    let none : count_by is_root (before ++ p ∷ []) ≡ 0 = omega (arith, roots, counted is_root before p, counted_no is_root p r) in
+    let none : count_by is_root (before ++ p ∷ []) ≡ count_by is_root before = omega (arith, counted is_root before p, counted_no is_root p r) in
     let long : index_bytes (before ++ p ∷ []) ≡ index_bytes before + 28 + 20 * length es = omega (arith, bytes_more before p, len) in
+    let last : length (unnamed (before ++ p ∷ [])) ≡ suc (length (unnamed before)) = unnamed_more before p true n in
     let fits : FitsNodeBody es = rw e at may.fits.content in
-    let says : IsNextNode before es = rw e at may.index.1 in
-    let next = next_named before es fits.some says in
-    growing (named + length es) none (omega (arith, long, more, bytes)) (omega (arith, more, few, next.1)) (omega (arith, datas, few, next.2)) (omega (arith, datas, more, next.0))
-sized_more before p may (root_here es e i n r len) (growing named roots bytes few once nodes) =
+    let says : HasPlace before × IsNextNode before es = rw e at may.index in
+    let next = next_named before es fits.some says.1 in
+    record {
+      named = s.named + length es;
+      bytes = omega (arith, long, last, more, none, s.bytes);
+      once = omega (arith, datas, s.few, next.2);
+      few = omega (arith, more, s.few, next.1);
+      whole = omega (arith, more, datas, next.0);
+      roots = omega (arith, none, last, more, s.roots);
+    }
+sized_more before p may (root_here es e i n r len) s =
     let datas : count_by is_data (before ++ p ∷ []) ≡ count_by is_data before = omega (arith, counted is_data before p, data_no p i) in
-    let one : count_by is_root (before ++ p ∷ []) ≡ 1 = omega (arith, roots, counted is_root before p, counted_yes is_root p r) in
+    let same : count_by is_node (before ++ p ∷ []) ≡ count_by is_node before = omega (arith, counted is_node before p, counted_no is_node p n) in
+    let more : count_by is_root (before ++ p ∷ []) ≡ count_by is_root before + 1 = omega (arith, counted is_root before p, counted_yes is_root p r) in
     let long : index_bytes (before ++ p ∷ []) ≡ index_bytes before + 28 + 16 * length es = omega (arith, bytes_more before p, len) in
-    let says : IsNextRoot before p es = rw e at may.index.1 in
-    ended one (omega (arith, long, datas, bytes, once, nodes, next_names before p es says))
+    let last : length (unnamed (before ++ p ∷ [])) ≡ 0 = unnamed_more before p false n in
+    let says : IsNextRoot before p es = rw e at may.index in
+    let names : length es ≡ length (unnamed before) + 1 = next_names before p es says in
+    record {
+      named = s.named;
+      bytes = omega (arith, long, last, same, more, names, s.bytes);
+      once = omega (arith, datas, s.once);
+      few = omega (arith, same, s.few);
+      whole = omega (arith, same, datas, s.whole);
+      roots = omega (arith, more, last, same, says.0.0, s.roots);
+    }
 
 sized_from : (before ps : List Packet) → EachFollows before ps → Sized before → Sized (before ++ ps)
 sized_from before [] each sized = subst (λ (b : List Packet). Sized b) (sym (append-nil before)) sized
@@ -193,4 +233,4 @@ sized_from before (p ∷ ps) each sized =
 
 -- the index of a file is no longer than 64 bytes for each packet that it names, and 44
 pub sized : (ps : List Packet) → EachFollows [] ps → index_bytes ps ≤ 64 * count_by is_data ps + 44
-sized ps each = sized_within ps (sized_from [] ps each (growing 0 refl (omega arith) (omega arith) (omega arith) (omega arith)))
+sized ps each = sized_within ps (sized_from [] ps each (record { named = 0; bytes = omega arith; once = omega arith; few = omega arith; whole = omega arith; roots = omega arith }))

@@ -1,6 +1,6 @@
 -- The first recording is a file that says its setup and its entries.
 use Rattle.std.specs.Prelude.{◌≡◌, true, false, [], ◌∷◌, ◌++◌, refl}
-use Rattle.std.proofs.Common.{lit<, lit≤, arith, sym}
+use Rattle.std.proofs.Common.{inl, lit<, lit≤, arith, sym}
 use Rattle.r10_packet.specs.Header.{header_bytes}
 use Rattle.r10_body.specs.Packets.{packet_bytes, file_bytes}
 use Rattle.r10_body.specs.Rules.{MayFollow, IsFile}
@@ -18,7 +18,7 @@ setup-first = record {
   channels = ((λ _. refl, λ _. refl), λ _. tt, λ _. refl);
   sequence = refl;
   counts = (tt, tt, tt);
-  index = (refl, refl);
+  index = refl;
   counters = (λ e. tt, λ e. absurd (no e));
   events = tt;
 }
@@ -31,7 +31,7 @@ time-second = record {
   channels = ((λ e. absurd (no e), λ e. absurd (omega arith)), λ _. (λ e. absurd (omega arith), tt), λ _. refl);
   sequence = refl;
   counts = ((refl, tt), (lit≤ tt, tt), (lit≤ tt, tt));
-  index = (refl, refl);
+  index = refl;
   counters = (λ _. (refl, tt), λ e. absurd (no e));
   events = tt;
 }
@@ -51,7 +51,7 @@ uart-third = record {
   channels = ((λ e. absurd (no e), λ e. absurd (omega arith)), λ _. (λ e. absurd (omega arith), (λ e. absurd (omega arith), tt)), λ _. refl);
   sequence = refl;
   counts = ((refl, tt), (lit≤ tt, (lit≤ tt, tt)), (lit≤ tt, (lit≤ tt, tt)));
-  index = (refl, refl);
+  index = refl;
   counters = (λ e. absurd (omega arith), λ e. absurd (no e));
   events = tt;
 }
@@ -72,7 +72,7 @@ node-fourth = record {
   channels = ((λ _. refl, λ _. refl), λ lt. absurd (omega arith), λ _. refl);
   sequence = refl;
   counts = (tt, tt, tt);
-  index = (refl, refl);
+  index = (λ some. absurd (omega arith), refl);
   counters = (λ e. absurd (omega arith), λ _. refl);
   events = tt;
 }
@@ -93,7 +93,7 @@ root-fifth = record {
   channels = ((λ _. refl, λ _. refl), λ lt. absurd (omega arith), λ _. refl);
   sequence = refl;
   counts = (tt, tt, tt);
-  index = (refl, (lit≤ tt, refl));
+  index = ((lit< tt, inl refl), refl);
   counters = (λ e. absurd (omega arith), λ _. refl);
   events = tt;
 }

@@ -61,7 +61,7 @@ misplaced = record a_root_packet { content = root (a_root_entry 124 ∷ a_root_e
 
 not_itself : KeepsIndex with_node misplaced → ⊥
 unfolding packet_bytes header_bytes
-not_itself (roots, (named, entries)) = omega (arith, ap last_offset entries)
+not_itself (ends, entries) = omega (arith, ap last_offset entries)
   where
     last_offset : List RootEntry → ℕ
     last_offset (a ∷ b ∷ rest) = b.offset
@@ -88,7 +88,7 @@ abbrev pub too_late : Packet
 too_late = record uart_packet { sequence = 1; counter = 1010; content = uart (record { count = 1010; parity = false; sub = 0; bytes = [] } ∷ []) }
 
 not_data : KeepsIndex with_node too_late → ⊥
-not_data (roots, nodes) = omega (arith, nodes)
+not_data keeps = omega (arith, keeps)
 
 pub data-too-late : IsAtFault (file_bytes with_node ++ packet_bytes too_late) true 212 (Rule 8)
 unfolding packet_bytes header_bytes

@@ -6,7 +6,7 @@ use Rattle.r10_packet.specs.Header.{checksum_bits}
 use Rattle.r10_packet.specs.Packet.{filled, least_filler}
 use Rattle.r10_packet.specs.declared.fault.PacketFault.TheVariants as packet_faults
 use Rattle.r10_body.specs.Packets.{Packet, FitsPacket, packet_bytes, file_bytes}
-use Rattle.r10_body.specs.Rules.{KeepsChecksums, KeepsStart, KeepsChannels, KeepsSequence, KeepsCounts, KeepsIndex, KeepsCounters, KeepsEvents, EachFollows, is_index, is_closed_file}
+use Rattle.r10_body.specs.Rules.{KeepsChecksums, KeepsStart, KeepsChannels, KeepsSequence, KeepsCounts, KeepsIndex, KeepsCounters, KeepsEvents, EachFollows, is_index, has_whole_index}
 use Rattle.r10_body.specs.Foreign.{opaque_at, IsForeignBody, IsForeignPacket}
 use Rattle.r10_body.specs.declared.fault.FileFault.{FileFault}
 use Rattle.r10_body.specs.declared.fault.FileFault.TheVariants.{Truncated, Sync, HeaderSum, Length, DataSum, Body, Rule}
@@ -71,8 +71,8 @@ pub data IsWrongHere (before : List Packet) (rest : List ℕ) (closed : Bool) : 
   packet : {fault : FileFault} → (0 < length rest) ⊎ (length before ≡ 0) → HasFault rest fault → IsWrongHere before rest closed fault
   rule : {n : ℕ} → IsForeignPacket (first_packet rest) → BreaksRule before rest closed n → ((m : ℕ) → BreaksRule before rest closed m → n ≤ m) → IsWrongHere before rest closed (Rule n)
   no_time : length rest ≡ 0 → length before ≡ 1 → IsWrongHere before rest closed (Rule 4)
-  -- nodes or the root are missing
-  no_index : length rest ≡ 0 → 2 ≤ length before → closed ≡ true → is_closed_file before ≡ false → IsWrongHere before rest closed (Rule 8)
+  -- nodes or a root are missing
+  no_index : length rest ≡ 0 → 2 ≤ length before → closed ≡ true → has_whole_index before ≡ false → IsWrongHere before rest closed (Rule 8)
 
 -- a file that should be strict, with a closed directory entry or an unclosed one, is at fault first at an offset: what stands before are packets that follow each other, without an index where the entry is unclosed
 pub record IsAtFault (bytes : List ℕ) (closed : Bool) (offset : ℕ) (fault : FileFault) : Type 0 where

@@ -67,8 +67,6 @@ pub enum Refusal {
     Unread,
     /// The reserved directory blocks have as many files as they can.
     DirectoryFull,
-    /// The file has as many packets as its index can name.
-    IndexFull,
     /// The medium has no room for it.
     MediumFull,
     /// The directory can't be taken, first for this block.
@@ -84,7 +82,7 @@ pub enum Refusal {
 }
 
 impl Refusal {
-    /// Its number, 1 to 30.
+    /// Its number, 1 to 30; none has 24.
     pub fn number(&self) -> u8
         ensures { result ≡ refusal_number self.now }
     {
@@ -112,7 +110,6 @@ impl Refusal {
             Refusal::NoCursor => 21,
             Refusal::Unread => 22,
             Refusal::DirectoryFull => 23,
-            Refusal::IndexFull => 24,
             Refusal::MediumFull => 25,
             Refusal::BadDirectory(_) => 26,
             Refusal::BadFile(_, _) => 27,
@@ -150,7 +147,6 @@ impl Refusal {
             Refusal::NoCursor => "NoCursor",
             Refusal::Unread => "Unread",
             Refusal::DirectoryFull => "DirectoryFull",
-            Refusal::IndexFull => "IndexFull",
             Refusal::MediumFull => "MediumFull",
             Refusal::BadDirectory(_) => "BadDirectory",
             Refusal::BadFile(_, _) => "BadFile",

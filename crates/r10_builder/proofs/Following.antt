@@ -20,7 +20,7 @@ use Rattle.r10_body.specs.declared.message.Message.TheVariants as messages
 use Rattle.r10_body.specs.declared.spec.ChannelSpec.{ChannelSpec}
 use Rattle.r10_body.specs.Sequence.{last_count, next_sequence, numbered}
 use Rattle.r10_body.proofs.ChannelLists.{rises}
-use Rattle.r10_body.proofs.Indexes.{counted, counted_no, no_nodes, no_roots, not_closed}
+use Rattle.r10_body.proofs.Indexes.{counted, counted_no, not_closed}
 use Rattle.r10_body.proofs.Rules.{follows_more}
 use Rattle.r10_body.proofs.Sentences.{rest_length}
 use Rattle.r10_builder.specs.Packing.{IsClosedPacket, entry_on, first_count}
@@ -61,13 +61,13 @@ not_either type = either_at type (type == 1) (type == 3) refl refl
 
 keeps_index : (packets : List Packet) (p : Packet) (c : Content) → p.content ≡ c → 3 < type_of c → count_by is_index packets ≡ 0 → KeepsIndex packets p
 keeps_index packets p (setup text) e lt none = absurd (omega arith)
-keeps_index packets p (time civil) e lt none = rw e (no_roots packets none, no_nodes packets none)
+keeps_index packets p (time civil) e lt none = rw e none
 keeps_index packets p (event one) e lt none = absurd (omega arith)
-keeps_index packets p (uart es) e lt none = rw e (no_roots packets none, no_nodes packets none)
-keeps_index packets p (bus es) e lt none = rw e (no_roots packets none, no_nodes packets none)
-keeps_index packets p (arinc es) e lt none = rw e (no_roots packets none, no_nodes packets none)
-keeps_index packets p (discrete bits es) e lt none = rw e (no_roots packets none, no_nodes packets none)
-keeps_index packets p (message es) e lt none = rw e (no_roots packets none, no_nodes packets none)
+keeps_index packets p (uart es) e lt none = rw e none
+keeps_index packets p (bus es) e lt none = rw e none
+keeps_index packets p (arinc es) e lt none = rw e none
+keeps_index packets p (discrete bits es) e lt none = rw e none
+keeps_index packets p (message es) e lt none = rw e none
 keeps_index packets p (node es) e lt none = absurd (omega arith)
 keeps_index packets p (root es) e lt none = absurd (omega arith)
 
@@ -143,7 +143,7 @@ time_follows packets channel count civil growing goes small counts is =
       channels = ((λ h. absurd (no h), λ z. absurd (omega (arith, goes.above))), λ lt. goes.type_is, λ h. refl);
       sequence = refl;
       counts = ((refl, tt), rise_join 0 count (on_channel channel (file_entries packets)) (packet_entries p) (rises channel packets growing.each) goes.later (omega arith, tt), (omega arith, tt));
-      index = (no_roots packets growing.unindexed, no_nodes packets growing.unindexed);
+      index = growing.unindexed;
       counters = (λ o. absurd (omega arith), λ h. absurd (no h));
       events = tt;
     }
@@ -168,7 +168,7 @@ event_follows packets channel count number growing goes small counts few =
       channels = ((λ h. absurd (no h), λ z. absurd (omega (arith, goes.above))), λ lt. goes.type_is, λ h. refl);
       sequence = refl;
       counts = ((refl, tt), rise_join 0 count (on_channel channel (file_entries packets)) (packet_entries p) (rises channel packets growing.each) goes.later (omega arith, tt), (omega arith, tt));
-      index = (no_roots packets growing.unindexed, no_nodes packets growing.unindexed);
+      index = growing.unindexed;
       counters = (λ o. absurd (omega arith), λ h. absurd (no h));
       events = refl;
     }
@@ -190,7 +190,7 @@ setup_first counter text fits short = record {
   channels = ((λ h. refl, λ z. refl), λ lt. absurd (omega arith), λ h. refl);
   sequence = refl;
   counts = (tt, tt, tt);
-  index = (refl, refl);
+  index = refl;
   counters = (λ o. absurd (omega arith), λ h. absurd (no h));
   events = tt;
 }
@@ -212,7 +212,7 @@ time_second text channel count civil above small counts is =
       channels = ((λ h. absurd (no h), λ z. absurd (omega (arith, above))), λ lt. (λ h. absurd (omega (arith, above, h)), tt), λ h. refl);
       sequence = rw off refl;
       counts = ((refl, tt), (omega arith, tt), (omega arith, tt));
-      index = (refl, refl);
+      index = refl;
       counters = (λ o. (refl, tt), λ h. absurd (no h));
       events = tt;
     }

@@ -1,5 +1,5 @@
 -- What packets and builders say together, where one of them changes.
-use Rattle.std.proofs.Common.{◌≡◌, ℕ, zero, suc, ◌+◌, ◌<◌, Bool, true, false, ◌==◌, List, [], ◌∷◌, ◌++◌, length, map, get_or, set, refl, sym, ap, subst, ◌∙◌, arith, append_assoc, length-append}
+use Rattle.std.proofs.Common.{◌≡◌, ℕ, zero, suc, ◌+◌, ◌<◌, Bool, true, false, ◌==◌, List, [], ◌∷◌, ◌++◌, length, map, get_or, set, refl, sym, ap, subst, ◌∙◌, arith, append_assoc}
 use Rattle.std.specs.Prelude.{count_by, cond}
 use Rattle.std.specs.List.{AllByRecursion, sum_by}
 use Rattle.std.proofs.lemmas.Bool.{eqb-true, eq-eqb, ne_eqb}
@@ -16,7 +16,7 @@ use Rattle.r10_body.proofs.ChannelLists.{channel_more, packet_off_channel}
 use Rattle.r10_body.proofs.Sums.{same_sum}
 use Rattle.r10_builder.specs.Packing.{entry_on}
 use Rattle.r10_builder.specs.State.{BuilderState}
-use Rattle.r10_builder.specs.Grows.{BuildersAreApart, Grows, HasNone, all_held, held, is_open_builder, packet_count, taken_in}
+use Rattle.r10_builder.specs.Grows.{BuildersAreApart, Grows, HasNone, all_held, held, is_open_builder, taken_in}
 
 -- ---- samples of a channel
 
@@ -201,14 +201,8 @@ cost_more text a b more c d grows =
     let same : file_cost text (taken_in c d) ≡ file_cost text all = same_cost c d all (λ channel. grows channel ∙ sym (filter-append (is_entry_on channel) (taken_in a b) more)) text in
     omega (arith, same, sum_by-append entry_cost (taken_in a b) more)
 
--- ---- how many packets
+-- ---- how many are open
 
-pub one_packet : (packets : List Packet) (builders : List BuilderState) (p : Packet) → packet_count (packets ++ p ∷ []) builders ≡ packet_count packets builders + 1
-one_packet packets builders p = omega (arith, length-append packets (p ∷ []))
-
-opened : BuilderState → ℕ
-opened b = count_by is_open_builder (b ∷ [])
-
-pub one_changed : (packets : List Packet) (builders : List BuilderState) (i : ℕ) (d new : BuilderState) → i < length builders
-    → packet_count packets (set builders i new) + count_by is_open_builder (get_or builders i d ∷ []) ≡ packet_count packets builders + count_by is_open_builder (new ∷ [])
-one_changed packets builders i d new lt = omega (arith, sum_by-set (λ (b : BuilderState). cond (is_open_builder b) 1 0) builders i new d lt)
+pub one_changed : (builders : List BuilderState) (i : ℕ) (d new : BuilderState) → i < length builders
+    → count_by is_open_builder (set builders i new) + count_by is_open_builder (get_or builders i d ∷ []) ≡ count_by is_open_builder builders + count_by is_open_builder (new ∷ [])
+one_changed builders i d new lt = omega (arith, sum_by-set (λ (b : BuilderState). cond (is_open_builder b) 1 0) builders i new d lt)

@@ -1,5 +1,5 @@
 -- What packets and builders say together, and how that grows.
-use Rattle.std.specs.Prelude.{◌≡◌, ℕ, ◌+◌, Bool, List, [], ◌∷◌, ◌++◌, length, map, count_by, nat_lt}
+use Rattle.std.specs.Prelude.{◌≡◌, ℕ, Bool, List, [], ◌∷◌, ◌++◌, length, map, nat_lt}
 use Rattle.std.specs.List.{AllByRecursion, flat_map}
 use Rattle.r10_body.specs.Files.{on_channel}
 use Rattle.r10_body.specs.Packets.{Packet, file_entries}
@@ -34,7 +34,3 @@ HasNone channel builders = AllByRecursion (λ (b : BuilderState). b.spec.id ≡ 
 
 abbrev pub is_open_builder : BuilderState → Bool
 is_open_builder b = nat_lt 0 (length b.samples)
-
--- how many packets there are, where an open builder counts as one
-abbrev pub packet_count : List Packet → List BuilderState → ℕ
-packet_count packets builders = length packets + count_by is_open_builder builders

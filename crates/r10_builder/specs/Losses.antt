@@ -9,7 +9,7 @@ use Rattle.r10_body.specs.declared.message.Kind.TheVariants as kinds
 use Rattle.r10_body.specs.declared.message.Message.TheVariants.{Uart}
 use Rattle.r10_builder.specs.State.{BuilderState}
 use Rattle.r10_uart.specs.declared.entry.UartEntry.{UartEntry}
-use Rattle.r10_builder.specs.Grows.{packet_count, taken_in}
+use Rattle.r10_builder.specs.Grows.{taken_in}
 use Rattle.r10_body.specs.Sequence.{numbered}
 
 abbrev letter : ℕ → ℕ → UartEntry
@@ -57,10 +57,3 @@ open-in-its-builder = refl
 
 pub written-in-a-packet : drop 2 (taken_in (begun ++ a_and_b ∷ d_alone ∷ []) (none_open ∷ [])) ≡ all_three
 written-in-a-packet = refl
-
--- three packets and an open one, and four
-pub counted-while-open : packet_count (begun ++ a_and_b ∷ []) (open_d ∷ []) ≡ 4
-counted-while-open = refl
-
-pub counted-when-written : packet_count (begun ++ a_and_b ∷ d_alone ∷ []) (none_open ∷ []) ≡ 4
-counted-when-written = refl

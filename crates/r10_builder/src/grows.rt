@@ -1,6 +1,6 @@
 //! What packets and builders say together, as calls that do nothing.
 
-ghost use Rattle.std.specs.Prelude.{◌≡◌, ◌+◌, ◌<◌, ◌++◌, ℕ, List, [], ◌∷◌, length, map, get_or, set, count_by};
+ghost use Rattle.std.specs.Prelude.{◌≡◌, ◌+◌, ◌<◌, ◌++◌, ℕ, List, [], ◌∷◌, length, map, get_or, set};
 ghost use Rattle.std.specs.List.{sum_by};
 ghost use Rattle.r10_body.specs.Cost.{entry_cost, file_cost};
 ghost use Rattle.r10_body.specs.Files.{on_channel};
@@ -9,7 +9,7 @@ ghost use Rattle.r10_body.specs.declared.entry.Entry.{Entry};
 ghost use Rattle.r10_body.specs.declared.entry.Sample.{Sample};
 ghost use Rattle.r10_builder.specs.Packing.{entry_on};
 ghost use Rattle.r10_builder.specs.State.{BuilderState};
-ghost use Rattle.r10_builder.specs.Grows.{BuildersAreApart, Grows, HasNone, all_held, held, is_open_builder, packet_count, taken_in};
+ghost use Rattle.r10_builder.specs.Grows.{BuildersAreApart, Grows, HasNone, all_held, held, taken_in};
 
 /// Of builders that are apart, one holds what is open on its channel; where it changes, the others' channels stay.
 pub fn builders_by_channel()
@@ -35,11 +35,4 @@ pub fn entries_are_kept()
         → Grows a b more c d → file_cost text (taken_in c d) ≡ file_cost text (taken_in a b) + sum_by entry_cost more }
     ensures same { (a : List Packet) (b : List BuilderState) (entries : List Entry) → ((channel : ℕ) → on_channel channel (taken_in a b) ≡ on_channel channel entries)
         → (text : List ℕ) → file_cost text (taken_in a b) ≡ file_cost text entries }
-{}
-
-/// A packet more counts one, and a builder where it opens; where one closes, it counts one less.
-pub fn packets_are_counted()
-    ensures more { (packets : List Packet) (builders : List BuilderState) (p : Packet) → packet_count (packets ++ p ∷ []) builders ≡ packet_count packets builders + 1 }
-    ensures changed { (packets : List Packet) (builders : List BuilderState) (i : ℕ) (d : BuilderState) (new : BuilderState) → i < length builders
-        → packet_count packets (set builders i new) + count_by is_open_builder (get_or builders i d ∷ []) ≡ packet_count packets builders + count_by is_open_builder (new ∷ []) }
 {}

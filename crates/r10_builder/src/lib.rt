@@ -18,7 +18,7 @@ mod packet;
 pub use builder::Builder;
 pub use builders::Builders;
 pub use closed::{Closed, Reason};
-pub use grows::{builders_by_channel, entries_are_kept, packets_are_counted};
+pub use grows::{builders_by_channel, entries_are_kept};
 pub use laws::handed_out_frames;
 pub use next::{
     event_may_follow, file_begins, handed_out_may_follow, one_more_grows, time_may_follow,

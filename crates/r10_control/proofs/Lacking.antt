@@ -1,7 +1,7 @@
 -- Steps that are refused because room is lacking.
 use Rattle.std.proofs.Common.{◌≡◌, ◌≤◌, ℕ, false, Option, None, refl, sym, ◌∙◌, subst, Some}
 use Rattle.r10_body.specs.declared.refusal.Refusal.{Refusal}
-use Rattle.r10_body.specs.declared.refusal.Refusal.TheVariants.{IndexFull, MediumFull}
+use Rattle.r10_body.specs.declared.refusal.Refusal.TheVariants.{MediumFull}
 use Rattle.r10_machine.specs.Config.{Config}
 use Rattle.r10_machine.specs.Limits.{IsConfig}
 use Rattle.r10_machine.specs.Machine.{Machine}
@@ -13,7 +13,7 @@ use Rattle.r10_cursor.proofs.Sizes.{none_shrinks}
 use Rattle.r10_control.specs.Leading.{KeptStepsTaking, none_taken}
 use Rattle.r10_control.proofs.Leading.{none_left}
 use Rattle.r10_machine.specs.EventChecks.{refusal}
-use Rattle.r10_machine.specs.Step.{GivesUp, MayLackIndex, Refuses, Step, has_room}
+use Rattle.r10_machine.specs.Step.{GivesUp, Refuses, Step, has_room}
 use Rattle.r10_machine.specs.declared.event.Event.{Event as EventValue}
 use Rattle.r10_machine.specs.declared.event.Event.TheVariants.{Mount, Dismount, Tick, Start, Offer, Pump, Event, Commit, Stop, Seal, Erase, Files, Status, Cursor, Advance, Next, Close, Find, CountAt}
 use Rattle.r10_machine.specs.declared.reply.Reply.TheVariants as replies
@@ -41,27 +41,6 @@ same_room s m n (Close id) = refl
 same_room s m n (Find file channel count) = refl
 same_room s m n (CountAt file parts) = refl
 
-same_index : (s : Config) (m : Machine) (n : ℕ) (event : EventValue) → MayLackIndex s m event → MayLackIndex s (failing n m) event
-same_index s m n Mount lacks = lacks
-same_index s m n Dismount lacks = lacks
-same_index s m n (Tick count parts) lacks = lacks
-same_index s m n (Start name setup) lacks = lacks
-same_index s m n (Offer channel count message) lacks = lacks
-same_index s m n (Pump channel most) lacks = lacks
-same_index s m n (Event number count) lacks = lacks
-same_index s m n Commit lacks = lacks
-same_index s m n Stop lacks = lacks
-same_index s m n Seal lacks = lacks
-same_index s m n Erase lacks = lacks
-same_index s m n Files lacks = lacks
-same_index s m n Status lacks = lacks
-same_index s m n (Cursor file channels from to) lacks = lacks
-same_index s m n (Advance id) lacks = lacks
-same_index s m n (Next id) lacks = lacks
-same_index s m n (Close id) lacks = lacks
-same_index s m n (Find file channel count) lacks = lacks
-same_index s m n (CountAt file parts) lacks = lacks
-
 -- ---- the steps
 
 gives_up : StepsStaySound → (k : Kept) (old new : Image) (before now : ℕ) (m : Machine) (event : EventValue) (r : Refusal) → IsConfig k.config → KeptStandsFor k old before m → new ≡ old → before ≤ now
@@ -84,9 +63,3 @@ pub medium_full_leads : StepsStaySound → (k : Kept) (old new : Image) (before 
     → refusal k.config m event ≡ None → has_room k.config m event ≡ false → KeptStepsTaking none_taken k m event (replies.Refused MediumFull) k new now
 medium_full_leads law k old new before now m event limits means same more fine lacks =
     gives_up law k old new before now m event MediumFull limits means same more fine (same_room k.config m now event ∙ lacks, refl)
-
--- the index may be full
-pub index_full_leads : StepsStaySound → (k : Kept) (old new : Image) (before now : ℕ) (m : Machine) (event : EventValue) → IsConfig k.config → KeptStandsFor k old before m → new ≡ old → before ≤ now
-    → refusal k.config m event ≡ None → MayLackIndex k.config m event → KeptStepsTaking none_taken k m event (replies.Refused IndexFull) k new now
-index_full_leads law k old new before now m event limits means same more fine lacks =
-    gives_up law k old new before now m event IndexFull limits means same more fine (same_index k.config m now event lacks, refl)

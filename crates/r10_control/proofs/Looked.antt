@@ -142,7 +142,6 @@ recorded_still spec_of reached spec_of' reached' s tick last_event image chain o
   builders = is.builders;
   room = is.room;
   counts = is.counts;
-  few = is.few;
   cost = is.cost;
   on = is.on;
   listed = is.listed;

@@ -115,7 +115,7 @@ seal_makes k old n m chain nodes l size image fine room says = record {
 }
 
 pub seal_left : {T E : Type 0} (known : Machine → Type 0) (k : Kept) (old new : Disk) (chain made : List ChainBlock) (nodes : ℕ) (result : Result T E) → k.work ≡ idle chain → seal_checked k ≡ None → is_last_closed (listed_files chain) ≡ false → nodes ≡ k.config.nodes
-    → ((files : List File) (f : File) → IsLeftOpen k.config old.blocks chain nodes files f → SealsLast k.config files f old new made result)
+    → ((files : List File) (f : File) → IsLeftOpen k.config old.blocks chain nodes files f → SealsLast nodes k.config files f old new made result)
     → ((files : List File) (f : File) → IsLeftOpen k.config old.blocks chain nodes files f → StaysOpen k.config files f old new ⊎ (shown_cost f ≤ area k.config f))
     → ((files : List File) (f : File) → HoldsFiles k.config old.blocks chain None (files ++ f ∷ []) → f.own ≡ false → shown_cost f ≡ cost_of f) → IsLeftEither known k Seal old new
 seal_left known k old new chain made nodes result at fine unsealed nodes_are sealing room costs m means is safe = by (room l.files l.f l.left)
@@ -133,7 +133,7 @@ seal_left known k old new chain made nodes result at fine unsealed nodes_are sea
     by (inl still) = weakened (λ image. MediumSays k.config image (l.files ++ l.f ∷ [])) (MachineEither k.config m Seal) old new (λ image says. inl (was image says)) (still.left settled)
     by (inr room) =
         let seals = sealing l.files l.f l.left in
-        weakened (IsEither k.config l.files l.f seals.packets) (MachineEither k.config m Seal) old new
-        (λ image. ⊎_elim (λ says. inl (was image says)) (λ says. inr (seal_makes k old.blocks old.failures m chain nodes l (sealed seals.packets l.f).size image (seal_check k old.blocks old.failures m means ∙ fine)
+        weakened (IsEither nodes k.config l.files l.f seals.packets) (MachineEither k.config m Seal) old new
+        (λ image. ⊎_elim (λ says. inl (was image says)) (λ says. inr (seal_makes k old.blocks old.failures m chain nodes l (sealed nodes seals.packets l.f).size image (seal_check k old.blocks old.failures m means ∙ fine)
         (omega (arith, costs l.files l.f l.left.held l.own, room)) says)))
         (seals.moments settled)

@@ -136,7 +136,6 @@ recorded_risen s tick last_event image chain o old new risen is = record {
   builders = is.builders;
   room = is.room;
   counts = is.counts;
-  few = is.few;
   cost = is.cost;
   on = is.on;
   listed = is.listed;

@@ -241,8 +241,8 @@ number_some reserved image chain usable some =
     let place = placed reserved 1 chain (place_rules_hold reserved (length image) chain usable.rules) found.0 found.1.within in
     subst (λ (i : ℕ). 1 ≤ (at_place chain i).number) (sym (last_listing_is chain found.0 found.1)) (omega (arith, place.0))
 
-sealed_front : (reserved : ℕ) (old new : Image) (chain made : List ChainBlock) (e : DirectoryEntry) (packets : List Packet) → IsUsable reserved old chain → 0 < length (listed_files chain) → ListsSealed e packets chain made old new → KeepsFront reserved e.first_block old new
-sealed_front reserved old new chain made e packets usable some closed =
+sealed_front : (reserved : ℕ) (old new : Image) (chain made : List ChainBlock) (nodes : ℕ) (e : DirectoryEntry) (packets : List Packet) → IsUsable reserved old chain → 0 < length (listed_files chain) → ListsSealed nodes e packets chain made old new → KeepsFront reserved e.first_block old new
+sealed_front reserved old new chain made nodes e packets usable some closed =
     let number = (at_place chain (last_listing chain)).number in
     let low : number ≤ reserved = number_reserved reserved old chain usable some in
     let high : 1 ≤ number = number_some reserved old chain usable some in
@@ -271,8 +271,8 @@ sealed_own k later old new chain made nodes at whole usable unsealed done is = i
     let seals = done e it.2.0 in
     let some : 0 < length (listed_files chain) = omega (arith, ap (λ (l : List DirectoryEntry). length l) it.1, length-append (ended_in chain) (e ∷ [])) in
     let last : ListsLast e.first_block chain = subst (λ (o : Option DirectoryEntry). IsSomeAnd o (λ (x : DirectoryEntry). x.first_block ≡ e.first_block)) (sym it.2.0) refl in
-    let front = sealed_front k.config.directory old new chain made e seals.packets usable some seals.closed in
-    let entry = sealed_entry seals.packets seals.closed.time.civil e in
+    let front = sealed_front k.config.directory old new chain made nodes e seals.packets usable some seals.closed in
+    let entry = sealed_entry nodes seals.packets seals.closed.time.civil e in
     let listed : listed_files made ≡ ended_in chain ++ entry ∷ [] = ap (λ (c : List ChainBlock). listed_files c) seals.closed.made_is ∙ files-updated entry chain some in
     let before = among_front old (ended_in chain) e own it.2.1 (subst (λ (l : List DirectoryEntry). AreAmong old l own) it.1 was) in
     let kept = among_keeps old new (ended_in chain) own (ended_keep k.config.directory e.first_block old new chain whole usable last front) before in

@@ -9,7 +9,7 @@ use Rattle.r10_body.specs.Cost.{entry_cost}
 use Rattle.r10_body.specs.declared.entry.Entry.{Entry}
 use Rattle.r10_body.specs.declared.entry.Sample.{Sample}
 use Rattle.r10_body.specs.declared.refusal.Refusal.{Refusal}
-use Rattle.r10_body.specs.declared.refusal.Refusal.TheVariants.{IndexFull, Medium, MediumFull, NoSuchChannel, OutOfMemory}
+use Rattle.r10_body.specs.declared.refusal.Refusal.TheVariants.{Medium, MediumFull, NoSuchChannel, OutOfMemory}
 use Rattle.r10_body.specs.declared.spec.ChannelSpec.{ChannelSpec}
 use Rattle.r10_builder.specs.Packing.{entry_on}
 use Rattle.r10_count.specs.Checks.{first_broken}
@@ -41,11 +41,11 @@ use Rattle.r10_control.specs.Checks.{recorder_refusal}
 use Rattle.r10_control.specs.Leading.{AreLeft, KeptStepsTaking, none_taken}
 use Rattle.r10_control.specs.Taking.{MovedSamples, MovesAny, one_part, taken_of}
 use Rattle.r10_control.proofs.Apart.{apart_of}
-use Rattle.r10_control.proofs.Lacking.{index_full_leads, medium_full_leads}
+use Rattle.r10_control.proofs.Lacking.{medium_full_leads}
 use Rattle.r10_control.proofs.Leading.{memory_leads}
 use Rattle.r10_machine.specs.EventChecks.{refusal}
 use Rattle.r10_machine.specs.Says.{MediumSays}
-use Rattle.r10_machine.specs.Step.{Lacks, LanesAfter, MayLackIndex, entry_has_room, has_room, needed}
+use Rattle.r10_machine.specs.Step.{Lacks, LanesAfter, entry_has_room, has_room, needed}
 use Rattle.r10_machine.specs.declared.event.Event.{Event as EventValue}
 use Rattle.r10_machine.specs.declared.event.Event.TheVariants.{Pump}
 use Rattle.r10_machine.specs.declared.reply.Reply.{Reply as ReplyValue}
@@ -189,10 +189,10 @@ same_check k image n m channel most means =
     ∙ ap (λ (b : Bool). first_broken (recording_checks (mode_of k.work) ++ (b, NoSuchChannel) ∷ []))
     (found_alike channel m.lanes ∙ ap (λ (specs : List ChannelSpec). is_some (find (λ (spec : ChannelSpec). spec.id == channel) specs)) means.sound.channels)
 
-module _ (law : StepsStaySound) (led : PumpsAreLed) (k : Kept) (old new : Image) (before now : ℕ) (m : Machine) (chain : List ChainBlock) (o after : Open) (channel most nodes area : ℕ) (samples rest : List Sample) (limits : IsConfig k.config) (means : KeptStandsFor k old before m)
+module _ (law : StepsStaySound) (led : PumpsAreLed) (k : Kept) (old new : Image) (before now : ℕ) (m : Machine) (chain : List ChainBlock) (o after : Open) (channel most area : ℕ) (samples rest : List Sample) (limits : IsConfig k.config) (means : KeptStandsFor k old before m)
     (at : k.work ≡ recording chain o) (fine : recorder_refusal k (Pump channel most) ≡ None) (there : is_some (find (λ (spec : ChannelSpec). spec.id == channel) k.config.channels) ≡ true)
     (ends ends' : List Entry → Type 0) (end : (files : List File) (f : File) → HoldsFiles k.config old chain (Some o) (files ++ f ∷ []) → ends f.entries)
-    (nodes_are : nodes ≡ k.config.nodes) (area_is : (files : List File) (f : File) → HoldsFiles k.config old chain (Some o) (files ++ f ∷ []) → area ≡ area_of k.config f)
+    (area_is : (files : List File) (f : File) → HoldsFiles k.config old chain (Some o) (files ++ f ∷ []) → area ≡ area_of k.config f)
     (cost_is : (files : List File) (f : File) → HoldsFiles k.config old chain (Some o) (files ++ f ∷ []) → o.recording.cost ≡ cost_of f)
     (waits : HasWaiting m.lanes (one_part channel samples rest)) (more : before ≤ now) where
   abbrev Had : File → Type 0
@@ -223,14 +223,14 @@ module _ (law : StepsStaySound) (led : PumpsAreLed) (k : Kept) (old new : Image)
   taken = taken_of (one_part channel samples rest ∷ [])
 
   -- so many were moved
-  pub pump_done : (n : ℕ) (grown : List ℕ) → MovedSamples ends ends' channel most nodes area samples rest o old after new n → AreGrown (entries_on channel samples) k.config.channels k.taken grown
+  pub pump_done : (n : ℕ) (grown : List ℕ) → MovedSamples ends ends' channel most area samples rest o old after new n → AreGrown (entries_on channel samples) k.config.channels k.taken grown
       → KeptStepsTaking (taken_of (one_part channel samples rest ∷ [])) k m (Pump channel most) (replies.Moved n) (record k { work = recording chain after; taken = grown }) new now
   pump_done n grown moved grows =
       let f : File = its.file in
       let files : List File = its.front in
       let es : List Entry = entries_on channel samples in
       let lost : List Lane = change_first (is_channel channel) (without n) m.lanes in
-      let said = moved.moves k.config chain files f split (end files f split) nodes_are (area_is files f split) lane.lane lane.id lane.waits in
+      let said = moved.moves k.config chain files f split (end files f split) (area_is files f split) lane.lane lane.id lane.waits in
       let does = pumps_in k.config (record m { failures = now }) f channel lane.lane most n samples rest moved.full after.recording lane.is is_last said moved.some in
       let made : with_last (with_entries (entries_on lane.lane.spec.id samples)) (with_lane channel (without n) (record m { failures = now })) ≡ record m { lanes = lost; files = files ++ with_entries es f ∷ []; failures = now } =
       ap (λ (c : ℕ). with_last (with_entries (entries_on c samples)) (with_lane channel (without n) (record m { failures = now }))) lane.id
@@ -247,19 +247,18 @@ module _ (law : StepsStaySound) (led : PumpsAreLed) (k : Kept) (old new : Image)
 
   -- the first has no room
   full_leads : (f : Full) → Lacks k.config m (Pump channel most) (refusal_of_full f) → new ≡ old → KeptStepsTaking none_taken k m (Pump channel most) (replies.Refused (refusal_of_full f)) k new now
-  full_leads lacking.Index lacks same = index_full_leads law k old new before now m (Pump channel most) limits means same more checked lacks
   full_leads lacking.Medium lacks same = medium_full_leads law k old new before now m (Pump channel most) limits means same more checked lacks
 
-  pub pump_full : (f : Full) → samples ≡ [] → IsAskedFor o after → new ≡ old → MovesAny ends channel most nodes area 0 [] rest (Some f) o old after
+  pub pump_full : (f : Full) → samples ≡ [] → IsAskedFor o after → new ≡ old → MovesAny ends channel most area 0 [] rest (Some f) o old after
       → KeptStepsTaking (taken_of (one_part channel samples rest ∷ [])) k m (Pump channel most) (replies.Refused (refusal_of_full f)) (record k { work = recording chain after }) new now
   pump_full f none readied same moves =
       let waits : lane.lane.waiting ≡ [] ++ rest = lane.waits ∙ ap (λ (xs : List Sample). xs ++ rest) none in
-      let said = moves k.config chain its.front its.file split (end its.front its.file split) nodes_are (area_is its.front its.file split) lane.lane lane.id waits in
+      let said = moves k.config chain its.front its.file split (end its.front its.file split) (area_is its.front its.file split) lane.lane lane.id waits in
       leads_readied none_taken (taken_of (one_part channel samples rest ∷ [])) k m (Pump channel most) (replies.Refused (refusal_of_full f)) new now chain o after at readied (none_of channel samples rest none)
       (full_leads f (lacks_first k.config m its.file channel lane.lane most [] rest f after.recording lane.is is_last said) same)
 
   -- and none was taken from any lane
-  pub pump_shown : (f : Full) → samples ≡ [] → IsAskedFor o after → new ≡ old → MovesAny ends channel most nodes area 0 [] rest (Some f) o old after
+  pub pump_shown : (f : Full) → samples ≡ [] → IsAskedFor o after → new ≡ old → MovesAny ends channel most area 0 [] rest (Some f) o old after
       → KeptStepsTaking none_taken k m (Pump channel most) (replies.Refused (refusal_of_full f)) (record k { work = recording chain after }) new now
   pump_shown f none readied same moves =
       let leads = pump_full f none readied same moves in

@@ -4,7 +4,7 @@ use Rattle.std.specs.Prelude.{IsSomeAnd, nat_le, not}
 use Rattle.std.specs.List.{last_or}
 use Rattle.std.proofs.lemmas.Bool.{lt-leb}
 use Rattle.r10_body.specs.declared.refusal.Refusal.{Refusal}
-use Rattle.r10_body.specs.declared.refusal.Refusal.TheVariants.{IndexFull, Medium, MediumFull, NoSuchFile, OutOfMemory}
+use Rattle.r10_body.specs.declared.refusal.Refusal.TheVariants.{Medium, MediumFull, NoSuchFile, OutOfMemory}
 use Rattle.r10_body.specs.Packets.{Packet}
 use Rattle.r10_count.specs.Checks.{first_broken}
 use Rattle.r10_count.proofs.Rules.{rules_pass}
@@ -32,7 +32,7 @@ use Rattle.r10_control.proofs.Dismounts.{held}
 use Rattle.r10_control.proofs.Leading.{failed_leads, memory_leads, none_left, refused_leads, still_there}
 use Rattle.r10_seal.specs.Leftover.{IsEither, IsLeftOpen, shown_cost}
 use Rattle.r10_seal.specs.Sealing.{sealed}
-use Rattle.r10_machine.specs.ControlCalls.{MayPassIndex, Seals, closed_in}
+use Rattle.r10_machine.specs.ControlCalls.{Seals, closed_in}
 use Rattle.r10_machine.specs.EventChecks.{refusal}
 use Rattle.r10_machine.specs.Says.{MediumSays}
 use Rattle.r10_machine.specs.Sound.{SoundWork}
@@ -165,12 +165,6 @@ lack_leads law k old new before now m event r limits means same more fine gives 
 last_is : (k : Kept) (old : Image) (m : Machine) (chain : List ChainBlock) (nodes : ℕ) (l : Left k old chain nodes m) → last_or None m.files ≡ Some l.f
 last_is k old m chain nodes l = ap (λ (fs : List File). last_or None fs) l.all ∙ append_last None l.files l.f
 
-pub index_lacks : StepsStaySound → (k : Kept) (old new : Image) (before now : ℕ) (m : Machine) (chain : List ChainBlock) (nodes : ℕ) (l : Left k old chain nodes m) → IsConfig k.config → KeptStandsFor k old before m → new ≡ old → before ≤ now
-    → checked k ≡ None → MayPassIndex k.config l.f → KeptStepsTaking none_taken k m Seal (replies.Refused IndexFull) k new now
-index_lacks law k old new before now m chain nodes l limits means same more fine long =
-    lack_leads law k old new before now m Seal IndexFull limits means same more (same_check k old before m means ∙ fine)
-    (subst (λ (o : Option File). IsSomeAnd o (λ f. MayPassIndex k.config f)) (sym (last_is k old m chain nodes l)) long, refl)
-
 pub room_lacks : StepsStaySound → (k : Kept) (old new : Image) (before now : ℕ) (m : Machine) (chain : List ChainBlock) (nodes : ℕ) (l : Left k old chain nodes m) → IsConfig k.config → KeptStandsFor k old before m → new ≡ old → before ≤ now
     → checked k ≡ None → shown_cost l.f ≤ cost_of l.f → area k.config l.f < shown_cost l.f → KeptStepsTaking none_taken k m Seal (replies.Refused MediumFull) k new now
 room_lacks law k old new before now m chain nodes l limits means same more fine costs much =
@@ -216,14 +210,14 @@ fails_after law k old new before now m chain nodes l size limits means fine more
     }
 
 pub seal_fails : StepsStaySound → (k : Kept) (old new : Image) (before now : ℕ) (m : Machine) (chain : List ChainBlock) (nodes : ℕ) (l : Left k old chain nodes m) (packets : List Packet) → IsConfig k.config → KeptStandsFor k old before m → checked k ≡ None
-    → before ≤ now → Rose before now → shown_cost l.f ≡ cost_of l.f → l.f.size ≤ (sealed packets l.f).size → MediumSays k.config new (l.files ++ l.f ∷ []) ⊎ (shown_cost l.f ≤ area k.config l.f) → IsEither k.config l.files l.f packets new
+    → before ≤ now → Rose before now → shown_cost l.f ≡ cost_of l.f → l.f.size ≤ (sealed nodes packets l.f).size → MediumSays k.config new (l.files ++ l.f ∷ []) ⊎ (shown_cost l.f ≤ area k.config l.f) → IsEither nodes k.config l.files l.f packets new
     → KeptStepsTaking none_taken k m Seal (replies.Refused Medium) (record k { work = failed }) new now
 seal_fails law k old new before now m chain nodes l packets limits means fine more rose costs grows either reads = by either reads
   where
     open_still : MediumSays k.config new (l.files ++ l.f ∷ []) → KeptStepsTaking none_taken k m Seal (replies.Refused Medium) (record k { work = failed }) new now
     open_still says = failed_leads law k old new before now m Seal limits means more rose (same_check k old before m means ∙ fine) refl refl (subst (λ (fs : List File). MediumSays k.config new fs) (sym l.all) says)
 
-    by : MediumSays k.config new (l.files ++ l.f ∷ []) ⊎ (shown_cost l.f ≤ area k.config l.f) → IsEither k.config l.files l.f packets new → KeptStepsTaking none_taken k m Seal (replies.Refused Medium) (record k { work = failed }) new now
+    by : MediumSays k.config new (l.files ++ l.f ∷ []) ⊎ (shown_cost l.f ≤ area k.config l.f) → IsEither nodes k.config l.files l.f packets new → KeptStepsTaking none_taken k m Seal (replies.Refused Medium) (record k { work = failed }) new now
     by (inl says) also = open_still says
     by (inr room) (inl says) = open_still says
-    by (inr room) (inr says) = fails_after law k old new before now m chain nodes l (sealed packets l.f).size limits means fine more rose (omega (arith, costs, room)) grows says
+    by (inr room) (inr says) = fails_after law k old new before now m chain nodes l (sealed nodes packets l.f).size limits means fine more rose (omega (arith, costs, room)) grows says

@@ -24,7 +24,7 @@ use Rattle.r10_pump.specs.Stopping.{AllEnd, FailsAll, Part, TellsWaiting, TookAl
 use Rattle.r10_machine.specs.Says.{MediumSays}
 
 -- Channel by channel in this order, these parts were taken from the lanes; of a lane that is quiet, a part and its rest are all that waited. Into whatever file of the machine, they are what its stop takes in.
-pub record TakenAll {L : Type 0} (took : L → List Sample → L → Type 0) (quiet : L → Option (List Sample)) (reached : L → ℕ) (spec_of : L → ChannelSpec) (order shares : List ℕ) (nodes area : ℕ) (lanes lanes' : List L)
+pub record TakenAll {L : Type 0} (took : L → List Sample → L → Type 0) (quiet : L → Option (List Sample)) (reached : L → ℕ) (spec_of : L → ChannelSpec) (order shares : List ℕ) (area : ℕ) (lanes lanes' : List L)
     (old : Open) (before : Image) (chain : List ChainBlock) (said : Stopped) : Type 0 where
   pub parts : List Part
   pub order_is : map (λ (p : Part). p.channel) parts ≡ order
@@ -35,7 +35,7 @@ pub record TakenAll {L : Type 0} (took : L → List Sample → L → Type 0) (qu
   pub number : said.taken ≡ length (entries_of parts)
   pub left : said.left ≡ min (sum_by (λ (p : Part). length p.rest) parts) (2 ^ 64 - 1)
   pub recording : Recording
-  pub moves : (s : Config) (files : List File) (f : File) → HoldsFiles s before chain (Some old) (files ++ f ∷ []) → AllEnd spec_of reached lanes f.entries → nodes ≡ s.nodes → area ≡ area_of s f
+  pub moves : (s : Config) (files : List File) (f : File) → HoldsFiles s before chain (Some old) (files ++ f ∷ []) → AllEnd spec_of reached lanes f.entries → area ≡ area_of s f
       → AreMovedIn s f (map spec_of lanes) order parts said.taken recording
 
 -- the file with these entries, closed in so many bytes
@@ -43,10 +43,10 @@ abbrev pub closed_with : ℕ → List Part → File → File
 closed_with size parts f = closed_whole size (with_entries (entries_of parts) f)
 
 -- an image says the file closed, with what was taken from the lanes
-pub record SaysStopped {L : Type 0} (took : L → List Sample → L → Type 0) (quiet : L → Option (List Sample)) (reached : L → ℕ) (spec_of : L → ChannelSpec) (order shares : List ℕ) (nodes area : ℕ) (lanes lanes' : List L)
+pub record SaysStopped {L : Type 0} (took : L → List Sample → L → Type 0) (quiet : L → Option (List Sample)) (reached : L → ℕ) (spec_of : L → ChannelSpec) (order shares : List ℕ) (area : ℕ) (lanes lanes' : List L)
     (old : Open) (before : Image) (chain : List ChainBlock) (s : Config) (files : List File) (f : File) (image : Image) : Type 0 where
   pub said : Stopped
-  pub taken : TakenAll took quiet reached spec_of order shares nodes area lanes lanes' old before chain said
+  pub taken : TakenAll took quiet reached spec_of order shares area lanes lanes' old before chain said
   pub size : ℕ
   pub says : MediumSays s image (files ++ closed_with size taken.parts f ∷ [])
 
@@ -68,17 +68,17 @@ MaySayClosed reached spec_of lanes old before chain after size parts =
     → MediumSays s after (files ++ with_entries (entries_of parts) f ∷ []) ⊎ (MediumSays s after (files ++ closed_with size parts f ∷ []) × (f.size ≤ size))
 
 -- the medium failed while samples were taken, or while the file was closed
-pub data StopFails {L : Type 0} (took : L → List Sample → L → Type 0) (quiet : L → Option (List Sample)) (reached : L → ℕ) (spec_of : L → ChannelSpec) (order shares : List ℕ) (nodes area : ℕ) (lanes lanes' : List L)
+pub data StopFails {L : Type 0} (took : L → List Sample → L → Type 0) (quiet : L → Option (List Sample)) (reached : L → ℕ) (spec_of : L → ChannelSpec) (order shares : List ℕ) (area : ℕ) (lanes lanes' : List L)
     (old : Open) (before after : Disk) (chain : List ChainBlock) : Type 0 where
   in_taking : FailsAll took reached spec_of order lanes lanes' old.recording before after
       → ((s : Config) (files : List File) (f : File) → HoldsFiles s before.blocks chain (Some old) (files ++ f ∷ []) → AllEnd spec_of reached lanes f.entries → MediumSays s after.blocks (files ++ f ∷ []))
-      → StopFails took quiet reached spec_of order shares nodes area lanes lanes' old before after chain
-  in_closing : (said : Stopped) (taken : TakenAll took quiet reached spec_of order shares nodes area lanes lanes' old before.blocks chain said) (size : ℕ) → MaySayClosed reached spec_of lanes old before.blocks chain after.blocks size taken.parts
-      → Rose before.failures after.failures → StopFails took quiet reached spec_of order shares nodes area lanes lanes' old before after chain
+      → StopFails took quiet reached spec_of order shares area lanes lanes' old before after chain
+  in_closing : (said : Stopped) (taken : TakenAll took quiet reached spec_of order shares area lanes lanes' old before.blocks chain said) (size : ℕ) → MaySayClosed reached spec_of lanes old before.blocks chain after.blocks size taken.parts
+      → Rose before.failures after.failures → StopFails took quiet reached spec_of order shares area lanes lanes' old before after chain
 
-pub record StopCloses {L : Type 0} (took : L → List Sample → L → Type 0) (quiet : L → Option (List Sample)) (reached : L → ℕ) (spec_of : L → ChannelSpec) (order shares : List ℕ) (nodes area : ℕ) (lanes lanes' : List L)
+pub record StopCloses {L : Type 0} (took : L → List Sample → L → Type 0) (quiet : L → Option (List Sample)) (reached : L → ℕ) (spec_of : L → ChannelSpec) (order shares : List ℕ) (area : ℕ) (lanes lanes' : List L)
     (old : Open) (before after : Image) (chain made : List ChainBlock) (said : Stopped) : Type 0 where
-  pub taken : TakenAll took quiet reached spec_of order shares nodes area lanes lanes' old before chain said
+  pub taken : TakenAll took quiet reached spec_of order shares area lanes lanes' old before chain said
   pub size : ℕ
   pub closes : ClosesSo reached spec_of lanes old before chain made after size taken.parts
   pub ends : EndsSo reached spec_of lanes old before chain made after taken.parts

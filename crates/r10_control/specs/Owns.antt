@@ -5,7 +5,6 @@ use Rattle.r10_blockout.specs.Output.{first_of}
 use Rattle.r10_body.specs.declared.entry.Entry.{Entry}
 use Rattle.r10_body.specs.declared.spec.ChannelSpec.{ChannelSpec}
 use Rattle.r10_builder.specs.State.{HasRoomForTwo}
-use Rattle.r10_packetout.specs.Carries.{packets_of}
 use Rattle.r10_dirblock.specs.declared.entry.Entry.{Entry as DirectoryEntry}
 use Rattle.r10_dirchain.specs.Chain.{listed_files}
 use Rattle.r10_dirchain.specs.declared.chain.ChainBlock.{ChainBlock}
@@ -31,7 +30,7 @@ tick_count None = None
 tick_count (Some tick) = Some tick.count
 
 -- The file that is recorded goes on with times, events and what the lanes give: it carries entries of which none is later than what may come, and the medium shows the first of them, so many.
--- It has no more packets than its index may name, and costs no more than there is of the medium; the directory lists it last.
+-- It costs no more than there is of the medium; the directory lists it last.
 pub record IsRecorded {L : Type 0} (spec_of : L → ChannelSpec) (reached : L → ℕ) (s : Config) (tick : Option Tick) (last_event : Option ℕ) (image : Image) (chain : List ChainBlock) (o : Open) (lanes : List L) : Type 0 where
   pub text : List ℕ
   pub entries : List Entry
@@ -46,7 +45,6 @@ pub record IsRecorded {L : Type 0} (spec_of : L → ChannelSpec) (reached : L �
   pub builders : AllByRecursion (λ (spec : ChannelSpec). HasBuilder spec o.recording.builders) s.channels
   pub room : AllByRecursion HasRoomForTwo o.recording.builders
   pub counts : length o.recording.counts ≡ 4096
-  pub few : packets_of o.recording ≤ 100 * s.nodes
   pub cost : 512 * first_of o.recording.out.blocks + o.recording.cost ≤ 512 * s.blocks
   pub on : MayGoOn o image chain
   pub listed : IsSomeAnd (last_or None (listed_files chain)) (λ (e : DirectoryEntry). e.first_block ≡ first_of o.recording.out.blocks)

@@ -4,26 +4,25 @@ use Rattle.std.specs.List.{last_or}
 use Rattle.r10_blockout.specs.Blocks.{bytes_from}
 use Rattle.r10_body.specs.Faults.{IsAtFault}
 use Rattle.r10_body.specs.declared.refusal.Refusal.{Refusal}
-use Rattle.r10_body.specs.declared.refusal.Refusal.TheVariants.{BadFile, IndexFull, MediumFull}
+use Rattle.r10_body.specs.declared.refusal.Refusal.TheVariants.{BadFile, MediumFull}
 use Rattle.r10_dirchain.specs.Chain.{listed_files}
 use Rattle.r10_machine.specs.Config.{Config}
 use Rattle.r10_means.specs.Kept.{Kept, Work, idle}
 use Rattle.r10_medium.specs.Disk.{Disk, Image}
-use Rattle.r10_seal.specs.Judging.{CostsTooMuch, HasTooMany}
+use Rattle.r10_seal.specs.Judging.{CostsTooMuch}
 use Rattle.r10_seal.specs.Sealing.{SealsFile}
 use Rattle.r10_control.specs.Checks.{files_of}
 
--- the bytes of a file aren't strict, first at this fault, or are packets that are too many for so many nodes, or cost more than there is of the medium
-abbrev pub IsLastAtFault : List ℕ → ℕ → ℕ → Refusal → Type 0
-IsLastAtFault bytes nodes area (BadFile offset fault) = IsAtFault bytes false offset fault
-IsLastAtFault bytes nodes area IndexFull = HasTooMany bytes nodes
-IsLastAtFault bytes nodes area MediumFull = CostsTooMuch bytes nodes area
-IsLastAtFault bytes nodes area r = ⊥
+-- the bytes of a file aren't strict, first at this fault, or cost more than there is of the medium
+abbrev pub IsLastAtFault : List ℕ → ℕ → Refusal → Type 0
+IsLastAtFault bytes area (BadFile offset fault) = IsAtFault bytes false offset fault
+IsLastAtFault bytes area MediumFull = CostsTooMuch bytes area
+IsLastAtFault bytes area r = ⊥
 
 -- a seal is refused because of what the medium shows of the last file
 abbrev pub IsSealRefusal : Kept → Disk → Refusal → Type 0
 IsSealRefusal k disk r =
-    IsSomeAnd (last_or None (files_of k.work)) (λ e. IsLastAtFault (bytes_from disk.blocks e.first_block e.size) k.config.nodes (512 * (length disk.blocks - e.first_block)) r)
+    IsSomeAnd (last_or None (files_of k.work)) (λ e. IsLastAtFault (bytes_from disk.blocks e.first_block e.size) (512 * (length disk.blocks - e.first_block)) r)
 
 -- the last file of the directory in use is closed with its index, which has room
 abbrev pub IsSealed : Config → Image → Work → Image → Work → Type 0

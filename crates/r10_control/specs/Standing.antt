@@ -3,7 +3,7 @@ use Rattle.std.specs.Prelude.{◌≡◌, ℕ, ◌≤◌, List, [], ◌∷◌, Op
 use Rattle.std.specs.List.{AllByRecursion}
 use Rattle.r10_body.specs.declared.entry.Sample.{Sample}
 use Rattle.r10_body.specs.declared.refusal.Refusal.{Refusal}
-use Rattle.r10_body.specs.declared.refusal.Refusal.TheVariants.{IndexFull, MediumFull}
+use Rattle.r10_body.specs.declared.refusal.Refusal.TheVariants.{MediumFull}
 use Rattle.r10_body.specs.declared.spec.ChannelSpec.{ChannelSpec}
 use Rattle.r10_lane.specs.Lanes.{Gives}
 use Rattle.r10_machine.specs.Machine.{Lane, Machine}
@@ -120,7 +120,6 @@ pub record RefusesShown {L : Type 0} (took : L → List Sample → L → Type 0)
 
 -- this, where the refusal is for want of room
 abbrev pub WhereNoRoom : Refusal → Type 0 → Type 0
-WhereNoRoom IndexFull P = P
 WhereNoRoom MediumFull P = P
 WhereNoRoom r P = Unit {0}
 

@@ -8,10 +8,9 @@ use Rattle.r10_openfile.specs.Entering.{IsAskedFor}
 use Rattle.r10_body.specs.declared.entry.Entry.{Entry}
 use Rattle.r10_body.specs.declared.entry.Sample.{Sample}
 use Rattle.r10_body.specs.declared.refusal.Refusal.{Refusal}
-use Rattle.r10_body.specs.declared.refusal.Refusal.TheVariants.{IndexFull, Medium, MediumFull, OutOfMemory}
+use Rattle.r10_body.specs.declared.refusal.Refusal.TheVariants.{Medium, MediumFull, OutOfMemory}
 use Rattle.r10_body.specs.declared.spec.ChannelSpec.{ChannelSpec}
 use Rattle.r10_builder.specs.State.{HasRoomForTwo}
-use Rattle.r10_packetout.specs.Carries.{packets_of}
 use Rattle.r10_dirblock.specs.declared.entry.Entry.{Entry as DirectoryEntry}
 use Rattle.r10_dirchain.specs.declared.chain.ChainBlock.{ChainBlock}
 use Rattle.r10_volume.specs.Holding.{HoldsFiles, Open}
@@ -30,7 +29,7 @@ use Rattle.r10_openfile.specs.Carrying.{IsShown}
 use Rattle.r10_openfile.specs.Intake.{IsMovedIn}
 use Rattle.r10_openfile.specs.Keeping.{MayGoOn}
 use Rattle.r10_pump.specs.Machines.{HasWaiting}
-use Rattle.r10_pump.specs.Pumping.{Begins, SampleHasRoom, KeepsRoom, entries_on}
+use Rattle.r10_pump.specs.Pumping.{Begins, SampleHasRoom, entries_on}
 use Rattle.r10_pump.specs.Stopping.{Part, TellsWaiting, TookAll, entries_of, most_of, samples_on}
 use Rattle.r10_control.specs.Leading.{KeptStepsTaking}
 use Rattle.r10_control.specs.declared.pumping.PumpFault.{PumpFault}
@@ -86,7 +85,7 @@ IsStopped said parts = (said.taken ≡ length (entries_of parts)) × (said.left 
 
 -- a pump's answer, unless it is that the first that waits has no room
 abbrev pub HadRoom : Result ℕ Refusal → Type 0
-HadRoom result = IfErr result (λ r. elim r [ IndexFull ↦ ⊥ | MediumFull ↦ ⊥ | _ ↦ Unit {0} ])
+HadRoom result = IfErr result (λ r. elim r [ MediumFull ↦ ⊥ | _ ↦ Unit {0} ])
 
 -- a stop's answer that none is left, or that the medium didn't fail
 abbrev pub LeftNone : Result Stopped Refusal → Type 0
@@ -101,14 +100,13 @@ RefusesReadied disk None lacks old new medium medium' Medium = Rose (disk medium
 RefusesReadied disk None lacks old new medium medium' OutOfMemory = IsSameKept old new × (medium' ≡ medium)
 RefusesReadied disk None lacks old new medium medium' r = lacks r × IsSameKept old new × (medium' ≡ medium)
 
--- The file took these entries in, and goes on: no packet of it lacks a place in an index of so many nodes, and it costs no more than there is, where that was so before.
-pub record WentOn (nodes area : ℕ) (ends ends' : List Entry → Type 0) (more : List Entry) (old : Open) (before : Image) (new : Open) (after : Image) : Type 0 where
+-- The file took these entries in, and goes on: it costs no more than there is, where that was so before.
+pub record WentOn (area : ℕ) (ends ends' : List Entry → Type 0) (more : List Entry) (old : Open) (before : Image) (new : Open) (after : Image) : Type 0 where
   pub carries : (text : List ℕ) (entries : List Entry) (n : ℕ) → IsShown before old text entries n → ends entries → IsShown after new text (entries ++ more) n
   pub follows : (entries : List Entry) → ends entries → ends' (entries ++ more)
   pub file : IsSameFile old.recording new.recording
   pub counts : length new.recording.counts ≡ length old.recording.counts
   pub again : AllByRecursion HasRoomForTwo new.recording.builders
-  pub packets : KeepsRoom nodes old.recording new.recording
   pub cost : old.recording.cost ≤ area → new.recording.cost ≤ area
   pub on : (chain : List ChainBlock) → MayGoOn old before chain → MayGoOn new after chain
   pub holds : (s : Config) (chain : List ChainBlock) (files : List File) (f : File) → HoldsFiles s before chain (Some old) (files ++ f ∷ []) → ends f.entries → HoldsFiles s after chain (Some new) (files ++ with_entries more f ∷ [])
@@ -123,10 +121,9 @@ area_behind s (Some e) = area_from s e.first_block
 -- the first that waits in the channel's lane has no room in the file, where one may be moved; of a lane that is quiet all of this waits
 abbrev pub HasNoPlace : {L : Type 0} → (L → Option (List Sample)) → (L → ChannelSpec) → List L → Config → Open → ℕ → ℕ → Full → Type 0
 HasNoPlace quiet spec_of lanes s o channel most lacks =
-    (waiting : List Sample) × TellsWaiting quiet spec_of lanes (one_part channel [] waiting) × Begins o.recording channel s.nodes (area_from s (first_of o.recording.out.blocks)) most waiting (Some lacks)
+    (waiting : List Sample) × TellsWaiting quiet spec_of lanes (one_part channel [] waiting) × Begins o.recording channel (area_from s (first_of o.recording.out.blocks)) most waiting (Some lacks)
 
 abbrev pub IsForFirst : {L : Type 0} → (L → Option (List Sample)) → (L → ChannelSpec) → List L → Config → Open → ℕ → ℕ → Refusal → Type 0
-IsForFirst quiet spec_of lanes s o channel most IndexFull = HasNoPlace quiet spec_of lanes s o channel most lacking.Index
 IsForFirst quiet spec_of lanes s o channel most MediumFull = HasNoPlace quiet spec_of lanes s o channel most lacking.Medium
 IsForFirst quiet spec_of lanes s o channel most r = ⊥
 
@@ -136,17 +133,17 @@ FirstLacks quiet spec_of lanes s (recording chain o) channel most r = IsForFirst
 FirstLacks quiet spec_of lanes s work channel most r = ⊥
 
 -- these samples are moved into the machine's file, whichever it is
-abbrev pub MovesAny : (List Entry → Type 0) → ℕ → ℕ → ℕ → ℕ → ℕ → List Sample → List Sample → Option Full → Open → Image → Open → Type 0
-MovesAny ends channel most nodes area n samples rest full old before new =
-    (s : Config) (chain : List ChainBlock) (files : List File) (f : File) → HoldsFiles s before chain (Some old) (files ++ f ∷ []) → ends f.entries → nodes ≡ s.nodes → area ≡ area_of s f → IsMovedIn s f channel most n samples rest full new.recording
+abbrev pub MovesAny : (List Entry → Type 0) → ℕ → ℕ → ℕ → ℕ → List Sample → List Sample → Option Full → Open → Image → Open → Type 0
+MovesAny ends channel most area n samples rest full old before new =
+    (s : Config) (chain : List ChainBlock) (files : List File) (f : File) → HoldsFiles s before chain (Some old) (files ++ f ∷ []) → ends f.entries → area ≡ area_of s f → IsMovedIn s f channel most n samples rest full new.recording
 
 -- so many were moved, and where none was, none was asked for or nothing waits
-pub record MovedSamples (ends ends' : List Entry → Type 0) (channel most nodes area : ℕ) (samples rest : List Sample) (old : Open) (before : Image) (new : Open) (after : Image) (n : ℕ) : Type 0 where
+pub record MovedSamples (ends ends' : List Entry → Type 0) (channel most area : ℕ) (samples rest : List Sample) (old : Open) (before : Image) (new : Open) (after : Image) (n : ℕ) : Type 0 where
   pub number : n ≡ length samples
-  pub on : WentOn nodes area ends ends' (entries_on channel samples) old before new after
+  pub on : WentOn area ends ends' (entries_on channel samples) old before new after
   pub full : Option Full
   pub some : n ≡ 0 → full ≡ None
-  pub moves : MovesAny ends channel most nodes area n samples rest full old before new
+  pub moves : MovesAny ends channel most area n samples rest full old before new
 
 -- nothing was moved and nothing written, and the file is the same but for its memory
 pub record Stayed {M : Type 0} (ends ends' : List Entry → Type 0) (samples : List Sample) (old : Open) (medium : M) (new : Open) (medium' : M) : Type 0 where
@@ -156,11 +153,11 @@ pub record Stayed {M : Type 0} (ends ends' : List Entry → Type 0) (samples : L
   pub lasts : (entries : List Entry) → ends entries → ends' entries
 
 -- the first that waits has no room; or memory was refused where it has; or the medium failed, behind a first one that had room
-abbrev pub MovedNone : {M : Type 0} → (M → Disk) → (List Entry → Type 0) → (List Entry → Type 0) → ℕ → ℕ → ℕ → ℕ → List Sample → List Sample → Open → M → Open → M → PumpFault → Type 0
-MovedNone disk ends ends' channel most nodes area samples rest old medium new medium' (pump_faults.Full full) =
-    Stayed ends ends' samples old medium new medium' × MovesAny ends channel most nodes area 0 [] rest (Some full) old (disk medium).blocks new × Begins new.recording channel nodes area most rest (Some full)
-MovedNone disk ends ends' channel most nodes area samples rest old medium new medium' pump_faults.Memory = Stayed ends ends' samples old medium new medium' × Begins old.recording channel nodes area most rest None
-MovedNone disk ends ends' channel most nodes area samples rest old medium new medium' pump_faults.Medium =
+abbrev pub MovedNone : {M : Type 0} → (M → Disk) → (List Entry → Type 0) → (List Entry → Type 0) → ℕ → ℕ → ℕ → List Sample → List Sample → Open → M → Open → M → PumpFault → Type 0
+MovedNone disk ends ends' channel most area samples rest old medium new medium' (pump_faults.Full full) =
+    Stayed ends ends' samples old medium new medium' × MovesAny ends channel most area 0 [] rest (Some full) old (disk medium).blocks new × Begins new.recording channel area most rest (Some full)
+MovedNone disk ends ends' channel most area samples rest old medium new medium' pump_faults.Memory = Stayed ends ends' samples old medium new medium' × Begins old.recording channel area most rest None
+MovedNone disk ends ends' channel most area samples rest old medium new medium' pump_faults.Medium =
     Rose (disk medium).failures (disk medium').failures × IsSomeAnd (slice_get samples 0) (SampleHasRoom old.recording channel area)
     × ((s : Config) (chain : List ChainBlock) (files : List File) (f : File) → HoldsFiles s (disk medium).blocks chain (Some old) (files ++ f ∷ []) → ends f.entries → MediumSays s (disk medium').blocks (files ++ f ∷ []))
 
@@ -180,7 +177,7 @@ pub record ShowsFirst (shows : Sample → Type 0) (single : Sample → List Samp
   pub alone : single first rest
 
 -- From the lane of a channel these samples were taken, at most so many and no more than it has room for, and the rest waits behind them, which is bare unless the first has no room: that one is shown then.
-pub record PumpedLane {M : Type 0} (took : List Sample → Type 0) (left : List Sample → List Sample → Type 0) (bare : List Sample → Type 0) (showing : List Sample → Type 0) (ends ends' : List Entry → Type 0) (disk : M → Disk) (channel capacity most nodes area : ℕ)
+pub record PumpedLane {M : Type 0} (took : List Sample → Type 0) (left : List Sample → List Sample → Type 0) (bare : List Sample → Type 0) (showing : List Sample → Type 0) (ends ends' : List Entry → Type 0) (disk : M → Disk) (channel capacity most area : ℕ)
     (old : Open) (medium : M) (new : Open) (medium' : M) (result : Result ℕ PumpFault) : Type 0 where
   pub samples : List Sample
   pub rest : List Sample
@@ -190,4 +187,4 @@ pub record PumpedLane {M : Type 0} (took : List Sample → Type 0) (left : List 
   pub few : length samples ≤ capacity
   pub alone : UnlessFull result (bare rest)
   pub shown : WhereFull result (showing rest)
-  pub moved : MatchResult result (MovedSamples ends ends' channel most nodes area samples rest old (disk medium).blocks new (disk medium').blocks) (MovedNone disk ends ends' channel most nodes area samples rest old medium new medium')
+  pub moved : MatchResult result (MovedSamples ends ends' channel most area samples rest old (disk medium).blocks new (disk medium').blocks) (MovedNone disk ends ends' channel most area samples rest old medium new medium')

@@ -10,7 +10,7 @@ use Rattle.r10_blockout.specs.Blocks.{Shows, bytes_from}
 use Rattle.r10_body.specs.Content.{Content, setup, time, event, uart, bus, arinc, discrete, message, node, root}
 use Rattle.r10_body.specs.Packets.{Packet, packet_bytes, file_bytes}
 use Rattle.r10_body.specs.Rules.{MayFollow, EachFollows, KeepsIndex, is_data, is_index, is_node, is_root}
-use Rattle.r10_body.proofs.Indexes.{Part, datum, node_here, root_here, part_of, counted, counted_yes, counted_no}
+use Rattle.r10_body.proofs.Indexes.{Part, datum, node_here, root_here, part_of, counted, counted_yes, counted_no, no_nodes, no_roots}
 
 -- ---- the index stands at the end
 
@@ -28,19 +28,19 @@ kept_no ps p is = let none : filter is_data (p ∷ []) ≡ [] = rw is refl in fi
 pub unlike : true ≡ false → ⊥
 unlike e = absurd (cc)
 
--- no node stands before a packet that is none of an index
-no_nodes : (ps : List Packet) (p : Packet) → is_index p ≡ false → KeepsIndex ps p → count_by is_node ps ≡ 0
-no_nodes ps p i keeps = by p.content refl
+-- no index packet stands before a packet that is none of an index
+no_index : (ps : List Packet) (p : Packet) → is_index p ≡ false → KeepsIndex ps p → count_by is_index ps ≡ 0
+no_index ps p i keeps = by p.content refl
   where
-    by : (c : Content) → p.content ≡ c → count_by is_node ps ≡ 0
-    by (setup text) e = rw e at keeps.1
-    by (time civil) e = rw e at keeps.1
-    by (event one) e = rw e at keeps.1
-    by (uart es) e = rw e at keeps.1
-    by (bus es) e = rw e at keeps.1
-    by (arinc es) e = rw e at keeps.1
-    by (discrete bits es) e = rw e at keeps.1
-    by (message es) e = rw e at keeps.1
+    by : (c : Content) → p.content ≡ c → count_by is_index ps ≡ 0
+    by (setup text) e = rw e at keeps
+    by (time civil) e = rw e at keeps
+    by (event one) e = rw e at keeps
+    by (uart es) e = rw e at keeps
+    by (bus es) e = rw e at keeps
+    by (arinc es) e = rw e at keeps
+    by (discrete bits es) e = rw e at keeps
+    by (message es) e = rw e at keeps
     by (node es) e = let yes : is_index p ≡ true = rw e refl in absurd (unlike (sym yes ∙ i))
     by (root es) e = let yes : is_index p ≡ true = rw e refl in absurd (unlike (sym yes ∙ i))
 
@@ -57,7 +57,7 @@ more_fronted ps p may (datum i n r len) (plain nodes roots all) = plain
     (omega (arith, nodes, counted is_node ps p, counted_no is_node p n))
     (omega (arith, roots, counted is_root ps p, counted_no is_root p r))
     (kept_yes ps p i ∙ ap (λ (qs : List Packet). qs ++ p ∷ []) all)
-more_fronted ps p may (datum i n r len) (indexed index is some) = absurd (omega (arith, some, no_nodes ps p i may.index, may.index.0))
+more_fronted ps p may (datum i n r len) (indexed index is some) = absurd (omega (arith, some, no_nodes ps (no_index ps p i may.index), no_roots ps (no_index ps p i may.index)))
 more_fronted ps p may (node_here es e i n r len) fronted =
     let b = behind ps p i fronted in
     indexed b.0 b.1 (omega (arith, counted is_node ps p, counted_yes is_node p n))

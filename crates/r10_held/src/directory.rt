@@ -56,7 +56,7 @@ impl<M: BlockMedium, N: Rings> Held<M, N> {
 
     /// Closes the last file, which was left open: it is read and judged whole, its index is put behind its packets, and the directory
     /// lists it closed at its last time. Refused: Failed, NotMounted, Busy, NoSuchFile where there is no such file, BadFile with the first
-    /// fault of its bytes, IndexFull, MediumFull, OutOfMemory, Medium.
+    /// fault of its bytes, MediumFull, OutOfMemory, Medium.
     pub fn seal(&mut self) -> Result<(), Refusal>
         ensures sealed { OnOk result (IsSealed self.old.recorder.kept.config (M.disk self.old.recorder.medium).blocks self.old.recorder.kept.work (M.disk self.new.recorder.medium).blocks self.new.recorder.kept.work) }
         ensures sure { OnOk result (IsSynced (M.disk self.new.recorder.medium)) }

@@ -28,8 +28,8 @@ use std::sync::Wait;
 
 impl<M: BlockMedium, N: Rings> Held<M, N> {
     /// Takes in the samples that wait first in a channel's lane, at most so many, up to the first that has no room, and answers how many
-    /// that were. Refused: Failed, NotMounted, NotRecording, NoSuchChannel, IndexFull or MediumFull where the first has no room,
-    /// OutOfMemory, Medium.
+    /// that were. Refused: Failed, NotMounted, NotRecording, NoSuchChannel, MediumFull where the first has no room, OutOfMemory,
+    /// Medium.
     pub fn pump(&mut self, channel: u16, most: usize) -> Result<usize, Refusal>
         ensures passed { OnOk result (recorder_refusal self.old.recorder.kept (events.Pump channel most) ≡ None) }
         ensures refused { IfErr result (RefusesReadied M.disk (recorder_refusal self.old.recorder.kept (events.Pump channel most)) (FirstLacks outlet_quiet outlet_spec self.old.recorder.lanes self.new.recorder.kept.config self.new.recorder.kept.work channel most) self.old.recorder.kept self.new.recorder.kept self.old.recorder.medium self.new.recorder.medium) }

@@ -1,20 +1,21 @@
 //! Laws of the index, as calls that do nothing.
 
-ghost use Rattle.std.specs.Prelude.{◌≡◌, ◌≤◌, true, false, ℕ, Option, List, [], ◌∷◌, ◌++◌, length, count_by, Contains};
+ghost use Rattle.std.specs.Prelude.{◌≡◌, ◌^◌, ◌<◌, ◌≤◌, true, false, ℕ, Option, List, [], ◌∷◌, ◌++◌, length, count_by, Contains};
 ghost use Rattle.r10_body.specs.Packets.{Packet, packet_entries, file_bytes};
 ghost use Rattle.r10_body.specs.Rules.{EachFollows, IsFile, is_closed_file, is_index, node_entry_of, node_entries};
 ghost use Rattle.r10_body.specs.declared.entry.Entry.{Entry};
 ghost use Rattle.r10_index.specs.Candidates.{candidates, is_sought};
-ghost use Rattle.r10_index.specs.Written.{index_of, FitsIndex};
+ghost use Rattle.r10_index.specs.Written.{index_of, IsGroup};
 
 /// Packets without an index aren't closed.
 pub fn without_index()
     ensures { (packets : List Packet) → count_by is_index packets ≡ 0 → is_closed_file packets ≡ false }
 {}
 
-/// A file that isn't closed, with its index behind it, keeps all rules and is closed.
+/// A file that isn't closed, with its index of groups of so many nodes behind it, keeps all rules and is closed.
 pub fn written_index()
-    ensures { (packets : List Packet) → IsFile packets → is_closed_file packets ≡ false → FitsIndex packets → IsFile (packets ++ index_of packets) × (is_closed_file (packets ++ index_of packets) ≡ true) }
+    ensures { (each : ℕ) (packets : List Packet) → IsGroup each → IsFile packets → is_closed_file packets ≡ false → length (file_bytes packets) < 2 ^ 63
+        → IsFile (packets ++ index_of each packets) × (is_closed_file (packets ++ index_of each packets) ≡ true) }
 {}
 
 /// A packet more is an entry more, at the end of the packets before it.

@@ -18,7 +18,7 @@ use Rattle.r10_body.specs.Vectors.{data_packets, data-len, a_node_packet}
 use Rattle.r10_body.specs.declared.entry.Entry.{Entry}
 use Rattle.r10_body.specs.declared.fault.FileFault.TheVariants.{Rule}
 use Rattle.r10_strict.proofs.Written.{packet_foreign}
-use Rattle.r10_body.proofs.Indexes.{counted, no_nodes, no_roots}
+use Rattle.r10_body.proofs.Indexes.{counted, no_nodes}
 use Rattle.r10_body.proofs.Rules.{follows_more, follows_fit, bytes_more, entries_more}
 use Rattle.r10_body.proofs.Sentences.{type_fits, rest_length}
 use Rattle.r10_index.proofs.Behind.{entries_fit, entries_length}
@@ -106,7 +106,7 @@ copy_may n ps lt k = record {
   channels = ((λ e. absurd (no e), λ e. absurd (omega (arith, e))), λ _. k.types, λ _. refl);
   sequence = omega (arith, k.fives, lt);
   counts = ((refl, tt), level 0 _ (all_joined (λ (x : Entry). x.count ≡ 1000) (filter (is_entry_on 5) (file_entries ps)) _ (all_filtered 5 (file_entries ps) k.counts) (refl, tt)) (omega arith), (lit≤ tt, tt));
-  index = (no_roots ps k.index, no_nodes ps k.index);
+  index = k.index;
   counters = (λ e. absurd (omega (arith, e, k.long)), λ e. absurd (no e));
   events = tt;
 }
@@ -172,7 +172,7 @@ keeps_below n ps least most k =
     }
 
 one_short : (n : ℕ) (ps : List Packet) → 98 ≤ n → Known n ps → KeepsIndex ps (node_of_99 ps) → ⊥
-one_short n ps least k (roots, entries) =
+one_short n ps least k (place, entries) =
     let all = node_entries 0 (filter is_data ps) in
     let none : count_by is_node ps ≡ 0 = no_nodes ps k.index in
     let there : length all ≡ 2 + n = entries_length 0 (filter is_data ps) ∙ length-filter is_data ps ∙ k.datas in

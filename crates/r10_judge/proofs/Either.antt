@@ -7,7 +7,7 @@ use Rattle.r10_packet.specs.declared.fault.PacketFault.{PacketFault}
 use Rattle.r10_body.proofs.Lone.{packet-length}
 use Rattle.r10_body.specs.Foreign.{opaque_at, IsForeignPacket}
 use Rattle.r10_body.specs.Packets.{Packet, packet_bytes, file_bytes, file_entries}
-use Rattle.r10_body.specs.Rules.{MayFollow, EndsIndex, is_index, is_closed_file}
+use Rattle.r10_body.specs.Rules.{MayFollow, EndsIndex, has_whole_index, is_index, is_closed_file}
 use Rattle.r10_body.specs.Faults.{HasFault, ReadsPacket, BreaksRule, IsWrongHere, IsAtFault, first_packet}
 use Rattle.r10_body.specs.Faults as broken_rules
 use Rattle.r10_body.specs.declared.fault.FileFault.{FileFault}
@@ -15,7 +15,7 @@ use Rattle.r10_body.specs.declared.fault.FileFault.TheVariants.{Truncated, DataS
 use Rattle.r10_strict.specs.Tracks.{named}
 use Rattle.r10_strict.proofs.Faults.{framing_is}
 use Rattle.r10_strict.proofs.Fronts.{first_joined, is_foreign}
-use Rattle.r10_body.proofs.Indexes.{counted, counted_no, not_closed}
+use Rattle.r10_body.proofs.Indexes.{counted, counted_no, not_closed, whole_closed}
 use Rattle.r10_body.proofs.Rules.{follows_more, bytes_more}
 use Rattle.r10_judge.specs.Judged.{KeepRules, SaysClosed}
 use Rattle.r10_judge.proofs.Judging.{begins}
@@ -102,9 +102,9 @@ says bytes packets closed keep is two same ends =
 
 whole : (bytes : List ℕ) (packets : List Packet) (closed : Bool) → KeepRules closed packets → bytes ≡ file_bytes packets → 2 ≤ length packets → NothingWrong closed packets [] → (SaysClosed bytes closed → ⊥) → ⊥
 whole bytes packets false keep is two right none = none (says bytes packets false keep is two (not_closed packets (keep.unclosed refl)) (λ _. keep.unclosed refl))
-whole bytes packets true keep is two right none = by (is_closed_file packets) refl where
-  by : (b : Bool) → is_closed_file packets ≡ b → ⊥
-  by true shut = none (says bytes packets true keep is two shut (λ open_end. absurd (true≢false (sym shut ∙ open_end))))
+whole bytes packets true keep is two right none = by (has_whole_index packets) refl where
+  by : (b : Bool) → has_whole_index packets ≡ b → ⊥
+  by true shut = none (says bytes packets true keep is two (whole_closed packets shut) (λ open_end. absurd (true≢false (sym shut ∙ open_end))))
   by false open_end = right (Rule 8) (broken_rules.no_index refl two refl open_end)
 
 ended : (bytes : List ℕ) (packets : List Packet) (closed : Bool) → KeepRules closed packets → bytes ≡ file_bytes packets → NothingWrong closed packets [] → (SaysClosed bytes closed → ⊥) → ⊥

@@ -5,7 +5,7 @@ use Rattle.r10_packet.specs.Framing.{header_at}
 use Rattle.r10_body.proofs.Lone.{packet-length}
 use Rattle.r10_body.specs.Foreign.{IsForeignPacket}
 use Rattle.r10_body.specs.Packets.{Packet, packet_bytes, file_bytes}
-use Rattle.r10_body.specs.Rules.{EachFollows, MayFollow, is_index, is_closed_file}
+use Rattle.r10_body.specs.Rules.{EachFollows, EndsIndex, MayFollow, has_whole_index, is_index, is_closed_file}
 use Rattle.r10_body.specs.Faults.{HasFault, ReadsPacket, BreaksRule, IsWrongHere, IsAtFault, first_packet}
 use Rattle.r10_body.specs.Faults as broken_rules
 use Rattle.r10_body.specs.declared.fault.FileFault.{FileFault}
@@ -14,7 +14,7 @@ use Rattle.r10_strict.proofs.Faults.{one_fault, apart}
 use Rattle.r10_strict.proofs.Fronts.{first_joined}
 use Rattle.r10_strict.proofs.Ways.{packet_long, first_again}
 use Rattle.r10_strict.proofs.Written.{packet_foreign}
-use Rattle.r10_body.proofs.Indexes.{none_at, part_of}
+use Rattle.r10_body.proofs.Indexes.{none_at, not_closed, not_whole, part_of}
 use Rattle.r10_body.proofs.Injective.{one_packet}
 use Rattle.r10_body.proofs.Lists.{same_behind}
 use Rattle.r10_judge.specs.Judged.{SaysClosed, BreaksIn, broken_rule, in_open_file}
@@ -142,17 +142,17 @@ one_reason bytes closed offset fault place other x y =
 
 -- ---- none of a strict file
 
-nothing_missing : (packets : List Packet) (closed : Bool) (fault : FileFault) → 2 ≤ length packets → is_closed_file packets ≡ closed → IsWrongHere packets [] closed fault → ⊥
-nothing_missing packets closed fault two is (broken_rules.packet some has) = some_there packets [] some refl (omega (arith, two))
-nothing_missing packets closed fault two is (broken_rules.rule foreign broken least) = not_empty [] foreign refl
-nothing_missing packets closed fault two is (broken_rules.no_time none one) = omega (arith, two, one)
-nothing_missing packets closed fault two is (broken_rules.no_index none some shut open_end) = true≢false (sym shut ∙ sym is ∙ open_end)
+nothing_missing : (packets : List Packet) (closed : Bool) (fault : FileFault) → 2 ≤ length packets → is_closed_file packets ≡ closed → EndsIndex packets → IsWrongHere packets [] closed fault → ⊥
+nothing_missing packets closed fault two is ends (broken_rules.packet some has) = some_there packets [] some refl (omega (arith, two))
+nothing_missing packets closed fault two is ends (broken_rules.rule foreign broken least) = not_empty [] foreign refl
+nothing_missing packets closed fault two is ends (broken_rules.no_time none one) = omega (arith, two, one)
+nothing_missing packets closed fault two is ends (broken_rules.no_index none some shut open_end) = true≢false (sym shut ∙ sym is ∙ not_closed packets (ends open_end))
 
 pub strict_apart : (bytes : List ℕ) (closed : Bool) (offset : ℕ) (fault : FileFault) → IsAtFault bytes closed offset fault → SaysClosed bytes closed → ⊥
 strict_apart bytes closed offset fault x (text, entries, (all, they, say)) =
-    elim (meets closed [] x.packets all x.rest [] x.strict say.file.each x.unclosed (λ open_file. say.file.index (say.closed_is ∙ open_file)) (sym x.bytes_are ∙ they ∙ sym (append-nil (file_bytes all)))) [
+    elim (meets closed [] x.packets all x.rest [] x.strict say.file.each x.unclosed (λ open_file. say.file.index (not_whole all (say.closed_is ∙ open_file))) (sym x.bytes_are ∙ they ∙ sym (append-nil (file_bytes all)))) [
       | same ps rs ↦
-          nothing_missing all closed fault say.file.start say.closed_is
+          nothing_missing all closed fault say.file.start say.closed_is say.file.index
           (subst (λ (b : List Packet). IsWrongHere b [] closed fault) ps (subst (λ (r : List ℕ). IsWrongHere x.packets r closed fault) rs x.wrong))
       | left_on on ↦ no_bytes closed all [] on refl
       | right_on on ↦ nothing_wrong closed x.packets x.rest fault on x.wrong

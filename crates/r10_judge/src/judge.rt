@@ -150,14 +150,14 @@ impl Judge {
         self.missing_index()
     }
 
-    /// That the index is missing, of a file with setup and time whose directory entry is closed.
+    /// That the index is missing, or nodes or a root of it, of a file with setup and time whose directory entry is closed.
     fn missing_index(&self) -> Option<FileFault>
         ensures { (bytes : List ℕ) (goes : KeepsRulesSoFar self.now.closed self.now.tracks bytes) → 2 ≤ length goes.packets → MayMiss self.now.closed goes.packets result }
     {
         if !self.closed {
             return None;
         }
-        if self.tracks.is_closed() {
+        if self.tracks.has_whole_index() {
             return None;
         }
         Some(FileFault::Rule(8))
@@ -170,11 +170,11 @@ impl Judge {
         &self.tracks
     }
 
-    /// Whether the packets are two at least, and the last is a root where any is an index packet.
+    /// Whether the packets are two at least, and have a whole index or no index packet.
     fn is_whole(&self) -> bool
         ensures { (packets : List Packet) → IsTracked self.now.tracks packets → (IsTrue result ↔ ((2 ≤ length packets) × EndsIndex packets)) }
     {
-        2 <= self.tracks.packets() && (self.tracks.is_closed() || !self.tracks.has_index())
+        2 <= self.tracks.packets() && (self.tracks.has_whole_index() || !self.tracks.has_index())
     }
 
     /// Takes the next packet, which keeps the first three rules: it is added, or breaks another one.

@@ -182,7 +182,7 @@ pumps_sound s m channel most n new config sound rec pumps = by (lane_of channel 
         let es = take n (waiting_entries lane) in
         let apart = apart_of s m.lanes config sound.channels in
         let same : f ≡ t.file = some-is (sym last ∙ t.last) in
-        let fine : n ≤ room_for s t.file (take most (waiting_entries lane)) = subst (λ (f : File). n ≤ room_for s f (take most (waiting_entries lane))) same takes.within in
+        let fine : n ≤ room_for s t.file (take most (waiting_entries lane)) = subst (λ (f : File). n ≤ room_for s f (take most (waiting_entries lane))) same (omega (arith, takes)) in
         let short : n ≤ most = omega (arith, fine, fitting_short (area s t.file) (cost_of t.file) (take most (waiting_entries lane)), length-take most (waiting_entries lane)) in
         let room : cost_of (with_entries es t.file) ≤ area s t.file =
         subst (λ (l : List Entry). cost_of (with_entries l t.file) ≤ area s t.file) (take-take n most (waiting_entries lane) short) (room_taken s t.file (take most (waiting_entries lane)) n t.its.room fine) in
@@ -224,7 +224,7 @@ stops_sound s m stopped new config sound rec stops = by (last_file m) refl stops
         let taken = take stopped.taken (all_waiting m.lanes) in
         let apart = apart_of s m.lanes config sound.channels in
         let same : f ≡ t.file = some-is (sym last ∙ t.last) in
-        let fine : stopped.taken ≤ room_for s t.file (all_waiting m.lanes) = subst (λ (f : File). stopped.taken ≤ room_for s f (all_waiting m.lanes)) same takes.within in
+        let fine : stopped.taken ≤ room_for s t.file (all_waiting m.lanes) = subst (λ (f : File). stopped.taken ≤ room_for s f (all_waiting m.lanes)) same (omega (arith, takes)) in
         let room : cost_of (with_entries taken t.file) ≤ area s t.file = room_taken s t.file (all_waiting m.lanes) stopped.taken t.its.room fine in
         subst (IsSound s) (sym is) (grown_sound s m modes.Idle m.tick m.last_event (lanes_without taken m.lanes) (λ f. closed_whole (last_size new) (with_entries taken f)) taken sound (record {
           tape = t;

@@ -6,7 +6,7 @@ use Rattle.r10_body.specs.declared.refusal.Refusal.TheVariants as refusals
 use Rattle.r10_machine.specs.declared.mode.Mode.TheVariants.{Idle, Recording, Failed}
 use Rattle.r10_machine.specs.Machine.{Machine, File, Lane, with_lane}
 use Rattle.r10_machine.specs.Calls.{accepted, overflowed, without}
-use Rattle.r10_machine.specs.SmallCases.{narrow, four_bytes, full_file, one_node}
+use Rattle.r10_machine.specs.SmallCases.{narrow, four_bytes, full_file}
 use Rattle.r10_machine.specs.Vectors.{settings, channel, new, mounted, ticked, started, filled_lane, lost, stopped, begun, first_time, leap_day, name, text, entry, read}
 use Rattle.r10_machine.specs.declared.event.Event.TheVariants as events
 use Rattle.r10_machine.specs.declared.reply.Reply.TheVariants as replies
@@ -203,12 +203,9 @@ refused-uncounted = (lit≤ tt, (refl, refl))
 pub moves-none : (next : Machine) → Replies settings 0 filled_lane (events.Pump 5 1) (replies.Moved 0) next → ⊥
 moves-none next (fine, (takes, some, is)) = omega (arith, some (lit< tt))
 
--- fewer than have room is no step while the index can't be full
+-- nor are fewer moved than have room
 pub moves-one : (next : Machine) → Replies settings 0 filled_lane (events.Pump 5 2) (replies.Moved 1) next → ⊥
-moves-one next (fine, (takes, some, is)) = false-is-true (takes.stops (lit< tt))
-  where
-    false-is-true : false ≡ true → ⊥
-    false-is-true is = cc
+moves-one next (fine, (takes, some, is)) = omega (arith, takes)
 
 -- ---- cursors
 
@@ -249,12 +246,12 @@ pub full-pump : Step narrow full (events.Pump 5 1) (replies.Refused refusals.Med
 full-pump = (lit≤ tt, (refl, refl))
 
 pub full-pumps-none : Step narrow full (events.Pump 5 0) (replies.Moved 0) full
-full-pumps-none = (lit≤ tt, (refl, (record { within = lit≤ tt; stops = λ less. absurd (omega (arith, less)) }, λ some. absurd (omega (arith, some)), refl)))
+full-pumps-none = (lit≤ tt, (refl, (refl, λ some. absurd (omega (arith, some)), refl)))
 
 -- what has no room waits for another file
 pub full-stop : Step narrow full events.Stop (replies.Stopped (record { taken = 0; left = 1 }))
     (record full { mode = Idle; files = record full_file { shown = 2; closed = true; size = 216 } ∷ [] })
-full-stop = (lit≤ tt, (refl, (record { within = lit≤ tt; stops = λ less. absurd (omega (arith, less)) }, refl, refl)))
+full-stop = (lit≤ tt, (refl, (refl, refl, refl)))
 
 pub full-tick : Step narrow full (events.Tick 2000 leap_day) (replies.Refused refusals.MediumFull) full
 full-tick = (lit≤ tt, (refl, refl))
@@ -269,9 +266,6 @@ room-to-start = refl
 -- want of memory is no answer where there is no room
 pub no-memory-no-room : has_room narrow full (events.Pump 5 1) ≡ false
 no-memory-no-room = refl
-
-pub full-index : Step one_node (record started { files = record begun { entries = replicate 99 first_time } ∷ [] }) (events.Tick 1000 leap_day) (replies.Refused refusals.IndexFull) (record started { files = record begun { entries = replicate 99 first_time } ∷ [] })
-full-index = (lit≤ tt, (refl, refl))
 
 -- ---- a failure of the medium
 

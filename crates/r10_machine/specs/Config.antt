@@ -8,7 +8,7 @@ pub record Config : Type 0 where
   pub directory : ℕ
   -- the volume's name
   pub volume : List ℕ
-  -- the index packets of a file
+  -- how many node packets a root of an index names, in all groups but a file's last
   pub nodes : ℕ
   -- the channels of time and event entries
   pub time : ℕ

@@ -40,10 +40,6 @@ Commits old new = new ≡ with_last (shown_whole (last_size new)) old
 abbrev pub closed_in : ℕ → File → File
 closed_in size f = record f { closed = true; size = size }
 
--- there are more packets than an index may name, at least where each entry has its own
-abbrev pub MayPassIndex : Config → File → Type 0
-MayPassIndex s f = 100 * s.nodes < 1 + length f.entries
-
 -- the last file is closed with the entries that it shows
 abbrev pub Seals : Config → Machine → Machine → Type 0
 Seals s old new = IsSomeAnd (last_file old) (λ f. (cost_of f ≤ area s f) × (new ≡ with_last (closed_in (last_size new)) old))

@@ -1,12 +1,10 @@
 -- Whole recordings: each reply is one that the recorder may give, over the states of r10_machine's vectors.
 use Rattle.std.specs.Prelude.{◌≡◌, ◌≢◌, ℕ, true, false, List, [], ◌∷◌, drop, refl, Option, Some, None, slice_index_or}
-use Rattle.std.proofs.Common.{lit<, lit≤, arith, zero, suc, ◌≤◌}
-use Rattle.r10_body.specs.declared.entry.Entry.{Entry}
+use Rattle.std.proofs.Common.{lit<, lit≤, zero, suc}
 use Rattle.r10_body.specs.declared.refusal.Refusal.TheVariants as refusals
 use Rattle.r10_machine.specs.declared.mode.Mode.TheVariants.{Idle}
 use Rattle.r10_machine.specs.Config.{Config}
 use Rattle.r10_machine.specs.Machine.{Machine, File, Cursor, Sets, fresh, with_lane}
-use Rattle.r10_machine.specs.Room.{TakesIn, room_for}
 use Rattle.r10_machine.specs.Calls.{accepted}
 use Rattle.r10_machine.specs.Vectors.{settings, new, mounted, ticked, started, name, setup_text, leap_day, text, entry, read, small, small_started, two, two-in-order, abc_offered, both_offered, both_pumped, small_stopped, filled_lane, lost, pumped, resumed, stopped, replayed, replayed-in-order}
 use Rattle.r10_machine.specs.declared.event.Event.{Event}
@@ -22,10 +20,6 @@ Goes s old (event ∷ events) (reply ∷ replies) end = (mid : Machine) × Step 
 Goes s old events replies end = ⊥
 
 -- ---- words for the proofs
-
--- all that fit go in
-all-of : {s : Config} {f : File} {entries : List Entry} {n : ℕ} → n ≤ room_for s f entries → room_for s f entries ≤ n → TakesIn s f entries n
-all-of low high = record { within = low; stops = λ less. absurd (omega (arith, less, high)) }
 
 -- the first cursor
 first-set : (cursors : List (Option Cursor)) (old new : Option Cursor) → Sets (old ∷ cursors) (new ∷ cursors) 0 new
@@ -70,10 +64,10 @@ first-recording = (
           (lit≤ tt, (refl, refl)),
           (
             both_pumped,
-            (lit≤ tt, (refl, (all-of (lit≤ tt) (lit≤ tt), λ some. lit< tt, refl))),
+            (lit≤ tt, (refl, (refl, λ some. lit< tt, refl))),
             (
               small_stopped,
-              (lit≤ tt, (refl, (all-of (lit≤ tt) (lit≤ tt), refl, refl))),
+              (lit≤ tt, (refl, (refl, refl, refl))),
               (
                 read 0 [] small_stopped,
                 (lit≤ tt, (refl, (refl, (first-new _, refl)))),
@@ -137,13 +131,13 @@ a-lost-message = (
             (lit≤ tt, (refl, refl)),
             (
               pumped,
-              (lit≤ tt, (refl, (all-of (lit≤ tt) (lit≤ tt), λ some. lit< tt, refl))),
+              (lit≤ tt, (refl, (refl, λ some. lit< tt, refl))),
               (
                 resumed,
                 (lit≤ tt, (refl, refl)),
                 (
                   stopped,
-                  (lit≤ tt, (refl, (all-of (lit≤ tt) (lit≤ tt), refl, refl))),
+                  (lit≤ tt, (refl, (refl, refl, refl))),
                   (
                     read 0 [] stopped,
                     (lit≤ tt, (refl, (refl, (first-new _, refl)))),

@@ -7,7 +7,7 @@ use Rattle.r10_body.specs.declared.message.Kind.TheVariants as kinds
 use Rattle.r10_machine.specs.declared.fault.SettingsFault.TheVariants as settings_faults
 use Rattle.r10_machine.specs.Config.{Config}
 use Rattle.r10_machine.specs.Machine.{Lane, File, with_entries, rising as in_rising_order}
-use Rattle.r10_machine.specs.Room.{blocks_of, may_fill_index, cost_of, area, fitting, room_for}
+use Rattle.r10_machine.specs.Room.{blocks_of, cost_of, area, fitting, room_for}
 use Rattle.r10_machine.specs.Checks.{is_setup}
 use Rattle.r10_machine.specs.Limits.{settings_rules}
 use Rattle.r10_machine.specs.Calls.{accepted, overflowed, all_waiting, lanes_without, waiting_count}
@@ -71,16 +71,6 @@ three = entry 5 1001 (four_bytes 1) false ∷ entry 5 1002 (four_bytes 2) false 
 
 pub fitting-areas : map (λ area. fitting area 364 three) (363 ∷ 483 ∷ 484 ∷ 512 ∷ 1024 ∷ []) ≡ 0 ∷ 0 ∷ 1 ∷ 1 ∷ 3 ∷ []
 fitting-areas = refl
-
--- the index of one node may be full from the hundredth packet on
-abbrev pub one_node : Config
-one_node = record settings { nodes = 1 }
-
-pub ninety-nine : may_fill_index one_node (record begun { entries = replicate 98 first_time }) ≡ false
-ninety-nine = refl
-
-pub a-hundred : may_fill_index one_node (record begun { entries = replicate 99 first_time }) ≡ true
-a-hundred = refl
 
 -- ---- what waits
 

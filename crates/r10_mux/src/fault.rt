@@ -24,8 +24,6 @@ pub enum TakeFault {
 /// What an entry has no room in.
 #[derive(Clone, Copy, Debug, PartialEq, Eq)]
 pub enum Full {
-    /// The index: the entry needs a packet more than it may name.
-    Index,
     /// The file's part of the medium: the file with the entry would cost more.
     Medium,
 }

@@ -19,7 +19,6 @@ mod Rooms
 mod Beginning
 mod Relisted
 mod Sorted
-pub mod Told
 pub mod BehindAll
 pub mod BackToBack
 pub mod Listing

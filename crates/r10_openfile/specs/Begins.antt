@@ -22,7 +22,7 @@ use Rattle.r10_mux.specs.Begun.{begun_recording}
 use Rattle.r10_openfile.specs.Carrying.{IsShown}
 use Rattle.r10_openfile.specs.Keeping.{MayGoOn, StopKeepsFiles}
 use Rattle.r10_openfile.specs.Starting.{IsListedBehind, begins_within, begun_file}
-use Rattle.r10_packetout.specs.Carries.{packets_of, time_entry_at}
+use Rattle.r10_packetout.specs.Carries.{time_entry_at}
 use Rattle.r10_volume.specs.Front.{KeepsFront}
 use Rattle.r10_volume.specs.Holding.{HoldsFiles, Open}
 use Rattle.r10_volume.specs.Listing.{block_behind}
@@ -50,7 +50,6 @@ pub record HasBegun (s : Config) (text : List ℕ) (count : ℕ) (civil : Parts)
   pub shown : file.shown ≡ length file.recording.out.entries
   pub carries : IsShown image file text (time_entry_at s.time count civil ∷ []) 1
   pub first : first_of file.recording.out.blocks ≡ block_behind s.directory (listed_files chain)
-  pub packets : packets_of file.recording ≤ 2
   pub cost : 512 * first_of file.recording.out.blocks + file.recording.cost ≤ 512 * s.blocks
 
 -- After an Ok one file more is listed, with this name, first block and time of creation, and as many blocks as its bytes need, and a stop leaves the directory so; else it is as it was. Of the blocks in front of the file only the

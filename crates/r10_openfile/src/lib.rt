@@ -20,4 +20,4 @@ pub use file::OpenFile;
 pub use laws::channels_end_apart;
 pub use listed::list_file;
 pub use opening::{begin, has_room_to_begin};
-pub use start_laws::{begun_files_are_held, files_in_front_stay, packets_are_few};
+pub use start_laws::{begun_files_are_held, files_in_front_stay};

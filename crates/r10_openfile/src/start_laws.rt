@@ -3,7 +3,7 @@
 ghost use Rattle.std.specs.Prelude.{◌≡◌, ◌+◌, ◌<◌, ◌≤◌, ◌++◌, ℕ, true, List, [], ◌∷◌, None, Some, length};
 ghost use Rattle.r10_medium.specs.Disk.{Image, IsWhole};
 ghost use Rattle.r10_body.specs.declared.entry.Entry.{Entry};
-ghost use Rattle.r10_packetout.specs.Carries.{Records, Recording, packets_of};
+ghost use Rattle.r10_packetout.specs.Carries.{Recording};
 ghost use Rattle.r10_dirblock.specs.declared.entry.Entry.{Entry as DirectoryEntry};
 ghost use Rattle.r10_dirchain.specs.OnMedium.{Turned};
 ghost use Rattle.r10_dirchain.specs.Steps.{added, last_block, spare};
@@ -30,10 +30,4 @@ pub fn begun_files_are_held()
     ensures { (s : Config) (old new : Image) (chain : List ChainBlock) (files : List File) (r : Recording) (f : File) (e : DirectoryEntry) → IsWhole old → HoldsFiles s old chain None files → IsBegun s old files r f
         → is_sealed files ≡ true → length files < most_files s → Lists f e → Turned (added e chain) ((last_block chain).number ∷ spare chain) old new
         → HoldsFiles s new (added e chain) (Some (record { recording = r; shown = length r.out.entries })) (files ++ f ∷ []) }
-{}
-
-/// An index of a file that is written would name no more than one packet for each entry, and one for the setup
-/// text.
-pub fn packets_are_few()
-    ensures { (r : Recording) (image : Image) (text : List ℕ) (entries : List Entry) → Records r image text entries → packets_of r ≤ 1 + length entries }
 {}

@@ -5,7 +5,6 @@ use Rattle.std.proofs.lemmas.Bool.{eq-eqb}
 use Rattle.r10_count.specs.Civil.{IsCivil}
 use Rattle.r10_count.specs.Count.{IsCount}
 use Rattle.r10_count.specs.declared.civil.Parts.{Parts}
-use Rattle.r10_medium.specs.Disk.{Image}
 use Rattle.r10_packet.specs.declared.header.Header.{Header}
 use Rattle.r10_packet.proofs.Lengths.{framed_length}
 use Rattle.r10_body.specs.Cost.{entry_cost, file_cost}
@@ -17,17 +16,18 @@ use Rattle.r10_body.specs.Sequence.{last_count, next_sequence, numbered}
 use Rattle.r10_body.proofs.Rules.{bytes_more}
 use Rattle.r10_builder.specs.State.{BuilderState}
 use Rattle.r10_builder.specs.declared.closed.Closed.{Closed}
-use Rattle.r10_builder.specs.Grows.{all_held, packet_count}
+use Rattle.r10_builder.specs.Grows.{all_held}
 use Rattle.r10_builder.specs.Next.{event_packet, setup_packet, time_packet}
 use Rattle.r10_builder.proofs.Rising.{rise_behind}
 use Rattle.r10_builder.specs.Packed.{HandsOn}
 use Rattle.r10_builder.specs.Settings.{AreChannelSettings, specs_of}
-use Rattle.r10_packetout.specs.Packets.{Describes, bare, index_size, packet_size}
+use Rattle.r10_index.specs.Written.{index_size}
+use Rattle.r10_packetout.specs.Packets.{Describes, bare, packet_size}
 use Rattle.r10_packetout.proofs.Framing.{described}
-use Rattle.r10_packetout.specs.Carries.{EventsAreCounted, Records, HasNoEvents, Recording, Says, StandApart, next_event_entry, packets_of, time_entry_at}
+use Rattle.r10_packetout.specs.Carries.{EventsAreCounted, HasNoEvents, Recording, Says, StandApart, next_event_entry, time_entry_at}
 use Rattle.r10_packetout.proofs.Begin.{begun_says}
 use Rattle.r10_packetout.proofs.Carrying.{packet_said}
-use Rattle.r10_packetout.proofs.Closing.{has_length, index_covered}
+use Rattle.r10_packetout.proofs.Closing.{index_covered}
 use Rattle.r10_packetout.proofs.Own.{event_said, time_said}
 
 -- ---- how long a packet is
@@ -48,41 +48,38 @@ ends_at header body packets p cost is le =
     at_most : (a b i j cost : ℕ) → a ≡ b → i ≡ j → a + i ≤ cost → b + j ≤ cost
     at_most a b i j cost e g le = omega (arith, e, g, le)
 
-few_more : (packets : List Packet) (p : Packet) → length packets < 3276500 → length (packets ++ p ∷ []) ≤ 3276500
-few_more packets p few = omega (arith, few, length-append packets (p ∷ []))
-
 -- ---- each packet that is put
 
 pub handed_fits : (r : Recording) (packets : List Packet) (text : List ℕ) (entries more : List Entry) (builders : List BuilderState) → Says r packets text entries → StandApart r → HasNoEvents more
-    → (closed : Closed) → HandsOn closed packets r.builders more builders → length packets < 3276500 → r.cost + sum_by entry_cost more < 2 ^ 63
+    → (closed : Closed) → HandsOn closed packets r.builders more builders → r.cost + sum_by entry_cost more < 2 ^ 63
     → length (file_bytes packets) + packet_size closed.header closed.body.items + index_size (length packets + 1) ≤ r.cost + sum_by entry_cost more
-handed_fits r packets text entries more builders says apart plain closed hands few small =
+handed_fits r packets text entries more builders says apart plain closed hands small =
     let is : Describes closed.header closed.body.items hands.packet = record { fits = hands.fits; header_is = ap bare hands.header; body_is = hands.body } in
     ends_at closed.header closed.body.items packets hands.packet (r.cost + sum_by entry_cost more) is
     (index_covered (record r { builders = builders; cost = r.cost + sum_by entry_cost more }) (packets ++ numbered packets hands.packet ∷ []) text (entries ++ more)
-    (packet_said r packets text entries more builders says apart plain closed hands r.out) (few_more packets (numbered packets hands.packet) few) small)
+    (packet_said r packets text entries more builders says apart plain closed hands r.out) small)
 
 pub time_fits : (r : Recording) (packets : List Packet) (text : List ℕ) (entries : List Entry) → Says r packets text entries → StandApart r → (count : ℕ) (civil : Parts)
     → last_count 0 (on_channel r.time entries) ≤ count → IsCount count → IsCivil civil → (header : Header) (body : List ℕ) → Describes header body (time_packet r.time count civil)
-    → length packets < 3276500 → r.cost + entry_cost (time_entry_at r.time count civil) < 2 ^ 63
+    → r.cost + entry_cost (time_entry_at r.time count civil) < 2 ^ 63
     → length (file_bytes packets) + packet_size header body + index_size (length packets + 1) ≤ r.cost + entry_cost (time_entry_at r.time count civil)
-time_fits r packets text entries says apart count civil later counts are header body is few small =
+time_fits r packets text entries says apart count civil later counts are header body is small =
     let p : Packet = time_packet r.time count civil in
     let e : Entry = time_entry_at r.time count civil in
     ends_at header body packets p (r.cost + entry_cost e) is
     (index_covered (record r { clock = count; cost = r.cost + entry_cost e }) (packets ++ numbered packets p ∷ []) text (entries ++ e ∷ [])
-    (time_said r packets text entries count civil r.out says apart later counts are) (few_more packets (numbered packets p) few) small)
+    (time_said r packets text entries count civil r.out says apart later counts are) small)
 
 pub event_fits : (r : Recording) (packets : List Packet) (text : List ℕ) (entries : List Entry) → Says r packets text entries → StandApart r → (count number : ℕ)
     → last_count 0 (on_channel r.event entries) ≤ count → IsCount count → number < 2 ^ 12 → number < length r.counts → (header : Header) (body : List ℕ) → Describes header body (event_packet r.event count number packets)
-    → length packets < 3276500 → r.cost + entry_cost (next_event_entry r.event count number entries) < 2 ^ 63
+    → r.cost + entry_cost (next_event_entry r.event count number entries) < 2 ^ 63
     → length (file_bytes packets) + packet_size header body + index_size (length packets + 1) ≤ r.cost + entry_cost (next_event_entry r.event count number entries)
-event_fits r packets text entries says apart count number later counts small_number lt header body is few small =
+event_fits r packets text entries says apart count number later counts small_number lt header body is small =
     let p : Packet = event_packet r.event count number packets in
     let e : Entry = next_event_entry r.event count number entries in
     ends_at header body packets p (r.cost + entry_cost e) is
     (index_covered _ (packets ++ numbered packets p ∷ []) text (entries ++ e ∷ [])
-    (event_said r packets text entries count number r.out says apart later counts small_number lt) (few_more packets (numbered packets p) few) small)
+    (event_said r packets text entries count number r.out says apart later counts small_number lt) small)
 
 -- ---- the first two packets
 
@@ -93,7 +90,7 @@ begun_fits r text count civil apart are none counted short counts civil_is heade
     let s : Packet = setup_packet count text in
     let t : Packet = time_packet r.time count civil in
     let e : Entry = time_entry_at r.time count civil in
-    let covered = index_covered (record r { clock = count; cost = file_cost text (e ∷ []) }) (s ∷ t ∷ []) text (e ∷ []) (begun_says r text count civil r.out apart are none counted short counts civil_is) (omega arith) (omega (arith, short)) in
+    let covered = index_covered (record r { clock = count; cost = file_cost text (e ∷ []) }) (s ∷ t ∷ []) text (e ∷ []) (begun_says r text count civil r.out apart are none counted short counts civil_is) (omega (arith, short)) in
     let rest : length (packet_bytes t ++ []) ≡ length (packet_bytes t) + 0 = length-append (packet_bytes t) [] in
     let bytes : length (packet_bytes s ++ (packet_bytes t ++ [])) ≡ length (packet_bytes s) + length (packet_bytes t ++ []) = length-append (packet_bytes s) (packet_bytes t ++ []) in
     within (length (packet_bytes s)) (length (packet_bytes t)) (packet_size header body) (packet_size second other) (length (packet_bytes t ++ [])) (length (packet_bytes s ++ (packet_bytes t ++ []))) (file_cost text (e ∷ []))
@@ -101,11 +98,6 @@ begun_fits r text count civil apart are none counted short counts civil_is heade
   where
     within : (a b m n c d cost : ℕ) → a ≡ m → b ≡ n → c ≡ b + 0 → d ≡ a + c → d + index_size 2 ≤ cost → m + n + index_size 2 ≤ cost
     within a b m n c d cost e g h i le = omega (arith, e, g, h, i, le)
-
--- ---- how many packets
-
-pub counted_packets : (r : Recording) (image : Image) (text : List ℕ) (entries : List Entry) (carried : Records r image text entries) → packet_count carried.packets r.builders ≡ packets_of r
-counted_packets r image text entries carried = omega (arith, has_length r.out image carried.packets carried.has)
 
 -- ---- counts that don't fall
 

@@ -14,17 +14,17 @@ ghost use Rattle.r10_body.specs.Rules.{Rise};
 ghost use Rattle.r10_body.specs.declared.entry.Entry.{Entry};
 ghost use Rattle.r10_body.specs.declared.entry.Sample.{Sample};
 ghost use Rattle.r10_body.specs.Sequence.{last_count, numbered};
-ghost use Rattle.r10_index.specs.Written.{FitsIndex, index_of};
+ghost use Rattle.r10_index.specs.Written.{IsGroup, index_of, index_size};
 ghost use Rattle.r10_builder.specs.Packing.{entry_on};
 ghost use Rattle.r10_builder.specs.State.{BuilderState};
 ghost use Rattle.r10_builder.specs.declared.closed.Closed.{Closed};
-ghost use Rattle.r10_builder.specs.Grows.{all_held, packet_count};
+ghost use Rattle.r10_builder.specs.Grows.{all_held};
 ghost use Rattle.r10_builder.specs.Next.{event_packet, setup_packet, time_packet};
 ghost use Rattle.r10_builder.specs.Packed.{HandsOn, TakesInSamples};
 ghost use Rattle.r10_builder.specs.Settings.{AreChannelSettings, BuilderTakes, specs_of};
 ghost use Rattle.r10_packetout.specs.Output.{Has, Writing};
-ghost use Rattle.r10_packetout.specs.Packets.{Describes, index_size, packet_size};
-ghost use Rattle.r10_packetout.specs.Carries.{EventsAreCounted, Records, HasNoEvents, Recording, Says, StandApart, next_event_entry, occurrences, packets_of, time_entry_at};
+ghost use Rattle.r10_packetout.specs.Packets.{Describes, packet_size};
+ghost use Rattle.r10_packetout.specs.Carries.{EventsAreCounted, Records, HasNoEvents, Recording, Says, StandApart, next_event_entry, occurrences, time_entry_at};
 
 /// Entries that go into a builder, without a packet, are carried.
 pub fn samples_are_carried()
@@ -79,37 +79,34 @@ pub fn files_begin()
         → packet_size header body + packet_size second other + index_size 2 ≤ file_cost text (time_entry_at r.time count civil ∷ []) }
 {}
 
-/// Where nothing is open, the packets with their index behind them are a closed file that says all entries.
+/// Where nothing is open, the packets with their index behind them, in groups of so many nodes, are a closed file that says all
+/// entries.
 pub fn closed_files_say()
-    ensures { (r : Recording) (packets : List StrictPacket) (text : List ℕ) (entries : List Entry) → Says r packets text entries → all_held r.builders ≡ [] → FitsIndex packets → PacketsSay (packets ++ index_of packets) text entries true }
+    ensures { (r : Recording) (packets : List StrictPacket) (text : List ℕ) (entries : List Entry) (nodes : ℕ) → Says r packets text entries → all_held r.builders ≡ [] → IsGroup nodes → length (file_bytes packets) < 2 ^ 63
+        → PacketsSay (packets ++ index_of nodes packets) text entries true }
 {}
 
 /// The packets, with their index behind them, are no longer than the file costs, and so they stay with
 /// each packet that is put behind them.
 pub fn packets_have_room()
-    ensures index { (r : Recording) (packets : List StrictPacket) (text : List ℕ) (entries : List Entry) → Says r packets text entries → length packets ≤ 3_276_500 → r.cost < 2 ^ 63
+    ensures index { (r : Recording) (packets : List StrictPacket) (text : List ℕ) (entries : List Entry) → Says r packets text entries → r.cost < 2 ^ 63
         → length (file_bytes packets) + index_size (length packets) ≤ r.cost }
     ensures handed { (r : Recording) (packets : List StrictPacket) (text : List ℕ) (entries : List Entry) (more : List Entry) (builders : List BuilderState) → Says r packets text entries → StandApart r → HasNoEvents more
-        → (closed : Closed) → HandsOn closed packets r.builders more builders → length packets < 3_276_500 → r.cost + sum_by entry_cost more < 2 ^ 63
+        → (closed : Closed) → HandsOn closed packets r.builders more builders → r.cost + sum_by entry_cost more < 2 ^ 63
         → length (file_bytes packets) + packet_size closed.header closed.body.items + index_size (length packets + 1) ≤ r.cost + sum_by entry_cost more }
     ensures time { (r : Recording) (packets : List StrictPacket) (text : List ℕ) (entries : List Entry) → Says r packets text entries → StandApart r
         → (count : ℕ) (civil : Parts) → last_count 0 (on_channel r.time entries) ≤ count → IsCount count → IsCivil civil → (header : Header) (body : List ℕ) → Describes header body (time_packet r.time count civil)
-        → length packets < 3_276_500 → r.cost + entry_cost (time_entry_at r.time count civil) < 2 ^ 63
+        → r.cost + entry_cost (time_entry_at r.time count civil) < 2 ^ 63
         → length (file_bytes packets) + packet_size header body + index_size (length packets + 1) ≤ r.cost + entry_cost (time_entry_at r.time count civil) }
     ensures event { (r : Recording) (packets : List StrictPacket) (text : List ℕ) (entries : List Entry) → Says r packets text entries → StandApart r
         → (count : ℕ) (number : ℕ) → last_count 0 (on_channel r.event entries) ≤ count → IsCount count → number < 2 ^ 12 → number < length r.counts → (header : Header) (body : List ℕ)
-        → Describes header body (event_packet r.event count number packets) → length packets < 3_276_500 → r.cost + entry_cost (next_event_entry r.event count number entries) < 2 ^ 63
+        → Describes header body (event_packet r.event count number packets) → r.cost + entry_cost (next_event_entry r.event count number entries) < 2 ^ 63
         → length (file_bytes packets) + packet_size header body + index_size (length packets + 1) ≤ r.cost + entry_cost (next_event_entry r.event count number entries) }
 {}
 
 /// Where an entry may come behind others, none on its channel is later.
 pub fn none_is_later()
     ensures { (entries : List Entry) (e : Entry) → ((channel : ℕ) → Rise 0 (on_channel channel entries ++ on_channel channel (e ∷ []))) → last_count 0 (on_channel e.channel entries) ≤ e.count }
-{}
-
-/// What is kept tells how many packets there are, where an open builder counts as one.
-pub fn packets_are_counted()
-    ensures { (r : Recording) (image : MediumImage) (text : List ℕ) (entries : List Entry) (carried : Records r image text entries) → packet_count carried.packets r.builders ≡ packets_of r }
 {}
 
 /// Where nothing is open, the packets are a file that says all entries.

@@ -12,7 +12,7 @@ mod parts;
 pub use index::put_index;
 pub use laws::{
     closed_files_say, costs_cover, events_are_carried, files_begin, flushed_files_say,
-    none_is_later, packets_are_carried, packets_are_counted, packets_have_room,
-    samples_are_carried, samples_are_no_events, times_are_carried,
+    none_is_later, packets_are_carried, packets_have_room, samples_are_carried,
+    samples_are_no_events, times_are_carried,
 };
 pub use output::PacketOut;

@@ -9,12 +9,12 @@ use Rattle.r10_body.specs.Cost.{entry_cost}
 use Rattle.r10_body.specs.declared.entry.Entry.{Entry}
 use Rattle.r10_body.specs.declared.entry.Sample.{Sample}
 use Rattle.r10_builder.specs.Packing.{entry_on}
-use Rattle.r10_packetout.specs.Carries.{Recording, packets_of}
+use Rattle.r10_packetout.specs.Carries.{Recording}
 use Rattle.r10_machine.specs.Calls.{Pumps, without}
 use Rattle.r10_machine.specs.Config.{Config}
 use Rattle.r10_machine.specs.Machine.{File, Lane, Machine, change_first, is_channel, last_file, lane_of, waiting_entries, with_entries, with_lane, with_last}
-use Rattle.r10_machine.specs.Room.{TakesIn, area, cost_of, fitting, may_fill_index, room_for}
-use Rattle.r10_machine.specs.Step.{Lacks, LanesAfter, MayLackIndex, entry_has_room, has_room, needed}
+use Rattle.r10_machine.specs.Room.{TakesIn, area, cost_of, fitting, room_for}
+use Rattle.r10_machine.specs.Step.{Lacks, LanesAfter, entry_has_room, has_room, needed}
 use Rattle.r10_machine.specs.declared.event.Event.{Event as EventValue}
 use Rattle.r10_machine.specs.declared.event.Event.TheVariants as events
 use Rattle.r10_mux.specs.declared.fault.Full.{Full}
@@ -65,24 +65,19 @@ drop_front (x ∷ xs) ys = drop_front xs ys
 
 -- ---- what goes in
 
--- The first go in, where they have room, and where nothing is behind them or what comes next costs too much or may find the index full.
+-- The first go in, where they have room, and where nothing is behind them or what comes next costs too much.
 pub takes_in : (s : Config) (f : File) (front back : List Entry) (cost : ℕ) → cost ≡ cost_of f + sum_by entry_cost front → (0 < length front → cost ≤ area s f)
-    → (back ≡ []) ⊎ IsSomeAnd (slice_get back 0) (λ e. (area s f < cost + entry_cost e) ⊎ (100 * s.nodes ≤ 1 + length (f.entries ++ front))) → TakesIn s f (front ++ back) (length front)
-takes_in s f front back cost is room why = record { within = within front is room; stops = stops back why }
+    → (back ≡ []) ⊎ IsSomeAnd (slice_get back 0) (λ e. area s f < cost + entry_cost e) → TakesIn s f (front ++ back) (length front)
+takes_in s f front back cost is room why = omega (arith, within front is room, most back why)
   where
     within : (xs : List Entry) → cost ≡ cost_of f + sum_by entry_cost xs → (0 < length xs → cost ≤ area s f) → length xs ≤ fitting (area s f) (cost_of f) (xs ++ back)
     within [] is room = omega arith
     within (x ∷ xs) is room = front_fits (area s f) (cost_of f) (x ∷ xs) back (omega (arith, is, room (omega arith)))
 
-    full_index : (back : List Entry) → 100 * s.nodes ≤ 1 + length (f.entries ++ front) → may_fill_index s (with_entries (take (length front) (front ++ back)) f) ≡ true
-    full_index back le = subst (λ (es : List Entry). nat_le (100 * s.nodes) (1 + length (f.entries ++ es)) ≡ true) (sym (take_front front back)) (le-leb (100 * s.nodes) (1 + length (f.entries ++ front)) le)
-
-    stops : (back : List Entry) → (back ≡ []) ⊎ IsSomeAnd (slice_get back 0) (λ e. (area s f < cost + entry_cost e) ⊎ (100 * s.nodes ≤ 1 + length (f.entries ++ front)))
-        → length front < room_for s f (front ++ back) → may_fill_index s (with_entries (take (length front) (front ++ back)) f) ≡ true
-    stops [] why lt = absurd (omega (arith, lt, all_fit (area s f) (cost_of f) (front ++ []), ap (λ (es : List Entry). length es) (append-nil front)))
-    stops (e ∷ back) (inl none) lt = absurd (omega (arith, ap (λ (es : List Entry). length es) none))
-    stops (e ∷ back) (inr (inl much)) lt = absurd (omega (arith, lt, next_stops (area s f) (cost_of f) front e back (omega (arith, is, much))))
-    stops (e ∷ back) (inr (inr many)) lt = full_index (e ∷ back) many
+    most : (back : List Entry) → (back ≡ []) ⊎ IsSomeAnd (slice_get back 0) (λ e. area s f < cost + entry_cost e) → room_for s f (front ++ back) ≤ length front
+    most [] why = omega (arith, all_fit (area s f) (cost_of f) (front ++ []), ap (λ (es : List Entry). length es) (append-nil front))
+    most (e ∷ back) (inl none) = absurd (omega (arith, ap (λ (es : List Entry). length es) none))
+    most (e ∷ back) (inr much) = next_stops (area s f) (cost_of f) front e back (omega (arith, is, much))
 
 -- ---- of a lane
 
@@ -95,21 +90,17 @@ asked channel (suc most) (x ∷ xs) ys le =
     rw same (ap (λ (es : List Entry). entry_on channel x ∷ es) (asked channel most xs ys (omega (arith, le))))
 
 -- why it ended, in the machine's words
-pub why_ended : (s : Config) (f : File) (r : Recording) (channel most n : ℕ) (front : List Entry) (rest : List Sample) (ended : Option Full) → packets_of r ≤ 1 + length (f.entries ++ front)
-    → n ≤ most → PumpEnds r channel s.nodes (area s f) most n rest ended
-    → (take (most - n) (entries_on channel rest) ≡ []) ⊎ IsSomeAnd (slice_get (take (most - n) (entries_on channel rest)) 0) (λ e. (area s f < r.cost + entry_cost e) ⊎ (100 * s.nodes ≤ 1 + length (f.entries ++ front)))
-why_ended s f r channel most n front rest None few le ends = inl (none (most - n) refl rest ends)
+pub why_ended : (s : Config) (f : File) (r : Recording) (channel most n : ℕ) (rest : List Sample) (ended : Option Full) → n ≤ most → PumpEnds r channel (area s f) most n rest ended
+    → (take (most - n) (entries_on channel rest) ≡ []) ⊎ IsSomeAnd (slice_get (take (most - n) (entries_on channel rest)) 0) (λ e. area s f < r.cost + entry_cost e)
+why_ended s f r channel most n rest None le ends = inl (none (most - n) refl rest ends)
   where
     none : (k : ℕ) → most - n ≡ k → (rest : List Sample) → (n < most → rest ≡ []) → take k (entries_on channel rest) ≡ []
     none zero is rest ends = refl
     none (suc k) is rest ends = ap (λ (xs : List Sample). take (suc k) (entries_on channel xs)) (ends (omega (arith, is)))
-why_ended s f r channel most n front [] (Some ended) few le (lt, ends) = absurd ends
-why_ended s f r channel most n front (x ∷ rest) (Some lacking.Index) few le (lt, ends) =
+why_ended s f r channel most n [] (Some ended) le (lt, ends) = absurd ends
+why_ended s f r channel most n (x ∷ rest) (Some lacking.Medium) le (lt, ends) =
     let some : most - n ≡ suc (most - n - 1) = omega (arith, lt) in
-    rw some (inr (inr (omega (arith, few, ends.1))))
-why_ended s f r channel most n front (x ∷ rest) (Some lacking.Medium) few le (lt, ends) =
-    let some : most - n ≡ suc (most - n - 1) = omega (arith, lt) in
-    rw some (inr (inl (omega (arith, ends.1))))
+    rw some (inr (omega (arith, ends)))
 
 -- what a pump moved is what the machine's pump takes in, and what it leaves
 pub moved_in : (s : Config) (f : File) (lane : Lane) (most n : ℕ) (samples rest : List Sample) (ended : Option Full) (r : Recording) → IsPumpedInto s f lane most n samples rest ended r
@@ -121,9 +112,9 @@ moved_in s f lane most n samples rest ended r moved =
     let le : length samples ≤ most = omega (arith, moved.number, moved.within) in
     let number : n ≡ length front = moved.number ∙ sym (length-map samples (entry_on id)) in
     let all : take most (waiting_entries lane) ≡ front ++ back = ap (λ (xs : List Sample). take most (map (entry_on id) xs)) moved.waits ∙ asked id most samples rest le in
-    let ends : PumpEnds r id s.nodes (area s f) most (length samples) rest ended = subst (λ (k : ℕ). PumpEnds r id s.nodes (area s f) most k rest ended) moved.number moved.ends in
+    let ends : PumpEnds r id (area s f) most (length samples) rest ended = subst (λ (k : ℕ). PumpEnds r id (area s f) most k rest ended) moved.number moved.ends in
     let goes : TakesIn s f (front ++ back) (length front) =
-    takes_in s f front back r.cost moved.cost (λ some. moved.fits (omega (arith, some, number))) (why_ended s f r id most (length samples) front rest ended moved.few le ends) in (
+    takes_in s f front back r.cost moved.cost (λ some. moved.fits (omega (arith, some, number))) (why_ended s f r id most (length samples) rest ended le ends) in (
       subst (λ (es : List Entry). TakesIn s f es n) (sym all) (subst (λ (k : ℕ). TakesIn s f (front ++ back) k) (sym number) goes),
       subst (λ (k : ℕ). take k (waiting_entries lane) ≡ front) (sym number)
           (ap (take (length front)) (ap (map (entry_on id)) moved.waits ∙ map-append (entry_on id) samples rest) ∙ take_front front (entries_on id rest)),
@@ -140,7 +131,7 @@ some_moved : (s : Config) (f : File) (lane : Lane) (most n k : ℕ) (samples res
 some_moved s f lane most n (suc k) samples rest ended r moved is some asked = omega (arith, is)
 some_moved s f lane most n zero (x ∷ samples) rest ended r moved is some asked = omega (arith, is, moved.number)
 some_moved s f lane most n zero [] rest ended r moved is some asked =
-    let ends : n < most → rest ≡ [] = subst (PumpEnds r lane.spec.id s.nodes (area s f) most n rest) (some is) moved.ends in
+    let ends : n < most → rest ≡ [] = subst (PumpEnds r lane.spec.id (area s f) most n rest) (some is) moved.ends in
     let all : length (take most (waiting_entries lane)) ≡ 0 = ap (λ (xs : List Sample). length (take most (map (entry_on lane.spec.id) xs))) moved.waits ∙ none_asked lane.spec.id most rest (λ lt. ends (omega (arith, lt, is))) in
     omega (arith, asked, all)
 
@@ -153,13 +144,13 @@ pumps_in s m f channel lane most n samples rest ended r there last moved some =
 
 -- ---- a larger number asked for
 
-pub more_asked : (waits : Option (List Sample)) (samples rest : List Sample) (r : Recording) (channel nodes room most larger n : ℕ) (ended : Option Full) → IfSome waits (λ waiting. waiting ≡ samples ++ rest)
-    → IfSome waits (λ waiting. most ≡ min larger (length waiting)) → most ≤ larger → n ≡ length samples → PumpEnds r channel nodes room most n rest ended
-    → (later : List Sample) × IfSome waits (λ waiting. waiting ≡ samples ++ later) × PumpEnds r channel nodes room larger n later ended
-more_asked None samples rest r channel nodes room most larger n None waits least le number ends = ([], tt, λ lt. refl)
-more_asked None samples rest r channel nodes room most larger n (Some ended) waits least le number ends = (rest, tt, (omega (arith, le, ends.0), ends.1))
-more_asked (Some waiting) samples rest r channel nodes room most larger n (Some ended) waits least le number ends = (rest, waits, (omega (arith, le, ends.0), ends.1))
-more_asked (Some waiting) samples rest r channel nodes room most larger n None waits least le number ends = (rest, waits, λ lt. by (cases_lt n most) lt)
+pub more_asked : (waits : Option (List Sample)) (samples rest : List Sample) (r : Recording) (channel room most larger n : ℕ) (ended : Option Full) → IfSome waits (λ waiting. waiting ≡ samples ++ rest)
+    → IfSome waits (λ waiting. most ≡ min larger (length waiting)) → most ≤ larger → n ≡ length samples → PumpEnds r channel room most n rest ended
+    → (later : List Sample) × IfSome waits (λ waiting. waiting ≡ samples ++ later) × PumpEnds r channel room larger n later ended
+more_asked None samples rest r channel room most larger n None waits least le number ends = ([], tt, λ lt. refl)
+more_asked None samples rest r channel room most larger n (Some ended) waits least le number ends = (rest, tt, (omega (arith, le, ends.0), ends.1))
+more_asked (Some waiting) samples rest r channel room most larger n (Some ended) waits least le number ends = (rest, waits, (omega (arith, le, ends.0), ends.1))
+more_asked (Some waiting) samples rest r channel room most larger n None waits least le number ends = (rest, waits, λ lt. by (cases_lt n most) lt)
   where
     length_is : length waiting ≡ length samples + length rest
     length_is = ap (λ (xs : List Sample). length xs) waits ∙ length-append samples rest
@@ -171,19 +162,17 @@ more_asked (Some waiting) samples rest r channel nodes room most larger n None w
 -- ---- a first sample without room
 
 lacks_at : (s : Config) (m : Machine) (f : File) (channel most k : ℕ) (lane : Lane) (waiting : List Sample) (ended : Full) (r : Recording) → lane_of channel m ≡ Some lane → last_file m ≡ Some f
-    → lane.waiting ≡ waiting → most ≡ suc k → r.cost ≡ cost_of f → packets_of r ≤ 1 + length f.entries → IsSomeAnd (slice_get waiting 0) (SampleLacks r lane.spec.id s.nodes (area s f) ended) → Lacks s m (events.Pump channel most) (refusal_of_full ended)
-lacks_at s m f channel most k lane [] ended r there last waits some cost few lacks = absurd lacks
-lacks_at s m f channel most k lane (x ∷ waiting) lacking.Medium r there last waits some cost few lacks =
-    rw (has_room, entry_has_room, needed, there, last, waits, some) (no_more (cost_of f + entry_cost (entry_on lane.spec.id x)) (area s f) (omega (arith, cost, lacks.1)))
-lacks_at s m f channel most k lane (x ∷ waiting) lacking.Index r there last waits some cost few lacks =
-    rw (MayLackIndex, needed, there, last, waits, some) (le-leb (100 * s.nodes) (1 + length f.entries) (omega (arith, few, lacks.1)))
+    → lane.waiting ≡ waiting → most ≡ suc k → r.cost ≡ cost_of f → IsSomeAnd (slice_get waiting 0) (SampleLacks r lane.spec.id (area s f) ended) → Lacks s m (events.Pump channel most) (refusal_of_full ended)
+lacks_at s m f channel most k lane [] ended r there last waits some cost lacks = absurd lacks
+lacks_at s m f channel most k lane (x ∷ waiting) lacking.Medium r there last waits some cost lacks =
+    rw (has_room, entry_has_room, needed, there, last, waits, some) (no_more (cost_of f + entry_cost (entry_on lane.spec.id x)) (area s f) (omega (arith, cost, lacks)))
 
 pub lacks_first : (s : Config) (m : Machine) (f : File) (channel : ℕ) (lane : Lane) (most : ℕ) (samples rest : List Sample) (ended : Full) (r : Recording) → lane_of channel m ≡ Some lane → last_file m ≡ Some f
     → IsPumpedInto s f lane most 0 samples rest (Some ended) r → Lacks s m (events.Pump channel most) (refusal_of_full ended)
 lacks_first s m f channel lane zero samples rest ended r there last moved = absurd (omega (arith, moved.ends.0))
 lacks_first s m f channel lane (suc most) (x ∷ samples) rest ended r there last moved = absurd (omega (arith, moved.number))
 lacks_first s m f channel lane (suc most) [] rest ended r there last moved =
-    lacks_at s m f channel (suc most) most lane rest ended r there last moved.waits refl (omega (arith, moved.cost)) (omega (arith, moved.few, ap (λ (es : List Entry). length es) (append-nil f.entries))) moved.ends.1
+    lacks_at s m f channel (suc most) most lane rest ended r there last moved.waits refl (omega (arith, moved.cost)) moved.ends.1
 
 -- ---- a failure
 

@@ -11,7 +11,7 @@ use Rattle.r10_body.specs.declared.entry.Entry.{Entry}
 use Rattle.r10_body.specs.declared.entry.Sample.{Sample}
 use Rattle.r10_body.specs.declared.spec.ChannelSpec.{ChannelSpec}
 use Rattle.r10_builder.specs.Packing.{entry_on}
-use Rattle.r10_packetout.specs.Carries.{Recording, packets_of}
+use Rattle.r10_packetout.specs.Carries.{Recording}
 use Rattle.r10_machine.specs.Calls.{all_waiting, front_of, lanes_without, without}
 use Rattle.r10_machine.specs.Config.{Config}
 use Rattle.r10_machine.specs.Machine.{File, Lane, lane_in}
@@ -41,8 +41,8 @@ front_is (x ∷ lanes) p waits = by (x.spec.id == p.channel) refl (front_is lane
 -- ---- up to the first that has no room
 
 -- what the machine says of the entry that comes next
-abbrev Why : Config → File → Recording → List Entry → Entry → Type 0
-Why s f r front e = (area s f < r.cost + entry_cost e) ⊎ (100 * s.nodes ≤ 1 + length (f.entries ++ front))
+abbrev Why : Config → File → Recording → Entry → Type 0
+Why s f r e = area s f < r.cost + entry_cost e
 
 first_of_two : (P : Entry → Type 0) (xs ys : List Entry) → IsSomeAnd (slice_get xs 0) P → IsSomeAnd (slice_get (xs ++ ys) 0) P
 first_of_two P [] ys is = absurd is
@@ -52,12 +52,12 @@ none_of : (parts : List Part) → AllByRecursion (λ (q : Part). q.samples ≡ [
 none_of [] none = refl
 none_of (p ∷ parts) none = rw (none.0, none_of parts none.1) refl
 
-split_parts : (s : Config) (f : File) (r : Recording) (front : List Entry) (lanes : List Lane) (parts : List Part) → packets_of r ≤ 1 + length (f.entries ++ front) → AllByRecursion (HasWaiting lanes) parts
-    → AllByRecursion (λ (p : Part). length p.samples ≤ most_of (map (λ (l : Lane). l.spec) lanes) p.channel) parts → GoesThrough (most_of (map (λ (l : Lane). l.spec) lanes)) r s.nodes (area s f) parts
-    → (back : List Entry) × (flat_map (λ c. front_of (lane_in c lanes)) (map (λ (p : Part). p.channel) parts) ≡ entries_of parts ++ back) × ((back ≡ []) ⊎ IsSomeAnd (slice_get back 0) (Why s f r front))
-split_parts s f r front lanes [] few waits within through = ([], refl, inl refl)
-split_parts s f r front lanes (p ∷ parts) few waits within through =
-    by p.full through.0 through.1 (split_parts s f r front lanes parts few waits.1 within.1)
+split_parts : (s : Config) (f : File) (r : Recording) (lanes : List Lane) (parts : List Part) → AllByRecursion (HasWaiting lanes) parts
+    → AllByRecursion (λ (p : Part). length p.samples ≤ most_of (map (λ (l : Lane). l.spec) lanes) p.channel) parts → GoesThrough (most_of (map (λ (l : Lane). l.spec) lanes)) r (area s f) parts
+    → (back : List Entry) × (flat_map (λ c. front_of (lane_in c lanes)) (map (λ (p : Part). p.channel) parts) ≡ entries_of parts ++ back) × ((back ≡ []) ⊎ IsSomeAnd (slice_get back 0) (Why s f r))
+split_parts s f r lanes [] waits within through = ([], refl, inl refl)
+split_parts s f r lanes (p ∷ parts) waits within through =
+    by p.full through.0 through.1 (split_parts s f r lanes parts waits.1 within.1)
   where
     most : ℕ
     most = most_of (map (λ (l : Lane). l.spec) lanes) p.channel
@@ -82,15 +82,15 @@ split_parts s f r front lanes (p ∷ parts) few waits within through =
     cut none =
         ap (λ (es : List Entry). es ++ others) here ∙ append_assoc own left others ∙ ap (λ (es : List Entry). es ++ (left ++ others)) (sym (append-nil own) ∙ ap (λ (es : List Entry). own ++ es) (sym (none_of parts none)))
 
-    no_lack : (o : List Sample) (full : Full) → IsSomeAnd (slice_get o 0) (SampleLacks r p.channel s.nodes (area s f) full) → length p.samples < most → p.rest ≡ o → left ≡ [] → ⊥
+    no_lack : (o : List Sample) (full : Full) → IsSomeAnd (slice_get o 0) (SampleLacks r p.channel (area s f) full) → length p.samples < most → p.rest ≡ o → left ≡ [] → ⊥
     no_lack [] full lacks less is none = lacks
     no_lack (x ∷ o) full lacks less is none =
         let some : most - length p.samples ≡ suc (most - length p.samples - 1) = omega (arith, less) in
         omega (arith, ap (λ (es : List Entry). length es) (ap (λ (xs : List Sample). take (suc (most - length p.samples - 1)) (entries_on p.channel xs)) (sym is) ∙ ap (λ (k : ℕ). take k (entries_on p.channel p.rest)) (sym some) ∙ none))
 
-    by : (ended : Option Full) → PumpEnds r p.channel s.nodes (area s f) most (length p.samples) p.rest ended → OthersGoOn ended (GoesThrough (most_of (map (λ (l : Lane). l.spec) lanes)) r s.nodes (area s f) parts) parts
-        → (GoesThrough (most_of (map (λ (l : Lane). l.spec) lanes)) r s.nodes (area s f) parts → (back : List Entry) × (others ≡ entries_of parts ++ back) × ((back ≡ []) ⊎ IsSomeAnd (slice_get back 0) (Why s f r front)))
-        → (back : List Entry) × (front_of (lane_in p.channel lanes) ++ others ≡ (own ++ entries_of parts) ++ back) × ((back ≡ []) ⊎ IsSomeAnd (slice_get back 0) (Why s f r front))
+    by : (ended : Option Full) → PumpEnds r p.channel (area s f) most (length p.samples) p.rest ended → OthersGoOn ended (GoesThrough (most_of (map (λ (l : Lane). l.spec) lanes)) r (area s f) parts) parts
+        → (GoesThrough (most_of (map (λ (l : Lane). l.spec) lanes)) r (area s f) parts → (back : List Entry) × (others ≡ entries_of parts ++ back) × ((back ≡ []) ⊎ IsSomeAnd (slice_get back 0) (Why s f r)))
+        → (back : List Entry) × (front_of (lane_in p.channel lanes) ++ others ≡ (own ++ entries_of parts) ++ back) × ((back ≡ []) ⊎ IsSomeAnd (slice_get back 0) (Why s f r))
     by None ends on rest =
         let (later, split, why) = rest on in
         (later, whole later (nothing (most - length p.samples) refl) split, why)
@@ -99,11 +99,11 @@ split_parts s f r front lanes (p ∷ parts) few waits within through =
         nothing zero is = refl
         nothing (suc k) is = ap (λ (xs : List Sample). take (suc k) (entries_on p.channel xs)) (ends (omega (arith, is)))
     by (Some ended) ends on rest =
-        (left ++ others, cut on, inr (lacks_on (why_ended s f r p.channel most (length p.samples) front p.rest (Some ended) few within.0 ends)))
+        (left ++ others, cut on, inr (lacks_on (why_ended s f r p.channel most (length p.samples) p.rest (Some ended) within.0 ends)))
       where
-        lacks_on : (left ≡ []) ⊎ IsSomeAnd (slice_get left 0) (Why s f r front) → IsSomeAnd (slice_get (left ++ others) 0) (Why s f r front)
+        lacks_on : (left ≡ []) ⊎ IsSomeAnd (slice_get left 0) (Why s f r) → IsSomeAnd (slice_get (left ++ others) 0) (Why s f r)
         lacks_on (inl none) = absurd (no_lack p.rest ended ends.1 ends.0 refl none)
-        lacks_on (inr lacks) = first_of_two (Why s f r front) left others lacks
+        lacks_on (inr lacks) = first_of_two (Why s f r) left others lacks
 
 -- ---- a stop
 
@@ -111,7 +111,7 @@ pub stop_takes_in : (s : Config) (f : File) (lanes : List Lane) (parts : List Pa
     → TakesIn s f (all_waiting lanes) n × (take n (all_waiting lanes) ≡ entries_of parts)
 stop_takes_in s f lanes parts n r moved =
     let front : List Entry = entries_of parts in
-    let (back, split, why) = split_parts s f r front lanes parts moved.few moved.waits moved.within moved.through in
+    let (back, split, why) = split_parts s f r lanes parts moved.waits moved.within moved.through in
     let all : all_waiting lanes ≡ front ++ back = ap (flat_map (λ c. front_of (lane_in c lanes))) (sym moved.order_is) ∙ split in (
       subst (λ (es : List Entry). TakesIn s f es n) (sym all) (subst (λ (k : ℕ). TakesIn s f (front ++ back) k) (sym moved.number)
           (takes_in s f front back r.cost moved.cost (λ some. moved.fits (omega (arith, some, moved.number))) why)),

@@ -11,7 +11,7 @@ use Rattle.r10_machine.specs.declared.mode.Stopped.{Stopped}
 use Rattle.r10_packetout.specs.Carries.{Records, Recording}
 use Rattle.r10_mux.specs.Writes.{Writes}
 use Rattle.r10_mux.specs.declared.fault.Full.{Full}
-use Rattle.r10_pump.specs.Pumping.{PumpEnds, EndsBy, HasBuilder, KeepsRoom, MovesSamples, TakenIn, entries_on}
+use Rattle.r10_pump.specs.Pumping.{PumpEnds, EndsBy, HasBuilder, MovesSamples, TakenIn, entries_on}
 
 -- ---- lanes
 
@@ -74,12 +74,12 @@ OthersGoOn None others parts = others
 OthersGoOn (Some full) others parts = AllByRecursion (λ q. q.samples ≡ []) parts
 
 -- channel by channel all went in that may, up to the first sample that has no room; behind it none did
-abbrev pub GoesThrough : (ℕ → ℕ) → Recording → ℕ → ℕ → List Part → Type 0
-GoesThrough most r nodes area [] = Unit {0}
-GoesThrough most r nodes area (p ∷ parts) = PumpEnds r p.channel nodes area (most p.channel) (length p.samples) p.rest p.full × OthersGoOn p.full (GoesThrough most r nodes area parts) parts
+abbrev pub GoesThrough : (ℕ → ℕ) → Recording → ℕ → List Part → Type 0
+GoesThrough most r area [] = Unit {0}
+GoesThrough most r area (p ∷ parts) = PumpEnds r p.channel area (most p.channel) (length p.samples) p.rest p.full × OthersGoOn p.full (GoesThrough most r area parts) parts
 
 -- From all lanes, in the order of these channels, so many samples of each were taken, no more of a channel than may be, so many in all, and so many are left. They were taken into the file, which has room for them.
-pub record PumpsAll {Lane : Type 0} (took : Lane → List Sample → Lane → Type 0) (quiet : Lane → Option (List Sample)) (reached : Lane → ℕ) (spec_of : Lane → ChannelSpec) (order shares : List ℕ) (nodes area : ℕ)
+pub record PumpsAll {Lane : Type 0} (took : Lane → List Sample → Lane → Type 0) (quiet : Lane → Option (List Sample)) (reached : Lane → ℕ) (spec_of : Lane → ChannelSpec) (order shares : List ℕ) (area : ℕ)
     (lanes lanes' : List Lane) (old : Recording) (before : Disk) (new : Recording) (after : Disk) (stopped : Stopped) : Type 0 where
   pub parts : List Part
   pub order_is : map (λ p. p.channel) parts ≡ order
@@ -90,9 +90,8 @@ pub record PumpsAll {Lane : Type 0} (took : Lane → List Sample → Lane → Ty
   pub number : stopped.taken ≡ length (entries_of parts)
   pub left : stopped.left ≡ min (sum_by (λ p. length p.rest) parts) (2 ^ 64 - 1)
   pub fits : 0 < stopped.taken → new.cost ≤ area
-  pub packets : KeepsRoom nodes old new
   pub taken_in : TakenIn (AllEnd spec_of reached lanes) (AllEnd spec_of reached lanes') (entries_of parts) old before new after
-  pub through : GoesThrough (most_of (map spec_of lanes)) new nodes area parts
+  pub through : GoesThrough (most_of (map spec_of lanes)) new area parts
 
 -- The medium failed, and these samples had been taken from the lanes, no more of a channel than may be: what was shown of the file stays shown.
 pub record FailsAll {Lane : Type 0} (took : Lane → List Sample → Lane → Type 0) (reached : Lane → ℕ) (spec_of : Lane → ChannelSpec) (order : List ℕ) (lanes lanes' : List Lane) (old : Recording) (before after : Disk) : Type 0 where
@@ -107,9 +106,9 @@ pub record FailsAll {Lane : Type 0} (took : Lane → List Sample → Lane → Ty
 -- ---- one channel of them
 
 -- samples were moved, and so many are left
-abbrev pub MovesLeaving : {Lane : Type 0} → (Lane → List Sample → Lane → Type 0) → (Lane → Option (List Sample)) → (Lane → ℕ) → ℕ → ℕ → ℕ → ℕ → Lane → Lane → Recording → Disk → Recording → Disk → ℕ → Option Full → ℕ → Type 0
-MovesLeaving took quiet reached channel most nodes area lane lane' old before new after n full left =
-    (moves : MovesSamples took quiet reached channel most nodes area lane lane' old before new after n full) × (left ≡ length moves.rest)
+abbrev pub MovesLeaving : {Lane : Type 0} → (Lane → List Sample → Lane → Type 0) → (Lane → Option (List Sample)) → (Lane → ℕ) → ℕ → ℕ → ℕ → Lane → Lane → Recording → Disk → Recording → Disk → ℕ → Option Full → ℕ → Type 0
+MovesLeaving took quiet reached channel most area lane lane' old before new after n full left =
+    (moves : MovesSamples took quiet reached channel most area lane lane' old before new after n full) × (left ≡ length moves.rest)
 
 -- the lanes of a channel gave these samples, and the others none
 abbrev pub OneTook : {Lane : Type 0} → (Lane → List Sample → Lane → Type 0) → (Lane → ChannelSpec) → ℕ → List Sample → List Lane → List Lane → Type 0
@@ -118,7 +117,7 @@ OneTook took spec_of channel samples (a ∷ lanes) (b ∷ lanes') = took a (cond
 OneTook took spec_of channel samples lanes lanes' = ⊥
 
 -- from a channel's lane these samples were taken, at most so many, and so many are left
-pub record PumpsOne {Lane : Type 0} (took : Lane → List Sample → Lane → Type 0) (quiet : Lane → Option (List Sample)) (reached : Lane → ℕ) (spec_of : Lane → ChannelSpec) (channel most nodes area : ℕ)
+pub record PumpsOne {Lane : Type 0} (took : Lane → List Sample → Lane → Type 0) (quiet : Lane → Option (List Sample)) (reached : Lane → ℕ) (spec_of : Lane → ChannelSpec) (channel most area : ℕ)
     (lanes lanes' : List Lane) (old : Recording) (before : Disk) (new : Recording) (after : Disk) (n left : ℕ) (full : Option Full) : Type 0 where
   pub samples : List Sample
   pub rest : List Sample
@@ -128,9 +127,8 @@ pub record PumpsOne {Lane : Type 0} (took : Lane → List Sample → Lane → Ty
   pub left_is : left ≡ length rest
   pub within : n ≤ most
   pub fits : 0 < n → new.cost ≤ area
-  pub packets : KeepsRoom nodes old new
   pub taken_in : TakenIn (AllEnd spec_of reached lanes) (AllEnd spec_of reached lanes') (entries_on channel samples) old before new after
-  pub ends : PumpEnds new channel nodes area most n rest full
+  pub ends : PumpEnds new channel area most n rest full
 
 pub record FailsOne {Lane : Type 0} (took : Lane → List Sample → Lane → Type 0) (reached : Lane → ℕ) (spec_of : Lane → ChannelSpec) (channel most : ℕ) (lanes lanes' : List Lane) (old : Recording) (before after : Disk) : Type 0 where
   pub samples : List Sample

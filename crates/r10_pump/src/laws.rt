@@ -34,9 +34,9 @@ pub fn full_pumps_are_refused()
 /// A pump of as many samples as waited ends as one of more does; of a lane that isn't quiet, as one of
 /// more could.
 pub fn pumps_end_alike()
-    ensures { (waits : Option (List SampleValue)) (samples rest : List SampleValue) (r : Recording) (channel nodes area most larger n : ℕ) (full : Option FullValue)
-        → IfSome waits (λ waiting. waiting ≡ samples ++ rest) → IfSome waits (λ waiting. most ≡ min larger (length waiting)) → most ≤ larger → n ≡ length samples → PumpEnds r channel nodes area most n rest full
-        → (later : List SampleValue) × IfSome waits (λ waiting. waiting ≡ samples ++ later) × PumpEnds r channel nodes area larger n later full }
+    ensures { (waits : Option (List SampleValue)) (samples rest : List SampleValue) (r : Recording) (channel area most larger n : ℕ) (full : Option FullValue)
+        → IfSome waits (λ waiting. waiting ≡ samples ++ rest) → IfSome waits (λ waiting. most ≡ min larger (length waiting)) → most ≤ larger → n ≡ length samples → PumpEnds r channel area most n rest full
+        → (later : List SampleValue) × IfSome waits (λ waiting. waiting ≡ samples ++ later) × PumpEnds r channel area larger n later full }
 {}
 
 /// What a pump took from its lane before the medium failed is no more than it may.

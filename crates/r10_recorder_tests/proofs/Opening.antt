@@ -16,7 +16,7 @@ use Rattle.r10_builder.specs.Grows.{is_open_builder}
 use Rattle.r10_builder.proofs.Rising.{rise_join}
 use Rattle.r10_packetout.specs.Output.{IsReady, Writing}
 use Rattle.r10_packetout.proofs.Having.{ready_fewer}
-use Rattle.r10_packetout.specs.Carries.{Records, Recording, packets_of}
+use Rattle.r10_packetout.specs.Carries.{Records, Recording}
 use Rattle.r10_mux.specs.Writes.{IsSame, IsSameFile, LeadsToRecords, MayCome, MayGrow}
 use Rattle.r10_recorder_tests.specs.Open.{IsOpen}
 
@@ -109,7 +109,7 @@ flushed old new before after last area open_now same blocks counts led = record 
 }
 
 -- there is memory for the packets that are open
-pub few_open : (r : Recording) (n : ℕ) → IsReady r.out 1000 → n ≡ min (packets_of r) (2 ^ 64 - 1) → n ≤ 1000 → IsReady r.out (count_by is_open_builder r.builders)
+pub few_open : (r : Recording) (n : ℕ) → IsReady r.out 1000 → n ≡ count_by is_open_builder r.builders → n ≤ 1000 → IsReady r.out (count_by is_open_builder r.builders)
 few_open r n ready is few = ready_fewer r.out 1000 (count_by is_open_builder r.builders) (omega (arith, is, few)) ready
 
 -- and for one more
@@ -132,7 +132,3 @@ committed r before after last area open_now blocks carries = record {
   small = open_now.small;
   counted = open_now.counted;
 }
-
--- few are named
-pub few_named : (r : Recording) (n : ℕ) → n ≡ min (packets_of r) (2 ^ 64 - 1) → n ≤ 1000 → length r.out.entries ≤ 3_276_500
-few_named r n is few = omega (arith, is, few)

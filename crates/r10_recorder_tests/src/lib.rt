@@ -9,6 +9,8 @@ mod builders;
 #[cfg(test)]
 mod failures;
 #[cfg(test)]
+mod groups;
+#[cfg(test)]
 mod recording;
 #[cfg(test)]
 mod writing;

@@ -10,7 +10,7 @@ use std::alloc::{AllocError, Global};
 use std::process::Abort;
 use std::test::Fail;
 
-const LEAP_DAY: Parts = Parts {
+pub(crate) const LEAP_DAY: Parts = Parts {
     year: 2024,
     month: 2,
     day: 29,
@@ -42,6 +42,16 @@ pub(crate) const FIRST: [u8; 272] = [
 
 /// 16 blocks, 2 of them for the directory, and a UART channel 5 that keeps two messages.
 pub(crate) fn settings(rt: &impl Abort, alloc: Global) -> Result<Settings, AllocError> {
+    settings_of(rt, alloc, 16, 100)
+}
+
+/// The same of so many blocks, with groups of so many nodes in an index.
+pub(crate) fn settings_of(
+    rt: &impl Abort,
+    alloc: Global,
+    blocks: usize,
+    nodes: usize,
+) -> Result<Settings, AllocError> {
     let channel = ChannelSpec {
         id: 5,
         kind: Kind::Uart,
@@ -53,13 +63,13 @@ pub(crate) fn settings(rt: &impl Abort, alloc: Global) -> Result<Settings, Alloc
     };
     let channels = Vec::from_slice(alloc, &[channel])?;
     let volume = Vec::from_slice(alloc, b"VOL")?;
-    let Ok(settings) = Settings::of(16, 2, volume, 100, 1, 2, channels) else {
+    let Ok(settings) = Settings::of(blocks, 2, volume, nodes, 1, 2, channels) else {
         rt.panic("the settings are good");
     };
     Ok(settings)
 }
 
-fn text(alloc: Global, bytes: &[u8]) -> Result<Items<u8>, AllocError> {
+pub(crate) fn text(alloc: Global, bytes: &[u8]) -> Result<Items<u8>, AllocError> {
     Ok(Items::of(Vec::from_slice(alloc, bytes)?))
 }
 

@@ -98,7 +98,7 @@ fn take<M: BlockMedium>(
     if !mux.accepts(channel, &sample) {
         return Err(Stop::Refused);
     }
-    let None = mux.fits(channel, &sample, 1000, area) else {
+    let None = mux.fits(&sample, area) else {
         return Err(Stop::Refused);
     };
     let Ok(()) = mux.take(medium, channel, &sample) else {
@@ -130,7 +130,7 @@ fn tick<M: BlockMedium>(
     if mux.channels() > 999 {
         return Err(Stop::Refused);
     }
-    let None = mux.fits_alone(8, 1000, area) else {
+    let None = mux.fits_alone(8, area) else {
         return Err(Stop::Refused);
     };
     let Ok(()) = mux.tick(medium, count, civil) else {
@@ -157,7 +157,7 @@ fn mark<M: BlockMedium>(
     if count.get() < last.get() {
         return Err(Stop::Refused);
     }
-    let None = mux.fits_alone(12, 1000, area) else {
+    let None = mux.fits_alone(12, area) else {
         return Err(Stop::Refused);
     };
     let Ok(()) = mux.event(alloc, medium, 3, count) else {
@@ -174,7 +174,7 @@ fn flush<M: BlockMedium>(mux: &mut Mux, medium: &mut M, last: Count, area: u64) 
     let Ok(()) = mux.ready(1000) else {
         return Err(Stop::Memory);
     };
-    if mux.packets() > 1000 {
+    if mux.open_packets() > 1000 {
         return Err(Stop::Refused);
     }
     if mux.cost() > area {
@@ -209,13 +209,10 @@ fn close<M: BlockMedium>(mux: &mut Mux, medium: &mut M, last: Count, area: u64) 
     let Ok(()) = mux.ready(0) else {
         return Err(Stop::Memory);
     };
-    if mux.packets() > 1000 {
-        return Err(Stop::Refused);
-    }
     if mux.cost() > area {
         return Err(Stop::Refused);
     }
-    let Ok(()) = mux.close(medium) else {
+    let Ok(()) = mux.close(medium, 1000) else {
         return Err(Stop::Medium);
     };
     Ok(())
@@ -281,7 +278,7 @@ fn record_marks<M: BlockMedium>(alloc: Global, medium: &mut M) -> Result<(usize,
     };
     let last = tick(&mut mux, medium, last, AREA, next)?;
     commit(&mut mux, medium, last, AREA)?;
-    Ok((mux.packets(), mux.cost()))
+    Ok((mux.named().len(), mux.cost()))
 }
 
 /// 257 messages, each shown, and then the file is closed.

@@ -46,7 +46,7 @@ use Rattle.r10_seal.specs.Leftover.{IsEither, IsLeftOpen, SealsLast, StaysOpen, 
 use Rattle.r10_seal.specs.Sealing.{ListsSealed, IsPartlySealed, IsSealing, IsUnsealed, SealsFile, sealed, sealed_bytes, sealed_entry}
 use Rattle.r10_seal.proofs.Left.{area_is, cost, its_packets, lists, long, packets, put_below, put_bytes, put_says, put_whole, said, say, unsealed, usable}
 use Rattle.r10_seal.proofs.Placing.{directory_stays, last_place}
-use Rattle.r10_seal.proofs.Sealed.{sealed_length, sealed_say}
+use Rattle.r10_seal.proofs.Sealed.{sealed_longer, sealed_say}
 
 -- ---- a time is no dashes
 
@@ -62,17 +62,18 @@ time_closed p e =
 
 -- ---- an index has no entries
 
-index_none : (ps : List Packet) → file_entries (index_of ps) ≡ []
-index_none ps =
-    let all : file_entries (ps ++ index_of ps) ≡ file_entries ps ++ file_entries (index_of ps) = flat_map-append packet_entries ps (index_of ps) in
-    nil_from_length (file_entries (index_of ps)) (omega (arith, length-append (file_entries ps) (file_entries (index_of ps)), ap (λ (es : List Entry). length es) all, ap (λ (es : List Entry). length es) (index_says ps)))
+index_none : (nodes : ℕ) (ps : List Packet) → file_entries (index_of nodes ps) ≡ []
+index_none nodes ps =
+    let all : file_entries (ps ++ index_of nodes ps) ≡ file_entries ps ++ file_entries (index_of nodes ps) = flat_map-append packet_entries ps (index_of nodes ps) in
+    nil_from_length (file_entries (index_of nodes ps))
+    (omega (arith, length-append (file_entries ps) (file_entries (index_of nodes ps)), ap (λ (es : List Entry). length es) all, ap (λ (es : List Entry). length es) (index_says nodes ps)))
 
 -- packets with the same bytes, whatever they are, are found with the index
-found_with : (found ps : List Packet) → file_bytes found ≡ file_bytes ps → file_bytes (found ++ index_of ps) ≡ sealed_bytes ps
-found_with found ps same = flat_map-append packet_bytes found (index_of ps) ∙ ap (λ (l : List ℕ). l ++ file_bytes (index_of ps)) same ∙ sym (flat_map-append packet_bytes ps (index_of ps))
+found_with : (nodes : ℕ) (found ps : List Packet) → file_bytes found ≡ file_bytes ps → file_bytes (found ++ index_of nodes ps) ≡ sealed_bytes nodes ps
+found_with nodes found ps same = flat_map-append packet_bytes found (index_of nodes ps) ∙ ap (λ (l : List ℕ). l ++ file_bytes (index_of nodes ps)) same ∙ sym (flat_map-append packet_bytes ps (index_of nodes ps))
 
-entries_with : (found ps : List Packet) → file_entries (found ++ index_of ps) ≡ file_entries found
-entries_with found ps = flat_map-append packet_entries found (index_of ps) ∙ ap (λ (es : List Entry). file_entries found ++ es) (index_none ps) ∙ append-nil (file_entries found)
+entries_with : (nodes : ℕ) (found ps : List Packet) → file_entries (found ++ index_of nodes ps) ≡ file_entries found
+entries_with nodes found ps = flat_map-append packet_entries found (index_of nodes ps) ∙ ap (λ (es : List Entry). file_entries found ++ es) (index_none nodes ps) ∙ append-nil (file_entries found)
 
 -- ---- closed
 
@@ -81,7 +82,7 @@ module _ (s : Config) (old : Image) (chain : List ChainBlock) (nodes : ℕ) (fil
   ps = packets s old chain nodes files f left whole
 
   abbrev g : File
-  g = sealed ps f
+  g = sealed nodes ps f
 
   size : length (file_bytes ps) ≡ f.size
   size = long s old chain nodes files f left whole
@@ -92,55 +93,55 @@ module _ (s : Config) (old : Image) (chain : List ChainBlock) (nodes : ℕ) (fil
   first : e.first_block ≡ f.first_block
   first = (lists s old chain nodes files f left whole e last).first_block
 
-  here : (image : Image) → PutsSome e.first_block (file_blocks (sealed_bytes ps)) old image → PutsSome f.first_block (file_blocks (sealed_bytes ps)) old image
-  here image put = subst (λ (n : ℕ). PutsSome n (file_blocks (sealed_bytes ps)) old image) first put
+  here : (image : Image) → PutsSome e.first_block (file_blocks (sealed_bytes nodes ps)) old image → PutsSome f.first_block (file_blocks (sealed_bytes nodes ps)) old image
+  here image put = subst (λ (n : ℕ). PutsSome n (file_blocks (sealed_bytes nodes ps)) old image) first put
 
-  pub partly_says : (from image : Image) → IsWhole from → MediumSays s from (files ++ f ∷ []) → bytes_from from f.first_block f.size ≡ bytes_from old f.first_block f.size → PutsSome e.first_block (file_blocks (sealed_bytes ps)) from image
+  pub partly_says : (from image : Image) → IsWhole from → MediumSays s from (files ++ f ∷ []) → bytes_from from f.first_block f.size ≡ bytes_from old f.first_block f.size → PutsSome e.first_block (file_blocks (sealed_bytes nodes ps)) from image
       → MediumSays s image (files ++ f ∷ [])
-  partly_says from image whole_from says same put = put_says s files f ps from image whole_from size (same ∙ has) (subst (λ (n : ℕ). PutsSome n (file_blocks (sealed_bytes ps)) from image) first put) says
+  partly_says from image whole_from says same put = put_says nodes s files f ps from image whole_from size (same ∙ has) (subst (λ (n : ℕ). PutsSome n (file_blocks (sealed_bytes nodes ps)) from image) first put) says
 
-  pub partly_keeps : (image : Image) → PutsSome e.first_block (file_blocks (sealed_bytes ps)) old image → KeepBytes old image (files ++ f ∷ [])
+  pub partly_keeps : (image : Image) → PutsSome e.first_block (file_blocks (sealed_bytes nodes ps)) old image → KeepBytes old image (files ++ f ∷ [])
   partly_keeps image put =
       let there = here image put in
-      growing_kept s old image files f whole left.held.says 0 (put_below s files f ps old image whole size has there) (put_bytes s files f ps old image whole size has there ∙ sym has)
+      growing_kept s old image files f whole left.held.says 0 (put_below nodes s files f ps old image whole size has there) (put_bytes nodes s files f ps old image whole size has there ∙ sym has)
 
-  module _ (made : List ChainBlock) (image : Image) (closed : ListsSealed e ps chain made old image) where
+  module _ (made : List ChainBlock) (image : Image) (closed : ListsSealed nodes e ps chain made old image) where
     abbrev entry : DirectoryEntry
-    entry = sealed_entry ps closed.time.civil e
+    entry = sealed_entry nodes ps closed.time.civil e
 
     abbrev mid : Image
     mid = closed.between
 
-    put : PutsSome f.first_block (file_blocks (sealed_bytes ps)) old mid
+    put : PutsSome f.first_block (file_blocks (sealed_bytes nodes ps)) old mid
     put = here mid closed.puts
 
     mid_whole : IsWhole mid
-    mid_whole = put_whole s files f ps old mid whole size has put
+    mid_whole = put_whole nodes s files f ps old mid whole size has put
 
     mid_below : SameBelow f.first_block 0 old mid
-    mid_below = put_below s files f ps old mid whole size has put
+    mid_below = put_below nodes s files f ps old mid whole size has put
 
     mid_bytes : bytes_from mid f.first_block f.size ≡ bytes_from old f.first_block f.size
-    mid_bytes = put_bytes s files f ps old mid whole size has put ∙ sym has
+    mid_bytes = put_bytes nodes s files f ps old mid whole size has put ∙ sym has
 
-    shows : Shows mid f.first_block (sealed_bytes ps)
-    shows = subst (λ (n : ℕ). Shows mid n (sealed_bytes ps)) first closed.shows
+    shows : Shows mid f.first_block (sealed_bytes nodes ps)
+    shows = subst (λ (n : ℕ). Shows mid n (sealed_bytes nodes ps)) first closed.shows
 
     lists_it : Lists g entry
     lists_it =
         let was = lists s old chain nodes files f left whole e last in
         record { name = was.name; first_block = was.first_block; block_count = refl; size = refl; closed = time_closed closed.time.civil entry }
 
-    says_closed : PacketsSay (ps ++ index_of ps) f.setup (shown_entries f) true
+    says_closed : PacketsSay (ps ++ index_of nodes ps) f.setup (shown_entries f) true
     says_closed =
         let u = unsealed s old chain nodes files f left whole in
-        let with_index = sealed_say (bytes_from old f.first_block f.size) f.setup ps u closed.fits in
+        let with_index = sealed_say nodes (bytes_from old f.first_block f.size) f.setup ps u closed.group closed.short in
         record { file = with_index.file; setup_is = with_index.setup_is; entries_are = λ channel. with_index.entries_are channel ∙ (say s old chain nodes files f left whole).entries_are channel; closed_is = with_index.closed_is }
 
     made_it : SaysFile mid g
     made_it = record {
-      inside = omega (arith, (said s old chain nodes files f left whole).inside, closed.puts.size, shown_length mid f.first_block (sealed_bytes ps) mid_whole shows, sealed_length ps, size);
-      says = (ps ++ index_of ps, shows, says_closed);
+      inside = omega (arith, (said s old chain nodes files f left whole).inside, closed.puts.size, shown_length mid f.first_block (sealed_bytes nodes ps) mid_whole shows, sealed_longer nodes ps, size);
+      says = (ps ++ index_of nodes ps, shows, says_closed);
     }
 
     relists : Relists s mid chain files f g entry
@@ -149,11 +150,11 @@ module _ (s : Config) (old : Image) (chain : List ChainBlock) (nodes : ℕ) (fil
         record {
           whole = mid_whole;
           there = directory_stays old mid s.directory f.first_block chain (usable s old chain nodes files f left whole) mid_below (omega (arith, place.behind, first));
-          says = put_says s files f ps old mid whole size has put left.held.says;
+          says = put_says nodes s files f ps old mid whole size has put left.held.says;
           lists = lists_it;
           made = made_it;
           first = refl;
-          some = omega (arith, sealed_length ps, size);
+          some = omega (arith, sealed_longer nodes ps, size);
         }
 
     turned : Turned (updated entry chain) (written_in chain) mid image
@@ -162,7 +163,7 @@ module _ (s : Config) (old : Image) (chain : List ChainBlock) (nodes : ℕ) (fil
     pub closed_says : MediumSays s image (files ++ g ∷ [])
     closed_says = made_says s mid chain files f g entry relists image turned
 
-    pub closed_shows : bytes_from image g.first_block g.size ≡ sealed_bytes ps
+    pub closed_shows : bytes_from image g.first_block g.size ≡ sealed_bytes nodes ps
     closed_shows = made_bytes s mid chain files f g entry relists image g.size turned ∙ shows
 
     was_found : OthersAreFound mid (files ++ f ∷ [])
@@ -172,10 +173,10 @@ module _ (s : Config) (old : Image) (chain : List ChainBlock) (nodes : ℕ) (fil
     found_closed own =
         let was : IsFound old f = (all_front (λ (h : File). h.own ≡ false → IsFound old h) files f left.held.found).1 own in
         let same : was.packets ≡ ps = one_list was.packets ps was.each (unsealed s old chain nodes files f left whole).say.file.each (sym was.bytes_are ∙ has) in record {
-          packets = was.packets ++ index_of ps;
-          each = subst (λ (l : List Packet). EachFollows [] (l ++ index_of ps)) (sym same) says_closed.file.each;
-          bytes_are = closed_shows ∙ sym (found_with was.packets ps (sym was.bytes_are ∙ has));
-          entries_are = was.entries_are ∙ sym (entries_with was.packets ps);
+          packets = was.packets ++ index_of nodes ps;
+          each = subst (λ (l : List Packet). EachFollows [] (l ++ index_of nodes ps)) (sym same) says_closed.file.each;
+          bytes_are = closed_shows ∙ sym (found_with nodes was.packets ps (sym was.bytes_are ∙ has));
+          entries_are = was.entries_are ∙ sym (entries_with nodes was.packets ps);
           shown = was.shown;
           own = own;
         }
@@ -199,14 +200,14 @@ module _ (s : Config) (old : Image) (chain : List ChainBlock) (nodes : ℕ) (fil
         both (h ∷ fs) (one, ones) (two, twos) = (two ∙ one, both fs ones twos)
 
   -- two images that are closed have the same bytes
-  pub closed_as : (made other : List ChainBlock) (new image : Image) → ListsSealed e ps chain made old new → ListsSealed e ps chain other old image → SaysAs s (files ++ g ∷ []) new image
+  pub closed_as : (made other : List ChainBlock) (new image : Image) → ListsSealed nodes e ps chain made old new → ListsSealed nodes e ps chain other old image → SaysAs s (files ++ g ∷ []) new image
   closed_as made other new image one two = record {
     says = closed_says other image two;
     bytes = all_with (λ (h : File). bytes_from image h.first_block h.size ≡ bytes_from new h.first_block h.size) files g (keep_both old new image files (others made new one) (others other image two))
         (closed_shows other image two ∙ sym (closed_shows made new one));
   }
     where
-      others : (made : List ChainBlock) (image : Image) → ListsSealed e ps chain made old image → KeepBytes old image files
+      others : (made : List ChainBlock) (image : Image) → ListsSealed nodes e ps chain made old image → KeepBytes old image files
       others made image closed = (all_front (λ (h : File). bytes_from image h.first_block h.size ≡ bytes_from old h.first_block h.size) files f (closed_keeps made image closed)).0
 
 -- ---- a seal
@@ -216,8 +217,8 @@ pub seals_hold : (s : Config) (old new : Image) (chain made : List ChainBlock) (
     → SealsFile old chain e nodes (512 * (length old - e.first_block)) new made → (size : ℕ) × HoldsFiles s new made None (files ++ closed_in size f ∷ [])
 seals_hold s old new chain made nodes files f e whole left last seals =
     let ps = packets s old chain nodes files f left whole in
-    let closed : ListsSealed e ps chain made old new = subst (λ (qs : List Packet). ListsSealed e qs chain made old new) (its_packets s old chain nodes files f left whole e seals.text seals.packets last seals.unsealed) seals.closed in
-    (length (sealed_bytes ps), closed_holds s old chain nodes files f left whole e last made new closed)
+    let closed : ListsSealed nodes e ps chain made old new = subst (λ (qs : List Packet). ListsSealed nodes e qs chain made old new) (its_packets s old chain nodes files f left whole e seals.text seals.packets last seals.unsealed) seals.closed in
+    (length (sealed_bytes nodes ps), closed_holds s old chain nodes files f left whole e last made new closed)
 
 pub seals_cost : (s : Config) (old new : Image) (chain made : List ChainBlock) (nodes : ℕ) (files : List File) (f : File) (e : DirectoryEntry) → IsWhole old → IsLeftOpen s old chain nodes files f → last_or None (listed_files chain) ≡ Some e
     → SealsFile old chain e nodes (512 * (length old - e.first_block)) new made → shown_cost f ≤ area s f
@@ -226,7 +227,7 @@ seals_cost s old new chain made nodes files f e whole left last seals =
 
 -- what may be closed has room
 pub sealable_costs : (s : Config) (old : Image) (chain : List ChainBlock) (nodes area' : ℕ) (v : Sealable) (files : List File) (f : File) (e : DirectoryEntry) → IsWhole old → IsLeftOpen s old chain nodes files f → last_or None (listed_files chain) ≡ Some e
-    → IsSealable (bytes_from old e.first_block e.size) nodes area' v → area' ≡ 512 * (length old - e.first_block) → shown_cost f ≤ area s f
+    → IsSealable (bytes_from old e.first_block e.size) area' v → area' ≡ 512 * (length old - e.first_block) → shown_cost f ≤ area s f
 sealable_costs s old chain nodes area' v files f e whole left last is all =
     omega (arith, is.room, all, cost s old chain nodes files f left whole e is.text is.packets last is.unsealed, area_is s old chain nodes files f left whole e last)
 
@@ -243,16 +244,16 @@ module _ {T E : Type 0} (s : Config) (old new : Disk) (chain made : List ChainBl
   all = packets s old.blocks chain nodes files f left (whole_reads old)
 
   abbrev g' : File
-  g' = sealed all f
+  g' = sealed nodes all f
 
-  pub seals_last : IsPartlySealed e all chain old.blocks new.blocks → Leaves (IsSealing e all chain old) old new → OnOk result (Settled (ListsSealed e all chain made old.blocks) new) → SealsLast s files f old new made result
+  pub seals_last : IsPartlySealed nodes e all chain old.blocks new.blocks → Leaves (IsSealing nodes e all chain old) old new → OnOk result (Settled (ListsSealed nodes e all chain made old.blocks) new) → SealsLast nodes s files f old new made result
   seals_last reads moments sure =
       let whole = whole_reads old in
-      let Closed : Image → Type 0 = ListsSealed e all chain made old.blocks in
+      let Closed : Image → Type 0 = ListsSealed nodes e all chain made old.blocks in
       record {
         packets = all;
         unsealed = unsealed s old.blocks chain nodes files f left whole;
-        grows = omega (arith, sealed_length all, long s old.blocks chain nodes files f left whole);
+        grows = omega (arith, sealed_longer nodes all, long s old.blocks chain nodes files f left whole);
         holds = on_ok result (Settled Closed new) (HoldsFiles s new.blocks made None (files ++ g' ∷ []))
             (λ settled. closed_holds s old.blocks chain nodes files f left whole e last made new.blocks (settled_reads Closed new settled)) sure;
         bytes = ⊎_elim (λ put. partly_keeps s old.blocks chain nodes files f left whole e last new.blocks put) (λ closed. closed_keeps s old.blocks chain nodes files f left whole e last closed.0 new.blocks closed.1) reads;
@@ -260,7 +261,7 @@ module _ {T E : Type 0} (s : Config) (old new : Disk) (chain made : List ChainBl
             (λ put. inl (partly_says s old.blocks chain nodes files f left whole e last old.blocks new.blocks whole left.held.says refl put))
             (λ closed. inr (closed_says s old.blocks chain nodes files f left whole e last closed.0 new.blocks closed.1))
             reads;
-        moments = λ settled. weakened (IsSealing e all chain old) (IsEither s files f all) old new
+        moments = λ settled. weakened (IsSealing nodes e all chain old) (IsEither nodes s files f all) old new
             (λ image. ⊎_elim
             (λ from. inl (
             let was = settled from.0 from.1 in
@@ -281,21 +282,21 @@ module _ (s : Config) (old : Image) (chain : List ChainBlock) (nodes : ℕ) (fil
   same : qs ≡ packets s old chain nodes files f left whole
   same = its_packets s old chain nodes files f left whole e f.setup qs last is
 
-  left_says : (from image : Image) → IsWhole from → MediumSays s from (files ++ f ∷ []) → bytes_from from f.first_block f.size ≡ bytes_from old f.first_block f.size → PutsSome e.first_block (file_blocks (sealed_bytes qs)) from image
+  left_says : (from image : Image) → IsWhole from → MediumSays s from (files ++ f ∷ []) → bytes_from from f.first_block f.size ≡ bytes_from old f.first_block f.size → PutsSome e.first_block (file_blocks (sealed_bytes nodes qs)) from image
       → MediumSays s image (files ++ f ∷ [])
   left_says from image whole_from says bytes put =
-      partly_says s old chain nodes files f left whole e last from image whole_from says bytes (subst (λ (l : List Packet). PutsSome e.first_block (file_blocks (sealed_bytes l)) from image) same put)
+      partly_says s old chain nodes files f left whole e last from image whole_from says bytes (subst (λ (l : List Packet). PutsSome e.first_block (file_blocks (sealed_bytes nodes l)) from image) same put)
 
-  closed_said : (new image : Image) (made other : List ChainBlock) → ListsSealed e qs chain made old new → ListsSealed e qs chain other old image → SaysAs s (files ++ sealed qs f ∷ []) new image
+  closed_said : (new image : Image) (made other : List ChainBlock) → ListsSealed nodes e qs chain made old new → ListsSealed nodes e qs chain other old image → SaysAs s (files ++ sealed nodes qs f ∷ []) new image
   closed_said new image made other one two =
-      subst (λ (l : List Packet). SaysAs s (files ++ sealed l f ∷ []) new image) (sym same)
-      (closed_as s old chain nodes files f left whole e last made other new image (subst (λ (l : List Packet). ListsSealed e l chain made old new) same one) (subst (λ (l : List Packet). ListsSealed e l chain other old image) same two))
+      subst (λ (l : List Packet). SaysAs s (files ++ sealed nodes l f ∷ []) new image) (sym same)
+      (closed_as s old chain nodes files f left whole e last made other new image (subst (λ (l : List Packet). ListsSealed nodes e l chain made old new) same one) (subst (λ (l : List Packet). ListsSealed nodes e l chain other old image) same two))
 
 pub files_left : (s : Config) (old from image : Image) (chain : List ChainBlock) (nodes : ℕ) (files : List File) (f : File) (e : DirectoryEntry) (qs : List Packet) → IsWhole old → IsLeftOpen s old chain nodes files f → last_or None (listed_files chain) ≡ Some e
     → IsUnsealed (bytes_from old e.first_block e.size) f.setup qs → IsWhole from → MediumSays s from (files ++ f ∷ []) → bytes_from from f.first_block f.size ≡ bytes_from old f.first_block f.size
-    → PutsSome e.first_block (file_blocks (sealed_bytes qs)) from image → MediumSays s image (files ++ f ∷ [])
+    → PutsSome e.first_block (file_blocks (sealed_bytes nodes qs)) from image → MediumSays s image (files ++ f ∷ [])
 files_left s old from image chain nodes files f e qs whole left last is = left_says s old chain nodes files f e qs whole left last is from image
 
 pub files_closed : (s : Config) (old new image : Image) (chain made other : List ChainBlock) (nodes : ℕ) (files : List File) (f : File) (e : DirectoryEntry) (qs : List Packet) → IsWhole old → IsLeftOpen s old chain nodes files f
-    → last_or None (listed_files chain) ≡ Some e → IsUnsealed (bytes_from old e.first_block e.size) f.setup qs → ListsSealed e qs chain made old new → ListsSealed e qs chain other old image → SaysAs s (files ++ sealed qs f ∷ []) new image
+    → last_or None (listed_files chain) ≡ Some e → IsUnsealed (bytes_from old e.first_block e.size) f.setup qs → ListsSealed nodes e qs chain made old new → ListsSealed nodes e qs chain other old image → SaysAs s (files ++ sealed nodes qs f ∷ []) new image
 files_closed s old new image chain made other nodes files f e qs whole left last is = closed_said s old chain nodes files f e qs whole left last is new image made other

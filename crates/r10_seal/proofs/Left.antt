@@ -42,7 +42,7 @@ use Rattle.r10_seal.specs.Judging.{IsSealFault}
 use Rattle.r10_seal.specs.Leftover.{IsLeftFault, IsLeftOpen, shown_cost}
 use Rattle.r10_seal.specs.Sealing.{IsUnsealed, cost_of_packets, sealed_bytes}
 use Rattle.r10_seal.specs.declared.fault.SealFault.{SealFault}
-use Rattle.r10_seal.specs.declared.fault.SealFault.TheVariants.{BadFile, IndexFull, MediumFull, Medium, OutOfMemory}
+use Rattle.r10_seal.specs.declared.fault.SealFault.TheVariants.{BadFile, MediumFull, Medium, OutOfMemory}
 use Rattle.r10_seal.proofs.Sealed.{one_unsealed}
 
 -- ---- what it costs, and how many packets it has
@@ -98,24 +98,13 @@ module _ (s : Config) (image : Image) (chain : List ChainBlock) (nodes : ℕ) (f
       ∙ ap (λ (ps : List Packet). file_cost f.setup (file_entries ps)) same
       ∙ same_cost f.setup (file_entries packets) (shown_entries f) say.entries_are
 
-  pub few : length packets ≤ 1 + length f.entries
-  few =
-      let agree : Agree (file_entries packets) (shown_entries f) = record { on = say.entries_are } in
-      omega (
-        arith,
-        packets_some packets say.file.each (say.file.index say.closed_is),
-        length_permutation (file_entries packets) (shown_entries f) (agree-permutation (file_entries packets) (shown_entries f) agree),
-        length-take f.shown f.entries,
-      )
-
   pub area_is : (e : DirectoryEntry) → last_or None (listed_files chain) ≡ Some e → 512 * (length image - e.first_block) ≡ area s f
   area_is e is = omega (arith, left.held.says.blocks, (lists e is).first_block)
 
   -- ---- faults
 
-  pub left_fault : (e : DirectoryEntry) (fault : SealFault) → last_or None (listed_files chain) ≡ Some e → IsSealFault (bytes_from image e.first_block e.size) nodes (512 * (length image - e.first_block)) fault → IsLeftFault s f fault
+  pub left_fault : (e : DirectoryEntry) (fault : SealFault) → last_or None (listed_files chain) ≡ Some e → IsSealFault (bytes_from image e.first_block e.size) (512 * (length image - e.first_block)) fault → IsLeftFault s f fault
   left_fault e (BadFile at) is wrong = strict_apart (bytes_from image e.first_block e.size) false at.offset at.fault wrong (f.setup, file_entries packets, (packets, (unsealed_by e is).bytes_are, (unsealed_by e is).say))
-  left_fault e IndexFull is wrong = omega (arith, wrong.many, left.nodes_are, few, ap (λ (ps : List Packet). length ps) (its_packets e wrong.text wrong.packets is wrong.unsealed))
   left_fault e MediumFull is wrong = omega (arith, wrong.much, cost e wrong.text wrong.packets is wrong.unsealed, area_is e is)
   left_fault e Medium is wrong = tt
   left_fault e OutOfMemory is wrong = tt
@@ -130,27 +119,27 @@ module _ (s : Config) (image : Image) (chain : List ChainBlock) (nodes : ℕ) (f
 
 -- ---- blocks of the file with its index, put over it
 
-pub front_is : (packets : List Packet) → take (length (file_bytes packets)) (sealed_bytes packets) ≡ file_bytes packets
-front_is packets =
-    ap (take (length (file_bytes packets))) (flat_map-append packet_bytes packets (index_of packets)) ∙ take_at (file_bytes packets) (file_bytes (index_of packets)) (length (file_bytes packets)) refl
+pub front_is : (nodes : ℕ) (packets : List Packet) → take (length (file_bytes packets)) (sealed_bytes nodes packets) ≡ file_bytes packets
+front_is nodes packets =
+    ap (take (length (file_bytes packets))) (flat_map-append packet_bytes packets (index_of nodes packets)) ∙ take_at (file_bytes packets) (file_bytes (index_of nodes packets)) (length (file_bytes packets)) refl
 
-pub still_shown : (packets : List Packet) (first : ℕ) (a b : Image) → IsWhole a → PutsSome first (file_blocks (sealed_bytes packets)) a b → Shows a first (file_bytes packets) → Shows b first (file_bytes packets)
-still_shown packets first a b whole put shows =
+pub still_shown : (nodes : ℕ) (packets : List Packet) (first : ℕ) (a b : Image) → IsWhole a → PutsSome first (file_blocks (sealed_bytes nodes packets)) a b → Shows a first (file_bytes packets) → Shows b first (file_bytes packets)
+still_shown nodes packets first a b whole put shows =
     let n = length (file_bytes packets) in
-    subst (λ (l : List ℕ). Shows b first l) (front_is packets)
-    (stays_shown (sealed_bytes packets) first (blocks_for (length (sealed_bytes packets))) a b whole put n (subst (λ (l : List ℕ). Shows a first l) (sym (front_is packets)) shows))
+    subst (λ (l : List ℕ). Shows b first l) (front_is nodes packets)
+    (stays_shown (sealed_bytes nodes packets) first (blocks_for (length (sealed_bytes nodes packets))) a b whole put n (subst (λ (l : List ℕ). Shows a first l) (sym (front_is nodes packets)) shows))
 
 -- an image that says the files and has the last one's bytes goes on to say them
-module _ (s : Config) (files : List File) (f : File) (packets : List Packet) (a b : Image) (whole : IsWhole a) (long : length (file_bytes packets) ≡ f.size) (has : bytes_from a f.first_block f.size ≡ file_bytes packets)
-    (put : PutsSome f.first_block (file_blocks (sealed_bytes packets)) a b) where
+module _ (nodes : ℕ) (s : Config) (files : List File) (f : File) (packets : List Packet) (a b : Image) (whole : IsWhole a) (long : length (file_bytes packets) ≡ f.size) (has : bytes_from a f.first_block f.size ≡ file_bytes packets)
+    (put : PutsSome f.first_block (file_blocks (sealed_bytes nodes packets)) a b) where
   pub put_whole : IsWhole b
-  put_whole = whole_put (sealed_bytes packets) f.first_block (blocks_for (length (sealed_bytes packets))) a b whole put
+  put_whole = whole_put (sealed_bytes nodes packets) f.first_block (blocks_for (length (sealed_bytes nodes packets))) a b whole put
 
   pub put_below : SameBelow f.first_block 0 a b
-  put_below = below_puts f.first_block (file_blocks (sealed_bytes packets)) a b put
+  put_below = below_puts f.first_block (file_blocks (sealed_bytes nodes packets)) a b put
 
   pub put_bytes : bytes_from b f.first_block f.size ≡ file_bytes packets
-  put_bytes = ap (bytes_from b f.first_block) (sym long) ∙ still_shown packets f.first_block a b whole put (ap (bytes_from a f.first_block) long ∙ has)
+  put_bytes = ap (bytes_from b f.first_block) (sym long) ∙ still_shown nodes packets f.first_block a b whole put (ap (bytes_from a f.first_block) long ∙ has)
 
   pub put_says : MediumSays s a (files ++ f ∷ []) → MediumSays s b (files ++ f ∷ [])
   put_says says = growing_stands s a b files f whole put_whole says 0 put_below (put_bytes ∙ sym has)
@@ -172,9 +161,9 @@ others_cost s image chain written files f held own = whole_cost f ((all_front (�
 -- ---- as laws
 
 pub left_unsealed : (s : Config) (image : Image) (chain : List ChainBlock) (nodes : ℕ) (files : List File) (f : File) (e : DirectoryEntry) → IsWhole image → IsLeftOpen s image chain nodes files f → last_or None (listed_files chain) ≡ Some e
-    → (packets : List Packet) × IsUnsealed (bytes_from image e.first_block e.size) f.setup packets × (length packets ≤ 1 + length f.entries)
-left_unsealed s image chain nodes files f e whole left last = (packets s image chain nodes files f left whole, unsealed_by s image chain nodes files f left whole e last, few s image chain nodes files f left whole)
+    → (packets : List Packet) × IsUnsealed (bytes_from image e.first_block e.size) f.setup packets
+left_unsealed s image chain nodes files f e whole left last = (packets s image chain nodes files f left whole, unsealed_by s image chain nodes files f left whole e last)
 
 pub fault_left : (s : Config) (image : Image) (chain : List ChainBlock) (nodes : ℕ) (files : List File) (f : File) (e : DirectoryEntry) (fault : SealFault) → IsWhole image → IsLeftOpen s image chain nodes files f → last_or None (listed_files chain) ≡ Some e
-    → IsSealFault (bytes_from image e.first_block e.size) nodes (512 * (length image - e.first_block)) fault → IsLeftFault s f fault
+    → IsSealFault (bytes_from image e.first_block e.size) (512 * (length image - e.first_block)) fault → IsLeftFault s f fault
 fault_left s image chain nodes files f e fault whole left last = left_fault s image chain nodes files f left whole e fault last

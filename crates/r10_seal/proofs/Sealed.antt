@@ -1,20 +1,20 @@
 -- A file with its index behind it.
-use Rattle.std.proofs.Common.{◌≡◌, ℕ, ◌+◌, ◌≤◌, false, true, List, [], ◌∷◌, ◌++◌, length, map, filter, refl, sym, ap, ◌∙◌, arith, length-append}
+use Rattle.std.proofs.Common.{◌≡◌, ℕ, ◌+◌, ◌^◌, ◌<◌, ◌≤◌, false, true, List, [], ◌∷◌, ◌++◌, length, map, filter, refl, sym, ap, ◌∙◌, arith, length-append}
 use Rattle.std.proofs.lemmas.List.{take-append-le}
 use Rattle.std.proofs.lemmas.List.Concat.{flat_map-append}
 use Rattle.r10_indexbody.specs.declared.entry.NodeEntry.{NodeEntry}
 use Rattle.r10_body.specs.Files.{PacketsSay, on_channel}
 use Rattle.r10_body.specs.Packets.{Packet, file_bytes, file_entries, packet_bytes}
 use Rattle.r10_body.specs.Rules.{is_data, last_time, node_entries}
-use Rattle.r10_packetout.proofs.Closing.{index_long, index_says, named_length}
+use Rattle.r10_body.specs.Sequence.{next_sequence}
+use Rattle.r10_packetout.proofs.Closing.{index_says, named_length}
+use Rattle.r10_body.proofs.Indexes.{not_whole}
 use Rattle.r10_index.proofs.Behind.{all_data, index_closes}
-use Rattle.r10_index.specs.Written.{FitsIndex, first_nodes, index_of, node_count, root_packet}
+use Rattle.r10_index.proofs.Leaving.{one_by_one}
+use Rattle.r10_index.specs.Written.{IsGroup, index_behind, index_of, index_size}
 use Rattle.r10_judge.specs.Judged.{TracksStrictFile}
 use Rattle.r10_body.proofs.Lengths.{file_covered}
 use Rattle.r10_body.proofs.OneMeaning.{one_list}
-use Rattle.r10_body.proofs.Rules.{bytes_more}
-use Rattle.r10_packetout.specs.Packets.{index_packets, index_size, nodes_size, root_size}
-use Rattle.r10_packetout.proofs.Indexing.{nodes_whole, root_size_is}
 use Rattle.r10_seal.specs.Sealing.{IsUnsealed, cost_of_packets, sealed_bytes}
 use Rattle.r10_tracks.specs.declared.tracks.Tracks.{Tracks}
 
@@ -31,38 +31,48 @@ one_unsealed bytes text other packets others one two = one_list packets others o
 
 -- what nodes say of the packets
 pub all_named : (bytes text : List ℕ) (packets : List Packet) → IsUnsealed bytes text packets → node_entries 0 (filter is_data packets) ≡ node_entries 0 packets
-all_named bytes text packets is = ap (node_entries 0) (all_data packets (is.say.file.index is.say.closed_is))
+all_named bytes text packets is = ap (node_entries 0) (all_data packets (is.say.file.index (not_whole packets is.say.closed_is)))
 
 pub named_count : (bytes text : List ℕ) (packets : List Packet) → IsUnsealed bytes text packets → length (node_entries 0 (filter is_data packets)) ≡ length packets
 named_count bytes text packets is = ap (λ (es : List NodeEntry). length es) (all_named bytes text packets is) ∙ named_length 0 packets
 
 -- ---- with the index
 
-pub behind_bytes : (packets : List Packet) (counter end : ℕ) (entries : List NodeEntry) → counter ≡ last_time 0 packets → end ≡ length (file_bytes packets) → entries ≡ node_entries 0 packets
-    → file_bytes packets ++ file_bytes (index_packets counter end entries) ≡ sealed_bytes packets
-behind_bytes packets counter end entries last long named =
-    ap (λ (n : ℕ). file_bytes packets ++ file_bytes (index_packets n end entries)) last
-    ∙ ap (λ (n : ℕ). file_bytes packets ++ file_bytes (index_packets (last_time 0 packets) n entries)) long
-    ∙ ap (λ (es : List NodeEntry). file_bytes packets ++ file_bytes (index_packets (last_time 0 packets) (length (file_bytes packets)) es)) named
-    ∙ sym (flat_map-append packet_bytes packets (index_of packets))
+pub behind_bytes : (nodes : ℕ) (packets : List Packet) (counter number end : ℕ) (entries : List NodeEntry) → counter ≡ last_time 0 packets → number ≡ next_sequence 0 packets → end ≡ length (file_bytes packets)
+    → entries ≡ node_entries 0 packets → file_bytes packets ++ file_bytes (index_behind nodes counter number end entries) ≡ sealed_bytes nodes packets
+behind_bytes nodes packets counter number end entries last first long named =
+    ap (λ (n : ℕ). file_bytes packets ++ file_bytes (index_behind nodes n number end entries)) last
+    ∙ ap (λ (n : ℕ). file_bytes packets ++ file_bytes (index_behind nodes (last_time 0 packets) n end entries)) first
+    ∙ ap (λ (n : ℕ). file_bytes packets ++ file_bytes (index_behind nodes (last_time 0 packets) (next_sequence 0 packets) n entries)) long
+    ∙ ap (λ (es : List NodeEntry). file_bytes packets ++ file_bytes (index_behind nodes (last_time 0 packets) (next_sequence 0 packets) (length (file_bytes packets)) es)) named
+    ∙ sym (flat_map-append packet_bytes packets (index_of nodes packets))
 
-pub sealed_length : (packets : List Packet) → length (sealed_bytes packets) ≡ length (file_bytes packets) + index_size (length packets)
-sealed_length packets =
-    ap (λ (b : List ℕ). length b) (flat_map-append packet_bytes packets (index_of packets)) ∙ length-append (file_bytes packets) (file_bytes (index_of packets))
-    ∙ ap (λ n. length (file_bytes packets) + n) (index_long packets)
+sealed_both : (nodes : ℕ) (packets : List Packet) → length (sealed_bytes nodes packets) ≡ length (file_bytes packets) + length (file_bytes (index_of nodes packets))
+sealed_both nodes packets =
+    ap (λ (b : List ℕ). length b) (flat_map-append packet_bytes packets (index_of nodes packets)) ∙ length-append (file_bytes packets) (file_bytes (index_of nodes packets))
+
+pub sealed_longer : (nodes : ℕ) (packets : List Packet) → length (file_bytes packets) ≤ length (sealed_bytes nodes packets)
+sealed_longer nodes packets = omega (arith, sealed_both nodes packets)
+
+-- in groups of one node an index is as long as it may be
+pub ones_length : (packets : List Packet) → length (sealed_bytes 1 packets) ≡ length (file_bytes packets) + index_size (length packets)
+ones_length packets =
+    sealed_both 1 packets ∙ ap (λ n. length (file_bytes packets) + n) (one_by_one (last_time 0 packets) (next_sequence 0 packets) (length (file_bytes packets)) (node_entries 0 packets) ∙ ap index_size (named_length 0 packets))
 
 -- the file with its index says the same, and is closed
-pub sealed_say : (bytes text : List ℕ) (packets : List Packet) → IsUnsealed bytes text packets → FitsIndex packets → PacketsSay (packets ++ index_of packets) text (file_entries packets) true
-sealed_say bytes text packets is fits =
-    let whole = index_closes packets is.say.file is.say.closed_is fits in
+pub sealed_say : (nodes : ℕ) (bytes text : List ℕ) (packets : List Packet) → IsUnsealed bytes text packets → IsGroup nodes → length (file_bytes packets) < 2 ^ 63
+    → PacketsSay (packets ++ index_of nodes packets) text (file_entries packets) true
+sealed_say nodes bytes text packets is group short =
+    let whole = index_closes nodes packets group is.say.file is.say.closed_is short in
     let two : 2 ≤ length packets = is.say.file.start in
     record {
       file = whole.0;
-      setup_is = ap (λ (ps : List Packet). map (λ (q : Packet). q.content) ps) (take-append-le 1 packets (index_of packets) (omega (arith, two))) ∙ is.say.setup_is;
-      entries_are = λ channel. ap (on_channel channel) (index_says packets);
+      setup_is = ap (λ (ps : List Packet). map (λ (q : Packet). q.content) ps) (take-append-le 1 packets (index_of nodes packets) (omega (arith, two))) ∙ is.say.setup_is;
+      entries_are = λ channel. ap (on_channel channel) (index_says nodes packets);
       closed_is = whole.1;
     }
 
 -- and is no longer than it costs
-pub sealed_within : (bytes text : List ℕ) (packets : List Packet) → IsUnsealed bytes text packets → FitsIndex packets → length (sealed_bytes packets) ≤ cost_of_packets text packets
-sealed_within bytes text packets is fits = file_covered (sealed_bytes packets) text (file_entries packets) true (packets ++ index_of packets, refl, sealed_say bytes text packets is fits)
+pub sealed_within : (nodes : ℕ) (bytes text : List ℕ) (packets : List Packet) → IsUnsealed bytes text packets → IsGroup nodes → length (file_bytes packets) < 2 ^ 63 → length (sealed_bytes nodes packets) ≤ cost_of_packets text packets
+sealed_within nodes bytes text packets is group short =
+    file_covered (sealed_bytes nodes packets) text (file_entries packets) true (packets ++ index_of nodes packets, refl, sealed_say nodes bytes text packets is group short)

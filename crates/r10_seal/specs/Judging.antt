@@ -1,5 +1,5 @@
 -- Whether a file that was left open may be closed.
-use Rattle.std.specs.Prelude.{◌≡◌, ℕ, ◌*◌, ◌<◌, ◌≤◌, false, List, length, Some, None}
+use Rattle.std.specs.Prelude.{◌≡◌, ℕ, ◌<◌, ◌≤◌, false, List, Some, None}
 use Rattle.r10_body.specs.Faults.{IsAtFault}
 use Rattle.r10_body.specs.Packets.{Packet}
 use Rattle.r10_medium.specs.Disk.{Disk, Unchanged}
@@ -7,46 +7,35 @@ use Rattle.r10_tracks.specs.Times.{last_mark}
 use Rattle.r10_tracks.specs.Tracks.{IsTracked}
 use Rattle.r10_seal.specs.Sealing.{IsUnsealed, cost_of_packets}
 use Rattle.r10_seal.specs.declared.fault.SealFault.{SealFault}
-use Rattle.r10_seal.specs.declared.fault.SealFault.TheVariants.{BadFile, IndexFull, MediumFull, Medium, OutOfMemory}
+use Rattle.r10_seal.specs.declared.fault.SealFault.TheVariants.{BadFile, MediumFull, Medium, OutOfMemory}
 use Rattle.r10_seal.specs.declared.judging.Sealable.{Sealable}
 
--- it may, with so many nodes and so many bytes of the medium, and this is kept of its packets
-pub record IsSealable (bytes : List ℕ) (nodes area : ℕ) (v : Sealable) : Type 0 where
+-- it may, with so many bytes of the medium, and this is kept of its packets
+pub record IsSealable (bytes : List ℕ) (area : ℕ) (v : Sealable) : Type 0 where
   pub text : List ℕ
   pub packets : List Packet
   pub unsealed : IsUnsealed bytes text packets
   pub tracked : IsTracked v.tracks packets
-  pub few : length packets ≤ 100 * nodes
   pub room : cost_of_packets text packets ≤ area
   pub last : last_mark None packets ≡ Some v.time
 
--- strict packets that are too many for the nodes
-pub record HasTooMany (bytes : List ℕ) (nodes : ℕ) : Type 0 where
-  pub text : List ℕ
-  pub packets : List Packet
-  pub unsealed : IsUnsealed bytes text packets
-  pub many : 100 * nodes < length packets
-
 -- strict packets that cost too much
-pub record CostsTooMuch (bytes : List ℕ) (nodes area : ℕ) : Type 0 where
+pub record CostsTooMuch (bytes : List ℕ) (area : ℕ) : Type 0 where
   pub text : List ℕ
   pub packets : List Packet
   pub unsealed : IsUnsealed bytes text packets
-  pub few : length packets ≤ 100 * nodes
   pub much : area < cost_of_packets text packets
 
 -- what a fault says of the file's bytes
-abbrev pub IsSealFault : List ℕ → ℕ → ℕ → SealFault → Type 0
-IsSealFault bytes nodes area (BadFile at) = IsAtFault bytes false at.offset at.fault
-IsSealFault bytes nodes area IndexFull = HasTooMany bytes nodes
-IsSealFault bytes nodes area MediumFull = CostsTooMuch bytes nodes area
-IsSealFault bytes nodes area Medium = Unit {0}
-IsSealFault bytes nodes area OutOfMemory = Unit {0}
+abbrev pub IsSealFault : List ℕ → ℕ → SealFault → Type 0
+IsSealFault bytes area (BadFile at) = IsAtFault bytes false at.offset at.fault
+IsSealFault bytes area MediumFull = CostsTooMuch bytes area
+IsSealFault bytes area Medium = Unit {0}
+IsSealFault bytes area OutOfMemory = Unit {0}
 
 -- what a fault of reading says of them
 abbrev pub IsReadFault : List ℕ → SealFault → Type 0
 IsReadFault bytes (BadFile at) = IsAtFault bytes false at.offset at.fault
-IsReadFault bytes IndexFull = ⊥
 IsReadFault bytes MediumFull = ⊥
 IsReadFault bytes Medium = Unit {0}
 IsReadFault bytes OutOfMemory = Unit {0}
@@ -54,7 +43,6 @@ IsReadFault bytes OutOfMemory = Unit {0}
 -- a fault leaves the medium as it was, unless it failed
 abbrev pub IsUntouched : Disk → Disk → SealFault → Type 0
 IsUntouched old new (BadFile at) = Unchanged old new
-IsUntouched old new IndexFull = Unchanged old new
 IsUntouched old new MediumFull = Unchanged old new
 IsUntouched old new Medium = Unit {0}
 IsUntouched old new OutOfMemory = Unchanged old new

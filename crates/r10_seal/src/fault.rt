@@ -7,8 +7,6 @@ use r10_strict::Fault;
 pub enum SealFault {
     /// It is not strict: the first fault of its bytes.
     BadFile(Fault),
-    /// It has more packets than a hundred for each node of an index.
-    IndexFull,
     /// It costs more than there is of the medium behind its first block.
     MediumFull,
     /// A call of the medium failed.

@@ -21,13 +21,13 @@ ghost use Rattle.r10_seal.specs.Leftover.{IsLeftFault, IsLeftOpen, shown_cost};
 ghost use Rattle.r10_seal.specs.Sealing.{ListsSealed, IsUnsealed, SealsFile, sealed, sealed_bytes};
 ghost use Rattle.r10_seal.specs.declared.fault.SealFault.{SealFault as SealFaultValue};
 
-/// Of the last file that is held, and was left open, the medium has strict packets, no more of them than one and one
-/// for each entry. So a fault of its bytes does not come, and the others are the machine's.
+/// Of the last file that is held, and was left open, the medium has strict packets. So a fault of its bytes does not
+/// come, and the others are the machine's.
 pub fn left_files_are_strict()
     ensures unsealed { (s : Config) (image : Image) (chain : List ChainBlock) (nodes : ℕ) (files : List File) (f : File) (e : DirectoryEntry) → IsWhole image → IsLeftOpen s image chain nodes files f → last_or None (listed_files chain) ≡ Some e
-        → (packets : List Packet) × IsUnsealed (bytes_from image e.first_block e.size) f.setup packets × (length packets ≤ 1 + length f.entries) }
+        → (packets : List Packet) × IsUnsealed (bytes_from image e.first_block e.size) f.setup packets }
     ensures fault { (s : Config) (image : Image) (chain : List ChainBlock) (nodes : ℕ) (files : List File) (f : File) (e : DirectoryEntry) (fault : SealFaultValue) → IsWhole image → IsLeftOpen s image chain nodes files f → last_or None (listed_files chain) ≡ Some e
-        → IsSealFault (bytes_from image e.first_block e.size) nodes (512 * (length image - e.first_block)) fault → IsLeftFault s f fault }
+        → IsSealFault (bytes_from image e.first_block e.size) (512 * (length image - e.first_block)) fault → IsLeftFault s f fault }
 {}
 
 /// What a file costs with the entries that it shows is no more than it costs; and it is that of a file that shows all,
@@ -51,8 +51,8 @@ pub fn sealed_files_are_held()
 pub fn seals_leave_files()
     ensures left { (s : Config) (old from image : Image) (chain : List ChainBlock) (nodes : ℕ) (files : List File) (f : File) (e : DirectoryEntry) (packets : List Packet) → IsWhole old → IsLeftOpen s old chain nodes files f → last_or None (listed_files chain) ≡ Some e
         → IsUnsealed (bytes_from old e.first_block e.size) f.setup packets → IsWhole from → MediumSays s from (files ++ f ∷ []) → bytes_from from f.first_block f.size ≡ bytes_from old f.first_block f.size
-        → PutsSome e.first_block (file_blocks (sealed_bytes packets)) from image → MediumSays s image (files ++ f ∷ []) }
+        → PutsSome e.first_block (file_blocks (sealed_bytes nodes packets)) from image → MediumSays s image (files ++ f ∷ []) }
     ensures closed { (s : Config) (old new image : Image) (chain made other : List ChainBlock) (nodes : ℕ) (files : List File) (f : File) (e : DirectoryEntry) (packets : List Packet) → IsWhole old → IsLeftOpen s old chain nodes files f
-        → last_or None (listed_files chain) ≡ Some e → IsUnsealed (bytes_from old e.first_block e.size) f.setup packets → ListsSealed e packets chain made old new → ListsSealed e packets chain other old image
-        → SaysAs s (files ++ sealed packets f ∷ []) new image }
+        → last_or None (listed_files chain) ≡ Some e → IsUnsealed (bytes_from old e.first_block e.size) f.setup packets → ListsSealed nodes e packets chain made old new → ListsSealed nodes e packets chain other old image
+        → SaysAs s (files ++ sealed nodes packets f ∷ []) new image }
 {}

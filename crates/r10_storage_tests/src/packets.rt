@@ -90,13 +90,13 @@ fn put(
 }
 
 // The first recording from block 1 on, its third packet with these flags: bytes and packets before it
-// is closed, and bytes and the block behind it then.
+// is closed, and the block behind it then.
 fn record(
     alloc: Global,
     medium: &mut Memory,
     counter: Count,
     flags: u8,
-) -> Result<(u64, usize, u64, usize), MediumFault>
+) -> Result<(u64, usize, usize), MediumFault>
     requires { 5 ≤ length (memory_blocks medium.old) }
 {
     let mut out = PacketOut::begin(alloc, 1);
@@ -105,8 +105,8 @@ fn record(
     put(&mut out, medium, &header(5, 0x50, flags, counter), &UART, 2)?;
     let (size, packets) = (out.size(), out.packets());
     out.commit_blocks(medium)?;
-    out.close(medium, counter)?;
-    Ok((size, packets, out.size(), out.end()))
+    out.close(medium, counter, 1000)?;
+    Ok((size, packets, out.end()))
 }
 
 #[test]
@@ -115,7 +115,7 @@ fn the_first_recording_is_put_and_closed(rt: HostRuntime) -> Result<(), Fail> {
     let counter = Count::of(1000).ok_or("no count")?;
     let told = record(rt.alloc(), &mut medium, counter, 0);
     let image = medium.image(rt.alloc())?;
-    assert_eq!(rt; told, Ok((124, 3, 272, 2)));
+    assert_eq!(rt; told, Ok((124, 3, 2)));
     assert_eq!(rt; image.get(512..784), Some(FIRST.as_slice()));
     Ok(())
 }
@@ -126,7 +126,7 @@ fn a_packet_is_put_with_its_checksum(rt: HostRuntime) -> Result<(), Fail> {
     let counter = Count::of(1000).ok_or("no count")?;
     let told = record(rt.alloc(), &mut medium, counter, 2);
     let image = medium.image(rt.alloc())?;
-    assert_eq!(rt; told, Ok((128, 3, 276, 2)));
+    assert_eq!(rt; told, Ok((128, 3, 2)));
     assert_eq!(rt; image.get(580..640), Some(CHECKED.as_slice()));
     Ok(())
 }

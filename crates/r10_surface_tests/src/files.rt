@@ -43,7 +43,7 @@ fn written(alloc: Global, counter: Count) -> Result<(Vec<u8>, Option<u64>), Fail
     let found = book.candidates(Some(5), counter, counter).next();
     let mut out = Vec::new(alloc);
     if book.entries().len() <= 100 {
-        book.write(counter, 124, &mut out)?;
+        book.write(counter, 1, 124, 1000, &mut out)?;
     }
     Ok((out, found.map(|entry| entry.offset)))
 }

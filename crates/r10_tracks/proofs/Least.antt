@@ -1,7 +1,6 @@
 -- The least rule that is broken, and all of what is kept.
-use Rattle.std.proofs.Common.{◌≡◌, ℕ, ◌+◌, ◌<◌, ◌≤◌, Bool, true, false, not, cond, ◌==◌, IsTrue, List, [], ◌∷◌, refl, sym, ◌∙◌, arith}
-use Rattle.std.specs.Prelude.{◌↔◌, nat_eq, count_by}
-use Rattle.std.proofs.lemmas.Bool.{eqb-true}
+use Rattle.std.proofs.Common.{◌≡◌, ℕ, ◌+◌, ◌<◌, ◌≤◌, Bool, false, IsTrue, List, [], ◌∷◌, refl, sym, ◌∙◌, arith}
+use Rattle.std.specs.Prelude.{◌↔◌, count_by}
 use Rattle.r10_body.specs.Packets.{Packet}
 use Rattle.r10_body.specs.Rules.{KeepsStart, KeepsChannels, KeepsSequence, KeepsCounts, KeepsIndex, KeepsCounters, is_index, is_node, is_root}
 use Rattle.r10_body.proofs.Indexes.{Part, datum, node_here, root_here, part_of, counted_first, counted_yes, counted_no}
@@ -86,14 +85,3 @@ index_at p ps (root_here es e i n r len) rest =
 pub index_packets : (ps : List Packet) → count_by is_index ps ≡ count_by is_node ps + count_by is_root ps
 index_packets [] = refl
 index_packets (p ∷ ps) = index_at p ps (part_of p) (index_packets ps)
-
-not_zero : (n : ℕ) (b : Bool) → n == 0 ≡ b → 0 < n → not b ≡ true
-not_zero n true is some = absurd (omega (arith, eqb-true n 0 is, some))
-not_zero n false is some = refl
-
-pub some_nodes : (nodes count : ℕ) → 0 < nodes → 0 < count → IsTrue (not (nat_eq nodes 0)) ↔ (0 < count)
-some_nodes nodes count some more = (λ e. more, λ e. not_zero nodes (nodes == 0) refl some)
-
-pub closed_root : (closed : Bool) (roots count : ℕ) → roots ≡ cond closed 1 0 → count ≡ roots → IsTrue closed ↔ (0 < count)
-closed_root true roots count is same = (λ e. omega (arith, is, same), λ e. refl)
-closed_root false roots count is same = (λ e. absurd (no e), λ some. absurd (omega (arith, is, same, some)))

@@ -15,7 +15,7 @@ pub names_length : (counter end n : ℕ) → length (names counter end n) ≡ n
 names_length counter end zero = refl
 names_length counter end (suc n) = omega (arith, names_length counter end n, length-append (names counter end n) (root_at counter (end + 2028 * n) ∷ []))
 
-names_more : (counter end n : ℕ) → names counter end (n + 1) ≡ names counter end n ++ root_at counter (end + 2028 * n) ∷ []
+pub names_more : (counter end n : ℕ) → names counter end (n + 1) ≡ names counter end n ++ root_at counter (end + 2028 * n) ∷ []
 names_more counter end n = let more : n + 1 ≡ suc n = omega arith in ap (names counter end) more
 
 pub named_more : (counter end n offset : ℕ) (bytes left rest : List ℕ) → bytes ≡ flat_map root_entry (names counter end n) ++ left → offset ≡ end + 2028 * n → left ≡ root_entry (root_at counter offset) ++ rest

@@ -100,7 +100,7 @@ fn last_of(track: Option<ChannelTrack>) -> u64
 }
 
 /// The sequence number of a channel's next packet.
-fn next_of(track: Option<ChannelTrack>) -> u8
+pub(crate) fn next_of(track: Option<ChannelTrack>) -> u8
     ensures { (packets : List Packet) (channel : ℕ) → IsKeptOfChannel packets channel track → result ≡ next_sequence channel packets }
 {
     match track {

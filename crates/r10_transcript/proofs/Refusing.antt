@@ -35,7 +35,6 @@ refused_behind disk lacks lacked k later a b c refusals.Stale then same up rose 
 refused_behind disk lacks lacked k later a b c refusals.NoCursor then same up rose is = (then refusals.NoCursor is.0, unchanged_twice (disk a) (disk b) (disk c) same is.1, is.2)
 refused_behind disk lacks lacked k later a b c refusals.Unread then same up rose is = (then refusals.Unread is.0, unchanged_twice (disk a) (disk b) (disk c) same is.1, is.2)
 refused_behind disk lacks lacked k later a b c refusals.DirectoryFull then same up rose is = (then refusals.DirectoryFull is.0, unchanged_twice (disk a) (disk b) (disk c) same is.1, is.2)
-refused_behind disk lacks lacked k later a b c refusals.IndexFull then same up rose is = (then refusals.IndexFull is.0, unchanged_twice (disk a) (disk b) (disk c) same is.1, is.2)
 refused_behind disk lacks lacked k later a b c refusals.MediumFull then same up rose is = (then refusals.MediumFull is.0, unchanged_twice (disk a) (disk b) (disk c) same is.1, is.2)
 refused_behind disk lacks lacked k later a b c (refusals.BadDirectory n) then same up rose is = (then (refusals.BadDirectory n) is.0, unchanged_twice (disk a) (disk b) (disk c) same is.1, is.2)
 refused_behind disk lacks lacked k later a b c (refusals.BadFile at fault) then same up rose is = (then (refusals.BadFile at fault) is.0, unchanged_twice (disk a) (disk b) (disk c) same is.1, is.2)

@@ -1,7 +1,10 @@
 use Rattle.std.proofs.Common.{ap, arith}
 use Rattle.r10_packetout.specs.Carries.{Recording}
-use Rattle.r10_bench.proofs.Feeding.{flushed, kept, may_end}
+use Rattle.r10_bench.proofs.Feeding.{few_open, flushed, kept, may_end}
 use Rattle.r10_bench.proofs.record.finish.Goals as goal
+
+pub flush-requires-clause-ready : goal.flush-requires-clause-ready
+flush-requires-clause-ready g c = few_open c.args.mux.now c.ready.new.self c.channels-channels.result c.ready.ensures.same c.channels-channels.ensures.count c.in_ok-ready.ensures.ready.0
 
 pub close-requires-clause-grows : goal.close-requires-clause-grows
 close-requires-clause-grows g c =

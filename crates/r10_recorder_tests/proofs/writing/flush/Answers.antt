@@ -4,7 +4,7 @@ use Rattle.r10_recorder_tests.proofs.Opening.{few_open, flushed, may_end, readie
 use Rattle.r10_recorder_tests.proofs.writing.flush.Goals as goal
 
 pub flush-requires-clause-ready : goal.flush-requires-clause-ready
-flush-requires-clause-ready g c = few_open c.ready.new.self c.packets.result c.in-Ok.ensures.ready.0 c.packets.ensures c.if-packets-gt1000.false
+flush-requires-clause-ready g c = few_open c.ready.new.self c.open_packets.result c.in-Ok.ensures.ready.0 c.open_packets.ensures c.if-open_packets-gt1000.false
 
 pub flush-requires-clause-grows : goal.flush-requires-clause-grows
 flush-requires-clause-grows g c =

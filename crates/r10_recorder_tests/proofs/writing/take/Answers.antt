@@ -8,7 +8,7 @@ take-requires-clause-grows g c =
     let image = (g.M.BlockMedium.disk c.args.medium.now).blocks in
     may_take c.ready.new.self image c.args.last c.args.area (entry_on c.args.channel c.args.sample)
     (readied c.args.mux.now c.ready.new.self image c.args.last c.args.area c.requires c.in-Ok.ensures.same c.in-Ok.ensures.carries)
-    (omega (arith, c.get.ensures.value, c.get-2.ensures.value, c.if-get.false)) c.in-None.ensures.1
+    (omega (arith, c.get.ensures.value, c.get-2.ensures.value, c.if-get.false)) (c.in-None.ensures c.args.channel)
 
 pub returns : goal.returns
 returns g c =

@@ -11,7 +11,7 @@ tick-requires-clause-grows g c =
     let image = (g.M.BlockMedium.disk c.args.medium.now).blocks in
     may_take c.ready.new.self image c.args.last c.args.area (time_entry_at c.ready.new.self.time c.args.count c.in-Some.civil)
     (readied c.args.mux.now c.ready.new.self image c.args.last c.args.area c.requires c.in-Ok.ensures.same c.in-Ok.ensures.carries)
-    (omega (arith, c.get.ensures.value, c.get-2.ensures.value, c.if-get.false)) c.in-None.ensures.1
+    (omega (arith, c.get.ensures.value, c.get-2.ensures.value, c.if-get.false)) c.in-None.ensures
 
 pub returns : goal.returns
 returns g c =

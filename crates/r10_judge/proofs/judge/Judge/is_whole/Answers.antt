@@ -2,12 +2,12 @@ use Rattle.std.proofs.Common.{◌∙◌, sym, true≢false, arith}
 use Rattle.r10_judge.proofs.Judging.{none_left, none_there}
 use Rattle.r10_judge.proofs.judge.Judge.is_whole.Goals as goal
 
-pub returns-then-is_closed : goal.returns-then-is_closed
-returns-then-is_closed c = λ packets tracked.
-    ((λ is. (omega (arith, c.if-packets-ge2.true, c.packets.ensures packets tracked), (λ open_end. absurd (true≢false (sym c.if-is_closed.true ∙ c.is_closed.ensures packets tracked ∙ open_end))))), (λ whole. c.if-is_closed.true))
+pub returns-then-has_whole_index : goal.returns-then-has_whole_index
+returns-then-has_whole_index c = λ packets tracked.
+    ((λ is. (omega (arith, c.if-packets-ge2.true, c.packets.ensures packets tracked), (λ open_end. absurd (true≢false (sym c.if-has_whole_index.true ∙ c.has_whole_index.ensures packets tracked ∙ open_end))))), (λ whole. c.if-has_whole_index.true))
 
-pub returns-else-is_closed : goal.returns-else-is_closed
-returns-else-is_closed c = λ packets tracked. (
+pub returns-else-has_whole_index : goal.returns-else-has_whole_index
+returns-else-has_whole_index c = λ packets tracked. (
   (λ none. (omega (arith, c.if-packets-ge2.true, c.packets.ensures packets tracked), (λ open_end. none_left c.has_index.result _ (c.has_index.ensures packets tracked) none))),
-  (λ whole. none_there c.has_index.result _ (c.has_index.ensures packets tracked) (whole.1 (sym (c.is_closed.ensures packets tracked) ∙ c.if-is_closed.false))),
+  (λ whole. none_there c.has_index.result _ (c.has_index.ensures packets tracked) (whole.1 (sym (c.has_whole_index.ensures packets tracked) ∙ c.if-has_whole_index.false))),
 )
