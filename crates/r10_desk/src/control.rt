@@ -29,7 +29,7 @@ impl<M: BlockMedium> Desk<M> {
         number_of(&reply)
     }
 
-    /// The clock: a count below 2^48, in units of 100 ns, and the civil time at it. 0, or 1, 2, 10, 11, 13, 24, 25, 28, 30.
+    /// The clock: a count below 2^48, in units of 100 ns, and the civil time at it. 0, or 1, 2, 10, 11, 13, 25, 28, 30.
     pub fn tick(&mut self, count: u64, parts: Parts) -> u32
         ensures { Does M.disk self.old.world (events.Tick count parts) (λ reply. result ≡ number_of reply) self.new.world }
     {
@@ -53,7 +53,7 @@ impl<M: BlockMedium> Desk<M> {
         number_of(&reply)
     }
 
-    /// Takes at most so many waiting messages of a channel into the file, and says how many: 0, or 1, 2, 5, 6, 24, 25, 28, 30.
+    /// Takes at most so many waiting messages of a channel into the file, and says how many: 0, or 1, 2, 5, 6, 25, 28, 30.
     pub fn pump(&mut self, channel: u16, most: usize, moved: &mut usize) -> u32
         ensures { Does M.disk self.old.world (events.Pump channel most) (λ reply. (result ≡ number_of reply) × (moved.new ≡ moved_in reply moved.old)) self.new.world }
     {
@@ -62,7 +62,7 @@ impl<M: BlockMedium> Desk<M> {
         number_of(&reply)
     }
 
-    /// A recording event of this number, 0 to 4,095: 0, or 1, 2, 5, 10, 11, 17, 24, 25, 28, 30.
+    /// A recording event of this number, 0 to 4,095: 0, or 1, 2, 5, 10, 11, 17, 25, 28, 30.
     pub fn event(&mut self, number: u16, count: u64) -> u32
         ensures { Does M.disk self.old.world (events.Event number count) (λ reply. result ≡ number_of reply) self.new.world }
     {
@@ -88,7 +88,7 @@ impl<M: BlockMedium> Desk<M> {
         number_of(&reply)
     }
 
-    /// Closes the last file, which was left open: 0, or 1, 2, 4, 19, 24, 25, 27, 28, 30.
+    /// Closes the last file, which was left open: 0, or 1, 2, 4, 19, 25, 27, 28, 30.
     pub fn seal(&mut self) -> u32
         ensures { Does M.disk self.old.world events.Seal (λ reply. result ≡ number_of reply) self.new.world }
     {

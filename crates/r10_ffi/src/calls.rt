@@ -121,7 +121,7 @@ pub extern "C" fn r10_dismount(alloc: Global, recorder: &mut Handle) -> u32
     answer
 }
 
-/// The clock: a count and the civil time at it. 0, or 1, 2, 10, 11, 13, 24, 25, 28, 30.
+/// The clock: a count and the civil time at it. 0, or 1, 2, 10, 11, 13, 25, 28, 30.
 #[unsafe(no_mangle)]
 pub extern "C" fn r10_tick(alloc: Global, recorder: &mut Handle, count: u64, civil: &Civil) -> u32
     requires { IsThere recorder.old.held }
@@ -250,7 +250,7 @@ pub extern "C" fn r10_offer_message(
     answer
 }
 
-/// Takes at most so many waiting messages of a channel into the file. 0, or 1, 2, 5, 6, 24, 25, 28, 30.
+/// Takes at most so many waiting messages of a channel into the file. 0, or 1, 2, 5, 6, 25, 28, 30.
 #[unsafe(no_mangle)]
 pub extern "C" fn r10_pump(
     alloc: Global,
@@ -268,7 +268,7 @@ pub extern "C" fn r10_pump(
     answer
 }
 
-/// A recording event. 0, or 1, 2, 5, 10, 11, 17, 24, 25, 28, 30.
+/// A recording event. 0, or 1, 2, 5, 10, 11, 17, 25, 28, 30.
 #[unsafe(no_mangle)]
 pub extern "C" fn r10_event(alloc: Global, recorder: &mut Handle, number: u16, count: u64) -> u32
     requires { IsThere recorder.old.held }
@@ -309,7 +309,7 @@ pub extern "C" fn r10_stop(
     answer
 }
 
-/// Closes the last file, which was left open. 0, or 1, 2, 4, 19, 24, 25, 27, 28, 30.
+/// Closes the last file, which was left open. 0, or 1, 2, 4, 19, 25, 27, 28, 30.
 #[unsafe(no_mangle)]
 pub extern "C" fn r10_seal(alloc: Global, recorder: &mut Handle) -> u32
     requires { IsThere recorder.old.held }
