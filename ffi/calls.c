@@ -57,7 +57,7 @@ static void say_sure(const char *what, uint32_t number) {
 }
 
 static void show(const r10_entry *e) {
-    printf("  kind %u channel %u count %" PRIu64 " gap %d", e->kind, e->channel, e->count, e->gap);
+    printf("  kind %u channel %u count %" PRIu64 " gap %d lost %" PRIu64, e->kind, e->channel, e->count, e->gap, e->lost);
     switch (e->kind) {
     case R10_UART:
         printf(" parity %d sub %u: %.*s", e->parity, e->sub, (int)e->length, (const char *)bytes);
@@ -182,6 +182,11 @@ int main(void) {
     say("file", r10_file(&recorder, 0, &file, name, sizeof name));
     printf("  %.*s size %" PRIu64 " blocks %" PRIu64 " closed %d\n", (int)file.name_length, (const char *)name, file.size, file.blocks, file.closed);
     say("file", r10_file(&recorder, 1, &file, name, sizeof name));
+    say("cursor", r10_cursor(&recorder, 0, NULL, 0, 1010, 1010, &second));
+    say("advance", r10_advance(&recorder, second, &queued));
+    say("next, behind a loss", r10_next(&recorder, second, &there, &entry, bytes, sizeof bytes, words, 36));
+    show(&entry);
+    say("close cursor", r10_close_cursor(&recorder, second));
     say_sure("erase", r10_erase(&recorder));
     say("advance", r10_advance(&recorder, cursor, &queued));
     status();

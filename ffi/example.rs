@@ -39,6 +39,7 @@ mod r10 {
     #[derive(Default)]
     pub struct Entry {
         pub count: u64,
+        pub lost: u64,
         pub length: usize,
         pub word: u32,
         pub channel: u16,

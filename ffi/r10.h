@@ -90,6 +90,7 @@ enum { R10_UART = 1, R10_1553 = 2, R10_ARINC = 3, R10_DISCRETE = 4, R10_MESSAGE 
 /* An entry without its bytes or words. What its kind does not have is 0. */
 typedef struct r10_entry {
     uint64_t count;
+    uint64_t lost;              /* how many messages before it on its channel were refused for an overflow; 0 where the file doesn't tell how many */
     size_t length;              /* how many bytes (UART, message) or words (1553) it has */
     uint32_t word;              /* ARINC: the word; discrete: the states */
     uint16_t channel;
@@ -99,7 +100,7 @@ typedef struct r10_entry {
     uint16_t year, month, day, hour, minute, second, centi; /* time */
     uint8_t kind;
     uint8_t bus;                /* ARINC */
-    bool gap;                   /* a message before it on its channel was refused for an overflow */
+    bool gap;                   /* at least one message before it on its channel was refused for an overflow */
     bool parity;                /* UART, ARINC */
     bool format;                /* ARINC, message */
     bool data_error;            /* message */

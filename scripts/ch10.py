@@ -9,7 +9,7 @@
     scripts/ch10.py range --from A --to B < INPUT    the packets of a range of time, as a recording
     scripts/ch10.py file NAME < IMAGE        one file of an image, as a recording
 
-It stands on scripts/read_chapter10.py, knows no rule of this recorder's own, and reads recordings of others too: packets of a kind that is
+It stands on scripts/read_chapter10.py, knows of this recorder's own no rule and one form, that of a loss report, and reads recordings of others too: packets of a kind that is
 not read are passed over and counted as opaque. What stands before the first fault is answered, and then the status is 1.
 """
 import argparse
@@ -27,7 +27,7 @@ sys.dont_write_bytecode = True  # a filter leaves nothing behind
 
 from ch10_picture import picture  # noqa: E402
 from ch10_survey import NONE_LATER, Survey, ends_of, name_of, replayed  # noqa: E402
-from read_chapter10 import BODIES, DAY, INDEX, SETUP, TIME, Fault, bytes_of, counts, directory, packets, ticks_of  # noqa: E402
+from read_chapter10 import BODIES, DAY, INDEX, SETUP, TIME, UNTOLD, Fault, bytes_of, counts, directory, loss_of, lost_text, packets, ticks_of  # noqa: E402
 
 
 class Wrong(Exception):
@@ -243,17 +243,22 @@ def tables(survey):
     """What each channel has, and when."""
     if not survey.rows:
         return []
-    much = [('channel', 'type', 'packets', 'entries', 'bytes', 'entries/s', 'losses', 'jumps', 'opaque')]
+    much = [('channel', 'type', 'packets', 'entries', 'bytes', 'entries/s', 'losses', 'lost', 'jumps', 'opaque')]
     when = [('channel', 'type', 'first', 'last', 'first time', 'last time')]
     for row in survey.rows:
         rate = row.rate()
         much.append((row.channel, name_of(row.kind), row.packets, row.entries if row.has_entries() else '-', row.bytes,
-                     '-' if rate is None else '%.1f' % rate, row.losses, row.jumps, row.opaque))
+                     '-' if rate is None else '%.1f' % rate, row.losses, at_least(row.lost, row.untold), row.jumps, row.opaque))
         ends = row.first(), row.last()
         when.append((row.channel, name_of(row.kind)) + ends + tuple(survey.clock and survey.clock.text(end, 2) or '-' for end in ends))
-    sums = [sum(getattr(row, name) for row in survey.rows) for name in ('packets', 'entries', 'bytes', 'losses', 'jumps', 'opaque')]
-    much.append(('all', '', *sums[:3], '', *sums[3:]))
+    sums = [sum(getattr(row, name) for row in survey.rows) for name in ('packets', 'entries', 'bytes', 'losses', 'lost', 'untold', 'jumps', 'opaque')]
+    much.append(('all', '', *sums[:3], '', sums[3], at_least(*sums[4:6]), *sums[6:]))
     return [''] + table(much) + [''] + table(when)
+
+
+def at_least(lost, untold):
+    """How many messages were lost, where of so many losses it isn't told how many."""
+    return '%d%s' % (lost, '+' if untold else '')
 
 
 def table(rows):
@@ -270,7 +275,8 @@ def of_row(row, clock, number, file):
     found.update(
         channel=row.channel, type=name_of(row.kind), packets=row.packets, entries=row.entries if row.has_entries() else None,
         bytes=row.bytes, first=row.first(), last=row.last(), first_time=clock and clock.text(row.first()),
-        last_time=clock and clock.text(row.last()), rate=row.rate(), losses=row.losses, jumps=row.jumps, opaque=row.opaque)
+        last_time=clock and clock.text(row.last()), rate=row.rate(), losses=row.losses, lost=row.lost, untold=row.untold,
+        jumps=row.jumps, opaque=row.opaque)
     return found
 
 
@@ -329,7 +335,7 @@ def as_csv(asked, data, out):
         lines = []
         for (count, channel, _, kind, lost, values), when in zip(some, times):
             form, ordered = forms[kind]
-            lines.append(f'{channel},{count},{when or ""},{lost}{form % ordered(values)}')
+            lines.append(f'{channel},{count},{when or ""},{lost and lost_text(lost)}{form % ordered(values)}')
         written(out, lines, ',-,', ',,')
     if survey.fault:
         raise survey.fault
@@ -363,7 +369,8 @@ def as_json(asked, data, out):
         for (count, channel, _, kind, lost, values), when in zip(some, times):
             made, truths, others = forms[kind]
             when = f'"{when}"' if when else 'null'
-            lines.append(f'{{"channel": {channel}, "count": {count}, "time": {when}, "lost": {TRUTH[lost]}, {made[truths(values)] % others(values)}')
+            said = '"1+"' if lost == UNTOLD else lost
+            lines.append(f'{{"channel": {channel}, "count": {count}, "time": {when}, "lost": {said}, {made[truths(values)] % others(values)}')
         written(out, lines, '": "-"', '": ""')
     if survey.fault:
         raise survey.fault
@@ -383,7 +390,8 @@ def setup(asked, data, out):
 
 
 def as_range(asked, data, out):
-    """Each packet with an entry in the range, as it stands, with the setup, and the time that holds where the range begins."""
+    """Each packet with an entry in the range, as it stands, behind the loss report that stands before it; with the setup, and the time that holds where
+    the range begins."""
     _, begin, end = one_part(data, asked.file)
     survey = Survey(data, begin, end)
     if survey.fault and not survey.rows:
@@ -394,12 +402,16 @@ def as_range(asked, data, out):
         if packet.kind == TIME and survey.clock and packet.channel == survey.clock.channel and within.is_before(packet.counter):
             if before is None or before[0] <= packet.counter:
                 before = packet.counter, packet.offset
+    report = b''
     for packet in packets(data, begin, begin + survey.size, judged=False):
-        if packet.kind == INDEX:
+        here = data[begin + packet.offset:begin + packet.offset + packet.length]
+        if loss_of(packet):
+            report = here
             continue
         is_needed = packet.kind == SETUP or before is not None and before[1] == packet.offset
-        if is_needed or any(map(within.has, counts(packet) or [packet.counter])):
-            out.write(data[begin + packet.offset:begin + packet.offset + packet.length])
+        if packet.kind != INDEX and (is_needed or any(map(within.has, counts(packet) or [packet.counter]))):
+            out.write(report + here)
+        report = b''
     if survey.fault:
         raise survey.fault
 
@@ -522,20 +534,21 @@ SUMMARY_MORE = """Of each channel and type of data:
   entries          '-' where the type has none, or none that is read
   entries/s        entries but one, over the time from the first to the last
   losses           packets that are flagged for an overflow: of the program's lines, those with a gap
+  lost             how many messages were lost there, by the loss reports before them; + where of a loss it isn't told how many: at least one
   jumps            packets whose sequence number does not follow that of the channel's packet before
   opaque           packets that are not read: a secondary header, stamps of another clock, a type or a form of it that is not known
   first, last      the lowest and highest count of its entries, or else of its packets' headers
   first time ..    the same as civil times, by the last time in the recording that isn't later; '-' where there is none"""
-CSV_MORE = """The first line names the columns. time has seven places behind the second; lost is 1 in the first entry of a packet that is flagged for
-an overflow; value is the message in hex digits, or the civil time of a time; what a type does not have is empty.
+CSV_MORE = """The first line names the columns. time has seven places behind the second; lost is how many messages were lost before an
+entry, 1+ where the recording does not tell how many; value is the message in hex digits, or the civil time of a time; what a type does not have is empty.
 """
 JSON_MORE = """Each line is an object with the keys channel, count, time, lost and type, and those of the type as in a script; a message's data error
-is data_error.
+is data_error. lost is how many messages were lost before it, "1+" where the recording does not tell how many.
 """
 SVG_MORE = """A strip for each channel: bars of entries a second (of packets, in grey, where no entry is read), with the highest beside it, and below
 them in red where messages were lost.
 """
-RANGE_MORE = """Packets stand as they are, each one whole that has an entry in the range (or, where it is not read, its own count); before them
+RANGE_MORE = """Packets stand as they are, each one whole that has an entry in the range (or, where it is not read, its own count), and the loss report before it; before them
 stand the setup and the last time before the range. The index is left out, for it would name other places.
 """
 

@@ -3,9 +3,10 @@ from array import array
 from bisect import bisect_left, bisect_right
 from datetime import date
 
-from read_chapter10 import BODIES, DAY, INDEX, SETUP, TIME, Fault, counts, entries, packets, time
+from read_chapter10 import BODIES, DAY, INDEX, SETUP, TIME, UNTOLD, Fault, counts, entries, loss_of, lost_before, packets, time
 
 NONE_LATER = (1 << 64) - 1
+REPORT = 0x100  # in place of its data type, 0x00, which others have for something else
 FAMILIES = {0x00: 'computer', 0x08: 'pcm', 0x10: 'time', 0x18: '1553', 0x20: 'analog', 0x28: 'discrete', 0x30: 'message', 0x38: 'arinc',
             0x40: 'video', 0x48: 'image', 0x50: 'uart', 0x58: '1394', 0x60: 'parallel', 0x68: 'ethernet', 0x70: 'tspi', 0x78: 'can'}
 
@@ -14,6 +15,8 @@ def name_of(kind):
     """The name of a data type: its own where it is read, else that of its family and its number."""
     if kind in BODIES:
         return BODIES[kind].name
+    if kind == REPORT:
+        return 'report'
     return '%s-%02x' % (FAMILIES.get(kind & 0xF8, 'type'), kind)
 
 
@@ -84,19 +87,23 @@ class Clock:
 class Row:
     """What the packets of one channel and one type have together."""
 
-    __slots__ = 'channel', 'kind', 'packets', 'entries', 'bytes', 'losses', 'jumps', 'opaque', 'low', 'high', 'begin', 'end'
+    __slots__ = 'channel', 'kind', 'packets', 'entries', 'bytes', 'losses', 'lost', 'untold', 'jumps', 'opaque', 'low', 'high', 'begin', 'end'
 
     def __init__(self, channel, kind, counter):
         self.channel, self.kind = channel, kind
-        self.packets = self.entries = self.bytes = self.losses = self.jumps = self.opaque = 0
+        self.packets = self.entries = self.bytes = self.losses = self.lost = self.untold = self.jumps = self.opaque = 0
         self.low = self.high = None
         self.begin = self.end = counter
 
-    def add(self, packet):
+    def add(self, packet, report):
+        """Adds a packet behind this report, or behind none."""
         self.packets += 1
         self.bytes += packet.length
         if packet.flags & 0x10:
+            lost = lost_before(packet, report)
             self.losses += 1
+            self.untold += lost == UNTOLD
+            self.lost += 1 if lost == UNTOLD else lost
         if packet.word is None:
             self.opaque += 1
         counter = packet.counter
@@ -136,11 +143,13 @@ class Survey:
 
     def __init__(self, data, begin, end):
         rows, times, lows, before = {}, [], array('Q'), {}
-        self.size, self.fault, packet = 0, None, None
+        self.size, self.fault, packet, report = 0, None, None, None
         try:
             for packet in packets(data, begin, end):
                 channel, kind, sequence = packet.channel, packet.kind, packet.sequence
-                found = counts(packet)
+                found, told = counts(packet), loss_of(packet)
+                if told:
+                    kind = REPORT
                 if kind == TIME and packet.word is not None:
                     said = time(packet.body, packet.word)
                     if said.ticks is not None:
@@ -151,7 +160,8 @@ class Survey:
                 if before.get(channel, sequence) != sequence:
                     row.jumps += 1
                 before[channel] = sequence + 1 & 0xFF
-                row.add(packet)
+                row.add(packet, report)
+                report = told
                 if found:
                     low = min(found)
                     row.add_entries(len(found), low, max(found))
@@ -170,11 +180,11 @@ class Survey:
         self.clock = Clock(times) if times else None
 
     def drawn(self, channels=None):
-        """The rows of all packets but those of setup and index."""
-        return [row for row in self.rows if row.kind not in (SETUP, INDEX) and (channels is None or row.channel in channels)]
+        """The rows of all packets but those of setup, index and loss reports."""
+        return [row for row in self.rows if row.kind not in (SETUP, INDEX, REPORT) and (channels is None or row.channel in channels)]
 
     def span(self):
-        """The lowest and the highest count, or None where there is no packet. Those of setup and index matter where there are no others."""
+        """The lowest and the highest count, or None where there is no packet. Those of setup, index and reports matter where there are no others."""
         return ends_of(self.drawn() or self.rows)
 
 
@@ -185,7 +195,8 @@ def ends_of(rows):
 # ---- entries in order
 
 def replayed(data, begin, survey, channels):
-    """The entries by count, then channel, then place, some at a time: (count, channel, place, type, lost, values).
+    """The entries by count, then channel, then place, some at a time: (count, channel, place, type, lost, values), where lost is how many were lost
+    before it, or UNTOLD.
 
     An entry is held until no later packet has one that comes before it.
     """
@@ -194,15 +205,16 @@ def replayed(data, begin, survey, channels):
     for place in range(len(later) - 2, -1, -1):
         if later[place + 1] < later[place]:
             later[place] = later[place + 1]
-    held, limit, place = [], 1 << 15, 0
+    held, limit, place, report = [], 1 << 15, 0, None
     for number, packet in enumerate(packets(data, begin, begin + survey.size, judged=False), 1):
         if channels is None or packet.channel in channels:
             channel, kind, found = packet.channel, packet.kind, entries(packet)
             if found and packet.flags & 0x10:
-                held.append((found[0][0], channel, place, kind, 1, found[0][1]))
+                held.append((found[0][0], channel, place, kind, lost_before(packet, report), found[0][1]))
                 place, found = place + 1, found[1:]
             held += [(count, channel, here, kind, 0, values) for here, (count, values) in enumerate(found, place)]
             place += len(found)
+        report = loss_of(packet)
         if len(held) >= limit:
             held.sort()
             cut = bisect_left(held, (later[number],))

@@ -31,7 +31,7 @@ import ch10  # noqa: E402
 import check_cases  # noqa: E402
 import judge_recording  # noqa: E402
 import play_cases  # noqa: E402
-from check_cases import FIRST, letters, lost, number, packet  # noqa: E402
+from check_cases import FIRST, letters, lost, number, packet, told  # noqa: E402
 
 TOP = pathlib.Path(__file__).resolve().parent.parent
 FILTER = str(TOP / 'scripts' / 'ch10.py')
@@ -175,7 +175,7 @@ def compare(image, other, setups, draw, starts=None):
         of = ['--file', shown]
         lines = other.play(image, of)
         total += len(lines)
-        losses += sum(line.split(' ')[3] == '1' for line in lines)
+        losses += losses_in(lines)
         times = times_of(lines)
         wanted = list(zip(lines, map(text_of, times)))
         agree(csv_lines(ran(['csv'] + of, image)), wanted, 'csv')
@@ -197,21 +197,34 @@ def compare(image, other, setups, draw, starts=None):
     return len(listing), total, sum(line.endswith(' 0') for line in listing), losses
 
 
+def losses_in(lines):
+    """How many entries have a gap."""
+    return sum(line.split(' ')[3] != '0' for line in lines)
+
+
+def lost_in(lines):
+    """How many messages were lost, as a number, and of how many losses it isn't told; a loss of an untold number is one at least."""
+    gaps = [line.split(' ')[3] for line in lines]
+    return sum(1 if gap == '1+' else int(gap) for gap in gaps), gaps.count('1+')
+
+
 def compare_summary(rows, lines, times, name, size, closed):
     agree(sum(row['bytes'] for row in rows), size, 'bytes')
     agree({(row['name'], row['closed']) for row in rows}, {(name, closed == '1')}, 'name and closed')
     agree(sum(row['jumps'] + row['opaque'] for row in rows), 0, 'jumps and opaque')
     found = {}
     for line in lines:
-        _, channel, count, gap, kind = line.split(' ')[:5]
-        row = found.setdefault((int(channel), kind), [0, 0, int(count), int(count), times[line], times[line]])
-        row[0] += 1
-        row[1] += int(gap)
-        row[3], row[5] = int(count), times[line]
-    said = {(row['channel'], row['type']): [row['entries'], row['losses'], row['first'], row['last'], row['first_time'], row['last_time']]
-            for row in rows if row['entries'] is not None}
+        _, channel, count, _, kind = line.split(' ')[:5]
+        row = found.setdefault((int(channel), kind), [0, 0, 0, 0, int(count), int(count), times[line], times[line]])
+        for place, more in enumerate((1, losses_in([line]), *lost_in([line]))):
+            row[place] += more
+        row[5], row[7] = int(count), times[line]
+    keys = 'entries', 'losses', 'lost', 'untold', 'first', 'last', 'first_time', 'last_time'
+    said = {(row['channel'], row['type']): [row[key] for key in keys] for row in rows if row['entries'] is not None}
     agree(said, found, 'summary')
-    agree({row['type'] for row in rows if row['entries'] is None} - {'setup', 'index'}, set(), 'types without entries')
+    agree({row['type'] for row in rows if row['entries'] is None} - {'setup', 'index', 'report'}, set(), 'types without entries')
+    reports = [row['packets'] for row in rows if row['type'] == 'report']
+    agree(sum(reports), losses_in(lines) - lost_in(lines)[1], 'loss reports')
     for row in rows:
         if row['rate'] is not None:
             agree(round(row['rate'] * (row['last'] - row['first']) / 10 ** 7), row['entries'] - 1, 'rate')
@@ -220,7 +233,8 @@ def compare_summary(rows, lines, times, name, size, closed):
 def compare_table(said, lines, size):
     words = [line.split() for line in said.splitlines()]
     total = next(line for line in words if line[:1] == ['all'])
-    agree(total[2:4] + total[4:], [str(len(lines)), str(size), str(sum(line.split(' ')[3] == '1' for line in lines)), '0', '0'], 'table')
+    lost, untold = lost_in(lines)
+    agree(total[2:4] + total[4:], [str(len(lines)), str(size), str(losses_in(lines)), '%d%s' % (lost, '+' if untold else ''), '0', '0'], 'table')
 
 
 def compare_ranges(image, data, other, of, lines, times, draw):
@@ -243,7 +257,8 @@ def compare_ranges(image, data, other, of, lines, times, draw):
 
 
 def compare_cut(data, within, wanted, other):
-    """A range as a recording: no recorder's fault, the same entries in the range, and no packet without one but setup and one time."""
+    """A range as a recording: no recorder's fault, the same entries in the range, and no packet without one but setup, one time, and a loss report right
+    before a packet that has a loss."""
     cut = ran(['range'] + within, data)
     verdict = other.verdict(cut)
     if verdict not in ('strict', 'lenient 0'):
@@ -253,9 +268,18 @@ def compare_cut(data, within, wanted, other):
     kept, rest = packets_of(cut), iter(packets_of(data))
     agree([part for part in kept if part not in rest], [], 'the packets of a range, in their order')
     agree([sum(part[15] == kind for part in kept) for kind in (1, 3)], [1, 0], 'setup and index packets of a range')
-    without = sum(not set(csv_of(part)) & set(wanted) for part in kept if part[15] != 1)
+    reports = [(part, behind) for part, behind in zip(kept, kept[1:] + [bytes(24)]) if part[15] == 0]
+    agree([part[32:34] == behind[2:4] and behind[14] & 0x10 for part, behind in reports], [0x10] * len(reports), 'reports of a range')
+    reports = [part for part, _ in reports]
+    without = sum(not {bare(line) for line in csv_of(part)} & set(map(bare, wanted)) for part in kept if part[15] != 1 and part not in reports)
     if without > 1:
         raise Bad('range %s has %d packets without an entry in it' % (within, without))
+
+
+def bare(line):
+    """A line without what was lost, which a packet by itself does not tell."""
+    words = line.split(' ')
+    return ' '.join(words[:3] + words[4:])
 
 
 def csv_of(data):
@@ -279,7 +303,7 @@ def compare_picture(said, lines, drawn=None):
     channels = sorted({int(line.split(' ')[1]) for line in lines})
     agree([int(text.split(' ')[1]) for text in texts if text.startswith('channel ')], channels, 'strips')
     agree(sum(int(text.split(' ')[0]) for text in texts if text.endswith((' loss', ' losses'))),
-          sum(line.split(' ')[3] == '1' for line in drawn), 'losses of a picture')
+          losses_in(drawn), 'losses of a picture')
     bars = [element for element in picture.iter('{http://www.w3.org/2000/svg}path') if element.get('fill')]
     agree(len(bars), len({line.split(' ')[1] for line in drawn}), 'strips with bars')
 
@@ -475,12 +499,12 @@ FIRST_SUMMARY = """\
 recording: 272 bytes in 5 packets
 from 2024-02-29 12:34:56.7800000 to 2024-02-29 12:34:56.7800010, 0.0000010 seconds
 
-channel type  packets entries bytes entries/s losses jumps opaque
-      0 setup       1       -    32         -      0     0      0
-      0 index       2       -   148         -      0     0      0
-      1 time        1       1    36         -      0     0      0
-      5 uart        1       2    56 1000000.0      0     0      0
-    all             5       3   272                0     0      0
+channel type  packets entries bytes entries/s losses lost jumps opaque
+      0 setup       1       -    32         -      0    0     0      0
+      0 index       2       -   148         -      0    0     0      0
+      1 time        1       1    36         -      0    0     0      0
+      5 uart        1       2    56 1000000.0      0    0     0      0
+    all             5       3   272                0    0     0      0
 
 channel type  first last first time             last time
       0 setup  1000 1000 2024-02-29 12:34:56.78 2024-02-29 12:34:56.78
@@ -495,6 +519,8 @@ def stated_images():
     yield play_cases.alone(FIRST), ['file 0 FLT1 272 1 1'], [play_cases.FIRST_LINES]
     yield play_cases.alone(play_cases.KINDS), [pair[1].replace('file 1', 'file 0')], [play_cases.KIND_LINES]
     yield play_cases.alone(b''.join(lost())), ['file 0 FLT1 %d 1 1' % len(b''.join(lost()))], [play_cases.LOST_LINES]
+    data = b''.join(told(70000))
+    yield play_cases.alone(data), ['file 0 FLT1 %d 1 1' % len(data)], [play_cases.TOLD_LINES]
     yield play_cases.alone(FIRST[:124], False), ['file 0 FLT1 124 1 0'], [play_cases.FIRST_LINES]
     yield play_cases.image_of([], b'', 3), [], []
 
@@ -558,8 +584,8 @@ def compare_verdict(name, data, wanted):
     words = wanted.split(' ')
     if words[0] != 'faulty':
         agree((status, line), (0, None), name)
-        opaque = words[1] if len(words) > 1 and name != 'check-report-of-another-recorder' else '0'
-        agree(said.decode().split('\nchannel')[1].splitlines()[-2].split()[-1], opaque, name)
+        opaque = words[1] if len(words) > 1 else '0'
+        agree(said.decode().split('\nchannel')[1].splitlines()[-1].split()[-1], opaque, name)
     else:
         agree(status, 1, name)
         if ch10.is_recording(data) and not line.endswith('at offset %s' % words[1]):

@@ -13,7 +13,7 @@ import hashlib
 import subprocess
 import sys
 
-from judge_recording import ARINC, EVENT, INDEX, SETUP, TIME, UART, first_fault, verdict
+from judge_recording import ARINC, EVENT, INDEX, LOSS, SETUP, TIME, UART, first_fault, verdict
 
 CIVIL = bytes.fromhex('010300007856341229022420')
 FOREIGN = 0x68
@@ -118,7 +118,14 @@ def verdicts():
     yield 'check-no-room-for-a-checksum', remade(14, b'\x03'), 'faulty 68 DataSum'
     yield 'check-longer-message', flipped(FIRST, 68 + 24 + 12, 0x40), 'faulty 68 Body'
     yield 'check-flagged', b''.join(lost()), 'strict'
-    yield 'check-report-of-another-recorder', b''.join(lost()[:3] + [REPORT]), 'lenient 1'
+    yield 'check-file-that-ends-with-a-report', b''.join(told(1)[:4]), 'lenient 0'
+    yield 'check-report-and-its-packet', b''.join(told(1)[:5]), 'strict'
+    yield 'check-reports-with-their-index', b''.join(told(70000)), 'strict'
+    yield 'check-report-with-a-secondary-header', b''.join(OPENING + [report(1, 5, 1, flags=0x80)]), 'lenient 1'
+    yield 'check-report-of-21-bytes', b''.join(OPENING + [packet(0, 1, LOSS, 1000, loss(5, 1) + bytes(1))]), 'lenient 1'
+    yield 'check-report-of-another-word', b''.join(OPENING + [packet(0, 1, LOSS, 1000, b'\x01' + loss(5, 1)[1:])]), 'lenient 1'
+    yield 'check-report-whose-checksum-is-wrong', b''.join(OPENING + [report(1, 5, 1, flags=1, filler=bytes(3) + b'\x01')]), 'faulty 68 DataSum'
+    yield 'check-report-whose-checksum-is-right', b''.join(OPENING + [report(1, 5, 1, flags=1, filler=checked(loss(5, 1)))]), 'lenient 0'
     yield 'check-three-nodes', b''.join(MANY + MANY_INDEX), 'strict'
     yield 'check-two-roots', b''.join(LONG + CHAIN), 'strict'
     yield 'check-two-roots-without-the-last-group', b''.join(LONG + CHAIN[:2]), 'lenient 0'
@@ -170,9 +177,23 @@ def lost():
     return parts + index_of(parts, 1000, 1)
 
 
+def loss(channel, count, reserved=0):
+    """The body of a loss report."""
+    return bytes(4) + b'LOSS' + number(channel, 2) + number(reserved, 2) + number(count, 8)
+
+
+def report(sequence, channel, count, counter=1000, reserved=0, **more):
+    return packet(more.pop('on', 0), sequence, LOSS, counter, loss(channel, count, reserved), **more)
+
+
+def told(count):
+    """The same with so many lost ones, and the report of them."""
+    parts = lost()[:3] + [report(1, 5, count), lost()[3]]
+    return parts + index_of(parts, 1000, 2)
+
+
 MANY = OPENING + [uart(k % 256, 1000 + k, b'x', channel=6) for k in range(257)]
 MANY_INDEX = index_of(MANY, 1000, 1)
-REPORT = packet(0, 1, 0, 1000, bytes(4) + b'LOSS' + bytes.fromhex('050000000100000000000000'))
 
 
 CHAIN = index_of(LONG, 1099, 1, 1)
@@ -265,11 +286,38 @@ def broken():
     yield 'last-node-without-the-last-packet', MANY + MANY_INDEX[:2], [node_of(places_of(MANY)[200:-1], 1000, 3)], True, 8
     yield 'setup-of-another-count', OPENING[:1], [packet(1, 0, TIME, 1001, CIVIL)], False, 9
     yield 'root-of-another-count', CLOSED[:4], [root_of(CLOSED[3:4], size(ONE), 1000, 2, 1001)], True, 9
+    for name, parts in unanswered():
+        yield name, ONE, parts, False, 11
     yield 'second-event-says-none-before', TWO, [event(1, 1002, 0)], False, 10
     yield 'sequence-before-count', ONE, [uart(0, 1000)], False, 6
     yield 'flag-before-number-of-events', TWO, [event(1, 1002, 0, flags=0x10)], False, 5
     yield 'version-before-sequence', ONE, [uart(0, 1002, version=7)], False, 1
+    yield 'report-behind-its-packet', lost()[:4], [report(1, 5, 1)], False, 11
+    yield 'report-with-a-checksum', ONE, [report(1, 5, 1, flags=1, filler=checked(loss(5, 1))), uart(1, 1004, b'D', flags=0x10)], False, 3
+    yield 'report-on-its-channel', ONE, [report(1, 5, 1, on=5), uart(2, 1004, b'D', flags=0x10)], False, 5
+    yield 'flagged-report', ONE, [report(1, 5, 1, flags=0x10), uart(1, 1004, b'D', flags=0x10)], False, 5
+    yield 'report-of-the-sequence-of-its-channel', ONE, [report(0, 5, 1), uart(1, 1004, b'D', flags=0x10)], False, 6
+    yield 'report-behind-an-index', CLOSED, [report(3, 5, 1), uart(1, 1004, b'D', flags=0x10)], True, 8
+    yield 'report-of-another-count', ONE, [report(1, 5, 1, 1001), uart(1, 1004, b'D', flags=0x10)], False, 9
+    yield 'report-as-second-packet', OPENING[:1], [report(1, 5, 1), uart(0, 1004, b'D', flags=0x10)], False, 4
+    yield 'index-that-leaves-a-report-out', told(1)[:5], index_of(lost()[:4], 1000, 2), True, 8
+    yield 'answer-of-another-sequence', ONE + [report(1, 5, 1)], [uart(3, 1004, b'D', flags=0x10)], False, 6
     yield 'unclosed-before-count-of-the-index', ONE, index_of(ONE, 999, 1), False, 8
+
+
+def unanswered():
+    """Name, and a report behind the first recording's packets with what comes behind it, where the report is at fault."""
+    one, behind = report(1, 5, 1), uart(1, 1004, b'D', flags=0x10)
+    yield 'report-at-the-end', [one]
+    yield 'report-of-no-loss', [report(1, 5, 0), behind]
+    yield 'report-with-its-zero-field-set', [report(1, 5, 1, reserved=1), behind]
+    yield 'report-before-a-packet-without-the-flag', [one, uart(1, 1004, b'D')]
+    yield 'report-of-another-channel', [report(1, 6, 1), behind]
+    yield 'report-before-a-time', [one, packet(1, 1, TIME, 1004, CIVIL), behind]
+    yield 'report-before-a-report', [one, report(2, 5, 1), behind]
+    yield 'report-before-a-cut-packet', [one, behind[:-4]]
+    yield 'report-before-a-packet-of-another-sum', [one, flipped(behind, 22, 1)]
+    yield 'report-before-its-index', [one] + index_of(ONE + [one], 1000, 2)
 
 
 def kept():
@@ -278,6 +326,9 @@ def kept():
     yield 'first-unclosed', FIRST[:124], False
     yield 'two-of-each', b''.join(TWO + [event(1, 1002, 1), uart(0, 1002), uart(1, 1002), spanning(1000000, 2)]), False
     yield 'two-nodes', b''.join(LONG + LONG_INDEX), True
+    yield 'report-and-its-packet', b''.join(told(1)[:5]), False
+    yield 'report-of-the-most', b''.join(told((1 << 64) - 1)), True
+    yield 'flag-without-a-report', b''.join(lost()), True
     yield 'two-roots', b''.join(LONG + CHAIN), True
     yield 'three-groups-of-which-the-last-has-one-node', b''.join(FAR + FAR_BY_TWO), True
 

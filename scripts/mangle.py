@@ -20,8 +20,8 @@ import re
 import subprocess
 import sys
 
-from check_cases import (CHAIN, CLOSED, FAR, FAR_BY_TWO, FIRST, LONG, LONG_INDEX, MANY, MANY_INDEX, ONE, OPAQUE, OPENING, REPORT, TWO, index_of,
-                         lost, number)
+from check_cases import (CHAIN, CLOSED, FAR, FAR_BY_TWO, FIRST, LONG, LONG_INDEX, MANY, MANY_INDEX, ONE, OPAQUE, OPENING, TWO, index_of,
+                         lost, number, report, told)
 from judge_image import Refused, answer, listed, said_of
 from judge_recording import INDEX, WIDTHS, first_fault, little, verdict
 from play_cases import KINDS, PAIR, alone, big, case_text as image_text, directory_block, image_of, listed as entry_bytes
@@ -179,7 +179,7 @@ def cut(dice, parts, at):
 
 
 def insert(dice, parts, at):
-    parts.insert(at, dice.pick((OPAQUE, REPORT, dice.pick(parts_of(KINDS)), dice.data(dice.below(40)), bytes(dice.below(5) * 4))))
+    parts.insert(at, dice.pick((OPAQUE, report(1, 5, 1), dice.pick(parts_of(KINDS)), dice.data(dice.below(40)), bytes(dice.below(5) * 4))))
 
 
 def renumber(parts):
@@ -380,7 +380,7 @@ class Bases:
 
     def __init__(self, program, rows=None):
         self.recordings = [FIRST, FIRST[:124], KINDS, b''.join(lost()), b''.join(ONE), b''.join(TWO), b''.join(CLOSED), b''.join(OPENING),
-                           b''.join(LONG + LONG_INDEX), b''.join(MANY + MANY_INDEX)]
+                           b''.join(LONG + LONG_INDEX), b''.join(MANY + MANY_INDEX), b''.join(told(70000)), b''.join(told(1)[:5])]
         self.chains = [b''.join(it) for it in (LONG + CHAIN, MANY + index_of(MANY, 1000, 1, 1), MANY + index_of(MANY, 1000, 1, 2), FAR + FAR_BY_TWO)]
         self.images = [alone(FIRST), alone(FIRST[:124], False), alone(KINDS), PAIR, chain_of_five()] + list(map(alone, self.chains))
         for script in scripts():

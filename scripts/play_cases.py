@@ -14,7 +14,7 @@ import pathlib
 import subprocess
 import sys
 
-from check_cases import CHAIN, CIVIL, FIRST, LONG, OPENING, event, flipped, index_of, letters, lost, number, packet, print_rows
+from check_cases import CHAIN, CIVIL, FIRST, LONG, OPENING, event, flipped, index_of, letters, lost, number, packet, print_rows, report, told
 from judge_recording import ARINC, TIME, UART, first_fault
 
 READER = pathlib.Path(__file__).with_name('read_chapter10.py')
@@ -58,7 +58,7 @@ def every_kind():
         'entry 8 1000 0 arinc 1 0 0 1 12345678', 'entry 9 1001 0 discrete 00000081', 'entry 10 1002 0 message 1 0 2 0a',
         'entry 10 1003 0 message 0 1 0 -', 'entry 7 1005 0 1553 2000 0000 0821abcd', 'entry 7 1006 0 1553 0000 0007 -',
         'entry 5 1010 0 uart 0 0 -', 'entry 1 1100 0 time 2100-02-28 23:59:59.99', 'entry 2 1100 0 event 3 1',
-        'entry 8 1100 0 arinc 2 1 0 0 00000000', 'entry 5 1101 1 uart 0 0 44', 'entry 8 1300 0 arinc 255 0 1 0 ffffffff',
+        'entry 8 1100 0 arinc 2 1 0 0 00000000', 'entry 5 1101 1+ uart 0 0 44', 'entry 8 1300 0 arinc 255 0 1 0 ffffffff',
     ]
     return b''.join(parts + index_of(parts, 1100, 1)), lines
 
@@ -66,7 +66,8 @@ def every_kind():
 KINDS, KIND_LINES = every_kind()
 FIRST_LINES = ['entry 1 1000 0 time 2024-02-29 12:34:56.78', 'entry 5 1000 0 uart 0 0 414243', 'entry 5 1010 0 uart 0 0 -']
 LOST_LINES = ['entry 1 1000 0 time 2024-02-29 12:34:56.78', 'entry 5 1001 0 uart 0 0 41', 'entry 5 1002 0 uart 0 0 42',
-              'entry 5 1004 1 uart 0 0 44']
+              'entry 5 1004 1+ uart 0 0 44']
+TOLD_LINES = LOST_LINES[:3] + ['entry 5 1004 70000 uart 0 0 44']
 
 
 # ---- images
@@ -120,6 +121,11 @@ def rows():
     yield 'play-every-kind', 'play --to 281474976710655', alone(KINDS), 0, KIND_LINES
     yield 'play-second-file', 'play --file 1 --channel 8', PAIR, 0, [line for line in KIND_LINES if line.startswith('entry 8 ')]
     yield 'play-behind-a-lost-message', 'play', alone(b''.join(lost())), 0, LOST_LINES
+    yield 'play-behind-a-report', 'play', alone(b''.join(told(70000))), 0, TOLD_LINES
+    yield 'play-the-packet-behind-a-report-alone', 'play --channel 5 --from 1003', alone(b''.join(told(70000))), 0, TOLD_LINES[3:]
+    yield 'play-behind-a-report-of-the-most', 'play --from 1004', alone(b''.join(told((1 << 64) - 1))), 0, ['entry 5 1004 18446744073709551615 uart 0 0 44']
+    yield 'play-behind-a-report-of-another-channel', 'play', alone(b''.join(lost()[:3] + [report(1, 6, 1), lost()[3]]), False), 1, ['not strict']
+    yield 'play-a-file-that-ends-with-a-report', 'play', alone(b''.join(told(1)[:4]), False), 1, ['not strict']
     yield 'play-not-closed', 'play --channel 5', alone(FIRST[:124], False), 0, FIRST_LINES[1:]
     yield 'play-closed-without-index', 'play', alone(FIRST[:124]), 1, ['not strict']
     yield 'play-not-closed-with-index', 'play', alone(FIRST, False), 1, ['not strict']
@@ -172,7 +178,7 @@ def answer_text(name, words, _, status, lines):
 def compare(program):
     """Runs both over each strict file, and over what the program records of each example, and answers how many do not print the same."""
     bad = 0
-    for data, closed, lines in ((FIRST, True, FIRST_LINES), (KINDS, True, KIND_LINES), (b''.join(lost()), True, LOST_LINES), (FIRST[:124], False, FIRST_LINES)):
+    for data, closed, lines in ((FIRST, True, FIRST_LINES), (KINDS, True, KIND_LINES), (b''.join(lost()), True, LOST_LINES), (b''.join(told(70000)), True, TOLD_LINES), (FIRST[:124], False, FIRST_LINES)):
         image = alone(data, closed)
         played = subprocess.run([program, 'play'], input=image, capture_output=True)
         read = subprocess.run([sys.executable, READER, '--entries'], input=image, capture_output=True)

@@ -1,5 +1,5 @@
 -- What a step does to the account of a channel.
-use Rattle.std.proofs.Common.{◌≡◌, ◌≤◌, ℕ, ◌+◌, ◌-◌, ◌^◌, Bool, false, ◌||◌, cond, List, [], ◌++◌, map, length, sym, ap, ◌∙◌, subst}
+use Rattle.std.proofs.Common.{◌≡◌, ◌≤◌, ℕ, ◌+◌, ◌-◌, ◌^◌, Bool, false, cond, List, [], ◌++◌, map, length, sym, ap, ◌∙◌, subst}
 use Rattle.std.proofs.lemmas.List.{append_assoc, append-nil}
 use Rattle.r10_body.specs.declared.entry.Entry.{Entry}
 use Rattle.r10_machine.specs.Machine.{Lane, File, saturated}
@@ -9,9 +9,9 @@ use Rattle.r10_account.specs.Account.{waiting_of, missed_of, erased_of}
 use Rattle.r10_account.proofs.Files.{AllBehind}
 use Rattle.r10_account.proofs.Numbers.{same_number}
 
--- what was missed behind an exchange
-abbrev pub missed_behind : ℕ → Bool → Exchange → Bool
-missed_behind channel missed x = cond (was_accepted channel x) false (was_lost channel x || missed)
+-- how many were missed behind an exchange
+abbrev pub missed_behind : ℕ → ℕ → Exchange → ℕ
+missed_behind channel missed x = cond (was_accepted channel x) 0 (cond (was_lost channel x) (saturated (missed + 1)) missed)
 
 -- from lanes and files to others: erases take the first of the channel's entries, and what the exchange accepts comes behind all
 pub record StepAccounts (channel : ℕ) (lanes : List Lane) (files : List File) (x : Exchange) (later : List Lane) (news : List File) : Type 0 where
@@ -32,13 +32,13 @@ pub record WaitsMore (channel : ℕ) (lanes : List Lane) (files : List File) (x 
 
 -- an exchange that neither accepts nor loses a message of the channel
 pub record IsApart (channel : ℕ) (x : Exchange) : Type 0 where
-  pub makes_none : (gap : Bool) → entry_with channel gap x ≡ []
+  pub makes_none : (lost : ℕ) → entry_with channel lost x ≡ []
   pub accepts_none : was_accepted channel x ≡ false
   pub loses_none : was_lost channel x ≡ false
 
-pub missed_on : (channel : ℕ) (missed : Bool) (x : Exchange) → IsApart channel x → missed ≡ missed_behind channel missed x
+pub missed_on : (channel missed : ℕ) (x : Exchange) → IsApart channel x → missed ≡ missed_behind channel missed x
 missed_on channel missed x apart =
-    sym (ap (λ (b : Bool). cond b false (was_lost channel x || missed)) apart.accepts_none ∙ ap (λ (b : Bool). b || missed) apart.loses_none)
+    sym (ap (λ (b : Bool). cond b 0 (cond (was_lost channel x) (saturated (missed + 1)) missed)) apart.accepts_none ∙ ap (λ (b : Bool). cond b (saturated (missed + 1)) missed) apart.loses_none)
 
 -- more waits, and all else stays
 pub waits_accounts : (channel : ℕ) (lanes : List Lane) (files : List File) (x : Exchange) (later : List Lane) (news : List File) → WaitsMore channel lanes files x later news → StepAccounts channel lanes files x later news

@@ -22,14 +22,14 @@ use Rattle.r10_machine.proofs.Ranges.{parts_of, ids_distinct}
 use Rattle.r10_machine.proofs.Growing.{lane_sound, lanes_distinct, time_apart}
 use Rattle.r10_machine.proofs.Grown.{last_is_own, taping, work_of}
 use Rattle.r10_machine.proofs.Taking.{lane_has}
-use Rattle.r10_account.specs.Accepted.{Exchange, asks_gap, entries_behind, entry_with, accepted_entries}
+use Rattle.r10_account.specs.Accepted.{Exchange, lost_since, entries_behind, entry_with, accepted_entries}
 use Rattle.r10_account.specs.Account.{GoesOver, IsAccount, StandsFirst, StandsLast, waiting_in, waiting_of, missed_in, missed_of, erased_in, erased_of, shown_own}
 use Rattle.r10_account.proofs.Accounting.{StepAccounts, IsApart, missed_behind, missed_on}
 use Rattle.r10_account.proofs.Doing.{Known}
-use Rattle.r10_account.proofs.Exchanges.{gap_next}
+use Rattle.r10_account.proofs.Exchanges.{lost_next}
 use Rattle.r10_account.proofs.Files.{AllBehind, none_behind, shown_front}
 use Rattle.r10_account.proofs.Lanes.{lane_of_spec}
-use Rattle.r10_account.proofs.Numbers.{small_again, twice}
+use Rattle.r10_account.proofs.Numbers.{at_first, small_again, twice}
 use Rattle.r10_account.proofs.Stepping.{FailsTo, FailedSteps, WorkSteps, work_steps, failed_steps}
 use Rattle.r10_account.proofs.Stepping.WorkSteps.{on, failing}
 
@@ -217,8 +217,8 @@ one_step P s channel start old event reply new taken gone config sound is b step
 
 -- ---- runs
 
-runs_on : (P : Type 0) (s : Config) (channel start : ℕ) (first : Bool) → StepsStaySound → IsConfig s → is_some (spec_of s.channels channel) ≡ true → (before : List Exchange) (old : Machine) (events : List EventValue) (rs : List ReplyValue) (images : List Image) (new : Machine)
-    → (taken gone : List Entry) → IsSound s old → missed_of channel old.lanes ≡ asks_gap channel first before → Stands P channel start old taken gone → Run s old events rs images new
+runs_on : (P : Type 0) (s : Config) (channel start first : ℕ) → StepsStaySound → IsConfig s → is_some (spec_of s.channels channel) ≡ true → (before : List Exchange) (old : Machine) (events : List EventValue) (rs : List ReplyValue) (images : List Image) (new : Machine)
+    → (taken gone : List Entry) → IsSound s old → missed_of channel old.lanes ≡ lost_since channel first before → Stands P channel start old taken gone → Run s old events rs images new
     → StandsOn P channel start new (taken ++ entries_behind channel first before (zip events rs)) gone
 runs_on P s channel start first law config is before old [] [] [] new taken gone sound missed b same = record {
   more = [];
@@ -229,12 +229,12 @@ runs_on P s channel start first law config is before old (event ∷ events) (rep
     let x : Exchange = (event, reply) in
     let one = one_step P s channel start old event reply mid taken gone config sound is b step in
     let entry = entry_with channel (missed_of channel old.lanes) x in
-    let next : missed_of channel mid.lanes ≡ asks_gap channel first (before ++ x ∷ []) =
-    one.missed ∙ ap (λ (m : Bool). missed_behind channel m x) missed ∙ sym (gap_next channel first before x) in
+    let next : missed_of channel mid.lanes ≡ lost_since channel first (before ++ x ∷ []) =
+    one.missed ∙ ap (λ (m : ℕ). missed_behind channel m x) missed ∙ sym (lost_next channel first before x) in
     let all = runs_on P s channel start first law config is (before ++ x ∷ []) mid events rs images new (taken ++ entry) (gone ++ one.on.more) (law s old event reply mid config sound step) next one.on.stands rest in
     let behind = entries_behind channel first (before ++ x ∷ []) (zip events rs) in
-    let same : taken ++ entry ++ behind ≡ taken ++ (entry_with channel (asks_gap channel first before) x ++ behind) =
-    append_assoc taken entry behind ∙ ap (λ (gap : Bool). taken ++ (entry_with channel gap x ++ behind)) missed in
+    let same : taken ++ entry ++ behind ≡ taken ++ (entry_with channel (lost_since channel first before) x ++ behind) =
+    append_assoc taken entry behind ∙ ap (λ (lost : ℕ). taken ++ (entry_with channel lost x ++ behind)) missed in
     record {
       more = one.on.more ++ all.more;
       stands = subst (λ (t : List Entry). Stands P channel start new t (gone ++ (one.on.more ++ all.more))) same
@@ -256,12 +256,14 @@ run_goes_over law s channel old events rs images new config sound is works ends 
       waits = (own_entries channel old.files, refl);
       erased = λ p. absurd p;
     } in
-    let all = runs_on ⊥ s channel 0 (missed_of channel old.lanes) law config is [] old events rs images new had [] sound (none_before (missed_of channel old.lanes)) stands run in
+    let all = runs_on ⊥ s channel 0 (missed_of channel old.lanes) law config is [] old events rs images new had [] sound (none_before (lane_in channel old.lanes) refl) stands run in
     record { gone = all.more; each = all.stands.each ends }
   where
-    none_before : (b : Bool) → b ≡ asks_gap channel b []
-    none_before true = refl
-    none_before false = refl
+    none_before : (o : Option Lane) → lane_in channel old.lanes ≡ o → missed_of channel old.lanes ≡ lost_since channel (missed_of channel old.lanes) []
+    none_before None there = ap (λ (o : Option Lane). missed_in o) there ∙ sym (ap (λ (o : Option Lane). lost_since channel (missed_in o) []) there)
+    none_before (Some lane) there =
+        let small : lane.missed ≤ 2 ^ 64 - 1 = omega (arith, (lane_sound IsSoundLane channel old.lanes lane there sound.lanes).missed) in
+        ap (λ (o : Option Lane). missed_in o) there ∙ at_first lane.missed (2 ^ 64 - 1) small ∙ sym (ap (λ (o : Option Lane). lost_since channel (missed_in o) []) there)
 
 fresh_same : {X : Type 0} (channel : ℕ) (say : Option Lane → X) (none : X) → say None ≡ none → ((spec : ChannelSpec) → say (Some (fresh_lane spec)) ≡ none) → (specs : List ChannelSpec) → say (lane_in channel (map fresh_lane specs)) ≡ none
 fresh_same channel say none at each [] = at
@@ -277,14 +279,14 @@ none_own (f ∷ files) ((shown, own), all) = rw own (none_own files all)
 
 pub recording_accounts : StepsStaySound → ((s : Config) (files : List File) (failures : ℕ) → AllByRecursion IsFoundFile files → length files ≤ most_files s → IsSound s (fresh s.channels files failures))
     → (s : Config) (channel : ℕ) (files : List File) (failures : ℕ) (events : List EventValue) (rs : List ReplyValue) (images : List Image) (new : Machine) → IsConfig s → AllByRecursion IsFoundFile files → length files ≤ most_files s
-    → is_some (spec_of s.channels channel) ≡ true → Run s (fresh s.channels files failures) events rs images new → IsAccount channel new (accepted_entries channel false events rs)
+    → is_some (spec_of s.channels channel) ≡ true → Run s (fresh s.channels files failures) events rs images new → IsAccount channel new (accepted_entries channel 0 events rs)
 recording_accounts law begins s channel files failures events rs images new config found most is run =
     let old = fresh s.channels files failures in
     let none = none_own files found in
     let own : own_entries channel files ≡ [] = ap (λ (fs : List File). on_channel channel (flat_map (λ (f : File). f.entries) fs)) none in
     let shown : shown_own channel files ≡ [] = ap (λ (fs : List File). on_channel channel (flat_map shown_entries fs)) none in
     let waiting : waiting_of channel old.lanes ≡ [] = fresh_same channel waiting_in [] refl (λ spec. refl) s.channels in
-    let missed : missed_of channel old.lanes ≡ false = fresh_same channel missed_in false refl (λ spec. refl) s.channels in
+    let missed : missed_of channel old.lanes ≡ 0 = fresh_same channel missed_in 0 refl (λ spec. refl) s.channels in
     let erased : erased_of channel old.lanes ≡ 0 = fresh_same channel erased_in 0 refl (λ spec. refl) s.channels in
     let stands : Stands (Unit {0}) channel 0 old [] [] = record {
       each = λ works. ap (λ (l : List Entry). l ++ waiting_of channel old.lanes) own ∙ waiting;
@@ -293,7 +295,7 @@ recording_accounts law begins s channel files failures events rs images new conf
       waits = ([], waiting);
       erased = λ p. erased;
     } in
-    let all = runs_on (Unit {0}) s channel 0 false law config is [] old events rs images new [] [] (begins s files failures found most) (missed ∙ none_before) stands run in
+    let all = runs_on (Unit {0}) s channel 0 0 law config is [] old events rs images new [] [] (begins s files failures found most) (missed ∙ none_before) stands run in
     record {
       gone = all.more;
       each = all.stands.each;
@@ -302,7 +304,7 @@ recording_accounts law begins s channel files failures events rs images new conf
       erased = all.stands.erased tt ∙ number (length all.more);
     }
   where
-    none_before : false ≡ asks_gap channel false []
+    none_before : 0 ≡ lost_since channel 0 []
     none_before = refl
 
     number : (n : ℕ) → saturated (0 + n) ≡ saturated n

@@ -1,10 +1,11 @@
 -- What calls that are neither refused nor fail do to the account of a channel.
-use Rattle.std.proofs.Common.{◌≡◌, ◌≤◌, ℕ, ◌+◌, Bool, true, false, not, ◌||◌, cond, List, [], ◌∷◌, ◌++◌, map, take, drop, length, count_by, Option, Some, None, option_map, refl, sym, ap, ◌∙◌, subst, arith, IsSomeAnd, slice_get, ◌==◌, nat_lt}
+use Rattle.std.proofs.Common.{◌≡◌, ◌≤◌, ℕ, ◌+◌, Bool, true, false, not, cond, List, [], ◌∷◌, ◌++◌, map, take, drop, length, count_by, Option, Some, None, option_map, refl, sym, ap, ◌∙◌, subst, arith, IsSomeAnd, slice_get, ◌==◌, nat_lt}
 use Rattle.std.specs.List.{IsDistinct, last_or}
 use Rattle.std.proofs.lemmas.Bool.{eqb-true}
 use Rattle.std.proofs.lemmas.List.{append-nil, take-append-drop, take_all, take-map, drop-map, map-append, length-map}
 use Rattle.r10_count.specs.Checks.{first_broken}
 use Rattle.r10_body.specs.Files.{on_channel}
+use Rattle.r10_body.specs.Gaps.{gap_after}
 use Rattle.r10_body.specs.Rules.{is_entry_on}
 use Rattle.r10_body.specs.declared.entry.Entry.{Entry}
 use Rattle.r10_body.specs.declared.entry.Sample.{Sample}
@@ -50,18 +51,18 @@ some_then C (Some x) P holds then = then x refl holds
 
 -- the entry that an offer makes
 offered : (channel id count : ℕ) (message : Message) (lanes : List Lane) (lane : Lane) → lane_in channel lanes ≡ Some lane → lane.spec.id ≡ channel → (b : Bool) → (id == channel) ≡ b
-    → waiting_of channel (change_first (is_channel id) (accepted count message) lanes) ≡ waiting_of channel lanes ++ cond b (record { channel = channel; count = count; message = message; gap = missed_of channel lanes } ∷ []) []
+    → waiting_of channel (change_first (is_channel id) (accepted count message) lanes) ≡ waiting_of channel lanes ++ cond b (record { channel = channel; count = count; message = message; gap = gap_after (missed_of channel lanes) } ∷ []) []
 offered channel id count message lanes lane there its true is =
-    let sample : Sample = record { count = count; message = message; gap = nat_lt 0 lane.missed } in
+    let sample : Sample = record { count = count; message = message; gap = gap_after lane.missed } in
     ap waiting_in (lane_changed channel id (accepted count message) (λ lane. refl) lanes is ∙ ap (option_map (accepted count message)) there)
     ∙ map-append (entry_of lane.spec.id) lane.waiting (sample ∷ [])
-    ∙ ap (λ (c : ℕ). waiting_entries lane ++ record { channel = c; count = count; message = message; gap = nat_lt 0 lane.missed } ∷ []) its
-    ∙ sym (ap (λ (o : Option Lane). waiting_in o ++ record { channel = channel; count = count; message = message; gap = missed_in o } ∷ []) there)
+    ∙ ap (λ (c : ℕ). waiting_entries lane ++ record { channel = c; count = count; message = message; gap = gap_after lane.missed } ∷ []) its
+    ∙ sym (ap (λ (o : Option Lane). waiting_in o ++ record { channel = channel; count = count; message = message; gap = gap_after (missed_in o) } ∷ []) there)
 offered channel id count message lanes lane there its false other =
     ap waiting_in (lane_stays channel id (accepted count message) (λ lane. refl) lanes other) ∙ sym (append-nil (waiting_of channel lanes))
 
 offer_missed : (channel id count : ℕ) (message : Message) (lanes : List Lane) (lane : Lane) → lane_in channel lanes ≡ Some lane → (b : Bool) → (id == channel) ≡ b
-    → missed_of channel (change_first (is_channel id) (accepted count message) lanes) ≡ cond b false (false || missed_of channel lanes)
+    → missed_of channel (change_first (is_channel id) (accepted count message) lanes) ≡ cond b 0 (missed_of channel lanes)
 offer_missed channel id count message lanes lane there true is = ap missed_in (lane_changed channel id (accepted count message) (λ lane. refl) lanes is ∙ ap (option_map (accepted count message)) there)
 offer_missed channel id count message lanes lane there false other = ap missed_in (lane_stays channel id (accepted count message) (λ lane. refl) lanes other)
 
@@ -203,19 +204,19 @@ quiet channel old x new apart lanes files = waits_accounts channel old.lanes old
 same : (channel : ℕ) (old : Machine) (x : Exchange) (new : Machine) → IsApart channel x → new ≡ old → StepAccounts channel old.lanes old.files x new.lanes new.files
 same channel old x new apart is = quiet channel old x new apart (ap (λ (m : Machine). m.lanes) is) (ap (λ (m : Machine). m.files) is)
 
-abbrev apart_is : {channel : ℕ} {x : Exchange} → ((gap : Bool) → entry_with channel gap x ≡ []) → was_accepted channel x ≡ false → was_lost channel x ≡ false → IsApart channel x
+abbrev apart_is : {channel : ℕ} {x : Exchange} → ((lost : ℕ) → entry_with channel lost x ≡ []) → was_accepted channel x ≡ false → was_lost channel x ≡ false → IsApart channel x
 apart_is makes accepts loses = record { makes_none = makes; accepts_none = accepts; loses_none = loses }
 
 pub does_accounts : (s : Config) (channel : ℕ) (old : Machine) (event : EventValue) (reply : ReplyValue) (new : Machine) → Known s channel old.mode old.lanes old.files → refusal s old event ≡ None → Does s old event reply new
     → StepAccounts channel old.lanes old.files (event, reply) new.lanes new.files
-does_accounts s channel old Mount replies.Done new known fine is = quiet channel old (Mount, replies.Done) new (apart_is (λ gap. refl) refl refl) (ap (λ (m : Machine). m.lanes) is) (ap (λ (m : Machine). m.files) is)
-does_accounts s channel old Dismount replies.Done new known fine is = quiet channel old (Dismount, replies.Done) new (apart_is (λ gap. refl) refl refl) (ap (λ (m : Machine). m.lanes) is) (ap (λ (m : Machine). m.files) is)
+does_accounts s channel old Mount replies.Done new known fine is = quiet channel old (Mount, replies.Done) new (apart_is (λ lost. refl) refl refl) (ap (λ (m : Machine). m.lanes) is) (ap (λ (m : Machine). m.files) is)
+does_accounts s channel old Dismount replies.Done new known fine is = quiet channel old (Dismount, replies.Done) new (apart_is (λ lost. refl) refl refl) (ap (λ (m : Machine). m.lanes) is) (ap (λ (m : Machine). m.files) is)
 does_accounts s channel old (Tick count parts) replies.Done new known fine does = by (is_recording old.mode) refl does
   where
     by : (b : Bool) → is_recording old.mode ≡ b → TicksIn b s old (record { count = count; civil = parts }) new → StepAccounts channel old.lanes old.files (Tick count parts, replies.Done) new.lanes new.files
-    by false rec is = quiet channel old (Tick count parts, replies.Done) new (apart_is (λ gap. refl) refl refl) (ap (λ (m : Machine). m.lanes) is) (ap (λ (m : Machine). m.files) is)
+    by false rec is = quiet channel old (Tick count parts, replies.Done) new (apart_is (λ lost. refl) refl refl) (ap (λ (m : Machine). m.lanes) is) (ap (λ (m : Machine). m.files) is)
     by true rec (room, is) =
-        puts_apart s channel old.mode old.lanes old.files (Tick count parts, replies.Done) (time_entry s (record { count = count; civil = parts })) new.lanes new.files known (apart_is (λ gap. refl) refl refl) known.time rec
+        puts_apart s channel old.mode old.lanes old.files (Tick count parts, replies.Done) (time_entry s (record { count = count; civil = parts })) new.lanes new.files known (apart_is (λ lost. refl) refl refl) known.time rec
         (ap (λ (m : Machine). m.lanes) is) (ap (λ (m : Machine). m.files) is)
 does_accounts s channel old (Start name setup) replies.Done new known fine does =
     let sealed = is_closed s old name setup (parts_pass (idle_checks old.mode) (start_checks s old name setup) fine).1 in
@@ -223,7 +224,7 @@ does_accounts s channel old (Start name setup) replies.Done new known fine does 
     let e = time_entry s tick in
     let g : File = shown_whole (last_size new) (with_entries (e ∷ []) (empty_file s old.files name setup)) in
     let files : new.files ≡ old.files ++ g ∷ [] = ap (λ (m : Machine). m.files) made.1 in
-    files_change channel old.lanes old.files (Start name setup, replies.Done) new.lanes new.files (apart_is (λ gap. refl) refl refl)
+    files_change channel old.lanes old.files (Start name setup, replies.Done) new.lanes new.files (apart_is (λ lost. refl) refl refl)
     (ap (own_entries channel) files ∙ own_appended channel old.files g refl ∙ ap (λ (l : List Entry). own_entries channel old.files ++ l) (one_apart channel e known.time) ∙ append-nil (own_entries channel old.files))
     (ap (λ (m : Machine). m.lanes) made.1)
     (λ all. subst AllBehind (sym files) (behind_appended old.files g (λ f last own. known.closed_shows f last own (last_closed old.files f last sealed)) all)))
@@ -239,17 +240,17 @@ does_accounts s channel old (Pump id most) (replies.Moved n) new known fine does
     let g = lane_gives channel id n old.lanes lane is_lane (id == channel) refl in
     accounts_at channel old.lanes old.files (Pump id most, replies.Moved n) (change_first (is_channel id) (without n) old.lanes) new.lanes (change_last (with_entries es) old.files) new.files
     (ap (λ (m : Machine). m.lanes) made.2) (ap (λ (m : Machine). m.files) made.2)
-    (shifts channel old.lanes old.files (Pump id most, replies.Moved n) (change_first (is_channel id) (without n) old.lanes) (change_last (with_entries es) old.files) g.moved (apart_is (λ gap. refl) refl refl)
+    (shifts channel old.lanes old.files (Pump id most, replies.Moved n) (change_first (is_channel id) (without n) old.lanes) (change_last (with_entries es) old.files) g.moved (apart_is (λ lost. refl) refl refl)
     (own_more channel (with_entries es) es (λ f. (refl, refl)) old.files o.0 o.1 o.2 ∙ ap (λ (l : List Entry). own_entries channel old.files ++ l) g.on)
     g.waits g.missed g.erased (same_specs (is_channel id) (without n) (λ lane. refl) old.lanes) (behind_kept (with_entries es) old.files))))
 does_accounts s channel old (Event number count) replies.Done new known fine does =
     let rec = records_of old.mode (parts_pass (recording_checks old.mode) (event_checks old.last_event number count) fine).0 in
     some_then (StepAccounts channel old.lanes old.files (Event number count, replies.Done) new.lanes new.files) (last_or None old.files) _ does (λ f last made.
-    puts_apart s channel old.mode old.lanes old.files (Event number count, replies.Done) (event_entry s number count f) new.lanes new.files known (apart_is (λ gap. refl) refl refl) known.event rec
+    puts_apart s channel old.mode old.lanes old.files (Event number count, replies.Done) (event_entry s number count f) new.lanes new.files known (apart_is (λ lost. refl) refl refl) known.event rec
     (ap (λ (m : Machine). m.lanes) made.1) (ap (λ (m : Machine). m.files) made.1))
 does_accounts s channel old Commit replies.Done new known fine is =
     let files : new.files ≡ change_last (shown_whole (last_size new)) old.files = ap (λ (m : Machine). m.files) is in
-    files_change channel old.lanes old.files (Commit, replies.Done) new.lanes new.files (apart_is (λ gap. refl) refl refl)
+    files_change channel old.lanes old.files (Commit, replies.Done) new.lanes new.files (apart_is (λ lost. refl) refl refl)
     (ap (own_entries channel) files ∙ own_kept channel (shown_whole (last_size new)) (λ f. (refl, refl)) old.files) (ap (λ (m : Machine). m.lanes) is)
     (λ all. subst AllBehind (sym files) (behind_kept (shown_whole (last_size new)) old.files all))
 does_accounts s channel old Stop (replies.Stopped stopped) new known fine does =
@@ -260,31 +261,31 @@ does_accounts s channel old Stop (replies.Stopped stopped) new known fine does =
     let g = stop_gives s channel old.mode old.lanes old.files stopped.taken known in
     accounts_at channel old.lanes old.files (Stop, replies.Stopped stopped) (lanes_without es old.lanes) new.lanes (change_last change old.files) new.files
     (ap (λ (m : Machine). m.lanes) made.2) (ap (λ (m : Machine). m.files) made.2)
-    (shifts channel old.lanes old.files (Stop, replies.Stopped stopped) (lanes_without es old.lanes) (change_last change old.files) g.moved (apart_is (λ gap. refl) refl refl)
+    (shifts channel old.lanes old.files (Stop, replies.Stopped stopped) (lanes_without es old.lanes) (change_last change old.files) g.moved (apart_is (λ lost. refl) refl refl)
     (own_more channel change es (λ f. (refl, refl)) old.files o.0 o.1 o.2 ∙ ap (λ (l : List Entry). own_entries channel old.files ++ l) g.on)
     g.waits g.missed g.erased (mapped_specs (λ lane. without (count_by (is_entry_on lane.spec.id) es) lane) (λ lane. refl) old.lanes) (behind_kept change old.files)))
 does_accounts s channel old Seal replies.Done new known fine does =
     some_then (StepAccounts channel old.lanes old.files (Seal, replies.Done) new.lanes new.files) (last_or None old.files) _ does (λ f last made.
     let files : new.files ≡ change_last (closed_in (last_size new)) old.files = ap (λ (m : Machine). m.files) made.1 in
-    files_change channel old.lanes old.files (Seal, replies.Done) new.lanes new.files (apart_is (λ gap. refl) refl refl)
+    files_change channel old.lanes old.files (Seal, replies.Done) new.lanes new.files (apart_is (λ lost. refl) refl refl)
     (ap (own_entries channel) files ∙ own_kept channel (closed_in (last_size new)) (λ f. (refl, refl)) old.files) (ap (λ (m : Machine). m.lanes) made.1)
     (λ all. subst AllBehind (sym files) (behind_kept (closed_in (last_size new)) old.files all)))
 does_accounts s channel old Erase replies.Done new known fine is =
     accounts_at channel old.lanes old.files (Erase, replies.Done) (map (erased_with old.files) old.lanes) new.lanes [] new.files (ap (λ (m : Machine). m.lanes) is) (ap (λ (m : Machine). m.files) is)
-    (erase_accounts s channel old.mode old.lanes old.files (Erase, replies.Done) known (apart_is (λ gap. refl) refl refl))
-does_accounts s channel old Files (replies.Files files) new known fine (told, is) = same channel old (Files, replies.Files files) new (apart_is (λ gap. refl) refl refl) is
-does_accounts s channel old Status (replies.Status status) new known fine (told, is) = same channel old (Status, replies.Status status) new (apart_is (λ gap. refl) refl refl) is
+    (erase_accounts s channel old.mode old.lanes old.files (Erase, replies.Done) known (apart_is (λ lost. refl) refl refl))
+does_accounts s channel old Files (replies.Files files) new known fine (told, is) = same channel old (Files, replies.Files files) new (apart_is (λ lost. refl) refl refl) is
+does_accounts s channel old Status (replies.Status status) new known fine (told, is) = same channel old (Status, replies.Status status) new (apart_is (λ lost. refl) refl refl) is
 does_accounts s channel old (Cursor file channels from to) (replies.Cursor id) new known fine (free, sets) =
-    quiet channel old (Cursor file channels from to, replies.Cursor id) new (apart_is (λ gap. refl) refl refl) (ap (λ (m : Machine). m.lanes) sets.1) (ap (λ (m : Machine). m.files) sets.1)
+    quiet channel old (Cursor file channels from to, replies.Cursor id) new (apart_is (λ lost. refl) refl refl) (ap (λ (m : Machine). m.lanes) sets.1) (ap (λ (m : Machine). m.files) sets.1)
 does_accounts s channel old (Advance id) (replies.Advanced n) new known fine does =
     some_then (StepAccounts channel old.lanes old.files (Advance id, replies.Advanced n) new.lanes new.files) (cursor_of id old) _ does (λ c is_c moves.
     some_then (StepAccounts channel old.lanes old.files (Advance id, replies.Advanced n) new.lanes new.files) (slice_get old.files c.file) _ moves (λ f is_f made.
-    quiet channel old (Advance id, replies.Advanced n) new (apart_is (λ gap. refl) refl refl) (ap (λ (m : Machine). m.lanes) made.3.1) (ap (λ (m : Machine). m.files) made.3.1)))
+    quiet channel old (Advance id, replies.Advanced n) new (apart_is (λ lost. refl) refl refl) (ap (λ (m : Machine). m.lanes) made.3.1) (ap (λ (m : Machine). m.files) made.3.1)))
 does_accounts s channel old (Next id) (replies.Next given) new known fine does =
     some_then (StepAccounts channel old.lanes old.files (Next id, replies.Next given) new.lanes new.files) (cursor_of id old) _ does (λ c is_c made.
-    quiet channel old (Next id, replies.Next given) new (apart_is (λ gap. refl) refl refl) (ap (λ (m : Machine). m.lanes) made.1.1) (ap (λ (m : Machine). m.files) made.1.1))
+    quiet channel old (Next id, replies.Next given) new (apart_is (λ lost. refl) refl refl) (ap (λ (m : Machine). m.lanes) made.1.1) (ap (λ (m : Machine). m.files) made.1.1))
 does_accounts s channel old (Close id) replies.Done new known fine sets =
-    quiet channel old (Close id, replies.Done) new (apart_is (λ gap. refl) refl refl) (ap (λ (m : Machine). m.lanes) sets.1) (ap (λ (m : Machine). m.files) sets.1)
-does_accounts s channel old (Find file id count) (replies.Found answer) new known fine (told, is) = same channel old (Find file id count, replies.Found answer) new (apart_is (λ gap. refl) refl refl) is
-does_accounts s channel old (CountAt file parts) (replies.CountAt answer) new known fine (told, is) = same channel old (CountAt file parts, replies.CountAt answer) new (apart_is (λ gap. refl) refl refl) is
+    quiet channel old (Close id, replies.Done) new (apart_is (λ lost. refl) refl refl) (ap (λ (m : Machine). m.lanes) sets.1) (ap (λ (m : Machine). m.files) sets.1)
+does_accounts s channel old (Find file id count) (replies.Found answer) new known fine (told, is) = same channel old (Find file id count, replies.Found answer) new (apart_is (λ lost. refl) refl refl) is
+does_accounts s channel old (CountAt file parts) (replies.CountAt answer) new known fine (told, is) = same channel old (CountAt file parts, replies.CountAt answer) new (apart_is (λ lost. refl) refl refl) is
 does_accounts s channel old event reply new known fine does = absurd does

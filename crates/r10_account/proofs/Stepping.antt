@@ -1,7 +1,6 @@
 -- What a step does to the account of a channel.
-use Rattle.std.proofs.Common.{◌≡◌, ◌≤◌, ℕ, ◌+◌, ◌-◌, ◌^◌, ◌⊎◌, inl, inr, Bool, true, false, not, ◌||◌, cond, List, [], ◌∷◌, ◌++◌, take, length, Option, Some, None, option_map, is_none, refl, sym, ap, ◌∙◌, subst, arith, IsSomeAnd, true≢false, ◌==◌}
+use Rattle.std.proofs.Common.{◌≡◌, ◌≤◌, ℕ, ◌+◌, ◌-◌, ◌^◌, ◌⊎◌, inl, inr, Bool, true, false, not, cond, List, [], ◌∷◌, ◌++◌, take, length, Option, Some, None, option_map, is_none, refl, sym, ap, ◌∙◌, subst, IsSomeAnd, true≢false, ◌==◌}
 use Rattle.std.specs.List.{AllByRecursion}
-use Rattle.std.proofs.lemmas.Bool.{lt-ltb}
 use Rattle.std.proofs.lemmas.List.{append_assoc, append-nil}
 use Rattle.r10_count.specs.Checks.{first_broken}
 use Rattle.r10_body.specs.declared.entry.Entry.{Entry}
@@ -37,9 +36,9 @@ is_overflow r = elim r [ refusals.Overflow ↦ true | _ ↦ false ]
 refused_apart : (channel : ℕ) (event : EventValue) (r : Refusal) → is_overflow r ≡ false → IsApart channel (event, replies.Refused r)
 refused_apart channel event r differs = record { makes_none = makes event; accepts_none = accepts event; loses_none = loses event r differs }
   where
-    makes : (event : EventValue) (gap : Bool) → entry_with channel gap (event, replies.Refused r) ≡ []
-    makes (Offer id count message) gap = refl
-    makes event gap = refl
+    makes : (event : EventValue) (lost : ℕ) → entry_with channel lost (event, replies.Refused r) ≡ []
+    makes (Offer id count message) lost = refl
+    makes event lost = refl
 
     accepts : (event : EventValue) → was_accepted channel (event, replies.Refused r) ≡ false
     accepts (Offer id count message) = refl
@@ -53,7 +52,7 @@ refused_apart channel event r differs = record { makes_none = makes event; accep
 -- nor does what uses the medium
 used_apart : (channel : ℕ) (event : EventValue) (reply : ReplyValue) → uses_medium event ≡ true → IsApart channel (event, reply)
 used_apart channel (Offer id count message) reply uses = absurd (true≢false (sym uses))
-used_apart channel event reply uses = record { makes_none = λ gap. refl; accepts_none = refl; loses_none = refl }
+used_apart channel event reply uses = record { makes_none = λ lost. refl; accepts_none = refl; loses_none = refl }
 
 -- ---- refusals by a check
 
@@ -81,9 +80,9 @@ front_apart (Some lane) count message f is = no_overflow (offer_checks (Some lan
 
 -- a lane that lost a message
 lost_missed : (channel id : ℕ) (lanes : List Lane) (lane : Lane) → lane_in channel lanes ≡ Some lane → (b : Bool) → (id == channel) ≡ b
-    → missed_of channel (change_first (is_channel id) overflowed lanes) ≡ (b || missed_of channel lanes)
+    → missed_of channel (change_first (is_channel id) overflowed lanes) ≡ cond b (saturated (missed_of channel lanes + 1)) (missed_of channel lanes)
 lost_missed channel id lanes lane there true is =
-    ap missed_in (lane_changed channel id overflowed (λ lane. refl) lanes is ∙ ap (option_map overflowed) there) ∙ lt-ltb 0 (saturated (lane.missed + 1)) (omega arith)
+    ap missed_in (lane_changed channel id overflowed (λ lane. refl) lanes is ∙ ap (option_map overflowed) there) ∙ sym (ap (λ (o : Option Lane). saturated (missed_in o + 1)) there)
 lost_missed channel id lanes lane there false other = ap missed_in (lane_stays channel id overflowed (λ lane. refl) lanes other)
 
 -- what the lane says but for what was missed
@@ -132,7 +131,7 @@ refused_waits : (s : Config) (channel : ℕ) (old : Machine) (lane : Lane) → l
 refused_waits s channel old lane there (Offer id count message) first is =
     offer_refused channel old lane there id count message first (lane_of id old) (first_broken (offer_checks (lane_of id old) count message)) refl is
 refused_waits s channel old lane there event first is =
-    same_waits channel old.lanes old.files (event, replies.Refused first) old.lanes old.files (record { makes_none = λ gap. refl; accepts_none = refl; loses_none = refl }) refl refl
+    same_waits channel old.lanes old.files (event, replies.Refused first) old.lanes old.files (record { makes_none = λ lost. refl; accepts_none = refl; loses_none = refl }) refl refl
 
 after_mode : (event : EventValue) (m : Machine) → (after_refusal event m).mode ≡ m.mode
 after_mode (Offer id count message) m = by (is_none (first_broken (offer_checks (lane_of id m) count message)))
@@ -289,15 +288,15 @@ failed_does s channel old (Offer id count message) replies.Done new lane there i
 }
 failed_does s channel old (Offer id count message) reply new lane there its failed fine does = absurd does
 failed_does s channel old Status (replies.Status status) new lane there its failed fine (told, is) =
-    stays_failed channel old (Status, replies.Status status) new (record { makes_none = λ gap. refl; accepts_none = refl; loses_none = refl }) failed (ap (λ (m : Machine). m.lanes) is) (ap (λ (m : Machine). m.files) is) (ap (λ (m : Machine). m.mode) is)
+    stays_failed channel old (Status, replies.Status status) new (record { makes_none = λ lost. refl; accepts_none = refl; loses_none = refl }) failed (ap (λ (m : Machine). m.lanes) is) (ap (λ (m : Machine). m.files) is) (ap (λ (m : Machine). m.mode) is)
 failed_does s channel old Status reply new lane there its failed fine does = absurd does
 failed_does s channel old (Next id) (replies.Next given) new lane there its failed fine does =
     some_then (FailedSteps channel old.lanes old.files (Next id, replies.Next given) new.lanes new.files new.mode) (cursor_of id old) _ does (λ c is_c made.
-    stays_failed channel old (Next id, replies.Next given) new (record { makes_none = λ gap. refl; accepts_none = refl; loses_none = refl }) failed
+    stays_failed channel old (Next id, replies.Next given) new (record { makes_none = λ lost. refl; accepts_none = refl; loses_none = refl }) failed
     (ap (λ (m : Machine). m.lanes) made.1.1) (ap (λ (m : Machine). m.files) made.1.1) (ap (λ (m : Machine). m.mode) made.1.1))
 failed_does s channel old (Next id) reply new lane there its failed fine does = absurd does
 failed_does s channel old (Close id) replies.Done new lane there its failed fine sets =
-    stays_failed channel old (Close id, replies.Done) new (record { makes_none = λ gap. refl; accepts_none = refl; loses_none = refl }) failed
+    stays_failed channel old (Close id, replies.Done) new (record { makes_none = λ lost. refl; accepts_none = refl; loses_none = refl }) failed
     (ap (λ (m : Machine). m.lanes) sets.1) (ap (λ (m : Machine). m.files) sets.1) (ap (λ (m : Machine). m.mode) sets.1)
 failed_does s channel old (Close id) reply new lane there its failed fine does = absurd does
 failed_does s channel old event reply new lane there its failed fine does = absurd (true≢false (sym (works_by s old event refl fine) ∙ failed))

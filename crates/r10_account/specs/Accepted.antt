@@ -1,8 +1,10 @@
--- Which messages of a channel the replies to events accepted, each with the gap mark that the losses before it ask for.
-use Rattle.std.specs.Prelude.{ℕ, Bool, false, not, ◌&&◌, ◌||◌, List, [], ◌∷◌, ◌++◌, zip, ◌==◌, if◌then◌else◌}
+-- Which messages of a channel the replies to events accepted, each with the number of those that were lost before it.
+use Rattle.std.specs.Prelude.{ℕ, ◌+◌, Bool, false, ◌||◌, List, [], ◌∷◌, ◌++◌, count_by, zip, ◌==◌, if◌then◌else◌}
 use Rattle.std.specs.List.{list_any}
+use Rattle.r10_body.specs.Gaps.{gap_after}
 use Rattle.r10_body.specs.declared.entry.Entry.{Entry}
 use Rattle.r10_body.specs.declared.refusal.Refusal.TheVariants.{Overflow}
+use Rattle.r10_machine.specs.Machine.{saturated}
 use Rattle.r10_machine.specs.declared.event.Event.{Event}
 use Rattle.r10_machine.specs.declared.event.Event.TheVariants.{Offer}
 use Rattle.r10_machine.specs.declared.reply.Reply.{Reply}
@@ -31,20 +33,20 @@ behind_last test (x ∷ xs) = if test x || list_any test xs then behind_last tes
 abbrev pub since_accepted : ℕ → List Exchange → List Exchange
 since_accepted channel before = behind_last (was_accepted channel) before
 
--- The next message of the channel has a gap mark where one was lost since the last that was accepted. Where none was accepted yet, one that was missed before all of these asks for it too.
-abbrev pub asks_gap : ℕ → Bool → List Exchange → Bool
-asks_gap channel missed before = list_any (was_lost channel) (since_accepted channel before) || (missed && not (list_any (was_accepted channel) before))
+-- How many were lost on the channel since the last message that was accepted. Where none was accepted yet, those that were missed before all of these count too. The number stays at the greatest of 64 bits.
+abbrev pub lost_since : ℕ → ℕ → List Exchange → ℕ
+lost_since channel missed before = saturated (count_by (was_lost channel) (since_accepted channel before) + (if list_any (was_accepted channel) before then 0 else missed))
 
--- the entry that an exchange makes on the channel, if it accepts a message there
-abbrev pub entry_with : ℕ → Bool → Exchange → List Entry
-entry_with channel gap (Offer id count message, Done) = if id == channel then record { channel = channel; count = count; message = message; gap = gap } ∷ [] else []
-entry_with channel gap exchange = []
+-- the entry that an exchange makes on the channel behind so many losses, if it accepts a message there
+abbrev pub entry_with : ℕ → ℕ → Exchange → List Entry
+entry_with channel lost (Offer id count message, Done) = if id == channel then record { channel = channel; count = count; message = message; gap = gap_after lost } ∷ [] else []
+entry_with channel lost exchange = []
 
 -- those that exchanges behind others make, in their order
-abbrev pub entries_behind : ℕ → Bool → List Exchange → List Exchange → List Entry
+abbrev pub entries_behind : ℕ → ℕ → List Exchange → List Exchange → List Entry
 entries_behind channel missed before [] = []
-entries_behind channel missed before (x ∷ xs) = entry_with channel (asks_gap channel missed before) x ++ entries_behind channel missed (before ++ x ∷ []) xs
+entries_behind channel missed before (x ∷ xs) = entry_with channel (lost_since channel missed before) x ++ entries_behind channel missed (before ++ x ∷ []) xs
 
--- the entries of a channel's accepted messages, in their order, where one was missed before all of them or not
-abbrev pub accepted_entries : ℕ → Bool → List Event → List Reply → List Entry
+-- the entries of a channel's accepted messages, in their order, where so many were missed before all of them
+abbrev pub accepted_entries : ℕ → ℕ → List Event → List Reply → List Entry
 accepted_entries channel missed events replies = entries_behind channel missed [] (zip events replies)

@@ -1,5 +1,5 @@
 -- Where the accepted messages of a channel are.
-use Rattle.std.specs.Prelude.{◌≡◌, ℕ, Bool, true, false, List, [], ◌++◌, length, Option, Some, None, nat_lt}
+use Rattle.std.specs.Prelude.{◌≡◌, ℕ, true, List, [], ◌++◌, length, Option, Some, None}
 use Rattle.std.specs.List.{flat_map}
 use Rattle.r10_body.specs.Files.{on_channel}
 use Rattle.r10_body.specs.declared.entry.Entry.{Entry}
@@ -18,12 +18,12 @@ waiting_in (Some lane) = waiting_entries lane
 abbrev pub waiting_of : ℕ → List Lane → List Entry
 waiting_of channel lanes = waiting_in (lane_in channel lanes)
 
--- a message was lost since the last that was accepted
-abbrev pub missed_in : Option Lane → Bool
-missed_in None = false
-missed_in (Some lane) = nat_lt 0 lane.missed
+-- how many messages were lost since the last that was accepted
+abbrev pub missed_in : Option Lane → ℕ
+missed_in None = 0
+missed_in (Some lane) = lane.missed
 
-abbrev pub missed_of : ℕ → List Lane → Bool
+abbrev pub missed_of : ℕ → List Lane → ℕ
 missed_of channel lanes = missed_in (lane_in channel lanes)
 
 -- how many of its entries erases took

@@ -1,7 +1,8 @@
 -- Worked cases: what whole recordings accepted, and where it is.
-use Rattle.std.specs.Prelude.{◌≡◌, ℕ, ◌++◌, ◌∷◌, [], List, true, false, refl, map}
+use Rattle.std.specs.Prelude.{◌≡◌, ℕ, ◌++◌, ◌∷◌, [], List, refl, map}
 use Rattle.std.proofs.Common.{ap, arith, length}
 use Rattle.std.proofs.lemmas.List.{length-append}
+use Rattle.r10_body.specs.declared.gap.Gap.TheVariants.{Whole, Lost}
 use Rattle.r10_body.specs.declared.refusal.Refusal.TheVariants as refusals
 use Rattle.r10_machine.specs.Machine.{Machine}
 use Rattle.r10_machine.specs.ControlCalls.{own_entries, erased_with}
@@ -22,10 +23,10 @@ first_events =
 abbrev first_replies : List Reply
 first_replies = say.Done ∷ say.Done ∷ say.Done ∷ say.Done ∷ say.Done ∷ say.Moved 2 ∷ say.Stopped (record { taken = 0; left = 0 }) ∷ []
 
-pub first-accepted : accepted_entries 5 false first_events first_replies ≡ two
+pub first-accepted : accepted_entries 5 0 first_events first_replies ≡ two
 first-accepted = refl
 
-pub nothing-on-another : accepted_entries 6 false first_events first_replies ≡ []
+pub nothing-on-another : accepted_entries 6 0 first_events first_replies ≡ []
 nothing-on-another = refl
 
 pub both-wait : waiting_of 5 both_offered.lanes ≡ two
@@ -47,10 +48,10 @@ lost_events =
 abbrev lost_replies : List Reply
 lost_replies = say.Done ∷ say.Done ∷ say.Done ∷ say.Done ∷ say.Done ∷ say.Refused refusals.Overflow ∷ say.Moved 2 ∷ say.Done ∷ say.Stopped (record { taken = 1; left = 0 }) ∷ []
 
-pub lost-accepted : accepted_entries 5 false lost_events lost_replies ≡ replayed
+pub lost-accepted : accepted_entries 5 0 lost_events lost_replies ≡ replayed
 lost-accepted = refl
 
-pub missed-then : missed_of 5 lost.lanes ≡ true
+pub missed-then : missed_of 5 lost.lanes ≡ 1
 missed-then = refl
 
 -- in the midst of it two are filed, of which nothing is shown yet, and one waits
@@ -70,7 +71,7 @@ erased_machine = record stopped { files = []; lanes = map (erased_with stopped.f
 pub all-gone : IsAccount 5 erased_machine replayed
 all-gone = record { gone = replayed; each = λ works. refl; shown = ([], refl); waits = (replayed, refl); erased = refl }
 
--- ---- gap marks
+-- ---- how many were lost
 
 abbrev offer : ℕ → Event
 offer count = ask.Offer 5 count (text [])
@@ -78,21 +79,29 @@ offer count = ask.Offer 5 count (text [])
 abbrev lane_full : Reply
 lane_full = say.Refused refusals.Overflow
 
--- two losses make one mark, and the message behind it has none
-pub one-mark : accepted_entries 5 false (offer 1 ∷ offer 2 ∷ offer 3 ∷ offer 4 ∷ []) (lane_full ∷ lane_full ∷ say.Done ∷ say.Done ∷ []) ≡ entry 5 3 (text []) true ∷ entry 5 4 (text []) false ∷ []
-one-mark = refl
+-- two losses are told by the next message, and not by the one behind it
+pub two-told : accepted_entries 5 0 (offer 1 ∷ offer 2 ∷ offer 3 ∷ offer 4 ∷ []) (lane_full ∷ lane_full ∷ say.Done ∷ say.Done ∷ []) ≡ entry 5 3 (text []) (Lost 2) ∷ entry 5 4 (text []) Whole ∷ []
+two-told = refl
 
--- what was missed before them all marks the first
-pub missed-before : accepted_entries 5 true (offer 1 ∷ offer 2 ∷ []) (say.Done ∷ say.Done ∷ []) ≡ entry 5 1 (text []) true ∷ entry 5 2 (text []) false ∷ []
+-- the first tells those that were missed before them all, with its own
+pub missed-before : accepted_entries 5 7 (offer 1 ∷ offer 2 ∷ offer 3 ∷ []) (lane_full ∷ say.Done ∷ say.Done ∷ []) ≡ entry 5 2 (text []) (Lost 8) ∷ entry 5 3 (text []) Whole ∷ []
 missed-before = refl
 
--- a loss on another channel, and another refusal, make no mark
-pub no-mark : accepted_entries 5 false (ask.Offer 6 1 (text []) ∷ offer 1 ∷ offer 2 ∷ []) (lane_full ∷ say.Refused refusals.CountBack ∷ say.Done ∷ []) ≡ entry 5 2 (text []) false ∷ []
-no-mark = refl
+-- and none of what was lost before the last that was accepted
+pub not-all : accepted_entries 5 0 (offer 1 ∷ offer 2 ∷ offer 3 ∷ offer 4 ∷ []) (lane_full ∷ say.Done ∷ lane_full ∷ say.Done ∷ []) ≡ entry 5 2 (text []) (Lost 1) ∷ entry 5 4 (text []) (Lost 1) ∷ []
+not-all = refl
 
--- a mark outlasts what is done between
-pub mark-stays : accepted_entries 5 false (offer 1 ∷ ask.Stop ∷ ask.Offer 6 1 (text []) ∷ ask.Erase ∷ offer 2 ∷ []) (lane_full ∷ say.Stopped (record { taken = 0; left = 0 }) ∷ say.Done ∷ say.Done ∷ say.Done ∷ []) ≡ entry 5 2 (text []) true ∷ []
-mark-stays = refl
+-- the number stays at the greatest of 64 bits
+pub most-told : accepted_entries 5 18446744073709551614 (offer 1 ∷ offer 2 ∷ offer 3 ∷ []) (lane_full ∷ lane_full ∷ say.Done ∷ []) ≡ entry 5 3 (text []) (Lost 18446744073709551615) ∷ []
+most-told = refl
+
+-- a loss on another channel, and another refusal, are none
+pub none-told : accepted_entries 5 0 (ask.Offer 6 1 (text []) ∷ offer 1 ∷ offer 2 ∷ []) (lane_full ∷ say.Refused refusals.CountBack ∷ say.Done ∷ []) ≡ entry 5 2 (text []) Whole ∷ []
+none-told = refl
+
+-- a loss outlasts what is done between
+pub loss-stays : accepted_entries 5 0 (offer 1 ∷ ask.Stop ∷ ask.Offer 6 1 (text []) ∷ ask.Erase ∷ offer 2 ∷ []) (lane_full ∷ say.Stopped (record { taken = 0; left = 0 }) ∷ say.Done ∷ say.Done ∷ say.Done ∷ []) ≡ entry 5 2 (text []) (Lost 1) ∷ []
+loss-stays = refl
 
 -- ---- accounts that don't hold
 

@@ -30,11 +30,11 @@ pub fn a_run_goes_over()
 }
 
 /// Over any run of a new recorder, what the replies accepted on a channel was erased, is in the files that it began, or waits: each once, in its
-/// order, with the gap marks that the losses before it ask for. Where the medium failed, what it shows stands first and what waits stands last.
+/// order, with the number of those that were lost before it. Where the medium failed, what it shows stands first and what waits stands last.
 pub fn a_recording_accounts()
     ensures { (s : Config) (channel : ℕ) (files : List File) (failures : ℕ) (events : List EventValue) (replies : List ReplyValue) (images : List Image) (new : Machine)
         → IsConfig s → AllByRecursion IsFoundFile files → length files ≤ most_files s → IsSome (spec_of s.channels channel) → Run s (fresh s.channels files failures) events replies images new
-        → IsAccount channel new (accepted_entries channel false events replies) }
+        → IsAccount channel new (accepted_entries channel 0 events replies) }
 {
     a_step_stays_sound();
     a_new_recorder_is_sound();

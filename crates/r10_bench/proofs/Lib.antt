@@ -1,4 +1,2 @@
 mod Following
-mod Feeding
-mod Beginning
 mod Fresh

@@ -17,7 +17,7 @@ const MOST: u32 = 10_000_000;
 const STEP: u64 = 20_000;
 
 /// What was measured.
-#[derive(Clone, Copy, Debug, Default)]
+#[derive(Clone, Copy, Default)]
 pub struct BookFigures {
     /// How many packets the book has, and how often it was searched for what one of them has.
     pub packets: u32,

@@ -24,7 +24,7 @@ const PACKET: usize = 65_536;
 const TEXT: [u8; 1024] = [0x55; 1024];
 
 /// What a file has.
-#[derive(Clone, Copy, Debug, Default)]
+#[derive(Clone, Copy, Default)]
 pub struct Shape {
     pub channels: u16,
     /// The packet flags that tell the data checksum.
@@ -68,7 +68,7 @@ pub const SHAPES: [Shape; 6] = [
 ];
 
 /// How long the verdict on a file took.
-#[derive(Clone, Copy, Debug, Default)]
+#[derive(Clone, Copy, Default)]
 pub struct CheckFigures {
     pub shape: Shape,
     pub bytes: u64,

@@ -16,7 +16,7 @@ const MOST: u32 = 10_000_000;
 const STEP: u64 = 2_000;
 
 /// What was measured.
-#[derive(Clone, Copy, Debug, Default)]
+#[derive(Clone, Copy, Default)]
 pub struct CloseFigures {
     /// How many packets with a message each the file has.
     pub packets: u32,

@@ -8,7 +8,7 @@ use std::fmt;
 use std::time::Duration;
 
 /// How many packets were handed out, and their lengths together.
-#[derive(Clone, Copy, Debug, Default)]
+#[derive(Clone, Copy, Default)]
 pub struct Packets {
     pub number: u64,
     pub bytes: u64,
@@ -28,7 +28,7 @@ impl Packets {
 }
 
 /// What was measured.
-#[derive(Clone, Copy, Debug, Default)]
+#[derive(Clone, Copy, Default)]
 pub struct Figures {
     pub messages: u64,
     pub packets: Packets,
@@ -87,7 +87,7 @@ impl fmt::Display for Figures {
 }
 
 /// What was measured of a lane: how many messages were accepted and taken, and the processor time of both.
-#[derive(Clone, Copy, Debug, Default)]
+#[derive(Clone, Copy, Default)]
 pub struct Handing {
     pub accepted: u64,
     pub taken: u64,
@@ -110,7 +110,7 @@ impl Handing {
 }
 
 /// What was measured of lanes of one thread and between threads.
-#[derive(Clone, Copy, Debug, Default)]
+#[derive(Clone, Copy, Default)]
 pub struct LaneFigures {
     pub lane: Handing,
     pub ports: Handing,

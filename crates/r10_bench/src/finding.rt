@@ -20,7 +20,7 @@ const SEARCHES: u32 = 10_000;
 pub const STEPS: [u64; 2] = [20_000, 2_000];
 
 /// What was measured.
-#[derive(Clone, Copy, Debug, Default)]
+#[derive(Clone, Copy, Default)]
 pub struct FindFigures {
     /// How many counts lie between two messages.
     pub step: u64,

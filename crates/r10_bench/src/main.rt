@@ -1,7 +1,6 @@
 //! The program `r10_bench`, run by hand: how many small UART messages a second go through a lane and a builder, beside a
 //! plain copy of the same bytes, how many go through lanes of one thread and between two, how long searches in the book
-//! of a file's packets take, and its index, how many messages a second are recorded onto a medium in memory, by the layers and
-//! by the whole recorder, how many entries a second it replays, how long it takes to find one in a file of many packets, how
+//! of a file's packets take, and its index, how many messages a second a recorder records onto a medium in memory, how many entries a second it replays, how long it takes to find one in a file of many packets, how
 //! many bytes of index a second it writes where it closes one, and how many bytes of a file are judged in a second.
 #![tactic(auto)]
 
@@ -17,10 +16,7 @@ mod lanes;
 mod messages;
 mod mounted;
 mod path;
-mod record;
-mod recording;
 mod replay;
-mod start;
 mod whole;
 
 use fault::Fault;
@@ -74,10 +70,6 @@ fn main(rt: HostRuntime) -> Result<ExitCode, Fault> {
     print!(rt; "{figures}")?;
     let book = book::run(&rt, rt.alloc(), number)?;
     print!(rt; "{book}")?;
-    for load in &recording::LOADS {
-        let figures = recording::run(&rt, rt.alloc(), load, number)?;
-        print!(rt; "{figures}")?;
-    }
     let (figures, recorder) = whole::run(&rt, rt.alloc(), number)?;
     print!(rt; "{figures}")?;
     let figures = replay::run(&rt, rt.alloc(), recorder, figures.messages)?;

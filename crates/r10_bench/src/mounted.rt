@@ -1,16 +1,16 @@
 //! A recorder over a medium in memory, which records a file of four UART channels.
 
-ghost use Rattle.std.specs.Prelude.{◌≡◌, map, IfOk};
+ghost use Rattle.std.specs.Prelude.{◌≡◌, length, map, IfOk};
 ghost use Rattle.r10_machine.specs.Machine.{fresh_lane};
+ghost use Rattle.r10_medium.specs.MemoryDisk.{memory_disk};
 
 use crate::fault::Fault;
-use crate::recording::make_medium;
 use r10_body::{ChannelSpec, Kind};
 use r10_control::Recorder;
 use r10_count::Parts;
 use r10_lane::RingLane;
 use r10_machine::Settings;
-use r10_medium::Memory;
+use r10_medium::{BlockMedium, Memory};
 use r10_volume::format;
 use std::alloc::{AllocError, Global};
 
@@ -93,6 +93,17 @@ fn lanes_of(alloc: Global, channels: &[ChannelSpec]) -> Result<Vec<RingLane>, Al
         lanes.push(RingLane::new(alloc, *spec)?)?;
     }
     Ok(lanes)
+}
+
+/// A medium in memory of so many blocks. Its last block is written, so that all of its memory is in use before anything is timed.
+fn make_medium(alloc: Global, blocks: usize) -> Result<Memory, AllocError>
+    ensures { IfOk result (λ m. length (memory_disk m).blocks ≡ blocks) }
+{
+    let mut medium = Memory::new(alloc, blocks)?;
+    if blocks > 0 {
+        let _ = medium.write(blocks - 1, &[0; 512]);
+    }
+    Ok(medium)
 }
 
 /// A recorder over a formatted medium of these settings.

@@ -1,6 +1,7 @@
 //! The path of a message: through the lane into a packet.
 
 ghost use Rattle.std.specs.Prelude.{◌≡◌, ◌≤◌, ◌+◌, List, length, None, OnOk};
+ghost use Rattle.r10_body.specs.Gaps.{IsSoundGap};
 ghost use Rattle.r10_body.specs.Messages.{channel_refusal};
 ghost use Rattle.r10_body.specs.declared.entry.Sample.{Sample as SampleValue};
 ghost use Rattle.r10_lane.specs.Lanes.{reached};
@@ -26,6 +27,7 @@ pub fn offer_all(messages: Vec<Timed>, lane: &mut RingLane) -> Result<(), Refusa
 /// Packs a message, and gives back the room of the packet that had to be closed before it.
 fn pack(sample: Sample, builder: &mut Builder, packets: &mut Packets)
     requires taken { channel_refusal builder.old.spec sample.message ≡ None }
+    requires sound { IsSoundGap sample.gap }
     requires behind { IsBehind builder.old.spec sample.count builder.old }
     ensures { IsBehind builder.old.spec sample.count builder.new }
 {

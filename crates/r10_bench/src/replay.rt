@@ -20,7 +20,7 @@ const LAST: u64 = 281_474_976_710_655;
 const ROUNDS: u32 = 4;
 
 /// What was measured.
-#[derive(Clone, Copy, Debug, Default)]
+#[derive(Clone, Copy, Default)]
 pub struct ReplayFigures {
     /// How many instalments there were.
     pub instalments: u64,

@@ -23,7 +23,7 @@ pub(crate) const NUMBER: usize = 65_535;
 const TEXT: [u8; 32] = [0x55; 32];
 
 /// What was measured.
-#[derive(Clone, Copy, Debug, Default)]
+#[derive(Clone, Copy, Default)]
 pub struct WholeFigures {
     pub messages: u64,
     pub commits: u64,

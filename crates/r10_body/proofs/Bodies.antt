@@ -4,9 +4,11 @@ use Rattle.std.specs.List.{AllByRecursion, flat_map}
 use Rattle.r10_count.specs.Bytes.{le_bytes, flag_at}
 use Rattle.r10_count.specs.Count.{stamp}
 use Rattle.r10_count.specs.Civil.{IsCivil}
-use Rattle.r10_count.proofs.Fronts.{same_u16, same_u32, same_stamp}
+use Rattle.r10_count.proofs.Fronts.{same_u16, same_u32, same_u64, same_stamp}
 use Rattle.r10_count.specs.declared.civil.Parts.{Parts}
 use Rattle.r10_count.specs.Padding.{padding}
+use Rattle.r10_lossbody.specs.Loss.{loss_body, FitsLoss}
+use Rattle.r10_lossbody.specs.declared.body.LossBody.{LossBody}
 use Rattle.r10_uart.specs.Uart.{FitsUart, uart_entry, uart_header, uart_body}
 use Rattle.r10_uart.specs.declared.entry.UartEntry.{UartEntry}
 use Rattle.r10_timebody.specs.Time.{two_packed_digits, digits_word, time_body}
@@ -19,7 +21,7 @@ use Rattle.r10_message.proofs.Bodies.{one_message_body}
 use Rattle.r10_indexbody.specs.Index.{node_entry, root_entry}
 use Rattle.r10_indexbody.proofs.Nodes.{one_node_body}
 use Rattle.r10_indexbody.proofs.Roots.{one_root_body}
-use Rattle.r10_body.specs.Content.{Content, setup, time, event, uart, bus, arinc, discrete, message, node, root, type_of, body_of, FitsContent}
+use Rattle.r10_body.specs.Content.{Content, setup, time, event, uart, bus, arinc, discrete, message, node, root, report, type_of, body_of, FitsContent}
 use Rattle.r10_body.proofs.Lists.{same_front, IsOneWay, one_list}
 use Rattle.r10_body.proofs.CivilParts.{in_range, day_below}
 
@@ -88,6 +90,15 @@ one_time_body p q fp fq same =
     let years = one_digits_word (p.year / 100) (p.year % 100) (q.year / 100) (q.year % 100) (omega arith) (omega arith) (omega arith) (omega arith) (ap (λ b. take 2 (drop 10 b)) same) in
     same_parts p q (omega arith) months.0 months.1 hours.0 hours.1 seconds.0 seconds.1
 
+-- ---- loss reports
+
+pub one_loss_body : (a b : LossBody) → FitsLoss a → FitsLoss b → loss_body a ≡ loss_body b → a ≡ b
+one_loss_body a b f g same =
+    let channels = same_u16 a.channel b.channel (le_bytes 2 a.reserved ++ le_bytes 8 a.lost) (le_bytes 2 b.reserved ++ le_bytes 8 b.lost) f.channel g.channel (ap (drop 8) same) in
+    let fields = same_u16 a.reserved b.reserved (le_bytes 8 a.lost) (le_bytes 8 b.lost) f.reserved g.reserved channels.1 in
+    let lost = same_u64 a.lost b.lost [] [] f.lost g.lost fields.1 in
+    ap (λ x. record a { channel = x }) channels.0 ∙ ap (λ x. record a { channel = b.channel; reserved = x }) fields.0 ∙ ap (λ x. record b { lost = x }) lost.0
+
 -- ---- contents
 
 -- contents of one type with one body, in packets of one counter, are one
@@ -107,6 +118,7 @@ one_content m n (discrete bits es) (discrete others fs) counters f g k e =
 one_content m n (message es) (message fs) counters f g k e = ap (λ x. message x) (one_message_body es fs f.fields g.fields e)
 one_content m n (node es) (node fs) counters f g k e = ap (λ x. node x) (one_node_body es fs f.fields g.fields e)
 one_content m n (root es) (root fs) counters f g k e = ap (λ x. root x) (one_root_body es fs f.fields g.fields e)
+one_content m n (report a) (report b) counters f g k e = ap (λ x. report x) (one_loss_body a b f g e)
 one_content m n (node es) (root fs) counters f g k e =
     let words = same_u32 (2147483648 + length es) (length fs) (flat_map node_entry es) (flat_map root_entry fs) (omega (arith, f.counted)) (omega (arith, g.counted)) e in
     absurd (omega (arith, words.0, g.counted))

@@ -1,19 +1,23 @@
 -- Each rule of a file: a packet that keeps it and one that breaks it, behind the first recording's packets.
-use Rattle.std.specs.Prelude.{◌≡◌, ℕ, true, false, List, [], ◌∷◌, ◌++◌, length, take, drop, replicate, refl}
+use Rattle.std.specs.Prelude.{◌≡◌, ℕ, true, false, List, [], ◌∷◌, ◌++◌, length, map, take, drop, replicate, Some, None, refl}
 use Rattle.std.specs.List.{sum_by}
 use Rattle.std.proofs.Common.{inl, lit<, lit≤, arith, sym, ap, ◌≤◌}
 use Rattle.r10_indexbody.specs.Vectors.{a_node_entry, a_root_entry}
 use Rattle.r10_indexbody.specs.declared.entry.RootEntry.{RootEntry}
 use Rattle.r10_uart.specs.declared.entry.UartEntry.{UartEntry}
-use Rattle.r10_body.specs.Content.{event, uart, node, root}
+use Rattle.r10_body.specs.Content.{event, uart, node, root, report}
 use Rattle.r10_packet.specs.Header.{header_bytes}
-use Rattle.r10_body.specs.Packets.{Packet, packet_bytes, file_bytes}
-use Rattle.r10_body.specs.Rules.{KeepsChecksums, KeepsStart, KeepsChannels, KeepsSequence, KeepsCounts, KeepsIndex, KeepsCounters, KeepsEvents, node_entries, has_whole_index}
+use Rattle.r10_body.specs.Packets.{Packet, packet_bytes, file_bytes, file_entries}
+use Rattle.r10_body.specs.Rules.{KeepsChecksums, KeepsStart, KeepsChannels, KeepsSequence, KeepsCounts, KeepsIndex, KeepsCounters, KeepsEvents, KeepsReports, MayFollow, IsFile, node_entries, has_whole_index}
 use Rattle.r10_body.specs.Faults.{IsAtFault, KeepsHeader, KeepsFiller, ReadsPacket, BreaksRule, first_packet, rule, no_time, no_index}
 use Rattle.r10_body.specs.Faults as broken_rules
 use Rattle.r10_body.specs.Foreign.{IsForeignPacket}
 use Rattle.r10_body.specs.declared.fault.FileFault.TheVariants.{Rule}
-use Rattle.r10_body.specs.Vectors.{a_setup_packet, a_time_packet, uart_packet, a_node_packet, a_root_packet, data_packets, a_recording}
+use Rattle.r10_body.specs.Gaps.{told_lost}
+use Rattle.r10_body.specs.declared.entry.Entry.{Entry}
+use Rattle.r10_body.specs.declared.gap.Gap.{Gap}
+use Rattle.r10_body.specs.declared.gap.Gap.TheVariants.{Whole, Lost, Unknown}
+use Rattle.r10_body.specs.Vectors.{a_setup_packet, a_time_packet, uart_packet, a_node_packet, a_root_packet, a_report_packet, data_packets, a_recording}
 use Rattle.r10_body.proofs.Recording.{setup-first, time-second, uart-third, node-fourth, no}
 
 abbrev pub text_at : ℕ → UartEntry
@@ -25,7 +29,7 @@ next_packet sequence first last = record uart_packet { sequence = sequence; coun
 
 -- an event on channel 2
 abbrev pub event_packet : ℕ → ℕ → ℕ → Packet
-event_packet sequence number occurrence = record { channel = 2; sequence = sequence; flagged = false; check = 0; counter = 1010; content = event (record { count = 1010; number = number; occurrence = occurrence }) }
+event_packet sequence number occurrence = record { channel = 2; sequence = sequence; gap = Whole; check = 0; counter = 1010; content = event (record { count = 1010; number = number; occurrence = occurrence }) }
 
 -- rule 3: no data checksum on a time packet or an event
 pub time-with-checksum : KeepsChecksums (record a_time_packet { check = 1 }) → ⊥
@@ -57,11 +61,11 @@ setup-on-channel-5 ((there, back), one-type, flags) = omega (arith, there refl)
 pub another-type : KeepsChannels data_packets (record uart_packet { channel = 1 }) → ⊥
 another-type (place, one-type, flags) = omega (arith, (one-type (lit< tt)).1.0 refl)
 
-pub flagged-time : KeepsChannels (a_setup_packet ∷ []) (record a_time_packet { flagged = true }) → ⊥
-flagged-time (place, one-type, flags) = no (sym (flags refl))
+pub flagged-time : KeepsChannels (a_setup_packet ∷ []) (record a_time_packet { gap = Unknown }) → ⊥
+flagged-time (place, one-type, flags) = let is : Unknown ≡ Whole = flags refl in cc
 
-pub flagged-event : KeepsChannels data_packets (record (event_packet 0 3 0) { flagged = true }) → ⊥
-flagged-event (place, one-type, flags) = no (sym (flags refl))
+pub flagged-event : KeepsChannels data_packets (record (event_packet 0 3 0) { gap = Unknown }) → ⊥
+flagged-event (place, one-type, flags) = let is : Unknown ≡ Whole = flags refl in cc
 
 -- rule 6: sequence numbers
 pub numbered : KeepsSequence data_packets (next_packet 1 1010 1010)
@@ -179,12 +183,12 @@ other-event = refl
 -- a file that ends behind its setup packet
 pub no-time-at-all : IsAtFault (file_bytes (a_setup_packet ∷ [])) false 32 (Rule 4)
 unfolding packet_bytes header_bytes
-no-time-at-all = record { packets = a_setup_packet ∷ []; rest = []; bytes_are = refl; offset_is = refl; strict = (setup-first, tt); unclosed = λ _. refl; wrong = no_time refl refl }
+no-time-at-all = record { packets = a_setup_packet ∷ []; rest = []; bytes_are = refl; offset_is = refl; strict = (setup-first, tt); unclosed = λ _. refl; answered = tt; wrong = no_time refl refl }
 
 -- a file whose directory entry is closed has an index, and the root too
 pub index-missing : IsAtFault (file_bytes data_packets) true 124 (Rule 8)
 unfolding packet_bytes header_bytes
-index-missing = record { packets = data_packets; rest = []; bytes_are = refl; offset_is = refl; strict = (setup-first, (time-second, (uart-third, tt))); unclosed = λ _. refl; wrong = no_index refl (lit≤ tt) refl refl }
+index-missing = record { packets = data_packets; rest = []; bytes_are = refl; offset_is = refl; strict = (setup-first, (time-second, (uart-third, tt))); unclosed = λ _. refl; answered = tt; wrong = no_index refl (lit≤ tt) refl refl }
 
 pub root-missing : IsAtFault (take 212 (file_bytes a_recording)) true 212 (Rule 8)
 unfolding packet_bytes header_bytes
@@ -195,6 +199,7 @@ root-missing = record {
   offset_is = refl;
   strict = (setup-first, (time-second, (uart-third, (node-fourth, tt))));
   unclosed = λ is. absurd (no (sym is));
+  answered = tt;
   wrong = no_index refl (lit≤ tt) refl refl;
 }
 
@@ -227,6 +232,66 @@ least-four m (broken_rules.index p reads breaks) = lit≤ tt
 least-four m (broken_rules.unclosed p reads index unclosed) = lit≤ tt
 least-four m (broken_rules.counters p reads breaks) = lit≤ tt
 least-four m (broken_rules.events p reads breaks) = lit≤ tt
+least-four m (broken_rules.reports p loss reads is breaks) = lit≤ tt
 
 pub begins-with-time : IsAtFault (packet_bytes a_time_packet) false 0 (Rule 4)
-begins-with-time = record { packets = []; rest = packet_bytes a_time_packet; bytes_are = refl; offset_is = refl; strict = tt; unclosed = λ _. refl; wrong = rule time-is (broken_rules.start a_time_packet time-reads no-setup) least-four }
+begins-with-time = record { packets = []; rest = packet_bytes a_time_packet; bytes_are = refl; offset_is = refl; strict = tt; unclosed = λ _. refl; answered = tt; wrong = rule time-is (broken_rules.start a_time_packet time-reads no-setup) least-four }
+
+-- rule 11: of a report and the packet behind it
+
+abbrev reporting : List Packet
+reporting = data_packets ++ a_report_packet ∷ []
+
+abbrev lossy_packet : Gap → Packet
+lossy_packet gap = record uart_packet { sequence = 1; gap = gap; counter = 1010; content = uart (text_at 1010 ∷ []) }
+
+pub told-loss : KeepsReports reporting (lossy_packet (Lost 1))
+told-loss = ((refl, refl), tt)
+
+pub other-loss : KeepsReports reporting (lossy_packet (Lost 2)) → ⊥
+other-loss keeps = omega (arith, ap told_lost keeps.0.1)
+
+pub unknown-behind-report : KeepsReports reporting (lossy_packet Unknown) → ⊥
+unknown-behind-report keeps = omega (arith, ap told_lost keeps.0.1)
+
+pub no-loss-behind-report : KeepsReports reporting (lossy_packet Whole) → ⊥
+no-loss-behind-report keeps = omega (arith, ap told_lost keeps.0.1)
+
+pub other-channel : KeepsReports reporting (record (lossy_packet (Lost 1)) { channel = 6 }) → ⊥
+other-channel keeps = omega (arith, keeps.0.0)
+
+-- without a report it isn't known how many were lost
+pub unknown-loss : KeepsReports data_packets (lossy_packet Unknown)
+unknown-loss = (refl, tt)
+
+pub untold-loss : KeepsReports data_packets (lossy_packet (Lost 1)) → ⊥
+untold-loss keeps = omega (arith, keeps.0)
+
+pub none-lost : KeepsReports data_packets (record a_report_packet { content = report (record { channel = 5; reserved = 0; lost = 0 }) }) → ⊥
+none-lost keeps = omega (arith, keeps.1.1)
+
+pub reserved-field : KeepsReports data_packets (record a_report_packet { content = report (record { channel = 5; reserved = 1; lost = 1 }) }) → ⊥
+reserved-field keeps = omega (arith, keeps.1.0)
+
+-- a file doesn't end with a report
+pub unanswered : IsFile reporting → ⊥
+unanswered file = let none : Some (record { channel = 5; reserved = 0; lost = 1 }) ≡ None = file.reports in cc
+
+pub report-fourth : MayFollow data_packets a_report_packet
+unfolding packet_bytes header_bytes
+report-fourth = record {
+  fits = record { channel = lit< tt; sequence = lit< tt; gap = tt; check = lit< tt; counter = lit< tt; content = record { channel = lit< tt; reserved = lit< tt; lost = lit< tt }; short = lit≤ tt };
+  checksums = λ _. refl;
+  start = ((λ e. absurd (no e), λ e. absurd (omega arith)), λ e. absurd (omega arith));
+  channels = ((λ _. refl, λ _. refl), λ lt. absurd (omega arith), λ _. refl);
+  sequence = refl;
+  counts = (tt, tt, tt);
+  index = refl;
+  counters = (λ e. absurd (omega arith), λ _. refl);
+  events = tt;
+  reports = (refl, (refl, lit< tt));
+}
+
+-- the entries of a lossy packet behind its report
+pub lossy-entries : map (λ (e : Entry). e.gap) (file_entries (reporting ++ lossy_packet (Lost 1) ∷ [])) ≡ Whole ∷ Whole ∷ Whole ∷ Lost 1 ∷ []
+lossy-entries = refl

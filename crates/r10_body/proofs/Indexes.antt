@@ -11,7 +11,7 @@ use Rattle.r10_indexbody.specs.declared.entry.RootEntry.{RootEntry}
 use Rattle.r10_indexbody.proofs.Nodes.{body-length as node_length}
 use Rattle.r10_indexbody.proofs.Roots.{body-length as root_length}
 use Rattle.r10_body.proofs.Lone.{packet-length}
-use Rattle.r10_body.specs.Content.{Content, setup, time, event, uart, bus, arinc, discrete, message, node, root, type_of, body_of}
+use Rattle.r10_body.specs.Content.{Content, setup, time, event, uart, bus, arinc, discrete, message, node, root, report, type_of, body_of}
 use Rattle.r10_body.specs.Packets.{Packet, packet_bytes, file_bytes}
 use Rattle.r10_body.specs.Rules.{MayFollow, EachFollows, KeepsChecksums, IsNextNode, IsNextRoot, HasPlace, is_index, is_data, is_node, is_root, is_closed_file, all_named, has_whole_index, node_entries, root_entry_of, last_nodes, unnamed, last_root}
 use Rattle.r10_body.proofs.Sentences.{rest_length}
@@ -40,6 +40,7 @@ part_at p (arinc es) e = datum (rw e refl) (rw e refl) (rw e refl) (rw e refl)
 part_at p (discrete bits es) e = datum (rw e refl) (rw e refl) (rw e refl) (rw e refl)
 part_at p (message es) e = datum (rw e refl) (rw e refl) (rw e refl) (rw e refl)
 part_at p (node es) e = node_here es e (rw e refl) (rw e refl) (rw e refl) (rw e refl)
+part_at p (report loss) e = datum (rw e refl) (rw e refl) (rw e refl) (rw e refl)
 part_at p (root es) e = root_here es e (rw e refl) (rw e refl) (rw e refl) (rw e refl)
 
 pub part_of : (p : Packet) → Part p
@@ -152,8 +153,8 @@ pub record Sized (ps : List Packet) : Type 0 where
   pub whole : 100 * count_by is_node ps < count_by is_data ps + 100
   pub roots : count_by is_root ps + length (unnamed ps) ≤ count_by is_node ps
 
-pub sized_within : (ps : List Packet) → Sized ps → index_bytes ps ≤ 64 * count_by is_data ps + 44
-sized_within ps s = omega (arith, s.bytes, s.once, s.whole, s.roots)
+pub sized_within : (ps : List Packet) → Sized ps → (index_bytes ps ≤ 20 * count_by is_data ps + 88 * count_by is_node ps) × (100 * count_by is_node ps < count_by is_data ps + 100)
+sized_within ps s = (omega (arith, s.bytes, s.once, s.roots), s.whole)
 
 nodes-length : (offset : ℕ) (ps : List Packet) → length (node_entries offset ps) ≡ length ps
 nodes-length offset [] = refl
@@ -231,6 +232,6 @@ sized_from before [] each sized = subst (λ (b : List Packet). Sized b) (sym (ap
 sized_from before (p ∷ ps) each sized =
     subst (λ (b : List Packet). Sized b) (append_assoc before (p ∷ []) ps) (sized_from (before ++ p ∷ []) ps each.1 (sized_more before p each.0 (part_of p) sized))
 
--- the index of a file is no longer than 64 bytes for each packet that it names, and 44
-pub sized : (ps : List Packet) → EachFollows [] ps → index_bytes ps ≤ 64 * count_by is_data ps + 44
+-- the index of a file has 20 bytes for each packet that it names and at most 88 for each node, and all nodes but the last name a hundred
+pub sized : (ps : List Packet) → EachFollows [] ps → (index_bytes ps ≤ 20 * count_by is_data ps + 88 * count_by is_node ps) × (100 * count_by is_node ps < count_by is_data ps + 100)
 sized ps each = sized_within ps (sized_from [] ps each (record { named = 0; bytes = omega arith; once = omega arith; few = omega arith; whole = omega arith; roots = omega arith }))

@@ -16,7 +16,7 @@ use Rattle.r10_discrete.specs.Entry.{discrete_form}
 use Rattle.r10_message.proofs.Bodies as message_laws
 use Rattle.r10_message.specs.Entry.{message_form}
 use Rattle.r10_body.specs.Bodies.{SaysMessages}
-use Rattle.r10_body.specs.Content.{Content, Timed, type_of, body_of, FitsContent, setup, time, event, uart, bus, arinc, discrete, message, node, root}
+use Rattle.r10_body.specs.Content.{Content, Timed, type_of, body_of, FitsContent, setup, time, event, uart, bus, arinc, discrete, message, node, root, report}
 use Rattle.r10_body.specs.Foreign.{IsForeignBody}
 
 content_is_foreign : (counter : ℕ) (content : Content) (body : List ℕ) → FitsContent counter content → body ≡ body_of counter content → IsForeignBody (type_of content) body
@@ -30,6 +30,7 @@ content_is_foreign counter (discrete bits entries) body fits is = record { setup
 content_is_foreign counter (message entries) body fits is = record { setup = λ e. absurd (omega (arith, e)); event = λ e. absurd (omega (arith, e)); index = λ e. absurd (omega (arith, e)); time = λ e. absurd (omega (arith, e)); bus = λ e. absurd (omega (arith, e)); discrete = λ e. absurd (omega (arith, e)); message = λ _. message_laws.foreign_is body (body_is_foreign message_form 0 0 entries body (message_laws.body_is entries body (fits, is))); arinc = λ e. absurd (omega (arith, e)); uart = λ e. absurd (omega (arith, e)) }
 content_is_foreign counter (node entries) body fits is = record { setup = λ e. absurd (omega (arith, e)); event = λ e. absurd (omega (arith, e)); index = λ _. inl (nodes.foreign_is body (body_is_foreign node_form 0 0 entries body (nodes.body_is entries body (fits, is)))); time = λ e. absurd (omega (arith, e)); bus = λ e. absurd (omega (arith, e)); discrete = λ e. absurd (omega (arith, e)); message = λ e. absurd (omega (arith, e)); arinc = λ e. absurd (omega (arith, e)); uart = λ e. absurd (omega (arith, e)) }
 content_is_foreign counter (root entries) body fits is = record { setup = λ e. absurd (omega (arith, e)); event = λ e. absurd (omega (arith, e)); index = λ _. inr (roots.foreign_is body (body_is_foreign root_form 0 0 entries body (roots.body_is entries body (fits, is)))); time = λ e. absurd (omega (arith, e)); bus = λ e. absurd (omega (arith, e)); discrete = λ e. absurd (omega (arith, e)); message = λ e. absurd (omega (arith, e)); arinc = λ e. absurd (omega (arith, e)); uart = λ e. absurd (omega (arith, e)) }
+content_is_foreign counter (report loss) body fits is = record { setup = λ e. absurd (omega (arith, e)); event = λ e. absurd (omega (arith, e)); index = λ e. absurd (omega (arith, e)); time = λ e. absurd (omega (arith, e)); bus = λ e. absurd (omega (arith, e)); discrete = λ e. absurd (omega (arith, e)); message = λ e. absurd (omega (arith, e)); arinc = λ e. absurd (omega (arith, e)); uart = λ e. absurd (omega (arith, e)) }
 
 pub strict-lenient : (type counter : ℕ) (body : List ℕ) (said : List Timed) → SaysMessages type counter body said → IsForeignBody type body
 strict-lenient type counter body said says =

@@ -5,11 +5,10 @@ use Rattle.r10_body.specs.Files.{FileSays, on_channel}
 use Rattle.r10_body.specs.Packets.{Packet, file_bytes, file_entries}
 use Rattle.r10_body.specs.Rules.{EachFollows, is_closed_file}
 use Rattle.r10_body.specs.declared.entry.Entry.{Entry}
-use Rattle.r10_body.proofs.Rules.{follows_fit}
 use Rattle.r10_body.proofs.Injective.{one_file}
 
 pub one_list : (ps qs : List Packet) → EachFollows [] ps → EachFollows [] qs → file_bytes ps ≡ file_bytes qs → ps ≡ qs
-one_list ps qs f g same = one_file ps qs (follows_fit [] ps f) (follows_fit [] qs g) same
+one_list ps qs f g same = one_file [] ps qs f g same
 
 one_setup : (text other : List ℕ) → setup text ∷ [] ≡ setup other ∷ [] → text ≡ other
 one_setup text other same = cc

@@ -12,7 +12,7 @@ no e = cc
 
 pub setup-first : MayFollow [] a_setup_packet
 setup-first = record {
-  fits = record { channel = lit< tt; sequence = lit< tt; check = lit< tt; counter = lit< tt; content = tt; short = lit≤ tt };
+  fits = record { channel = lit< tt; sequence = lit< tt; gap = tt; check = lit< tt; counter = lit< tt; content = tt; short = lit≤ tt };
   checksums = λ _. refl;
   start = ((λ _. refl, λ _. refl), λ e. absurd (omega arith));
   channels = ((λ _. refl, λ _. refl), λ _. tt, λ _. refl);
@@ -21,11 +21,12 @@ setup-first = record {
   index = refl;
   counters = (λ e. tt, λ e. absurd (no e));
   events = tt;
+  reports = (refl, tt);
 }
 
 pub time-second : MayFollow (a_setup_packet ∷ []) a_time_packet
 time-second = record {
-  fits = record { channel = lit< tt; sequence = lit< tt; check = lit< tt; counter = lit< tt; content = refl; short = lit≤ tt };
+  fits = record { channel = lit< tt; sequence = lit< tt; gap = tt; check = lit< tt; counter = lit< tt; content = refl; short = lit≤ tt };
   checksums = λ _. refl;
   start = ((λ e. absurd (no e), λ e. absurd (omega arith)), λ _. refl);
   channels = ((λ e. absurd (no e), λ e. absurd (omega arith)), λ _. (λ e. absurd (omega arith), tt), λ _. refl);
@@ -34,6 +35,7 @@ time-second = record {
   index = refl;
   counters = (λ _. (refl, tt), λ e. absurd (no e));
   events = tt;
+  reports = (refl, tt);
 }
 
 pub uart-third : MayFollow (a_setup_packet ∷ a_time_packet ∷ []) uart_packet
@@ -41,6 +43,7 @@ uart-third = record {
   fits = record {
     channel = lit< tt;
     sequence = lit< tt;
+    gap = tt;
     check = lit< tt;
     counter = lit< tt;
     content = (lit< tt, (record { count = lit< tt; sub = lit< tt; bytes = lit< tt }, (record { count = lit< tt; sub = lit< tt; bytes = lit< tt }, tt)));
@@ -54,6 +57,7 @@ uart-third = record {
   index = refl;
   counters = (λ e. absurd (omega arith), λ e. absurd (no e));
   events = tt;
+  reports = (refl, tt);
 }
 
 pub node-fourth : MayFollow data_packets a_node_packet
@@ -62,6 +66,7 @@ node-fourth = record {
   fits = record {
     channel = lit< tt;
     sequence = lit< tt;
+    gap = tt;
     check = lit< tt;
     counter = lit< tt;
     content = record { some = lit< tt; counted = lit< tt; fields = (record { counter = lit< tt; data_type = lit< tt; channel = lit< tt; offset = lit< tt }, (record { counter = lit< tt; data_type = lit< tt; channel = lit< tt; offset = lit< tt }, (record { counter = lit< tt; data_type = lit< tt; channel = lit< tt; offset = lit< tt }, tt))) };
@@ -75,6 +80,7 @@ node-fourth = record {
   index = (λ some. absurd (omega arith), refl);
   counters = (λ e. absurd (omega arith), λ _. refl);
   events = tt;
+  reports = (refl, tt);
 }
 
 pub root-fifth : MayFollow (data_packets ++ a_node_packet ∷ []) a_root_packet
@@ -83,6 +89,7 @@ root-fifth = record {
   fits = record {
     channel = lit< tt;
     sequence = lit< tt;
+    gap = tt;
     check = lit< tt;
     counter = lit< tt;
     content = record { some = lit< tt; counted = lit< tt; fields = (record { counter = lit< tt; offset = lit< tt }, (record { counter = lit< tt; offset = lit< tt }, tt)) };
@@ -96,6 +103,7 @@ root-fifth = record {
   index = ((lit< tt, inl refl), refl);
   counters = (λ e. absurd (omega arith), λ _. refl);
   events = tt;
+  reports = (refl, tt);
 }
 
 -- the packets of data are an unclosed file
@@ -104,7 +112,7 @@ recording-says = (
   data_packets,
   refl,
   record {
-    file = record { each = (setup-first, (time-second, (uart-third, tt))); start = lit≤ tt; index = λ _. refl };
+    file = record { each = (setup-first, (time-second, (uart-third, tt))); start = lit≤ tt; index = λ _. refl; reports = refl };
     setup_is = refl;
     entries_are = λ channel. refl;
     closed_is = refl;
@@ -117,7 +125,7 @@ closed-says = (
   a_recording,
   refl,
   record {
-    file = record { each = (setup-first, (time-second, (uart-third, (node-fourth, (root-fifth, tt))))); start = lit≤ tt; index = λ e. absurd (no (sym e)) };
+    file = record { each = (setup-first, (time-second, (uart-third, (node-fourth, (root-fifth, tt))))); start = lit≤ tt; index = λ e. absurd (no (sym e)); reports = refl };
     setup_is = refl;
     entries_are = λ channel. refl;
     closed_is = refl;

@@ -1,5 +1,6 @@
 -- Packets that break rule 8, each at fault at its own place.
 use Rattle.std.proofs.Common.{◌≡◌, ℕ, ◌≤◌, true, false, List, [], ◌∷◌, ◌++◌, length, lit<, lit≤, refl, sym, ap, ◌∙◌, subst, arith}
+use Rattle.std.specs.Prelude.{IfSome}
 use Rattle.r10_packet.specs.Header.{header_bytes}
 use Rattle.r10_indexbody.specs.Index.{FitsRootBody}
 use Rattle.r10_indexbody.specs.Vectors.{a_root_entry}
@@ -7,18 +8,19 @@ use Rattle.r10_indexbody.specs.declared.entry.RootEntry.{RootEntry}
 use Rattle.r10_body.proofs.Lenient.{strict-lenient}
 use Rattle.r10_body.proofs.Recording.{setup-first, time-second, uart-third, node-fourth, no}
 use Rattle.r10_body.specs.Content.{FitsContent, root, uart}
-use Rattle.r10_body.specs.Faults.{IsAtFault, KeepsHeader, KeepsFiller, ReadsPacket, BreaksRule, first_packet, rule}
+use Rattle.r10_body.specs.Faults.{IsAtFault, KeepsHeader, KeepsFiller, ReadsPacket, BreaksRule, first_packet, rule, IsAnswered}
 use Rattle.r10_body.specs.Faults as broken_rules
 use Rattle.r10_body.specs.Foreign.{IsForeignPacket}
 use Rattle.r10_body.specs.Packets.{Packet, packet_bytes, file_bytes}
-use Rattle.r10_body.specs.Rules.{EachFollows, KeepsStart, KeepsChannels, KeepsSequence, KeepsCounts, KeepsIndex}
+use Rattle.r10_body.specs.Rules.{EachFollows, KeepsStart, KeepsChannels, KeepsSequence, KeepsCounts, KeepsIndex, last_report}
 use Rattle.r10_body.specs.Vectors.{uart_packet, a_node_packet, a_root_packet, data_packets}
 use Rattle.r10_body.specs.declared.fault.FileFault.TheVariants.{Rule}
 use Rattle.r10_body.proofs.Injective.{one_packet}
+use Rattle.r10_body.proofs.Retold.{IsRetold, retold_start, retold_channels, retold_sequence, retold_counts}
 
--- what stands first is one packet
-the_packet : (p q : Packet) (bytes : List ℕ) → ReadsPacket bytes p → ReadsPacket bytes q → q ≡ p
-the_packet p q bytes rp rq = one_packet q p [] [] rq.0 rp.0 (ap (λ (b : List ℕ). b ++ []) (sym rq.2 ∙ rp.2))
+-- what stands first is one packet, whatever number is told
+the_packet : (p q : Packet) (bytes : List ℕ) → ReadsPacket bytes p → ReadsPacket bytes q → IsRetold p q
+the_packet p q bytes rp rq = one_packet p q [] [] rp.0 rq.0 (ap (λ (b : List ℕ). b ++ []) (sym rp.2 ∙ rq.2))
 
 -- a packet that keeps the rules below 8
 pub record KeepsBelow (before : List Packet) (p : Packet) : Type 0 where
@@ -31,24 +33,26 @@ least_eight : (before : List Packet) (p : Packet) (bytes : List ℕ) → KeepsHe
 least_eight before p bytes header filler reads keeps m (broken_rules.version breaks) = absurd (breaks header)
 least_eight before p bytes header filler reads keeps m (broken_rules.filler is breaks) = absurd (breaks filler)
 least_eight before p bytes header filler reads keeps m (broken_rules.body breaks) = absurd (breaks (p, reads))
-least_eight before p bytes header filler reads keeps m (broken_rules.start q here breaks) = absurd (breaks (subst (λ (x : Packet). KeepsStart before x) (sym (the_packet p q bytes reads here)) keeps.start))
-least_eight before p bytes header filler reads keeps m (broken_rules.channels q here breaks) = absurd (breaks (subst (λ (x : Packet). KeepsChannels before x) (sym (the_packet p q bytes reads here)) keeps.channels))
-least_eight before p bytes header filler reads keeps m (broken_rules.sequence q here breaks) = absurd (breaks (subst (λ (x : Packet). KeepsSequence before x) (sym (the_packet p q bytes reads here)) keeps.sequence))
-least_eight before p bytes header filler reads keeps m (broken_rules.counts q here breaks) = absurd (breaks (subst (λ (x : Packet). KeepsCounts before x) (sym (the_packet p q bytes reads here)) keeps.counts))
+least_eight before p bytes header filler reads keeps m (broken_rules.start q here breaks) = absurd (breaks (retold_start before p q (the_packet p q bytes reads here) keeps.start))
+least_eight before p bytes header filler reads keeps m (broken_rules.channels q here breaks) = absurd (breaks (retold_channels before p q (the_packet p q bytes reads here) keeps.channels))
+least_eight before p bytes header filler reads keeps m (broken_rules.sequence q here breaks) = absurd (breaks (retold_sequence before p q (the_packet p q bytes reads here) keeps.sequence))
+least_eight before p bytes header filler reads keeps m (broken_rules.counts q here breaks) = absurd (breaks (retold_counts before p q (the_packet p q bytes reads here) keeps.counts))
 least_eight before p bytes header filler reads keeps m (broken_rules.index q here breaks) = lit≤ tt
 least_eight before p bytes header filler reads keeps m (broken_rules.unclosed q here is unclosed) = lit≤ tt
 least_eight before p bytes header filler reads keeps m (broken_rules.counters q here breaks) = lit≤ tt
 least_eight before p bytes header filler reads keeps m (broken_rules.events q here breaks) = lit≤ tt
+least_eight before p bytes header filler reads keeps m (broken_rules.reports q loss here is breaks) = lit≤ tt
 
 fault_8 : (before : List Packet) (p : Packet) → EachFollows [] before → IsForeignPacket (first_packet (packet_bytes p)) → KeepsHeader (packet_bytes p) → KeepsFiller (packet_bytes p) → ReadsPacket (packet_bytes p) p
-    → KeepsBelow before p → ¬ KeepsIndex before p → IsAtFault (file_bytes before ++ packet_bytes p) true (length (file_bytes before)) (Rule 8)
-fault_8 before p each foreign header filler reads keeps breaks = record {
+    → KeepsBelow before p → ¬ KeepsIndex before p → IfSome (last_report before) (λ loss. IsAnswered loss (packet_bytes p)) → IsAtFault (file_bytes before ++ packet_bytes p) true (length (file_bytes before)) (Rule 8)
+fault_8 before p each foreign header filler reads keeps breaks told = record {
   packets = before;
   rest = packet_bytes p;
   bytes_are = refl;
   offset_is = refl;
   strict = each;
   unclosed = λ e. absurd (no (sym e));
+  answered = told;
   wrong = rule foreign (broken_rules.index p reads breaks) (least_eight before p (packet_bytes p) header filler reads keeps);
 }
 
@@ -74,14 +78,14 @@ root-misplaced =
     fault_8 with_node misplaced (setup-first, (time-second, (uart-third, (node-fourth, tt))))
     (record { framed = refl; whole = refl; checked = λ _. refl; body = λ _. strict-lenient 3 1000 _ [] (root (a_root_entry 124 ∷ a_root_entry 124 ∷ []), record { type_is = refl; fits = fields; body_is = refl }, refl) })
     (refl, refl, lit≤ tt) refl
-    (record { channel = lit< tt; sequence = lit< tt; check = lit< tt; counter = lit< tt; content = fields; short = lit≤ tt }, λ _. refl, refl)
+    (record { channel = lit< tt; sequence = lit< tt; gap = tt; check = lit< tt; counter = lit< tt; content = fields; short = lit≤ tt }, λ _. refl, refl)
     (record {
       start = ((λ e. absurd (no e), λ e. absurd (omega arith)), λ e. absurd (omega arith));
       channels = ((λ _. refl, λ _. refl), λ lt. absurd (omega arith), λ _. refl);
       sequence = refl;
       counts = (tt, tt, tt);
     })
-    not_itself
+    not_itself tt
 
 -- a packet of data behind an index packet
 abbrev pub too_late : Packet
@@ -97,11 +101,11 @@ data-too-late =
     fault_8 with_node too_late (setup-first, (time-second, (uart-third, (node-fourth, tt))))
     (record { framed = refl; whole = refl; checked = λ _. refl; body = λ _. strict-lenient 0x50 1010 _ _ (too_late.content, record { type_is = refl; fits = fields; body_is = refl }, refl) })
     (refl, refl, lit≤ tt) refl
-    (record { channel = lit< tt; sequence = lit< tt; check = lit< tt; counter = lit< tt; content = fields; short = lit≤ tt }, λ _. refl, refl)
+    (record { channel = lit< tt; sequence = lit< tt; gap = tt; check = lit< tt; counter = lit< tt; content = fields; short = lit≤ tt }, λ _. refl, refl)
     (record {
       start = ((λ e. absurd (no e), λ e. absurd (omega arith)), λ e. absurd (omega arith));
       channels = ((λ e. absurd (no e), λ e. absurd (omega arith)), λ _. (λ e. absurd (omega arith), (λ e. absurd (omega arith), (λ _. refl, (λ e. absurd (omega arith), tt)))), λ e. absurd (no e));
       sequence = refl;
       counts = ((refl, tt), (lit≤ tt, (lit≤ tt, (lit≤ tt, tt))), (lit≤ tt, tt));
     })
-    not_data
+    not_data tt

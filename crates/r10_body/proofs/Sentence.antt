@@ -1,7 +1,7 @@
 -- One message has one content.
 use Rattle.std.proofs.Common.{◌≡◌, ℕ, List, [], ◌∷◌, length, refl, ap, ◌∙◌, arith}
 use Rattle.r10_body.specs.Bodies.{discretes_of, content_of}
-use Rattle.r10_body.specs.Content.{Content, Timed, setup, time, event, uart, bus, arinc, discrete, message, node, root, messages_of, timed}
+use Rattle.r10_body.specs.Content.{Content, Timed, setup, time, event, uart, bus, arinc, discrete, message, node, root, report, messages_of, timed}
 use Rattle.r10_body.specs.declared.message.Message.{Message}
 use Rattle.r10_body.specs.declared.message.Message.TheVariants as messages
 
@@ -34,6 +34,7 @@ pub only-content : (count : ℕ) (m : Message) (content : Content) → messages_
 only-content count m (setup text) e = absurd (omega (arith, ap length e))
 only-content count m (node entries) e = absurd (omega (arith, ap length e))
 only-content count m (root entries) e = absurd (omega (arith, ap length e))
+only-content count m (report loss) e = absurd (omega (arith, ap length e))
 only-content count m (time civil) e = one-content 0 count count m (messages.Time civil) e
 only-content count m (event one) e = one-content 0 count one.count m (messages.Event one.number one.occurrence) e
 only-content count m (uart []) e = absurd (omega (arith, ap length e))

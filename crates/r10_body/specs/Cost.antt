@@ -1,9 +1,12 @@
 -- What a file costs. The cost covers its packets, however its entries are packed.
-use Rattle.std.specs.Prelude.{ℕ, ◌+◌, ◌*◌, List, length}
+use Rattle.std.specs.Prelude.{ℕ, ◌+◌, ◌*◌, List, length, Option, Some, None}
 use Rattle.std.specs.List.{sum_by}
+use Rattle.r10_lossbody.specs.declared.body.LossBody.{LossBody}
 use Rattle.r10_body.specs.declared.message.Message.{Message}
 use Rattle.r10_body.specs.declared.message.Message.TheVariants as messages
 use Rattle.r10_body.specs.declared.entry.Entry.{Entry}
+use Rattle.r10_body.specs.declared.gap.Gap.{Gap}
+use Rattle.r10_body.specs.declared.gap.Gap.TheVariants.{Lost}
 
 abbrev pub message_cost : Message → ℕ
 message_cost (messages.Uart parity sub bytes) = 12 + length bytes
@@ -22,8 +25,22 @@ each_entry = 104
 abbrev pub each_file : ℕ
 each_file = 152
 
+-- a loss whose number is told costs a report of 44 bytes, and its part of the index
+abbrev pub lost_cost : Gap → ℕ
+lost_cost (Lost n) = 68
+lost_cost gap = 0
+
+-- what a report adds to the cost of the entry that comes behind it
+abbrev pub owed : Option LossBody → ℕ
+owed None = 0
+owed (Some loss) = 68
+
+-- what an entry costs, but for what was lost before it
+abbrev pub plain_cost : Entry → ℕ
+plain_cost e = each_entry + message_cost e.message
+
 abbrev pub entry_cost : Entry → ℕ
-entry_cost e = each_entry + message_cost e.message
+entry_cost e = plain_cost e + lost_cost e.gap
 
 abbrev pub file_cost : List ℕ → List Entry → ℕ
 file_cost setup entries = each_file + length setup + sum_by entry_cost entries

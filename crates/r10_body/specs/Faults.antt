@@ -1,12 +1,15 @@
 -- The first fault of a file.
-use Rattle.std.specs.Prelude.{◌≡◌, ℕ, ◌<◌, ◌≤◌, ◌⊎◌, Bool, true, false, IsTrue, List, [], ◌++◌, length, count_by, take, slice_range, Some, None, bit_and}
+use Rattle.std.specs.Prelude.{◌≡◌, ℕ, ◌<◌, ◌≤◌, ◌⊎◌, Bool, true, false, IsTrue, List, [], ◌++◌, length, count_by, take, drop, slice_range, Some, None, IfSome, bit_and}
 use Rattle.std.specs.List.{AllByRecursion, concat}
 use Rattle.r10_packet.specs.Framing.{framing_fault, header_at, body_at, has_data_checksum}
 use Rattle.r10_packet.specs.Header.{checksum_bits}
 use Rattle.r10_packet.specs.Packet.{filled, least_filler}
 use Rattle.r10_packet.specs.declared.fault.PacketFault.TheVariants as packet_faults
 use Rattle.r10_body.specs.Packets.{Packet, FitsPacket, packet_bytes, file_bytes}
-use Rattle.r10_body.specs.Rules.{KeepsChecksums, KeepsStart, KeepsChannels, KeepsSequence, KeepsCounts, KeepsIndex, KeepsCounters, KeepsEvents, EachFollows, is_index, has_whole_index}
+use Rattle.r10_body.specs.Rules.{KeepsChecksums, KeepsStart, KeepsChannels, KeepsSequence, KeepsCounts, KeepsIndex, KeepsCounters, KeepsEvents, EachFollows, IsSoundReport, is_index, last_report, has_whole_index}
+use Rattle.r10_body.specs.Content.{report}
+use Rattle.r10_lossbody.specs.declared.body.LossBody.{LossBody}
+use Rattle.r10_count.specs.Bytes.{bit_of}
 use Rattle.r10_body.specs.Foreign.{opaque_at, IsForeignBody, IsForeignPacket}
 use Rattle.r10_body.specs.declared.fault.FileFault.{FileFault}
 use Rattle.r10_body.specs.declared.fault.FileFault.TheVariants.{Truncated, Sync, HeaderSum, Length, DataSum, Body, Rule}
@@ -48,9 +51,17 @@ KeepsFiller bytes =
     let bits = checksum_bits h.flags in
     slice_range bytes 24 h.packet_len ≡ filled bits (body_at bytes) (least_filler bits (body_at bytes))
 
--- the packet that stands first is this one of the recorder's
+-- the packet that stands first is this one of the recorder's, whatever number is told of what was lost before it
 abbrev pub ReadsPacket : List ℕ → Packet → Type 0
 ReadsPacket bytes p = FitsPacket p × KeepsChecksums p × (first_packet bytes ≡ packet_bytes p)
+
+-- a flagged packet of the report's channel comes next
+abbrev pub IsAnswered : LossBody → List ℕ → Type 0
+IsAnswered loss bytes = (framing_fault bytes ≡ None) × ((header_at bytes).channel ≡ loss.channel) × (bit_of 4 (header_at bytes).flags ≡ true)
+
+-- where a report stands last, it is answered by what comes next
+abbrev pub IsReportAnswered : List Packet → List ℕ → Type 0
+IsReportAnswered packets rest = IfSome (last_report packets) (λ loss. IsAnswered loss rest)
 
 -- what stands first breaks a rule, behind these packets of a file whose directory entry is closed or not
 pub data BreaksRule (before : List Packet) (bytes : List ℕ) (closed : Bool) : ℕ → Type 0 where
@@ -65,6 +76,8 @@ pub data BreaksRule (before : List Packet) (bytes : List ℕ) (closed : Bool) : 
   unclosed : (p : Packet) → ReadsPacket bytes p → IsTrue (is_index p) → closed ≡ false → BreaksRule before bytes closed 8
   counters : (p : Packet) → ReadsPacket bytes p → ¬ KeepsCounters before p → BreaksRule before bytes closed 9
   events : (p : Packet) → ReadsPacket bytes p → ¬ KeepsEvents before p → BreaksRule before bytes closed 10
+  -- the report itself is at fault where no flagged packet of its channel comes next
+  reports : (p : Packet) (loss : LossBody) → ReadsPacket bytes p → p.content ≡ report loss → ¬ (IsSoundReport loss × IsAnswered loss (drop (header_at bytes).packet_len bytes)) → BreaksRule before bytes closed 11
 
 -- what is wrong behind these packets, where no fault of framing, data checksum or body comes before a rule, and of rules the least is named
 pub data IsWrongHere (before : List Packet) (rest : List ℕ) (closed : Bool) : FileFault → Type 0 where
@@ -81,5 +94,6 @@ pub record IsAtFault (bytes : List ℕ) (closed : Bool) (offset : ℕ) (fault : 
   pub bytes_are : bytes ≡ file_bytes packets ++ rest
   pub offset_is : offset ≡ length (file_bytes packets)
   pub strict : EachFollows [] packets
+  pub answered : IsReportAnswered packets rest
   pub unclosed : closed ≡ false → count_by is_index packets ≡ 0
   pub wrong : IsWrongHere packets rest closed fault

@@ -4,6 +4,7 @@ use Rattle.std.specs.List.{AllByRecursion, concat, list_any}
 use Rattle.r10_count.specs.Bytes.{bit_of}
 use Rattle.r10_packet.specs.Framing.{framing_fault, header_at, body_at, has_data_checksum}
 use Rattle.r10_packet.specs.declared.header.Header.{Header}
+use Rattle.r10_lossbody.specs.Loss as loss_bodies
 use Rattle.r10_setup.specs.Setup as setup_bodies
 use Rattle.r10_timebody.specs.Time as time_bodies
 use Rattle.r10_event.specs.Event as event_bodies
@@ -24,10 +25,14 @@ selects_other type body =
     (type == 0x01 && setup_bodies.is_opaque_setup body) || (type == 0x02 && event_bodies.is_opaque_event body) || (type == 0x03 && index_bodies.is_opaque_index body) || (type == 0x11 && time_bodies.is_opaque_time body)
     || (type == 0x30 && message_bodies.is_opaque_message body) || (type == 0x50 && uart_bodies.is_opaque_uart body)
 
+-- a loss report, of which nothing more is judged
+abbrev pub is_loss_report : ℕ → List ℕ → Bool
+is_loss_report type body = type == 0x00 && loss_bodies.is_loss_body body
+
 -- a packet with a secondary header or with another intra-packet time than the counter's, of another type, or of a form that isn't read
 abbrev pub is_opaque_packet : Header → List ℕ → Bool
 is_opaque_packet h body =
-    bit_of 7 h.flags || bit_of 6 h.flags || not (list_any (λ type. type == h.data_type) known_types)
+    bit_of 7 h.flags || bit_of 6 h.flags || not (list_any (λ type. type == h.data_type) known_types || is_loss_report h.data_type body)
     || selects_other h.data_type body
 
 -- the body is a word and exactly the entries that its type has

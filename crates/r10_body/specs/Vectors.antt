@@ -6,16 +6,17 @@ use Rattle.r10_count.specs.declared.civil.Parts.{Parts}
 use Rattle.r10_uart.specs.declared.entry.UartEntry.{UartEntry}
 use Rattle.r10_a429.specs.declared.entry.ArincEntry.{ArincEntry}
 use Rattle.r10_body.specs.Bodies.{content_of, message_type}
-use Rattle.r10_body.specs.Content.{body_of, setup, time, uart, arinc, node, root}
+use Rattle.r10_body.specs.Content.{body_of, setup, time, uart, arinc, node, root, report}
 use Rattle.r10_indexbody.specs.Vectors.{at_1000, a_node_entry, a_root_entry}
 use Rattle.r10_body.specs.Rules.{node_entries}
 use Rattle.r10_body.specs.Packets.{Packet, packet_bytes, file_bytes, file_entries}
-use Rattle.r10_body.specs.Cost.{message_cost, file_cost}
+use Rattle.r10_body.specs.Cost.{message_cost, entry_cost, file_cost}
 use Rattle.r10_body.specs.Messages.{alone_len, channel_refusal, is_in_range, is_kind}
 use Rattle.r10_body.specs.Foreign.{opaque_at, is_opaque_packet, IsForeignPacket}
 use Rattle.r10_body.specs.Faults.{HasFault, IsFaulty}
 use Rattle.r10_body.specs.declared.fault.FileFault.TheVariants.{Truncated, HeaderSum}
 use Rattle.r10_body.specs.declared.entry.Entry.{Entry}
+use Rattle.r10_body.specs.declared.gap.Gap.TheVariants.{Whole, Lost}
 use Rattle.r10_body.specs.declared.message.Kind.{Kind}
 use Rattle.r10_body.specs.declared.message.Kind.TheVariants as kinds
 use Rattle.r10_body.specs.declared.message.Message.{Message}
@@ -30,16 +31,16 @@ abbrev pub leap_day : Parts
 leap_day = record { year = 2024; month = 2; day = 29; hour = 12; minute = 34; second = 56; centi = 78 }
 
 abbrev pub a_setup_packet : Packet
-a_setup_packet = record { channel = 0; sequence = 0; flagged = false; check = 0; counter = 1000; content = setup (0x41 ∷ 0x42 ∷ 0x43 ∷ 0x44 ∷ []) }
+a_setup_packet = record { channel = 0; sequence = 0; gap = Whole; check = 0; counter = 1000; content = setup (0x41 ∷ 0x42 ∷ 0x43 ∷ 0x44 ∷ []) }
 
 abbrev pub a_time_packet : Packet
-a_time_packet = record { channel = 1; sequence = 0; flagged = false; check = 0; counter = 1000; content = time leap_day }
+a_time_packet = record { channel = 1; sequence = 0; gap = Whole; check = 0; counter = 1000; content = time leap_day }
 
 abbrev pub two_messages : List UartEntry
 two_messages = record { count = 1000; parity = false; sub = 0; bytes = 0x41 ∷ 0x42 ∷ 0x43 ∷ [] } ∷ record { count = 1010; parity = false; sub = 0; bytes = [] } ∷ []
 
 abbrev pub uart_packet : Packet
-uart_packet = record { channel = 5; sequence = 0; flagged = false; check = 0; counter = 1000; content = uart two_messages }
+uart_packet = record { channel = 5; sequence = 0; gap = Whole; check = 0; counter = 1000; content = uart two_messages }
 
 pub setup-bytes : packet_bytes a_setup_packet ≡
     (0x25 ∷ 0xEB ∷ 0x00 ∷ 0x00 ∷ 0x20 ∷ 0x00 ∷ 0x00 ∷ 0x00 ∷ 0x08 ∷ 0x00 ∷ 0x00 ∷ 0x00 ∷ 0x08 ∷ 0x00 ∷ 0x00 ∷ 0x01 ∷ 0xE8 ∷ 0x03 ∷ 0x00 ∷ 0x00 ∷ 0x00 ∷ 0x00 ∷ 0x3D ∷ 0xF0 ∷ [])
@@ -91,7 +92,7 @@ abbrev pub bus_message : Message
 bus_message = messages.Bus1553 0x2000 0 (0x0821 ∷ 0xABCD ∷ [])
 
 abbrev pub bus_packet : Packet
-bus_packet = record { channel = 7; sequence = 0; flagged = false; check = 0; counter = 2000; content = content_of 0 2000 bus_message }
+bus_packet = record { channel = 7; sequence = 0; gap = Whole; check = 0; counter = 2000; content = content_of 0 2000 bus_message }
 
 pub bus-bytes : packet_bytes bus_packet ≡
     (0x25 ∷ 0xEB ∷ 0x07 ∷ 0x00 ∷ 0x30 ∷ 0x00 ∷ 0x00 ∷ 0x00 ∷ 0x16 ∷ 0x00 ∷ 0x00 ∷ 0x00 ∷ 0x08 ∷ 0x00 ∷ 0x00 ∷ 0x19 ∷ 0xD0 ∷ 0x07 ∷ 0x00 ∷ 0x00 ∷ 0x00 ∷ 0x00 ∷ 0x4A ∷ 0x0C ∷ [])
@@ -223,10 +224,10 @@ data-len = refl
 
 -- what names them, and what names that
 abbrev pub a_node_packet : Packet
-a_node_packet = record { channel = 0; sequence = 1; flagged = false; check = 0; counter = 1000; content = node (a_node_entry 0x01 0 0 ∷ a_node_entry 0x11 1 32 ∷ a_node_entry 0x50 5 68 ∷ []) }
+a_node_packet = record { channel = 0; sequence = 1; gap = Whole; check = 0; counter = 1000; content = node (a_node_entry 0x01 0 0 ∷ a_node_entry 0x11 1 32 ∷ a_node_entry 0x50 5 68 ∷ []) }
 
 abbrev pub a_root_packet : Packet
-a_root_packet = record { channel = 0; sequence = 2; flagged = false; check = 0; counter = 1000; content = root (a_root_entry 124 ∷ a_root_entry 212 ∷ []) }
+a_root_packet = record { channel = 0; sequence = 2; gap = Whole; check = 0; counter = 1000; content = root (a_root_entry 124 ∷ a_root_entry 212 ∷ []) }
 
 pub node-bytes : packet_bytes a_node_packet ≡
     (0x25 ∷ 0xEB ∷ 0x00 ∷ 0x00 ∷ 0x58 ∷ 0x00 ∷ 0x00 ∷ 0x00 ∷ 0x40 ∷ 0x00 ∷ 0x00 ∷ 0x00 ∷ 0x08 ∷ 0x01 ∷ 0x00 ∷ 0x03 ∷ 0xE8 ∷ 0x03 ∷ 0x00 ∷ 0x00 ∷ 0x00 ∷ 0x00 ∷ 0xAD ∷ 0xF3 ∷ [])
@@ -255,10 +256,10 @@ pub node-counts : map (λ k. length (take 100 (drop (100 * k) (node_entries 0 (a
 node-counts = refl
 
 abbrev pub entry : ℕ → ℕ → List ℕ → Entry
-entry channel count bytes = record { channel = channel; count = count; message = Uart false 0 bytes; gap = false }
+entry channel count bytes = record { channel = channel; count = count; message = Uart false 0 bytes; gap = Whole }
 
 abbrev pub a_time_entry : Entry
-a_time_entry = record { channel = 1; count = 1000; message = Time leap_day; gap = false }
+a_time_entry = record { channel = 1; count = 1000; message = Time leap_day; gap = Whole }
 
 abbrev pub recorded : List Entry
 recorded = a_time_entry ∷ entry 5 1000 (0x41 ∷ 0x42 ∷ 0x43 ∷ []) ∷ entry 5 1010 [] ∷ []
@@ -268,8 +269,8 @@ pub recording-entries : file_entries a_recording ≡ recorded
 recording-entries = refl
 
 -- only the first entry of a flagged packet has a gap
-pub flagged-entries : file_entries (record uart_packet { flagged = true } ∷ []) ≡
-    record { channel = 5; count = 1000; message = Uart false 0 (0x41 ∷ 0x42 ∷ 0x43 ∷ []); gap = true } ∷ entry 5 1010 [] ∷ []
+pub flagged-entries : file_entries (record uart_packet { gap = Lost 3 } ∷ []) ≡
+    record { channel = 5; count = 1000; message = Uart false 0 (0x41 ∷ 0x42 ∷ 0x43 ∷ []); gap = Lost 3 } ∷ entry 5 1010 [] ∷ []
 flagged-entries = refl
 
 -- ---- costs
@@ -365,3 +366,27 @@ with-file-size = refl
 pub bus-read : opaque_at (packet_bytes bus_packet) ≡ false
 unfolding packet_bytes header_bytes
 bus-read = refl
+
+-- ---- a loss report
+
+-- one message lost on channel 5
+abbrev pub a_report_packet : Packet
+a_report_packet = record { channel = 0; sequence = 1; gap = Whole; check = 0; counter = 1000; content = report (record { channel = 5; reserved = 0; lost = 1 }) }
+
+pub report-bytes : packet_bytes a_report_packet ≡
+    0x25 ∷ 0xEB ∷ 0x00 ∷ 0x00 ∷ 0x2C ∷ 0x00 ∷ 0x00 ∷ 0x00 ∷ 0x14 ∷ 0x00 ∷ 0x00 ∷ 0x00 ∷ 0x08 ∷ 0x01 ∷ 0x00 ∷ 0x00 ∷ 0xE8 ∷ 0x03 ∷ 0x00 ∷ 0x00 ∷ 0x00 ∷ 0x00 ∷ 0x55 ∷ 0xF0
+    ∷ 0x00 ∷ 0x00 ∷ 0x00 ∷ 0x00 ∷ 0x4C ∷ 0x4F ∷ 0x53 ∷ 0x53 ∷ 0x05 ∷ 0x00 ∷ 0x00 ∷ 0x00 ∷ 0x01 ∷ 0x00 ∷ 0x00 ∷ 0x00 ∷ 0x00 ∷ 0x00 ∷ 0x00 ∷ 0x00 ∷ []
+unfolding packet_bytes header_bytes
+report-bytes = refl
+
+-- it is read, and another packet of its type isn't
+pub report-read : opaque_at (packet_bytes a_report_packet) ≡ false
+unfolding packet_bytes header_bytes
+report-read = refl
+
+pub type-0 : is_opaque_packet (record { channel = 9; packet_len = 28; data_len = 4; version = 8; sequence = 0; flags = 0; data_type = 0x00; counter = 1000 }) (0 ∷ 0 ∷ 0 ∷ 0 ∷ []) ≡ true
+type-0 = refl
+
+-- an entry behind a loss of three messages: the report costs 68
+pub lost-cost : map entry_cost (record { channel = 5; count = 1004; message = Uart false 0 (0x44 ∷ []); gap = Lost 3 } ∷ entry 5 1004 (0x44 ∷ []) ∷ []) ≡ 185 ∷ 117 ∷ []
+lost-cost = refl

@@ -1,8 +1,9 @@
 //! What an entry costs.
 
-ghost use Rattle.std.specs.Prelude.{◌≡◌};
-ghost use Rattle.r10_body.specs.Cost.{message_cost};
+ghost use Rattle.std.specs.Prelude.{◌≡◌, ◌+◌, ◌^◌, ◌<◌};
+ghost use Rattle.r10_body.specs.Cost.{lost_cost, message_cost};
 
+use crate::gap::Gap;
 use crate::message::Message;
 
 /// What every entry costs in bytes, whatever its message: a packet of its own has no more besides
@@ -12,10 +13,22 @@ pub const ENTRY_COST: u64 = 104;
 /// What every file costs in bytes before its setup text and its entries.
 pub const FILE_COST: u64 = 152;
 
-/// What a message adds to the cost of its entry, in bytes: this recorder's own measure of room.
+/// What an entry behind a loss whose number is told costs more in bytes: the report, and no more for its part of the index.
+pub const LOSS_COST: u64 = 68;
+
+/// What a message and the gap before it add to the cost of their entry, in bytes: this recorder's own measure of room.
 #[inline(always)]
-pub fn cost(message: &Message) -> u64
-    ensures { result ≡ message_cost message.now }
+pub fn cost(message: &Message, gap: Gap) -> u64
+    ensures { result ≡ message_cost message.now + lost_cost gap }
+{
+    of_message(message) + of_gap(gap)
+}
+
+/// What a message adds.
+#[inline(always)]
+fn of_message(message: &Message) -> u64
+    ensures is { result ≡ message_cost message.now }
+    ensures small { result < 2 ^ 63 + 2 ^ 20 }
 {
     match message {
         Message::Uart { bytes, .. } | Message::Message { bytes, .. } => {
@@ -24,5 +37,16 @@ pub fn cost(message: &Message) -> u64
         Message::Bus1553 { words, .. } => 14 + 2 * words.as_slice().len() as u64,
         Message::Discrete { .. } | Message::Event { .. } => 12,
         Message::Arinc { .. } | Message::Time { .. } => 8,
+    }
+}
+
+/// What a gap adds.
+#[inline(always)]
+fn of_gap(gap: Gap) -> u64
+    ensures { result ≡ lost_cost gap }
+{
+    match gap {
+        Gap::Lost(_) => LOSS_COST,
+        Gap::Whole | Gap::Unknown => 0,
     }
 }

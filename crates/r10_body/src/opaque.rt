@@ -2,9 +2,10 @@
 
 ghost use Rattle.std.specs.Prelude.{◌≡◌, ◌==◌};
 ghost use Rattle.std.specs.List.{list_any};
-ghost use Rattle.r10_body.specs.Foreign.{known_types, selects_other as word_selects, is_opaque_packet as opaque};
+ghost use Rattle.r10_body.specs.Foreign.{is_loss_report as loss_reports, known_types, selects_other as word_selects, is_opaque_packet as opaque};
 
 use r10_event::EventBody;
+use r10_lossbody::LossBody;
 use r10_message::MessageBody;
 use r10_packet::Header;
 use r10_setup::SetupBody;
@@ -19,7 +20,7 @@ pub fn is_opaque(header: &Header, body: &[u8]) -> bool
 {
     header.flags / 0x80 % 2 == 1
         || header.flags / 0x40 % 2 == 1
-        || !is_known(header.data_type)
+        || !(is_known(header.data_type) || is_loss_report(header.data_type, body))
         || selects_other(header.data_type, body)
 }
 
@@ -36,6 +37,13 @@ fn is_known(data_type: u8) -> bool
         || data_type == 0x30
         || data_type == 0x38
         || data_type == 0x50
+}
+
+/// Whether a packet of this data type with this body is a loss report.
+fn is_loss_report(data_type: u8, body: &[u8]) -> bool
+    ensures { result ≡ loss_reports data_type body.now }
+{
+    data_type == 0x00 && LossBody::is_report(body)
 }
 
 /// Whether the channel specific word of a body of this type selects a form that isn't read.

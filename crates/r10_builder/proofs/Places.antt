@@ -1,5 +1,5 @@
 -- The builder of a channel among the others.
-use Rattle.std.proofs.Common.{◌≡◌, ℕ, zero, suc, ◌<◌, ◌≤◌, List, [], ◌∷◌, ◌++◌, length, get_or, set, refl, sym, ap, subst, ◌∙◌, arith}
+use Rattle.std.proofs.Common.{◌≡◌, ℕ, zero, suc, ◌<◌, ◌≤◌, List, [], ◌∷◌, length, get_or, set, refl, sym, ap, subst, ◌∙◌, arith}
 use Rattle.std.specs.List.{AllByRecursion}
 use Rattle.r10_body.specs.Packets.{Packet}
 use Rattle.r10_body.specs.declared.spec.ChannelSpec.{ChannelSpec}
@@ -39,6 +39,11 @@ pub kept_at : (p : Packet) (builders : List BuilderState) (i : ℕ) (d : Builder
 kept_at p [] i d lt kept on = absurd (omega arith)
 kept_at p (b ∷ builders) zero d lt kept on = kept.0 on
 kept_at p (b ∷ builders) (suc i) d lt kept on = kept_at p builders i d (omega arith) kept.1 on
+
+-- a packet of channel 0 is on none of the channels
+pub keeps_nowhere : (least : ℕ) (specs : List ChannelSpec) (p : Packet) → p.channel ≡ 0 → AreChannelSettings least specs → KeepsSettings specs p
+keeps_nowhere least [] p zero_is are = tt
+keeps_nowhere least (spec ∷ specs) p zero_is are = (λ e. absurd (omega (arith, zero_is, e, are.0)), keeps_nowhere spec.id specs p zero_is are.2)
 
 -- where a packet is on one of the channels and keeps to its settings, it keeps to all
 none_other : (p : Packet) (builders : List BuilderState) → HasNone p.channel builders → KeepsSettings (specs_of builders) p

@@ -1,8 +1,11 @@
 -- What the buffers of a channel hold.
-use Rattle.std.specs.Prelude.{◌≡◌, ℕ, ◌+◌, ◌≤◌, ◌<◌, Bool, true, false, List, [], ◌∷◌, length, drop, MatchOption, Option, None}
+use Rattle.std.specs.Prelude.{◌≡◌, ℕ, ◌+◌, ◌≤◌, ◌<◌, true, List, [], ◌∷◌, length, drop, MatchOption, Option, None}
 use Rattle.std.specs.List.{AllByRecursion}
+use Rattle.r10_body.specs.Gaps.{IsSoundGap}
 use Rattle.r10_body.specs.Messages.{channel_refusal}
 use Rattle.r10_body.specs.declared.entry.Sample.{Sample}
+use Rattle.r10_body.specs.declared.gap.Gap.{Gap}
+use Rattle.r10_body.specs.declared.gap.Gap.TheVariants.{Whole}
 use Rattle.r10_body.specs.declared.message.Kind.{Kind}
 use Rattle.r10_body.specs.declared.spec.ChannelSpec.{ChannelSpec}
 use Rattle.r10_builder.specs.Packing.{first_count, is_near, last_sample_count, packet_len, tenth}
@@ -19,6 +22,11 @@ abbrev pub NearFrom : Kind → ℕ → List Sample → Type 0
 NearFrom kind count [] = Unit {0}
 NearFrom kind count (s ∷ samples) = (is_near kind count s.count ≡ true) × NearFrom kind s.count samples
 
+-- what was lost before the first
+abbrev pub first_gap : List Sample → Gap
+first_gap [] = Whole
+first_gap (s ∷ samples) = s.gap
+
 -- samples of a channel that share a packet
 pub record HasShare (spec : ChannelSpec) (samples : List Sample) : Type 0 where
   pub taken : AllByRecursion (λ s. channel_refusal spec s.message ≡ None) samples
@@ -26,13 +34,10 @@ pub record HasShare (spec : ChannelSpec) (samples : List Sample) : Type 0 where
   pub rise : RiseFrom (first_count samples) samples
   pub near : NearFrom spec.kind (first_count samples) samples
   pub soon : AllByRecursion (λ s. s.count ≤ first_count samples + tenth) samples
-  pub plain : AllByRecursion (λ s. s.gap ≡ false) (drop 1 samples)
+  pub plain : AllByRecursion (λ s. s.gap ≡ Whole) (drop 1 samples)
+  pub sound : IsSoundGap (first_gap samples)
   pub few : 0 < spec.number → length samples ≤ spec.number
   pub short : 0 < length samples → packet_len spec.check samples ≤ spec.bytes
-
-abbrev pub first_gap : List Sample → Bool
-first_gap [] = false
-first_gap (s ∷ samples) = s.gap
 
 -- what is known of an open packet
 pub record IsOpenPacket (o : OpenPacket) (samples : List Sample) : Type 0 where

@@ -1,15 +1,16 @@
 -- Packets and builders that are those of one file, and how they go on.
-use Rattle.std.specs.Prelude.{◌≡◌, ℕ, ◌<◌, List, [], ◌∷◌, ◌++◌, length, Option, None, Some}
+use Rattle.std.specs.Prelude.{◌≡◌, ℕ, ◌<◌, List, ◌++◌, length, Option, None, Some}
 use Rattle.std.specs.List.{AllByRecursion}
 use Rattle.r10_body.specs.Content.{type_of}
 use Rattle.r10_body.specs.Files.{on_channel}
 use Rattle.r10_body.specs.Packets.{Packet, FitsPacket, header_of, packet_body, packet_entries}
-use Rattle.r10_body.specs.Rules.{MayFollow, Rise}
+use Rattle.r10_body.specs.Rules.{MayFollow, Rise, last_time}
+use Rattle.r10_body.specs.declared.gap.Gap.TheVariants.{Lost}
 use Rattle.r10_body.specs.declared.entry.Entry.{Entry}
 use Rattle.r10_builder.specs.State.{BuilderState}
 use Rattle.r10_builder.specs.declared.closed.Closed.{Closed}
 use Rattle.r10_builder.specs.Grows.{Grows, HasNone, taken_in}
-use Rattle.r10_builder.specs.Next.{IsGrowing}
+use Rattle.r10_builder.specs.Next.{IsGrowing, grown_by, report_packet, reporting}
 use Rattle.r10_body.specs.Sequence.{numbered}
 use Rattle.r10_builder.specs.Settings.{KeepsSettings, specs_of}
 
@@ -23,19 +24,22 @@ pub record Packed (packets : List Packet) (builders : List BuilderState) : Type 
 abbrev pub MayTake : List Packet → List BuilderState → List Entry → Type 0
 MayTake packets builders more = (channel : ℕ) → Rise 0 (on_channel channel (taken_in packets builders) ++ on_channel channel more)
 
--- what was handed out is a packet that may come next; with it and with the builders that are left these entries were taken in
+-- what was handed out is a packet that may come next, behind its report; with both and with the builders that are left these entries were taken in
 pub record HandsOn (closed : Closed) (packets : List Packet) (builders : List BuilderState) (more : List Entry) (left : List BuilderState) : Type 0 where
   pub packet : Packet
   pub fits : FitsPacket packet
   pub header : closed.header ≡ header_of packet
   pub body : closed.body.items ≡ packet_body packet
   pub number : closed.entries ≡ length (packet_entries packet)
+  pub gap : closed.gap ≡ packet.gap
   -- it is on the channel of a builder, and no packet that the recorder makes itself
   pub on : HasNone packet.channel builders → ⊥
   pub data_type : 0x11 < type_of packet.content
-  pub follows : MayFollow packets (numbered packets packet)
-  pub packed : Packed (packets ++ numbered packets packet ∷ []) left
-  pub grows : Grows packets builders more (packets ++ numbered packets packet ∷ []) left
+  -- where a number is told of what was lost before it, a report may come next, and then the packet
+  pub reports : (n : ℕ) → packet.gap ≡ Lost n → MayFollow packets (numbered packets (report_packet (last_time 0 packets) packet.channel n))
+  pub follows : MayFollow (reporting packets packet) (numbered (reporting packets packet) packet)
+  pub packed : Packed (grown_by packets packet) left
+  pub grows : Grows packets builders more (grown_by packets packet) left
 
 -- whether a packet was handed out or not, these entries were taken in
 abbrev pub TakesInSamples : List Packet → List BuilderState → List Entry → Option Closed → List BuilderState → Type 0

@@ -5,6 +5,7 @@ use Rattle.r10_count.specs.Checks.{first_broken}
 use Rattle.r10_packet.specs.Header.{check_bits_of, check_of_bits, checksum_bits}
 use Rattle.r10_body.specs.Bodies.{discretes_of}
 use Rattle.r10_body.specs.Content.{type_of}
+use Rattle.r10_body.specs.Gaps.{is_gap}
 use Rattle.r10_body.specs.Messages.{kind_type, spelling_len}
 use Rattle.r10_body.specs.Packets.{Packet, FitsPacket, header_of, packet_body, packet_entries}
 use Rattle.r10_body.specs.Rules.{Rise}
@@ -45,7 +46,7 @@ is_near kind before count = true
 abbrev pub reason : ChannelSpec → List Sample → Sample → Option Reason
 reason spec [] s = None
 reason spec (first ∷ rest) s =
-    first_broken ((not s.gap, Gap)
+    first_broken ((not (is_gap s.gap), Gap)
     ∷ (is_near spec.kind (last_sample_count first.count rest) s.count, BusGap)
     ∷ (nat_le s.count (first.count + tenth), Age)
     ∷ (nat_lt (length (first ∷ rest)) spec.number, Number)
@@ -70,12 +71,13 @@ pub record IsLimited (spec : ChannelSpec) : Type 0 where
 abbrev pub entry_on : ℕ → Sample → Entry
 entry_on channel s = record { channel = channel; count = s.count; message = s.message; gap = s.gap }
 
--- header and body of the first packet of a channel that says these samples, in order: its entries have their counts and messages, and of them the first alone has a gap, exactly where the packet is flagged
+-- header and body of the first packet of a channel that says these samples, in order: its entries have their counts and messages, and of them the first alone may have a gap, which is the packet's
 pub record IsClosedPacket (spec : ChannelSpec) (samples : List Sample) (closed : Closed) : Type 0 where
   pub packet : Packet
   pub header : closed.header ≡ header_of packet
   pub body : closed.body.items ≡ packet_body packet
   pub number : closed.entries ≡ length samples
+  pub gap : closed.gap ≡ packet.gap
   pub fits : FitsPacket packet
   pub says : packet_entries packet ≡ map (entry_on spec.id) samples
   pub channel : packet.channel ≡ spec.id

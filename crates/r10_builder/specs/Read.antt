@@ -1,8 +1,10 @@
 -- The samples that the buffers of a channel hold, read from their bytes.
-use Rattle.std.specs.Prelude.{ℕ, zero, suc, ◌+◌, ◌/◌, ◌%◌, ◌^◌, ◌==◌, Bool, false, List, [], ◌∷◌, drop, take, Option, Some, None}
+use Rattle.std.specs.Prelude.{ℕ, zero, suc, ◌+◌, ◌/◌, ◌%◌, ◌^◌, ◌==◌, List, [], ◌∷◌, drop, take, Option, Some, None}
 use Rattle.r10_count.specs.Bytes.{u16_at, u32_at, u64_at}
 use Rattle.r10_body.specs.Messages.{spelling_len}
 use Rattle.r10_body.specs.declared.entry.Sample.{Sample}
+use Rattle.r10_body.specs.declared.gap.Gap.{Gap}
+use Rattle.r10_body.specs.declared.gap.Gap.TheVariants.{Whole}
 use Rattle.r10_body.specs.declared.message.Kind.{Kind}
 use Rattle.r10_body.specs.declared.message.Kind.TheVariants as kinds
 use Rattle.r10_body.specs.declared.message.Message.{Message}
@@ -15,7 +17,7 @@ words_at zero bytes = []
 words_at (suc n) bytes = u16_at bytes 0 ∷ words_at n (drop 2 bytes)
 
 abbrev pub sample_of : ℕ → Message → Sample
-sample_of count m = record { count = count; message = m; gap = false }
+sample_of count m = record { count = count; message = m; gap = Whole }
 
 -- the sample that stands first in bytes, behind one at a count
 unfoldable pub sample_at : Kind → ℕ → List ℕ → Sample
@@ -39,7 +41,7 @@ samples_at kind (suc n) before bytes =
     ∷ samples_at kind n (sample_at kind before bytes).count (drop (spelling_len (sample_at kind before bytes).message) bytes)
 
 -- the first sample has a gap or none
-abbrev pub with_gap : Bool → List Sample → List Sample
+abbrev pub with_gap : Gap → List Sample → List Sample
 with_gap gap [] = []
 with_gap gap (s ∷ samples) = record s { gap = gap } ∷ samples
 

@@ -4,6 +4,7 @@ use Rattle.std.specs.List.{AllByRecursion}
 use Rattle.r10_packet.specs.Header.{checksum_bits}
 use Rattle.r10_body.specs.Bodies.{discretes_of}
 use Rattle.r10_body.specs.Content.{type_of}
+use Rattle.r10_body.specs.Gaps.{IsSoundGap}
 use Rattle.r10_body.specs.Messages.{channel_refusal, kind_type}
 use Rattle.r10_body.specs.Packets.{Packet, packet_bytes, packet_entries}
 use Rattle.r10_body.specs.declared.entry.Sample.{Sample}
@@ -30,7 +31,7 @@ is_old now b = elim b.samples [ [] ↦ false | s ∷ samples ↦ not (nat_le now
 
 -- the channel has a builder, which takes the sample behind those that it holds
 abbrev pub BuilderTakes : ℕ → Sample → List BuilderState → Type 0
-BuilderTakes channel s builders = IsSomeAnd (find (is_of channel) builders) (λ b. (channel_refusal b.spec s.message ≡ None) × (last_sample_count 0 b.samples ≤ s.count))
+BuilderTakes channel s builders = IsSomeAnd (find (is_of channel) builders) (λ b. (channel_refusal b.spec s.message ≡ None) × (last_sample_count 0 b.samples ≤ s.count) × IsSoundGap s.gap)
 
 -- the sample goes into the packet that is open on its channel
 abbrev pub Joins : ℕ → Sample → List BuilderState → Type 0

@@ -12,6 +12,7 @@ use Rattle.r10_a429.specs.declared.entry.ArincEntry.{ArincEntry}
 use Rattle.r10_discrete.specs.Discrete.{discrete_entry}
 use Rattle.r10_discrete.specs.declared.entry.DiscreteEntry.{DiscreteEntry}
 use Rattle.r10_message.specs.Message.{message_entry, message_of}
+use Rattle.r10_body.specs.Gaps.{is_gap}
 use Rattle.r10_body.specs.Messages.{is_in_range, is_short, kind_type}
 use Rattle.r10_body.specs.declared.entry.Sample.{Sample}
 use Rattle.r10_body.specs.declared.message.Kind.{Kind}
@@ -92,7 +93,7 @@ closed_header spec o size = record {
   data_len = min size 4294967295;
   version = 8;
   sequence = 0;
-  flags = flag_at 4 o.gap + flags_of (check_of_bits spec.check);
+  flags = flag_at 4 (is_gap o.gap) + flags_of (check_of_bits spec.check);
   data_type = kind_type spec.kind;
   counter = o.first;
 }

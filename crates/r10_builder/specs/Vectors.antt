@@ -2,6 +2,7 @@
 use Rattle.std.specs.Prelude.{◌+◌, ◌++◌, length, ◌≡◌, ℕ, true, false, List, [], ◌∷◌, Some, None, replicate, refl}
 use Rattle.std.proofs.Common.{arith, lit≤}
 use Rattle.r10_body.specs.declared.entry.Sample.{Sample}
+use Rattle.r10_body.specs.declared.gap.Gap.TheVariants.{Whole, Lost, Unknown}
 use Rattle.r10_body.specs.declared.message.Kind.{Kind}
 use Rattle.r10_body.specs.declared.message.Kind.TheVariants as kinds
 use Rattle.r10_body.specs.declared.message.Message.{Message as MessageValue}
@@ -16,7 +17,7 @@ abbrev pub uart_channel : ℕ → ℕ → ℕ → ChannelSpec
 uart_channel check bytes number = record { id = 5; kind = kinds.Uart; capacity = 2; check = check; bytes = bytes; number = number; bits = 0 }
 
 abbrev pub text_sample : ℕ → List ℕ → Sample
-text_sample count bytes = record { count = count; message = Uart false 0 bytes; gap = false }
+text_sample count bytes = record { count = count; message = Uart false 0 bytes; gap = Whole }
 
 -- the third is more than a tenth of a second after the first
 pub soon-enough : reason (uart_channel 0 524288 65535) (text_sample 0 [] ∷ []) (text_sample 1000000 []) ≡ None
@@ -62,8 +63,12 @@ pub fourth-too-long : reason (uart_channel 0 128 65535) three_long (long_at 3) �
 fourth-too-long = refl
 
 -- a gap is before all else, and no reason where nothing is open
-pub lost-before : reason (uart_channel 0 128 3) three_long (record (long_at 2000000) { gap = true }) ≡ Some Gap
+pub lost-before : reason (uart_channel 0 128 3) three_long (record (long_at 2000000) { gap = Lost 1 }) ≡ Some Gap
 lost-before = refl
+
+-- also where nobody knows how many were lost
+pub unknown-before : reason (uart_channel 0 128 3) three_long (record (long_at 2) { gap = Unknown }) ≡ Some Gap
+unknown-before = refl
 
 pub late-and-many : reason (uart_channel 0 128 3) three_long (long_at 2000000) ≡ Some Age
 late-and-many = refl
@@ -71,7 +76,7 @@ late-and-many = refl
 pub many-and-long : reason (uart_channel 0 128 3) three_long (long_at 3) ≡ Some Number
 many-and-long = refl
 
-pub nothing-open : reason (uart_channel 0 128 3) [] (record (long_at 3) { gap = true }) ≡ None
+pub nothing-open : reason (uart_channel 0 128 3) [] (record (long_at 3) { gap = Lost 1 }) ≡ None
 nothing-open = refl
 
 -- ---- ARINC 429
@@ -81,7 +86,7 @@ arinc_channel = record { id = 8; kind = kinds.Arinc; capacity = 2; check = 0; by
 
 -- a word of the high speed bus 1
 abbrev pub word_sample : ℕ → Sample
-word_sample count = record { count = count; message = Arinc 1 false false true 0x12345678; gap = false }
+word_sample count = record { count = count; message = Arinc 1 false false true 0x12345678; gap = Whole }
 
 pub near-enough : reason arinc_channel (word_sample 5000 ∷ []) (word_sample 1005000) ≡ None
 near-enough = refl
@@ -116,18 +121,18 @@ unfolding sample_bytes
 three-words-open = refl
 
 -- and they are read back
-pub three-words-read : samples_in kinds.Arinc (Some (record { first = 5000; last = 5300; number = 3; gap = false })) three_words_body ≡ three_words
+pub three-words-read : samples_in kinds.Arinc (Some (record { first = 5000; last = 5300; number = 3; gap = Whole })) three_words_body ≡ three_words
 unfolding samples_in sample_at
 three-words-read = refl
 
 -- ---- the other kinds: two samples, the first behind a gap
 
 abbrev pub two_of : ℕ → MessageValue → MessageValue → List Sample
-two_of count m n = record { count = count; message = m; gap = true } ∷ record { count = count + 1; message = n; gap = false } ∷ []
+two_of count m n = record { count = count; message = m; gap = Lost 2 } ∷ record { count = count + 1; message = n; gap = Whole } ∷ []
 
 -- they are read back from the body of their packet
 abbrev pub IsReadBack : Kind → List Sample → Type 0
-IsReadBack kind samples = samples_in kind (Some (record { first = first_count samples; last = last_sample_count 0 samples; number = length samples; gap = true })) (open_body samples) ≡ samples
+IsReadBack kind samples = samples_in kind (Some (record { first = first_count samples; last = last_sample_count 0 samples; number = length samples; gap = Lost 2 })) (open_body samples) ≡ samples
 
 pub two-texts-read : IsReadBack kinds.Uart (two_of 1000 (Uart true 16383 (0x41 ∷ 0x42 ∷ 0x43 ∷ [])) (Uart false 0 []))
 unfolding samples_in sample_at sample_bytes

@@ -1,5 +1,6 @@
 //! What a builder hands out.
 
+use r10_body::Gap;
 use r10_packet::Header;
 
 /// Why a packet was closed.
@@ -28,5 +29,7 @@ pub struct Closed {
     pub body: Vec<u8>,
     /// How many messages the packet has.
     pub entries: usize,
+    /// What was lost before the first of them.
+    pub gap: Gap,
     pub reason: Reason,
 }

@@ -17,7 +17,7 @@ pub(crate) fn closed_header(spec: &ChannelSpec, packet: &OpenPacket, body: usize
     let channel = spec.id;
     let check = Check::of_bits(spec.check);
     let size = packet_len(check.width(), body);
-    let flag = if packet.gap { 0x10 } else { 0 };
+    let flag = if packet.gap.is_gap() { 0x10 } else { 0 };
     Header {
         channel,
         packet_len: size.min(0xFFFF_FFFF) as u32,

@@ -21,5 +21,6 @@ pub use closed::{Closed, Reason};
 pub use grows::{builders_by_channel, entries_are_kept};
 pub use laws::handed_out_frames;
 pub use next::{
-    event_may_follow, file_begins, handed_out_may_follow, one_more_grows, time_may_follow,
+    event_may_follow, file_begins, handed_out_may_follow, one_more_grows, report_may_follow,
+    time_may_follow,
 };

@@ -2,7 +2,7 @@
 
 ghost use Rattle.std.specs.Prelude.{◌≡◌, ◌+◌, ◌<◌, ◌^◌, Some};
 
-use r10_body::Sample;
+use r10_body::{Gap, Sample};
 use r10_count::Count;
 
 /// A packet with a message or more.
@@ -14,8 +14,8 @@ pub(crate) struct OpenPacket {
     pub(crate) last: Count,
     /// How many messages there are.
     pub(crate) number: usize,
-    /// Messages were lost before the first one.
-    pub(crate) gap: bool,
+    /// What was lost before the first one.
+    pub(crate) gap: Gap,
 }
 
 impl OpenPacket {

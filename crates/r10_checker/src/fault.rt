@@ -20,7 +20,10 @@ pub fn find_fault(alloc: Global, bytes: &[u8], closed: bool) -> Result<Option<Fa
     while !rest.is_empty() {
         let packet = match track.take(rest) {
             Ok(packet) => packet,
-            Err(at) => return Ok(Some(judge.fault_behind(at.fault))),
+            Err(at) => {
+                let answered = judge.is_answered(rest);
+                return Ok(Some(judge.fault_behind(at.fault, answered)));
+            }
         };
         judge.take(alloc, &rest[..packet.length])?;
         rest = &rest[packet.length..];

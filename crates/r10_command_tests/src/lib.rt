@@ -4,4 +4,6 @@
 #[cfg(test)]
 mod failing;
 #[cfg(test)]
+mod losses;
+#[cfg(test)]
 mod sessions;

@@ -72,6 +72,8 @@ sound_lane None xs a spec low high same gives few sound = record {
   held = omega (arith, few, ap (λ (s : ChannelSpec). s.capacity) same);
   messages = subst (λ (s : ChannelSpec). AllByRecursion (λ (x : Sample). first_broken (message_checks s x.message) ≡ None) xs) (sym same) gives.passes;
   counts = gives.counts;
+  gaps = gives.gaps;
+  missed = sound.missed;
 }
 sound_lane (Some waiting) xs a spec low high same gives few sound = sound
 

@@ -37,6 +37,7 @@ mod Effecting
 mod Making
 mod Owning
 mod Meant
+mod Allowed
 mod Alike
 mod Alone
 mod Shown

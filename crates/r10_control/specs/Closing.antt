@@ -1,5 +1,5 @@
 -- What a stop leaves.
-use Rattle.std.specs.Prelude.{◌≡◌, ◌≤◌, ◌-◌, ◌^◌, ◌⊎◌, ℕ, List, [], ◌∷◌, ◌++◌, length, map, min, None, Option, Some}
+use Rattle.std.specs.Prelude.{◌≡◌, ◌≤◌, ◌+◌, ◌-◌, ◌*◌, ◌^◌, ◌==◌, ◌⊎◌, ℕ, List, [], ◌∷◌, ◌++◌, count_by, length, map, min, None, Option, Some}
 use Rattle.std.specs.List.{AllByRecursion, sum_by}
 use Rattle.r10_blockout.specs.Output.{first_of}
 use Rattle.r10_body.specs.declared.entry.Entry.{Entry}
@@ -18,10 +18,21 @@ use Rattle.r10_machine.specs.declared.mode.Stopped.{Stopped}
 use Rattle.r10_medium.specs.Disk.{Disk, Image, Rose}
 use Rattle.r10_control.specs.Effects.{closed_listing}
 use Rattle.r10_openfile.specs.Carrying.{EndsLast, IsShown}
-use Rattle.r10_openfile.specs.Keeping.{ListsLast, ended_in}
+use Rattle.r10_index.specs.Written.{IsGroup}
+use Rattle.r10_openfile.specs.Keeping.{ListsLast, MayGoOn, ended_in}
+use Rattle.r10_pump.specs.Pumping.{IsReadyFor, packets_at_most}
 use Rattle.r10_openfile.specs.Intake.{AreMovedIn}
-use Rattle.r10_pump.specs.Stopping.{AllEnd, FailsAll, Part, TellsWaiting, TookAll, entries_of, most_of}
+use Rattle.r10_pump.specs.Stopping.{AllEnd, FailsAll, IsOpenToAll, Part, TellsWaiting, TookAll, entries_of, most_of, room_of}
 use Rattle.r10_machine.specs.Says.{MediumSays}
+
+-- what the close of a file behind a stop's samples asks: groups of index packets of a size that there is, each channel once in the order, a number for each, memory for all that may be put, and a file that is open to the lanes and may go on
+pub record MayCloseFile {L : Type 0} (spec_of : L → ChannelSpec) (reached : L → ℕ) (nodes : ℕ) (order shares : List ℕ) (area : ℕ) (lanes : List L) (o : Open) (image : Image) (chain : List ChainBlock) : Type 0 where
+  pub group : IsGroup nodes
+  pub open_to : IsOpenToAll spec_of reached o.recording image lanes area
+  pub once : (channel : ℕ) → count_by (λ c. c == channel) order ≤ 1
+  pub shares_are : length shares ≡ length order
+  pub ready : IsReadyFor o.recording (packets_at_most o.recording.cost area (room_of (map spec_of lanes) order) + 2 * length o.recording.builders)
+  pub on : MayGoOn o image chain
 
 -- Channel by channel in this order, these parts were taken from the lanes; of a lane that is quiet, a part and its rest are all that waited. Into whatever file of the machine, they are what its stop takes in.
 pub record TakenAll {L : Type 0} (took : L → List Sample → L → Type 0) (quiet : L → Option (List Sample)) (reached : L → ℕ) (spec_of : L → ChannelSpec) (order shares : List ℕ) (area : ℕ) (lanes lanes' : List L)

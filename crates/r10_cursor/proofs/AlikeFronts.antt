@@ -1,33 +1,18 @@
 -- Files whose bytes begin alike.
-use Rattle.std.proofs.Common.{◌≡◌, ℕ, zero, suc, ◌≤◌, Bool, true, false, List, [], ◌∷◌, ◌++◌, length, take, drop, refl, sym, ap, ◌∙◌, arith, append_assoc}
+use Rattle.std.proofs.Common.{◌≡◌, ℕ, zero, suc, ◌≤◌, Bool, true, false, List, [], ◌∷◌, ◌++◌, length, take, drop, refl, sym, ap, ◌∙◌, arith}
 use Rattle.std.specs.Prelude.{count_by, filter, nat_le}
-use Rattle.std.specs.List.{AllByRecursion}
 use Rattle.std.proofs.lemmas.Bool.{leb-true, leb-false}
 use Rattle.std.proofs.lemmas.List.{append-nil, length-append, nil_from_length, take-append-drop, take-take}
 use Rattle.r10_medium.specs.Disk.{Image}
 use Rattle.r10_blockout.specs.Blocks.{bytes_from}
 use Rattle.r10_indexbody.specs.declared.entry.NodeEntry.{NodeEntry}
-use Rattle.r10_body.specs.Packets.{Packet, FitsPacket, packet_bytes, file_bytes}
+use Rattle.r10_body.specs.Packets.{Packet, file_bytes}
 use Rattle.r10_body.specs.Rules.{EachFollows, is_data, is_index}
 use Rattle.r10_body.proofs.Indexes.{counted_first, counted_yes}
-use Rattle.r10_body.proofs.Injective.{one_packet, one_packet_way, one_file}
-use Rattle.r10_body.proofs.Lists.{same_behind}
-use Rattle.r10_body.proofs.Rules.{follows_fit}
+use Rattle.r10_body.proofs.Injective.{one_beginning, one_file}
 use Rattle.r10_packetout.proofs.Closing.{named_length}
 use Rattle.r10_cursor.specs.Shown.{IsShown}
 use Rattle.r10_cursor.specs.Files.{HasDataPackets}
-
--- where the bytes of packets begin with those of others, the packets do
-pub packets_front : (ps qs : List Packet) (rest : List ℕ) → AllByRecursion FitsPacket ps → AllByRecursion FitsPacket qs → file_bytes ps ++ rest ≡ file_bytes qs → (more : List Packet) × (qs ≡ ps ++ more)
-packets_front [] qs rest fits fit is = (qs, refl)
-packets_front (p ∷ ps) [] rest fits fit is =
-    absurd (omega (arith, one_packet_way.some p, length-append (packet_bytes p ++ file_bytes ps) rest, length-append (packet_bytes p) (file_bytes ps), ap (λ (l : List ℕ). length l) is))
-packets_front (p ∷ ps) (q ∷ qs) rest fits fit is =
-    let spread : packet_bytes p ++ (file_bytes ps ++ rest) ≡ packet_bytes q ++ file_bytes qs = sym (append_assoc (packet_bytes p) (file_bytes ps) rest) ∙ is in
-    let first : p ≡ q = one_packet p q (file_bytes ps ++ rest) (file_bytes qs) fits.0 fit.0 spread in
-    let behind : file_bytes ps ++ rest ≡ file_bytes qs = same_behind (packet_bytes p) (packet_bytes q) (file_bytes ps ++ rest) (file_bytes qs) (ap packet_bytes first) spread in
-    let more = packets_front ps qs rest fits.1 fit.1 behind in
-    (more.0, ap (λ (l : List Packet). q ∷ l) more.1 ∙ ap (λ (x : Packet). x ∷ (ps ++ more.0)) (sym first))
 
 -- the first bytes of a file are those of packets, and so is the whole
 pub shown_front : (image : Image) (first short long : ℕ) (ps qs : List Packet) → short ≤ long → bytes_from image first short ≡ file_bytes ps → bytes_from image first long ≡ file_bytes qs
@@ -35,13 +20,13 @@ pub shown_front : (image : Image) (first short long : ℕ) (ps qs : List Packet)
 shown_front image first short long ps qs within front whole each follow =
     let rest : List ℕ = drop short (file_bytes qs) in
     let same : file_bytes ps ≡ take short (file_bytes qs) = sym front ∙ sym (take-take short long _ within) ∙ ap (take short) whole in
-    packets_front ps qs rest (follows_fit [] ps each) (follows_fit [] qs follow) (ap (λ (l : List ℕ). l ++ rest) same ∙ take-append-drop short (file_bytes qs))
+    one_beginning [] ps qs rest each follow (ap (λ (l : List ℕ). l ++ rest) same ∙ take-append-drop short (file_bytes qs))
 
 -- ---- a file has one list of packets
 
 pub one_had : (bytes : List ℕ) (ps qs : List Packet) → HasDataPackets bytes ps → HasDataPackets bytes qs → ps ≡ qs
 one_had bytes ps qs p q =
-    let all : p.all ≡ q.all = one_file p.all q.all (follows_fit [] p.all p.each) (follows_fit [] q.all q.each) (sym p.bytes_are ∙ q.bytes_are) in
+    let all : p.all ≡ q.all = one_file [] p.all q.all p.each q.each (sym p.bytes_are ∙ q.bytes_are) in
     p.packets_are ∙ ap (filter is_data) all ∙ sym q.packets_are
 
 no_more : (ps qs more : List Packet) → qs ≡ ps ++ more → length qs ≡ length ps → ps ≡ qs

@@ -7,7 +7,7 @@ use Rattle.std.proofs.lemmas.List.Concat.{flat_map-append}
 use Rattle.std.proofs.lemmas.List.Elements.{filter-append}
 use Rattle.r10_medium.specs.Disk.{Image}
 use Rattle.r10_blockout.specs.Blocks.{Shows, bytes_from}
-use Rattle.r10_body.specs.Content.{Content, setup, time, event, uart, bus, arinc, discrete, message, node, root}
+use Rattle.r10_body.specs.Content.{Content, setup, time, event, uart, bus, arinc, discrete, message, node, root, report}
 use Rattle.r10_body.specs.Packets.{Packet, packet_bytes, file_bytes}
 use Rattle.r10_body.specs.Rules.{MayFollow, EachFollows, KeepsIndex, is_data, is_index, is_node, is_root}
 use Rattle.r10_body.proofs.Indexes.{Part, datum, node_here, root_here, part_of, counted, counted_yes, counted_no, no_nodes, no_roots}
@@ -41,6 +41,7 @@ no_index ps p i keeps = by p.content refl
     by (arinc es) e = rw e at keeps
     by (discrete bits es) e = rw e at keeps
     by (message es) e = rw e at keeps
+    by (report loss) e = rw e at keeps
     by (node es) e = let yes : is_index p ≡ true = rw e refl in absurd (unlike (sym yes ∙ i))
     by (root es) e = let yes : is_index p ≡ true = rw e refl in absurd (unlike (sym yes ∙ i))
 

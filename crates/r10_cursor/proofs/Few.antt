@@ -1,5 +1,5 @@
 -- A file has fewer entries than bytes.
-use Rattle.std.proofs.Common.{◌≡◌, ℕ, ◌*◌, ◌≤◌, Bool, false, List, [], ◌∷◌, length, refl, arith}
+use Rattle.std.proofs.Common.{◌≡◌, ℕ, ◌*◌, ◌≤◌, List, [], ◌∷◌, length, refl, arith}
 use Rattle.std.specs.List.{sum_by}
 use Rattle.std.proofs.lemmas.List.{length-append}
 use Rattle.std.proofs.lemmas.List.Sums.{sum_by-cons}
@@ -7,13 +7,15 @@ use Rattle.r10_body.proofs.Lone.{packet-length}
 use Rattle.r10_body.proofs.Sentences.{rest_length}
 use Rattle.r10_body.specs.Content.{messages_of}
 use Rattle.r10_body.specs.declared.entry.Timed.{Timed}
+use Rattle.r10_body.specs.declared.gap.Gap.{Gap}
+use Rattle.r10_body.specs.declared.gap.Gap.TheVariants.{Whole}
 use Rattle.r10_body.specs.Packets.{Packet, packet_bytes, packet_entries, file_bytes, file_entries, with_gaps}
 use Rattle.r10_strict.specs.Tally.{timed_cost}
 use Rattle.r10_strict.proofs.Tallies.{content_cheap}
 
-timed_length : (channel : ℕ) (gap : Bool) (ms : List Timed) → length (with_gaps channel gap ms) ≡ length ms
+timed_length : (channel : ℕ) (gap : Gap) (ms : List Timed) → length (with_gaps channel gap ms) ≡ length ms
 timed_length channel gap [] = refl
-timed_length channel gap (m ∷ ms) = omega (arith, timed_length channel false ms)
+timed_length channel gap (m ∷ ms) = omega (arith, timed_length channel Whole ms)
 
 messages_few : (ms : List Timed) → 104 * length ms ≤ sum_by timed_cost ms
 messages_few [] = omega arith
@@ -22,7 +24,7 @@ messages_few (m ∷ ms) = omega (arith, messages_few ms, sum_by-cons timed_cost 
 packet_few : (p : Packet) → length (packet_entries p) ≤ length (packet_bytes p)
 packet_few p = omega (
   arith,
-  timed_length p.channel p.flagged (messages_of p.counter p.content),
+  timed_length p.channel p.gap (messages_of p.counter p.content),
   messages_few (messages_of p.counter p.content),
   content_cheap p.counter p.content,
   rest_length p,

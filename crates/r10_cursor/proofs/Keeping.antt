@@ -8,7 +8,6 @@ use Rattle.r10_indexbody.specs.declared.entry.NodeEntry.{NodeEntry}
 use Rattle.r10_body.specs.Packets.{Packet, file_bytes}
 use Rattle.r10_body.specs.Rules.{EachFollows, is_data, node_entries}
 use Rattle.r10_body.proofs.Injective.{one_file}
-use Rattle.r10_body.proofs.Rules.{follows_fit}
 use Rattle.r10_cursor.specs.Shown.{IsShown}
 use Rattle.r10_cursor.specs.Files.{HasDataPackets, bytes_in}
 use Rattle.r10_cursor.proofs.BeforeIndex.{data_first, follows_front, shows_front, bytes_front}
@@ -16,7 +15,7 @@ use Rattle.r10_cursor.proofs.BeforeIndex.{data_first, follows_front, shows_front
 -- a file's packets are one list
 pub one_reading : (bytes : List ℕ) (packets all : List Packet) → bytes ≡ file_bytes all → EachFollows [] all → HasDataPackets bytes packets → packets ≡ filter is_data all
 one_reading bytes packets all is each has =
-    has.packets_are ∙ ap (filter is_data) (one_file has.all all (follows_fit [] has.all has.each) (follows_fit [] all each) (sym has.bytes_are ∙ is))
+    has.packets_are ∙ ap (filter is_data) (one_file [] has.all all has.each each (sym has.bytes_are ∙ is))
 
 -- of a file that was judged, the medium shows the packets of data, and its book names them
 pub book_shown : (image : Image) (e : DirectoryEntry) (all : List Packet) (named : List NodeEntry) → bytes_in image e ≡ file_bytes all → EachFollows [] all → named ≡ node_entries 0 (filter is_data all)

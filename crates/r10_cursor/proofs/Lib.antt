@@ -11,6 +11,7 @@ pub mod Sizes
 pub mod Places
 pub mod Searching
 pub mod OnMedium
+pub mod Reported
 pub mod Ticks
 pub mod Wanting
 pub mod Starting

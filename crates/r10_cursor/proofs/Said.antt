@@ -10,7 +10,7 @@ use Rattle.r10_dirblock.specs.declared.entry.Entry.{Entry as DirectoryEntry}
 use Rattle.r10_dirchain.specs.Chain.{IsDirectory, listed_files}
 use Rattle.r10_dirchain.specs.declared.chain.ChainBlock.{ChainBlock}
 use Rattle.r10_dirchain.proofs.Unique.{one_directory}
-use Rattle.r10_body.specs.Content.{Content, setup, time, event, uart, bus, arinc, discrete, message, node, root}
+use Rattle.r10_body.specs.Content.{Content, setup, time, event, uart, bus, arinc, discrete, message, node, root, report}
 use Rattle.r10_body.specs.Faults.{IsAtFault}
 use Rattle.r10_body.specs.Files.{on_channel}
 use Rattle.r10_body.specs.Packets.{Packet, packet_entries, file_entries}
@@ -18,7 +18,6 @@ use Rattle.r10_body.specs.Rules.{is_data, is_index}
 use Rattle.r10_body.specs.declared.entry.Entry.{Entry}
 use Rattle.r10_body.specs.declared.fault.FileFault.{FileFault}
 use Rattle.r10_body.proofs.Injective.{one_file}
-use Rattle.r10_body.proofs.Rules.{follows_fit}
 use Rattle.r10_judge.specs.Judged.{SaysClosed}
 use Rattle.r10_judge.proofs.Places.{strict_apart}
 use Rattle.r10_machine.specs.Cuts.{Agree}
@@ -89,6 +88,7 @@ no_entries p i = by p.content refl
     by (arinc es) e = (let bad : is_index p ≡ false = rw e refl in absurd (unlike (sym bad ∙ i)))
     by (discrete bits es) e = (let bad : is_index p ≡ false = rw e refl in absurd (unlike (sym bad ∙ i)))
     by (message es) e = (let bad : is_index p ≡ false = rw e refl in absurd (unlike (sym bad ∙ i)))
+    by (report loss) e = rw e refl
     by (node es) e = rw e refl
     by (root es) e = rw e refl
 
@@ -129,7 +129,7 @@ found_held s image fs chain written file f says directory before at is =
     let e = listed.0 in
     let said = listed.2 in
     let all = said.says.says.0 in
-    let one : is.packets ≡ all = one_file is.packets all (follows_fit [] is.packets is.each) (follows_fit [] all said.says.says.2.file.each) (sym is.bytes_are ∙ said.says.says.1) in
+    let one : is.packets ≡ all = one_file [] is.packets all is.each said.says.says.2.file.each (sym is.bytes_are ∙ said.says.says.1) in
     let whole : shown_entries f ≡ f.entries = take_all f.shown f.entries (omega (arith, is.shown)) in
     held_by image chain written file e f (found_entry written chain file e before listed.1) said (omega (arith, is.shown)) (ap ticks_of (sym (whole ∙ is.entries_are ∙ ap file_entries one)))
 

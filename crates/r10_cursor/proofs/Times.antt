@@ -29,7 +29,7 @@ time_on s e is = by e.message refl
     by (messages.Arinc a b c d f) at = rw at tt
     by (messages.Discrete a) at = rw at tt
     by (messages.Message a b c d) at = rw at tt
-    by (messages.Time civil) at = (let here = rw at at is in rw at here.1.0)
+    by (messages.Time civil) at = (let here = rw at at is in rw at here.2.0)
     by (messages.Event a b) at = rw at tt
 
 unlike : false ≡ true → ⊥

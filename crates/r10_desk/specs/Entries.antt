@@ -1,5 +1,6 @@
 -- Entries as a caller of another language has them.
 use Rattle.std.specs.Prelude.{ℕ, List, [], Bool, false, length}
+use Rattle.r10_body.specs.Gaps.{is_gap, told_lost}
 use Rattle.r10_body.specs.declared.entry.Entry.{Entry}
 use Rattle.r10_body.specs.declared.message.Message.{Message as MessageValue}
 use Rattle.r10_body.specs.declared.message.Message.TheVariants.{Uart, Bus1553, Arinc, Discrete, Message, Time, Event}
@@ -9,6 +10,7 @@ use Rattle.r10_desk.specs.declared.told.EntryOut.{EntryOut}
 abbrev pub front : Entry → ℕ → EntryOut
 front e kind = record {
   count = e.count;
+  lost = told_lost e.gap;
   length = 0;
   word = 0;
   channel = e.channel;
@@ -26,7 +28,7 @@ front e kind = record {
   centi = 0;
   kind = kind;
   bus = 0;
-  gap = e.gap;
+  gap = is_gap e.gap;
   parity = false;
   format = false;
   data_error = false;

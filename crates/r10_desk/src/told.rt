@@ -1,11 +1,12 @@
 //! Entries as a caller of another language has them.
 
 ghost use Rattle.std.specs.Prelude.{◌≡◌};
+ghost use Rattle.r10_body.specs.Gaps.{told_lost};
 ghost use Rattle.r10_desk.specs.Copies.{copied};
 ghost use Rattle.r10_desk.specs.Entries.{front, fields_of, bytes_of, words_of};
 
 use crate::copies::copy_front;
-use r10_body::{Entry, Message};
+use r10_body::{Entry, Gap, Message};
 
 /// The number of the refusal for want of memory.
 pub(crate) const OUT_OF_MEMORY: u32 = 30;
@@ -37,6 +38,8 @@ pub(crate) const MOST_WORDS: usize = 36;
 pub struct EntryOut {
     /// units of 100 ns
     pub count: u64,
+    /// how many messages before it on its channel were refused because the lane was full; 0 where the file doesn't tell
+    pub lost: u64,
     /// how many bytes or words the message has
     pub length: usize,
     /// the word of an ARINC 429 bus, or the states of discretes
@@ -72,12 +75,23 @@ pub struct EntryOut {
     pub high: bool,
 }
 
+/// How many were lost; 0 where that isn't told.
+fn lost_in(gap: Gap) -> u64
+    ensures { result ≡ told_lost gap }
+{
+    match gap {
+        Gap::Lost(lost) => lost,
+        Gap::Whole | Gap::Unknown => 0,
+    }
+}
+
 /// An entry of this kind, without what the message has.
 fn front_of(entry: &Entry, kind: u8) -> EntryOut
     ensures { result ≡ front entry.now kind }
 {
     EntryOut {
         count: entry.count.get(),
+        lost: lost_in(entry.gap),
         length: 0,
         word: 0,
         channel: entry.channel,
@@ -95,7 +109,7 @@ fn front_of(entry: &Entry, kind: u8) -> EntryOut
         centi: 0,
         kind,
         bus: 0,
-        gap: entry.gap,
+        gap: entry.gap.is_gap(),
         parity: false,
         format: false,
         data_error: false,

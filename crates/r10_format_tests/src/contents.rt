@@ -1,6 +1,6 @@
 // Messages and refusals.
 
-use r10_body::{Entry, FileFault, Glance, Message, Refusal, Sample};
+use r10_body::{Entry, FileFault, Gap, Glance, Message, Refusal, Sample};
 use r10_count::{Civil, Count, Items, Parts};
 use std::alloc::{AllocError, Global};
 use std::test::Fail;
@@ -55,16 +55,17 @@ fn one_of_each(alloc: Global) -> Result<[Message; 7], Fail> {
 
 /// Whether a message, and an entry and a sample of it, are equal to their copies.
 fn is_copied(alloc: Global, count: Count, message: Message) -> Result<bool, AllocError> {
+    let gap = Gap::Lost(3);
     let sample = Sample {
         count,
         message: message.copied(alloc)?,
-        gap: true,
+        gap,
     };
     let entry = Entry {
         channel: 5,
         count,
         message,
-        gap: true,
+        gap,
     };
     let again = sample.copied(alloc)?;
     Ok(entry.copied(alloc)? == entry && again == sample && again.message == entry.message)
@@ -112,6 +113,10 @@ fn refusals_print_number_name_and_values(rt: HostRuntime) -> Result<(), Fail> {
         (
             Refusal::BadFile(32, FileFault::Rule(4)),
             "27 BadFile 32 Rule 4",
+        ),
+        (
+            Refusal::BadFile(124, FileFault::Rule(11)),
+            "27 BadFile 124 Rule 11",
         ),
         (Refusal::Behind(seen), "29 Behind 2 0 112"),
         (Refusal::OutOfMemory, "30 OutOfMemory"),

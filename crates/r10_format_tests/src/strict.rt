@@ -1,6 +1,7 @@
 // Packets as this recorder writes them.
 
 use r10_count::{Civil, Count, Parts};
+use r10_lossbody::LossBody;
 use r10_strict::{Facts, PacketKind, Spread, StrictReading, read_strict};
 use std::test::Fail;
 
@@ -17,6 +18,13 @@ const TIME: [u8; 36] = [
     0x25, 0xEB, 0x01, 0x00, 0x24, 0x00, 0x00, 0x00, 0x0C, 0x00, 0x00, 0x00, 0x08, 0x00, 0x00, 0x11,
     0xE8, 0x03, 0x00, 0x00, 0x00, 0x00, 0x46, 0x00, 0x01, 0x03, 0x00, 0x00, 0x78, 0x56, 0x34, 0x12,
     0x29, 0x02, 0x24, 0x20,
+];
+
+/// The report that a message was lost on channel 5.
+const REPORT: [u8; 44] = [
+    0x25, 0xEB, 0x00, 0x00, 0x2C, 0x00, 0x00, 0x00, 0x14, 0x00, 0x00, 0x00, 0x08, 0x01, 0x00, 0x00,
+    0xE8, 0x03, 0x00, 0x00, 0x00, 0x00, 0x55, 0xF0, 0x00, 0x00, 0x00, 0x00, 0x4C, 0x4F, 0x53, 0x53,
+    0x05, 0x00, 0x00, 0x00, 0x01, 0x00, 0x00, 0x00, 0x00, 0x00, 0x00, 0x00,
 ];
 
 #[test]
@@ -76,6 +84,30 @@ fn a_time_tells_its_facts(rt: HostRuntime) -> Result<(), Fail> {
         }),
     };
     let read = read_strict(rt.alloc(), &TIME)?;
+    assert!(rt; read == StrictReading::Strict(facts));
+    Ok(())
+}
+
+#[test]
+fn a_report_tells_its_facts(rt: HostRuntime) -> Result<(), Fail> {
+    let loss = LossBody {
+        channel: 5,
+        reserved: 0,
+        lost: 1,
+    };
+    let facts = Facts {
+        channel: 0,
+        sequence: 1,
+        flagged: false,
+        counter: Count::of(1000).ok_or("no count")?,
+        data_type: 0,
+        kind: PacketKind::Report { loss },
+        length: 44,
+        entries: 0,
+        cost: 0,
+        counts: None,
+    };
+    let read = read_strict(rt.alloc(), &REPORT)?;
     assert!(rt; read == StrictReading::Strict(facts));
     Ok(())
 }

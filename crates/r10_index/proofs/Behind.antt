@@ -15,12 +15,14 @@ use Rattle.r10_body.specs.declared.entry.Entry.{Entry}
 use Rattle.r10_indexbody.proofs.Nodes.{body-length as node_length}
 use Rattle.r10_indexbody.proofs.Roots.{body-length as root_length}
 use Rattle.r10_body.specs.Packets.{Packet, FitsPacket, packet_bytes, file_bytes, file_entries}
-use Rattle.r10_body.specs.Rules.{MayFollow, EachFollows, IsFile, Rise, is_setup_packet, is_time, is_index, is_data, is_node, is_root, is_closed_file, closed_from, all_named, has_whole_index, packet_on, is_entry_on, node_entries, root_entry_of, last_nodes, unnamed, last_root, group_size, last_time}
+use Rattle.r10_body.specs.Rules.{MayFollow, EachFollows, IsFile, Rise, is_setup_packet, is_time, is_index, is_data, is_node, is_root, is_closed_file, closed_from, all_named, has_whole_index, packet_on, is_entry_on, node_entries, root_entry_of, last_nodes, unnamed, last_root, last_report, group_size, last_time}
 use Rattle.r10_body.specs.Sequence.{next_sequence}
 use Rattle.r10_body.proofs.ChannelLists.{rises}
 use Rattle.r10_body.proofs.Groups.{unnamed_with, none_unnamed, root_with, root_before, size_stays, size_grows, size_of_node, size_of_root}
 use Rattle.r10_body.proofs.Indexes.{counted, counted_first, counted_yes, counted_no, index_long, no_nodes, no_roots, none_at, not_whole, part_of}
+use Rattle.r10_body.proofs.Lengths.{last_with}
 use Rattle.r10_body.proofs.Lone.{packet-length}
+use Rattle.r10_body.proofs.Reporting.{quiet_more, time_fits}
 use Rattle.r10_body.proofs.Rules.{follows_more, follows_fit, bytes_more}
 use Rattle.r10_body.proofs.Sentences.{type_fits, rest_length}
 use Rattle.r10_index.specs.Written.{index_packet, node_packet, group_nodes, node_count, root_entries, link_of, root_packet, groups, index_of, IsGroup}
@@ -67,15 +69,6 @@ no_link_at offset own p ps false is none rest = rw is (rest (omega (arith, none,
 pub no_link_here : (offset : ℕ) (own : RootEntry) (ps : List Packet) → count_by is_root ps ≡ 0 → last_root offset own ps ≡ own
 no_link_here offset own [] none = refl
 no_link_here offset own (p ∷ ps) none = no_link_at offset own p ps (is_root p) refl none (λ left. no_link_here (offset + length (packet_bytes p)) own ps left)
-
--- the last time's counter has 48 bits
-time_fits : (counter : ℕ) (ps : List Packet) → IsCount counter → AllByRecursion FitsPacket ps → IsCount (last_time counter ps)
-time_fits counter [] is fits = is
-time_fits counter (p ∷ ps) is fits = time_fits (cond (is_time p) p.counter counter) ps (either (is_time p)) fits.1
-  where
-    either : (b : Bool) → IsCount (cond b p.counter counter)
-    either true = fits.0.counter
-    either false = is
 
 -- ---- the entries
 
@@ -150,6 +143,7 @@ pub record Stands (ps : List Packet) (per n number start : ℕ) (link : Option �
   pub zeros : next_sequence 0 before ≡ (number + length group) % 256
   pub time : last_time 0 before ≡ last_time 0 ps
   pub some : 2 ≤ length before
+  pub quiet : last_report before ≡ None
 
 -- no index packet says an entry
 nothing_more : (before : List Packet) → EachFollows [] before → Rise 0 (filter (is_entry_on 0) (file_entries before) ++ [])
@@ -177,6 +171,7 @@ node_follows ps per n number start link nodes before fits short s less left =
       fits = record {
         channel = omega arith;
         sequence = omega arith;
+        gap = tt;
         check = omega arith;
         counter = time_fits 0 ps (omega arith) fits;
         content = record { some = omega (arith, size, left); counted = omega (arith, size); fields = part_fits (100 * k) entries (entries_fit 0 ps fits (omega (arith, short))) };
@@ -190,6 +185,7 @@ node_follows ps per n number start link nodes before fits short s less left =
       index = (λ roots. omega (arith, many, place link per n (length nodes) before s.grouped less roots), says);
       counters = (λ e. absurd (omega (arith, e, s.some)), λ _. sym s.time);
       events = tt;
+      reports = (rw s.quiet refl, tt);
     }
 
 -- and then one node more is there
@@ -238,6 +234,7 @@ node_stands ps per n number start link nodes before fits short s left may =
       zeros = omega (arith, s.zeros, counted (packet_on 0) before p, one);
       time = last_more 0 before p refl ∙ s.time;
       some = omega (arith, s.some, length-append before (p ∷ []));
+      quiet = last_with None before p;
     }
 
 -- behind groups stand the nodes of one more
@@ -290,6 +287,7 @@ root_follows ps per n number start link nodes before fits short s filled few lef
       fits = record {
         channel = omega arith;
         sequence = omega arith;
+        gap = tt;
         check = omega arith;
         counter = stamped;
         content = record {
@@ -307,6 +305,7 @@ root_follows ps per n number start link nodes before fits short s filled few lef
       index = ((omega (arith, many, filled), ends link per n (length nodes) before s.grouped many either), says);
       counters = (λ e. absurd (omega (arith, e, s.some)), λ _. sym s.time);
       events = tt;
+      reports = (rw s.quiet refl, tt);
     }
 
 -- a root more, behind a group of the size that all groups have
@@ -348,6 +347,7 @@ root_stands ps per n number start link nodes before fits short s filled left who
       zeros = omega (arith, s.zeros, counted (packet_on 0) before p);
       time = last_more 0 before p refl ∙ s.time;
       some = omega (arith, s.some, length-append before (p ∷ []));
+      quiet = last_with None before p;
     }
 
 -- ---- all groups
@@ -362,6 +362,7 @@ pub record IsWhole (packets : List Packet) : Type 0 where
   pub closed : is_closed_file packets ≡ true
   pub named : all_named packets ≡ true
   pub some : 2 ≤ length packets
+  pub quiet : last_report packets ≡ None
 
 pub lt_is : (a b : ℕ) (c : Bool) → nat_lt a b ≡ c → a < b → nat_lt a b ≡ true
 lt_is a b true e lt = e
@@ -439,6 +440,7 @@ group_last per ps n number start link before m fits short is s some most within 
           (omega (arith, datas, counted is_data (before ++ nodes) (root_packet (last_time 0 ps) (number + length nodes) start link nodes)))
           (omega (arith, so.nodes, many, counted is_node (before ++ nodes) (root_packet (last_time 0 ps) (number + length nodes) start link nodes))) covered;
       some = omega (arith, so.some, length-append (before ++ nodes) (root_packet (last_time 0 ps) (number + length nodes) start link nodes ∷ []));
+      quiet = last_with None (before ++ nodes) (root_packet (last_time 0 ps) (number + length nodes) start link nodes);
     })
 
 -- the group that comes next, and behind it the others
@@ -487,9 +489,10 @@ index_closes per ps is file unclosed short =
       zeros = omega arith;
       time = refl;
       some = file.start;
+      quiet = file.reports;
     } in
     let whole = groups_follow count per ps 0 (next_sequence 0 ps) (length (file_bytes ps)) None ps fits short is stands (omega (arith, count_is ps, file.start)) (omega arith) in (
-      record { each = whole.each; start = whole.some; index = λ e. absurd (no (sym e ∙ both (is_closed_file (ps ++ index_of per ps)) (all_named (ps ++ index_of per ps)) whole.closed whole.named)) },
+      record { each = whole.each; start = whole.some; index = λ e. absurd (no (sym e ∙ both (is_closed_file (ps ++ index_of per ps)) (all_named (ps ++ index_of per ps)) whole.closed whole.named)); reports = whole.quiet },
       whole.closed,
     )
   where

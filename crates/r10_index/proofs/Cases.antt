@@ -7,7 +7,6 @@ use Rattle.r10_body.specs.Packets.{Packet, packet_bytes, file_bytes}
 use Rattle.r10_body.specs.Rules.{IsFile}
 use Rattle.r10_body.specs.Vectors.{a_node_packet, data_packets, a_recording}
 use Rattle.r10_body.proofs.Injective.{one_file}
-use Rattle.r10_body.proofs.Rules.{follows_fit}
 
 abbrev with_node : List Packet
 with_node = data_packets ++ a_node_packet ∷ []
@@ -18,6 +17,6 @@ cut = refl
 
 pub without-root : IsStrict (take 212 (file_bytes a_recording)) → ⊥
 without-root (text, entries, closed, (packets, bytes, says)) =
-    let same : packets ≡ with_node = one_file packets with_node (follows_fit [] packets says.file.each) (follows_fit [] with_node (setup-first, (time-second, (uart-third, (node-fourth, tt))))) (sym bytes ∙ cut) in
+    let same : packets ≡ with_node = one_file [] packets with_node says.file.each (setup-first, (time-second, (uart-third, (node-fourth, tt)))) (sym bytes ∙ cut) in
     let whole : IsFile with_node = subst (λ (ps : List Packet). IsFile ps) same says.file in
     omega (arith, whole.index refl)

@@ -9,6 +9,8 @@ use Rattle.r10_indexbody.specs.declared.entry.NodeEntry.{NodeEntry}
 use Rattle.r10_body.specs.declared.entry.Entry.{Entry}
 use Rattle.r10_body.specs.declared.entry.Timed.{Timed}
 use Rattle.r10_body.specs.Content.{messages_of}
+use Rattle.r10_body.specs.declared.gap.Gap.{Gap}
+use Rattle.r10_body.specs.declared.gap.Gap.TheVariants.{Whole}
 use Rattle.r10_body.specs.Packets.{Packet, packet_bytes, packet_entries, file_bytes, file_entries, with_gaps}
 use Rattle.r10_body.specs.Rules.{MayFollow, EachFollows, Rise, is_entry_on, node_entry_of, node_entries}
 use Rattle.r10_index.specs.Candidates.{is_sought, may_reach, may_hold_sought, candidates}
@@ -30,10 +32,10 @@ none_before counter front [] first rise k d within = absurd (omega (arith, withi
 none_before counter front (e ∷ es) first rise zero d within = omega (arith, first.0)
 none_before counter front (e ∷ es) first rise (suc k) d within = omega (arith, first.0, risen e.count es k d (rise_behind 0 front e es rise) (omega (arith, within)))
 
-all_on : (channel : ℕ) (gap : Bool) (ts : List Timed) (k : ℕ) (d : Entry) → k < length (with_gaps channel gap ts) → (get_or (with_gaps channel gap ts) k d).channel ≡ channel
+all_on : (channel : ℕ) (gap : Gap) (ts : List Timed) (k : ℕ) (d : Entry) → k < length (with_gaps channel gap ts) → (get_or (with_gaps channel gap ts) k d).channel ≡ channel
 all_on channel gap [] k d within = absurd (omega (arith, within))
 all_on channel gap (t ∷ ts) zero d within = refl
-all_on channel gap (t ∷ ts) (suc k) d within = all_on channel false ts k d (omega (arith, within))
+all_on channel gap (t ∷ ts) (suc k) d within = all_on channel Whole ts k d (omega (arith, within))
 
 -- ---- packets and their entries in an index
 
@@ -71,7 +73,7 @@ packet_found before p behind e channel from to each has sought low high =
     let least : p.counter ≤ e.count =
     subst (λ (x : Entry). p.counter ≤ x.count) at (none_before p.counter (filter (is_entry_on p.channel) (file_entries before)) es may.counts.0 may.counts.1 has.0 e has.1) in
     let most : e.count ≤ p.counter + 1000000 = All-contains (λ (x : Entry). x.count ≤ p.counter + 1000000) es e (All-from_recursion (λ (x : Entry). x.count ≤ p.counter + 1000000) es may.counts.2) has in
-    let own : e.channel ≡ p.channel = ap (λ (x : Entry). x.channel) (sym at) ∙ all_on p.channel p.flagged (messages_of p.counter p.content) has.0 e has.1 in
+    let own : e.channel ≡ p.channel = ap (λ (x : Entry). x.channel) (sym at) ∙ all_on p.channel p.gap (messages_of p.counter p.content) has.0 e has.1 in
     let reach : may_reach from to named ≡ true =
     and_from (leb (from - 1000000) p.counter) (leb p.counter to) (le-leb (from - 1000000) p.counter (omega (arith, low, most))) (le-leb p.counter to (omega (arith, high, least))) in
     let holds : may_hold_sought channel from to named ≡ true = and_from (is_sought channel p.channel) (may_reach from to named) (subst (λ c. is_sought channel c ≡ true) own sought) reach in

@@ -1,5 +1,5 @@
 -- Index packets that break rule 8 and none below it.
-use Rattle.std.proofs.Common.{◌≡◌, ℕ, zero, suc, ◌+◌, ◌*◌, ◌<◌, ◌≤◌, ◌^◌, Bool, true, false, List, [], ◌∷◌, ◌++◌, length, take, drop, refl, sym, ap, ◌∙◌, subst, arith, lit<, lit≤}
+use Rattle.std.proofs.Common.{◌≡◌, ℕ, zero, suc, ◌+◌, ◌*◌, ◌<◌, ◌≤◌, ◌⊎◌, inl, inr, Bool, true, false, None, List, [], ◌∷◌, ◌++◌, length, take, drop, refl, sym, ap, ◌∙◌, subst, arith, lit<, lit≤}
 use Rattle.std.specs.Prelude.{count_by, filter}
 use Rattle.std.specs.List.{AllByRecursion}
 use Rattle.std.proofs.lemmas.List.{append-nil, length-append, length-drop, length-take}
@@ -11,21 +11,23 @@ use Rattle.r10_indexbody.proofs.Nodes.{body-length as node_length}
 use Rattle.r10_body.proofs.Lone.{packet-length}
 use Rattle.r10_body.proofs.Recording.{setup-first, time-second, uart-third, node-fourth, no}
 use Rattle.r10_body.specs.Content.{type_of}
-use Rattle.r10_body.specs.Faults.{IsAtFault}
+use Rattle.r10_body.specs.Faults.{IsAnswered, IsAtFault}
 use Rattle.r10_body.specs.Packets.{Packet, FitsPacket, packet_bytes, packet_rest, file_bytes, file_entries}
-use Rattle.r10_body.specs.Rules.{MayFollow, EachFollows, KeepsChecksums, KeepsStart, KeepsChannels, KeepsSequence, KeepsCounts, KeepsIndex, Rise, is_index, is_data, is_node, packet_on, is_entry_on, node_entries}
+use Rattle.r10_body.specs.Rules.{MayFollow, EachFollows, KeepsChecksums, KeepsStart, KeepsChannels, KeepsSequence, KeepsCounts, KeepsIndex, Rise, is_index, is_data, is_node, packet_on, is_entry_on, last_report, node_entries}
 use Rattle.r10_body.specs.Vectors.{data_packets, data-len, a_node_packet}
 use Rattle.r10_body.specs.declared.entry.Entry.{Entry}
 use Rattle.r10_body.specs.declared.fault.FileFault.TheVariants.{Rule}
 use Rattle.r10_strict.proofs.Written.{packet_foreign}
 use Rattle.r10_body.proofs.Indexes.{counted, no_nodes}
+use Rattle.r10_body.proofs.Lengths.{last_with}
 use Rattle.r10_body.proofs.Rules.{follows_more, follows_fit, bytes_more, entries_more}
-use Rattle.r10_body.proofs.Sentences.{type_fits, rest_length}
+use Rattle.r10_body.proofs.Sentences.{rest_length}
 use Rattle.r10_index.proofs.Behind.{entries_fit, entries_length}
 use Rattle.r10_tracks.specs.Broken as broken_later
 use Rattle.r10_judge.specs.Judged.{KeepRules, BreaksIn, broken_rule, in_open_file, stopped_at}
 use Rattle.r10_judge.specs.Copies.{copy, copies, node_of_99}
-use Rattle.r10_judge.proofs.Judging.{to_bytes, from_bytes, reads_own}
+use Rattle.r10_judge.proofs.Answering.{no_report, reads_first}
+use Rattle.r10_judge.proofs.Judging.{to_bytes, from_bytes}
 use Rattle.r10_judge.proofs.Ending.{broken_at_fault}
 
 -- ---- a packet that breaks rule 8 and none below it
@@ -46,24 +48,30 @@ least_eight closed before p m keeps (broken_rule (broken_later.counts b)) = absu
 least_eight closed before p m keeps (broken_rule (broken_later.index b)) = lit≤ tt
 least_eight closed before p m keeps (broken_rule (broken_later.counters b)) = lit≤ tt
 least_eight closed before p m keeps (broken_rule (broken_later.events b)) = lit≤ tt
+least_eight closed before p m keeps (broken_rule (broken_later.reports b)) = lit≤ tt
 least_eight closed before p m keeps (in_open_file index open_file) = lit≤ tt
 
-at_eight : (closed : Bool) (before : List Packet) (p : Packet) (more : List ℕ) → KeepRules closed before → KeepsBelow before p → BreaksIn closed before p 8
+at_eight : (closed : Bool) (before : List Packet) (p : Packet) (more : List ℕ) → KeepRules closed before → last_report before ≡ None → KeepsBelow before p → BreaksIn closed before p 8
     → IsAtFault (file_bytes before ++ (packet_bytes p ++ more)) closed (length (file_bytes before)) (Rule 8)
-at_eight closed before p more rules keeps breaks =
-    let reads = reads_own p keeps.fits keeps.checksums in
+at_eight closed before p more rules quiet keeps breaks =
+    let reads = λ (later : List ℕ). reads_first p (more ++ later) (keeps.fits, keeps.checksums) in
     broken_at_fault closed (stopped_at before 8) (file_bytes before ++ (packet_bytes p ++ more)) (record {
       packets = before;
       packet = packet_bytes p;
       more = more;
       bytes_are = refl;
       keep = rules;
+      answered = no_report (last_report before) (λ loss. IsAnswered loss (packet_bytes p)) quiet;
       foreign = packet_foreign p keeps.fits;
       number = 8;
       at_is = refl;
-      broken = to_bytes closed before (packet_bytes p) p 8 reads breaks;
-      least = λ m b. least_eight closed before p m keeps (from_bytes closed before (packet_bytes p) p m reads b);
+      broken = λ later. to_bytes closed before (packet_bytes p ++ (more ++ later)) p 8 (reads later) breaks;
+      least = λ later m b. at_least m (from_bytes closed before (packet_bytes p ++ (more ++ later)) p m (reads later) b);
     })
+  where
+    at_least : (m : ℕ) → (m ≡ 11) ⊎ BreaksIn closed before p m → 8 ≤ m
+    at_least m (inl is) = omega (arith, is)
+    at_least m (inr b) = least_eight closed before p m keeps b
 
 -- ---- many packets
 
@@ -78,6 +86,7 @@ record Known (n : ℕ) (ps : List Packet) : Type 0 where
   pub datas : count_by is_data ps ≡ 2 + n
   pub types : AllByRecursion (λ q. q.channel ≡ 5 → type_of q.content ≡ 0x50) ps
   pub counts : AllByRecursion (λ e. e.count ≡ 1000) (file_entries ps)
+  pub quiet : last_report ps ≡ None
 
 -- entries at one count don't fall
 filtered : (channel : ℕ) (es : List Entry) (e : Entry) (b : Bool) → is_entry_on channel e ≡ b → AllByRecursion (λ x. x.count ≡ 1000) (filter (is_entry_on channel) es) → e.count ≡ 1000
@@ -100,7 +109,7 @@ level count (e ∷ es) all le = (omega (arith, all.0, le), level e.count es all.
 -- the next one may follow
 copy_may : (n : ℕ) (ps : List Packet) → n < 256 → Known n ps → MayFollow ps (copy n)
 copy_may n ps lt k = record {
-  fits = record { channel = lit< tt; sequence = omega (arith, lt); check = lit< tt; counter = lit< tt; content = (lit< tt, (record { count = lit< tt; sub = lit< tt; bytes = lit< tt }, tt)); short = lit≤ tt };
+  fits = record { channel = lit< tt; sequence = omega (arith, lt); gap = tt; check = lit< tt; counter = lit< tt; content = (lit< tt, (record { count = lit< tt; sub = lit< tt; bytes = lit< tt }, tt)); short = lit≤ tt };
   checksums = λ _. refl;
   start = ((λ e. absurd (no e), λ e. absurd (omega (arith, e, k.long))), λ e. absurd (omega (arith, e, k.long)));
   channels = ((λ e. absurd (no e), λ e. absurd (omega (arith, e))), λ _. k.types, λ _. refl);
@@ -109,6 +118,7 @@ copy_may n ps lt k = record {
   index = k.index;
   counters = (λ e. absurd (omega (arith, e, k.long)), λ e. absurd (no e));
   events = tt;
+  reports = (rw k.quiet refl, tt);
 }
 
 copy_long : (n : ℕ) → length (packet_bytes (copy n)) ≡ 44
@@ -125,6 +135,7 @@ copy_more n ps lt k = record {
   datas = omega (arith, k.datas, counted is_data ps (copy n));
   types = all_joined (λ (q : Packet). q.channel ≡ 5 → type_of q.content ≡ 0x50) ps (copy n ∷ []) k.types (λ _. refl, tt);
   counts = subst (λ (es : List Entry). AllByRecursion (λ e. e.count ≡ 1000) es) (sym (entries_more ps (copy n))) (all_joined (λ (e : Entry). e.count ≡ 1000) (file_entries ps) _ k.counts (refl, tt));
+  quiet = last_with None ps (copy n);
 }
 
 known : (n : ℕ) → n ≤ 256 → Known n (copies n)
@@ -139,6 +150,7 @@ known zero le = record {
   datas = refl;
   types = (λ e. absurd (omega (arith, e)), (λ e. absurd (omega (arith, e)), tt));
   counts = (refl, tt);
+  quiet = refl;
 }
 known (suc n) le = copy_more n (copies n) (omega (arith, le)) (known n (omega (arith, le)))
 
@@ -159,6 +171,7 @@ keeps_below n ps least most k =
       fits = record {
         channel = lit< tt;
         sequence = lit< tt;
+        gap = tt;
         check = lit< tt;
         counter = lit< tt;
         content = record { some = omega (arith, size); counted = omega (arith, size); fields = all_taken FitsNode 99 entries fit };
@@ -185,7 +198,7 @@ short_node n closed more least most =
     let k = known n most in
     let ps = copies n in
     subst (λ (offset : ℕ). IsAtFault (file_bytes ps ++ (packet_bytes (node_of_99 ps) ++ more)) closed offset (Rule 8)) k.bytes
-    (at_eight closed ps (node_of_99 ps) more (record { strict = k.each; unclosed = λ _. k.index }) (keeps_below n ps least most k) (broken_rule (broken_later.index (one_short n ps least k))))
+    (at_eight closed ps (node_of_99 ps) more (record { strict = k.each; unclosed = λ _. k.index }) k.quiet (keeps_below n ps least most k) (broken_rule (broken_later.index (one_short n ps least k))))
 
 -- ---- an index packet of an unclosed file
 
@@ -193,5 +206,5 @@ pub open_index : (more : List ℕ) → IsAtFault (file_bytes data_packets ++ (pa
 open_index more =
     let may = node-fourth in
     subst (λ (offset : ℕ). IsAtFault (file_bytes data_packets ++ (packet_bytes a_node_packet ++ more)) false offset (Rule 8)) data-len
-    (at_eight false data_packets a_node_packet more (record { strict = (setup-first, (time-second, (uart-third, tt))); unclosed = λ _. refl })
+    (at_eight false data_packets a_node_packet more (record { strict = (setup-first, (time-second, (uart-third, tt))); unclosed = λ _. refl }) refl
     (record { fits = may.fits; checksums = may.checksums; start = may.start; channels = may.channels; sequence = may.sequence; counts = may.counts }) (in_open_file refl refl))

@@ -1,14 +1,15 @@
 -- Under its directory entry a file is at fault, or it is strict with that closing: it can't be neither.
-use Rattle.std.proofs.Common.{◌≡◌, ℕ, zero, suc, ◌<◌, ◌≤◌, inl, inr, Bool, true, false, List, [], ◌∷◌, ◌++◌, length, drop, Option, Some, None, refl, sym, ap, ◌∙◌, arith, append_assoc, true≢false}
+use Rattle.std.proofs.Common.{◌≡◌, ℕ, zero, suc, ◌<◌, ◌≤◌, inl, inr, Bool, true, false, List, [], ◌∷◌, ◌++◌, length, Option, Some, None, IfSome, refl, subst, sym, ap, ◌∙◌, arith, append_assoc, true≢false}
 use Rattle.std.proofs.lemmas.Bool.{cases_lt}
 use Rattle.std.proofs.lemmas.List.{append-nil, length-append}
-use Rattle.r10_packet.specs.Framing.{header_at, has_data_checksum, framing_fault}
+use Rattle.r10_lossbody.specs.declared.body.LossBody.{LossBody}
+use Rattle.r10_packet.specs.Framing.{has_data_checksum, framing_fault}
 use Rattle.r10_packet.specs.declared.fault.PacketFault.{PacketFault}
 use Rattle.r10_body.proofs.Lone.{packet-length}
 use Rattle.r10_body.specs.Foreign.{opaque_at, IsForeignPacket}
 use Rattle.r10_body.specs.Packets.{Packet, packet_bytes, file_bytes, file_entries}
-use Rattle.r10_body.specs.Rules.{MayFollow, EndsIndex, has_whole_index, is_index, is_closed_file}
-use Rattle.r10_body.specs.Faults.{HasFault, ReadsPacket, BreaksRule, IsWrongHere, IsAtFault, first_packet}
+use Rattle.r10_body.specs.Rules.{EachFollows, MayFollow, EndsIndex, EndsReports, IsGapTold, IsSoundReport, has_whole_index, is_index, is_closed_file, last_report, report_of}
+use Rattle.r10_body.specs.Faults.{HasFault, IsAnswered, IsReportAnswered, ReadsPacket, BreaksRule, IsWrongHere, IsAtFault, first_packet}
 use Rattle.r10_body.specs.Faults as broken_rules
 use Rattle.r10_body.specs.declared.fault.FileFault.{FileFault}
 use Rattle.r10_body.specs.declared.fault.FileFault.TheVariants.{Truncated, DataSum, Body, Rule}
@@ -16,9 +17,12 @@ use Rattle.r10_strict.specs.Tracks.{named}
 use Rattle.r10_strict.proofs.Faults.{framing_is}
 use Rattle.r10_strict.proofs.Fronts.{first_joined, is_foreign}
 use Rattle.r10_body.proofs.Indexes.{counted, counted_no, not_closed, whole_closed}
+use Rattle.r10_body.proofs.Lengths.{last_with}
+use Rattle.r10_body.proofs.Reporting.{report_is}
 use Rattle.r10_body.proofs.Rules.{follows_more, bytes_more}
 use Rattle.r10_judge.specs.Judged.{KeepRules, SaysClosed}
-use Rattle.r10_judge.proofs.Judging.{begins}
+use Rattle.r10_judge.proofs.Answering.{quiet_at_end, reads_retold, told_packet}
+use Rattle.r10_judge.proofs.Judging.{begins, behind}
 
 -- ---- what stands behind packets that keep the rules
 
@@ -69,14 +73,20 @@ not_here before rest closed p reads right open_file = by (is_index p) refl where
   by false is = is
   by true is = absurd (right 8 (broken_rules.unclosed p reads is open_file))
 
-may_stand : (before : List Packet) (rest : List ℕ) (closed : Bool) (p : Packet) → ReadsPacket rest p → ((m : ℕ) → BreaksRule before rest closed m → ⊥) → (MayStand closed before p → ⊥) → ⊥
-may_stand before rest closed p reads right none =
-    right 4 (broken_rules.start p reads (λ start. right 5 (broken_rules.channels p reads (λ channels. right 6 (broken_rules.sequence p reads (λ sequence. right 7 (broken_rules.counts p reads (λ counts.
-    right 8 (broken_rules.index p reads (λ index. right 9 (broken_rules.counters p reads (λ counters. right 10 (broken_rules.events p reads (λ events.
-    none (record { fits = reads.0; checksums = reads.1; start = start; channels = channels; sequence = sequence; counts = counts; index = index; counters = counters; events = events }, not_here before rest closed p reads right)))))))))))))))
+-- what it reports is answered
+abbrev Answers : Packet → List ℕ → Type 0
+Answers p rest = IfSome (report_of p) (λ loss. IsAnswered loss (behind rest))
 
-abbrev behind : List ℕ → List ℕ
-behind rest = drop (header_at rest).packet_len rest
+may_stand : (before : List Packet) (rest : List ℕ) (closed : Bool) (p : Packet) → ReadsPacket rest p → IsGapTold (last_report before) p → ((m : ℕ) → BreaksRule before rest closed m → ⊥) → (MayStand closed before p → Answers p rest → ⊥) → ⊥
+may_stand before rest closed p reads told right none =
+    right 4 (broken_rules.start p reads (λ start. right 5 (broken_rules.channels p reads (λ channels. right 6 (broken_rules.sequence p reads (λ sequence. right 7 (broken_rules.counts p reads (λ counts.
+    right 8 (broken_rules.index p reads (λ index. right 9 (broken_rules.counters p reads (λ counters. right 10 (broken_rules.events p reads (λ events. on_reports (report_of p) refl (λ sound answered.
+    none (record { fits = reads.0; checksums = reads.1; start = start; channels = channels; sequence = sequence; counts = counts; index = index; counters = counters; events = events; reports = (told, sound) }, not_here before rest closed p reads right)
+    answered)))))))))))))))
+  where
+    on_reports : (o : Option LossBody) → report_of p ≡ o → (IfSome o IsSoundReport → IfSome o (λ loss. IsAnswered loss (behind rest)) → ⊥) → ⊥
+    on_reports None e go = go tt tt
+    on_reports (Some loss) e go = right 11 (broken_rules.reports p loss reads (report_is p loss e) (λ both. go both.0 both.1))
 
 same_bytes : (bytes : List ℕ) (before : List Packet) (rest : List ℕ) (p : Packet) → ReadsPacket rest p → bytes ≡ file_bytes before ++ rest → bytes ≡ file_bytes (before ++ p ∷ []) ++ behind rest
 same_bytes bytes before rest p reads is =
@@ -95,21 +105,21 @@ keep_more closed before p keep may = record {
 
 -- ---- at the end
 
-says : (bytes : List ℕ) (packets : List Packet) (closed : Bool) → KeepRules closed packets → bytes ≡ file_bytes packets → 2 ≤ length packets → is_closed_file packets ≡ closed → EndsIndex packets → SaysClosed bytes closed
-says bytes packets closed keep is two same ends =
+says : (bytes : List ℕ) (packets : List Packet) (closed : Bool) → KeepRules closed packets → bytes ≡ file_bytes packets → 2 ≤ length packets → is_closed_file packets ≡ closed → EndsIndex packets → EndsReports packets → SaysClosed bytes closed
+says bytes packets closed keep is two same ends quiet =
     let told = begins packets keep.strict (omega (arith, two)) in
-    (told.0, file_entries packets, (packets, is, record { file = record { each = keep.strict; start = two; index = ends }; setup_is = told.1; entries_are = λ channel. refl; closed_is = same }))
+    (told.0, file_entries packets, (packets, is, record { file = record { each = keep.strict; start = two; index = ends; reports = quiet }; setup_is = told.1; entries_are = λ channel. refl; closed_is = same }))
 
-whole : (bytes : List ℕ) (packets : List Packet) (closed : Bool) → KeepRules closed packets → bytes ≡ file_bytes packets → 2 ≤ length packets → NothingWrong closed packets [] → (SaysClosed bytes closed → ⊥) → ⊥
-whole bytes packets false keep is two right none = none (says bytes packets false keep is two (not_closed packets (keep.unclosed refl)) (λ _. keep.unclosed refl))
-whole bytes packets true keep is two right none = by (has_whole_index packets) refl where
+whole : (bytes : List ℕ) (packets : List Packet) (closed : Bool) → KeepRules closed packets → bytes ≡ file_bytes packets → EndsReports packets → 2 ≤ length packets → NothingWrong closed packets [] → (SaysClosed bytes closed → ⊥) → ⊥
+whole bytes packets false keep is quiet two right none = none (says bytes packets false keep is two (not_closed packets (keep.unclosed refl)) (λ _. keep.unclosed refl) quiet)
+whole bytes packets true keep is quiet two right none = by (has_whole_index packets) refl where
   by : (b : Bool) → has_whole_index packets ≡ b → ⊥
-  by true shut = none (says bytes packets true keep is two (whole_closed packets shut) (λ open_end. absurd (true≢false (sym shut ∙ open_end))))
+  by true shut = none (says bytes packets true keep is two (whole_closed packets shut) (λ open_end. absurd (true≢false (sym shut ∙ open_end))) quiet)
   by false open_end = right (Rule 8) (broken_rules.no_index refl two refl open_end)
 
-ended : (bytes : List ℕ) (packets : List Packet) (closed : Bool) → KeepRules closed packets → bytes ≡ file_bytes packets → NothingWrong closed packets [] → (SaysClosed bytes closed → ⊥) → ⊥
-ended bytes packets closed keep is right none = elim (cases_lt (length packets) 2) [
-  | inr two ↦ whole bytes packets closed keep is two right none
+ended : (bytes : List ℕ) (packets : List Packet) (closed : Bool) → KeepRules closed packets → bytes ≡ file_bytes packets → EndsReports packets → NothingWrong closed packets [] → (SaysClosed bytes closed → ⊥) → ⊥
+ended bytes packets closed keep is quiet right none = elim (cases_lt (length packets) 2) [
+  | inr two ↦ whole bytes packets closed keep is quiet two right none
   | inl few ↦
       elim (cases_lt (length packets) 1) [
         | inl empty ↦ right Truncated (broken_rules.packet (inr (omega (arith, empty))) refl)
@@ -119,25 +129,32 @@ ended bytes packets closed keep is right none = elim (cases_lt (length packets) 
 
 -- ---- all of it
 
-none_wrong : (bytes : List ℕ) (closed : Bool) (before : List Packet) (rest : List ℕ) → ((offset : ℕ) (fault : FileFault) → IsAtFault bytes closed offset fault → ⊥) → KeepRules closed before → bytes ≡ file_bytes before ++ rest
-    → NothingWrong closed before rest
-none_wrong bytes closed before rest right keep is =
-    λ fault wrong. right (length (file_bytes before)) fault (record { packets = before; rest = rest; bytes_are = is; offset_is = refl; strict = keep.strict; unclosed = keep.unclosed; wrong = wrong })
+none_wrong : (bytes : List ℕ) (closed : Bool) (before : List Packet) (rest : List ℕ) → ((offset : ℕ) (fault : FileFault) → IsAtFault bytes closed offset fault → ⊥) → KeepRules closed before → IsReportAnswered before rest
+    → bytes ≡ file_bytes before ++ rest → NothingWrong closed before rest
+none_wrong bytes closed before rest right keep answered is =
+    λ fault wrong. right (length (file_bytes before)) fault (record { packets = before; rest = rest; bytes_are = is; offset_is = refl; strict = keep.strict; answered = answered; unclosed = keep.unclosed; wrong = wrong })
 
 -- a packet of any recorder that stands first there is this recorder's, and may stand there
-may_come : (before : List Packet) (rest : List ℕ) (closed : Bool) → IsForeignPacket (first_packet rest) → NothingWrong closed before rest → ((p : Packet) → ReadsPacket rest p → MayStand closed before p → ⊥) → ⊥
-may_come before rest closed foreign right none =
-    no_rule before rest closed 3 foreign right (broken_rules.body (λ (p, reads). may_stand before rest closed p reads (λ m. no_rule before rest closed m foreign right) (none p reads)))
+may_come : (before : List Packet) (rest : List ℕ) (closed : Bool) → EachFollows [] before → IsReportAnswered before rest → IsForeignPacket (first_packet rest) → NothingWrong closed before rest
+    → ((p : Packet) → ReadsPacket rest p → MayStand closed before p → Answers p rest → ⊥) → ⊥
+may_come before rest closed each answered foreign right none =
+    no_rule before rest closed 3 foreign right (broken_rules.body (λ (p, reads).
+    let told = told_packet before rest p each reads answered in
+    let own = reads_retold rest p told.0 told.1.retold told.1.fits reads in
+    may_stand before rest closed told.0 own told.1.told (λ m. no_rule before rest closed m foreign right) (none told.0 own)))
 
 walk : (bytes : List ℕ) (closed : Bool) (n : ℕ) (before : List Packet) (rest : List ℕ) → ((offset : ℕ) (fault : FileFault) → IsAtFault bytes closed offset fault → ⊥) → (SaysClosed bytes closed → ⊥)
-    → KeepRules closed before → bytes ≡ file_bytes before ++ rest → length rest ≤ n → ⊥
-walk bytes closed n before [] right none keep is le = ended bytes before closed keep (is ∙ append-nil (file_bytes before)) (none_wrong bytes closed before [] right keep is) none
-walk bytes closed zero before (x ∷ xs) right none keep is le = omega (arith, le)
-walk bytes closed (suc n) before (x ∷ xs) right none keep is le =
+    → KeepRules closed before → IsReportAnswered before rest → bytes ≡ file_bytes before ++ rest → length rest ≤ n → ⊥
+walk bytes closed n before [] right none keep answered is le =
+    ended bytes before closed keep (is ∙ append-nil (file_bytes before)) (quiet_at_end (last_report before) answered) (none_wrong bytes closed before [] right keep answered is) none
+walk bytes closed zero before (x ∷ xs) right none keep answered is le = omega (arith, le)
+walk bytes closed (suc n) before (x ∷ xs) right none keep answered is le =
     let rest : List ℕ = x ∷ xs in
-    let sound : NothingWrong closed before rest = none_wrong bytes closed before rest right keep is in
-    first_foreign before rest closed (omega arith) sound (λ foreign. may_come before rest closed foreign sound (λ p reads may.
-    walk bytes closed n (before ++ p ∷ []) (behind rest) right none (keep_more closed before p keep may) (same_bytes bytes before rest p reads is) (shorter rest p n reads le)))
+    let sound : NothingWrong closed before rest = none_wrong bytes closed before rest right keep answered is in
+    first_foreign before rest closed (omega arith) sound (λ foreign. may_come before rest closed keep.strict answered foreign sound (λ p reads may answers.
+    walk bytes closed n (before ++ p ∷ []) (behind rest) right none (keep_more closed before p keep may)
+    (subst (λ (o : Option LossBody). IfSome o (λ loss. IsAnswered loss (behind rest))) (sym (last_with None before p)) answers)
+    (same_bytes bytes before rest p reads is) (shorter rest p n reads le)))
 
 pub either : (bytes : List ℕ) (closed : Bool) → ((offset : ℕ) (fault : FileFault) → IsAtFault bytes closed offset fault → ⊥) → (SaysClosed bytes closed → ⊥) → ⊥
-either bytes closed right none = walk bytes closed (length bytes) [] bytes right none (record { strict = tt; unclosed = λ _. refl }) refl (omega arith)
+either bytes closed right none = walk bytes closed (length bytes) [] bytes right none (record { strict = tt; unclosed = λ _. refl }) tt refl (omega arith)

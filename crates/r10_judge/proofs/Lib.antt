@@ -1,8 +1,10 @@
 pub mod Next
+pub mod Answering
 pub mod Judging
 pub mod Finished
 pub mod Ending
 pub mod Places
 pub mod Either
 pub mod Eighth
+pub mod Eleventh
 pub mod Parts

@@ -1,29 +1,32 @@
 -- The packet behind others.
 use Rattle.std.proofs.Common.{◌≡◌, ℕ, ◌<◌, List, [], ◌∷◌, ◌++◌, length, sym, ap, ◌∙◌, subst, arith, append_assoc}
-use Rattle.std.specs.List.{AllByRecursion}
-use Rattle.std.proofs.lemmas.List.{append-nil, length-append}
-use Rattle.r10_body.proofs.Lone.{packet-length}
-use Rattle.r10_body.specs.Packets.{Packet, FitsPacket, packet_bytes, file_bytes}
+use Rattle.std.proofs.lemmas.List.{append-nil, append_cancel_left}
+use Rattle.std.proofs.lemmas.List.Concat.{flat_map-append}
+use Rattle.r10_body.specs.Packets.{Packet, packet_bytes, file_bytes}
 use Rattle.r10_body.specs.Rules.{EachFollows, MayFollow}
-use Rattle.r10_body.proofs.Injective.{one_packet}
-use Rattle.r10_body.proofs.Lists.{same_behind}
-use Rattle.r10_body.proofs.Rules.{follows_fit}
+use Rattle.r10_body.proofs.Injective.{one_beginning}
 
--- a packet that may stand behind others, first in these bytes
-abbrev pub Next : List Packet → List ℕ → Type 0
-Next before rest = (p : Packet) × (more : List Packet) × MayFollow before p × (rest ≡ packet_bytes p ++ file_bytes more)
+-- a packet stands behind others, first in these bytes, and others behind it
+pub record IsNext (before all : List Packet) (rest : List ℕ) : Type 0 where
+  pub packet : Packet
+  pub more : List Packet
+  pub may : MayFollow before packet
+  pub each : EachFollows (before ++ packet ∷ []) more
+  pub all_are : all ≡ before ++ packet ∷ more
+  pub rest_is : rest ≡ packet_bytes packet ++ file_bytes more
 
-next_from : (before ps qs : List Packet) (rest : List ℕ) → AllByRecursion FitsPacket ps → EachFollows before qs → file_bytes qs ≡ file_bytes ps ++ rest → 0 < length rest → Next (before ++ ps) rest
-next_from before [] [] rest fit follows same some = absurd (omega (arith, some, ap length same))
-next_from before [] (q ∷ qs) rest fit follows same some = (q, qs, subst (λ (b : List Packet). MayFollow b q) (sym (append-nil before)) follows.0, sym same)
-next_from before (p ∷ ps) [] rest fit follows same some =
-    absurd (omega (arith, packet-length p, ap length same, length-append (packet_bytes p ++ file_bytes ps) rest, length-append (packet_bytes p) (file_bytes ps)))
-next_from before (p ∷ ps) (q ∷ qs) rest fit follows same some =
-    let apart : packet_bytes q ++ file_bytes qs ≡ packet_bytes p ++ (file_bytes ps ++ rest) = same ∙ append_assoc (packet_bytes p) (file_bytes ps) rest in
-    let is : q ≡ p = one_packet q p (file_bytes qs) (file_bytes ps ++ rest) follows.0.fits fit.0 apart in
-    let behind : file_bytes qs ≡ file_bytes ps ++ rest = same_behind (packet_bytes q) (packet_bytes p) (file_bytes qs) (file_bytes ps ++ rest) (ap packet_bytes is) apart in
-    subst (λ (b : List Packet). Next b rest) (append_assoc before (q ∷ []) ps ∙ ap (λ (x : Packet). before ++ x ∷ ps) is)
-    (next_from (before ++ q ∷ []) ps qs rest fit.1 follows.1 behind some)
+behind : (before ps qs : List Packet) → EachFollows before (ps ++ qs) → EachFollows (before ++ ps) qs
+behind before [] qs each = subst (λ (b : List Packet). EachFollows b qs) (sym (append-nil before)) each
+behind before (p ∷ ps) qs each = subst (λ (b : List Packet). EachFollows b qs) (append_assoc before (p ∷ []) ps) (behind (before ++ p ∷ []) ps qs each.1)
 
-pub next_packet : (packets all : List Packet) (rest : List ℕ) → EachFollows [] packets → EachFollows [] all → file_bytes all ≡ file_bytes packets ++ rest → 0 < length rest → Next packets rest
-next_packet packets all rest strict whole same some = next_from [] packets all rest (follows_fit [] packets strict) whole same some
+split : (packets all more : List Packet) (rest : List ℕ) → EachFollows [] all → all ≡ packets ++ more → rest ≡ file_bytes more → 0 < length rest → IsNext packets all rest
+split packets all [] rest each is bytes some = absurd (omega (arith, some, ap length bytes))
+split packets all (p ∷ more) rest each is bytes some =
+    let left : EachFollows packets (p ∷ more) = behind [] packets (p ∷ more) (subst (λ (ps : List Packet). EachFollows [] ps) is each) in
+    record { packet = p; more = more; may = left.0; each = left.1; all_are = is; rest_is = bytes }
+
+pub next_packet : (packets all : List Packet) (rest : List ℕ) → EachFollows [] packets → EachFollows [] all → file_bytes all ≡ file_bytes packets ++ rest → 0 < length rest → IsNext packets all rest
+next_packet packets all rest strict whole same some =
+    let begins = one_beginning [] packets all rest strict whole (sym same) in
+    let bytes : file_bytes packets ++ rest ≡ file_bytes packets ++ file_bytes begins.0 = sym same ∙ ap file_bytes begins.1 ∙ flat_map-append packet_bytes packets begins.0 in
+    split packets all begins.0 rest whole begins.1 (append_cancel_left (file_bytes packets) rest (file_bytes begins.0) bytes) some

@@ -1,5 +1,5 @@
 -- Parts of a file's bytes, and what is known of them.
-use Rattle.std.proofs.Common.{◌≡◌, ℕ, zero, suc, ◌+◌, ◌-◌, ◌*◌, ◌^◌, ◌<◌, ◌≤◌, inl, inr, List, [], ◌++◌, length, take, drop, true, false, Option, Some, None, IfSome, is_some, refl, sym, ap, ◌∙◌, subst, arith, append_assoc, take_all}
+use Rattle.std.proofs.Common.{◌≡◌, ℕ, zero, suc, ◌+◌, ◌-◌, ◌*◌, ◌^◌, ◌<◌, ◌≤◌, inl, inr, List, [], ◌++◌, length, take, drop, Bool, true, false, Option, Some, None, IfSome, is_some, refl, sym, ap, ◌∙◌, subst, arith, append_assoc, take_all}
 use Rattle.std.specs.List.{concat}
 use Rattle.std.proofs.Math.Seq.{take-add}
 use Rattle.std.proofs.lemmas.Bool.{cases_lt}
@@ -9,13 +9,16 @@ use Rattle.r10_medium.proofs.Bytes.{length-read_front}
 use Rattle.r10_blockout.specs.Blocks.{Shows}
 use Rattle.r10_blockout.specs.Bytes.{bytes_of}
 use Rattle.r10_blockout.proofs.Runs.{shown_as}
-use Rattle.r10_body.specs.Faults.{HasFault}
+use Rattle.r10_body.specs.Faults.{HasFault, IsReportAnswered}
 use Rattle.r10_body.specs.declared.fault.FileFault.{FileFault}
 use Rattle.r10_body.specs.declared.fault.FileFault.TheVariants.{Truncated}
 use Rattle.r10_strict.proofs.Faults.{fault_stays}
+use Rattle.r10_tracks.specs.declared.tracks.Tracks.{Tracks}
 use Rattle.r10_judge.specs.Files.{file_at}
+use Rattle.r10_judge.specs.Judged.{TellsAnswer}
 use Rattle.r10_judge.specs.Walks.{EndsWithFault, EndsAt}
 use Rattle.r10_judge.specs.declared.extent.Extent.{Extent}
+use Rattle.r10_judge.proofs.Answering.{report_answered_faulty}
 
 -- ---- what is taken
 
@@ -59,6 +62,15 @@ window_is image e at count whole within inside = shown_as image e.first (file_at
     shows : Shows image e.first (file_at image e)
     shows = ap (λ (n : ℕ). take n (concat (drop e.first image))) size
 
+-- what stands behind packets of a window, and behind the window
+window_joined : (file window : List ℕ) (at count n : ℕ) → window ≡ take count (drop at file) → n ≤ length window → drop n window ++ drop count (drop at file) ≡ drop (at + n) file
+window_joined file window at count n is le =
+    let more : List ℕ = drop count (drop at file) in
+    sym (drop-append-le n window more le)
+    ∙ ap (λ (l : List ℕ). drop n (l ++ more)) is
+    ∙ ap (λ (l : List ℕ). drop n l) (take-append-drop count (drop at file))
+    ∙ drop-drop n at file
+
 -- what stands behind packets of a window has its fault in the file, but where it may only be cut off
 pub fault_on : (file window : List ℕ) (at count n : ℕ) (f : FileFault) → window ≡ take count (drop at file) → n ≤ length window → at + count ≤ length file
     → EndsWithFault (Some f) (drop n window) → (at + count < length file → f ≡ Truncated → ⊥) → EndsAt file (at + n) f
@@ -68,11 +80,7 @@ fault_on file window at count n f is le inside ends cut = subst (λ (l : List �
     behind = drop count (drop at file)
 
     joined : drop n window ++ behind ≡ drop (at + n) file
-    joined =
-        sym (drop-append-le n window behind le)
-        ∙ ap (λ (l : List ℕ). drop n (l ++ behind)) is
-        ∙ ap (λ (l : List ℕ). drop n l) (take-append-drop count (drop at file))
-        ∙ drop-drop n at file
+    joined = window_joined file window at count n is le
 
     longer : 0 < length (drop n window ++ behind)
     longer = omega (arith, ends.0, length-append (drop n window) behind)
@@ -84,6 +92,18 @@ fault_on file window at count n f is le inside ends cut = subst (λ (l : List �
           let none : behind ≡ [] = nil_from_length behind (omega (arith, all, inside, length-drop count (drop at file), length-drop at file)) in
           subst (λ (l : List ℕ). HasFault l f) (sym (ap (λ (l : List ℕ). drop n window ++ l) none ∙ append-nil (drop n window))) ends.1
     ]
+
+-- and answers a report there where it does in the window
+pub tells_on : (told : Bool) (tracks : Tracks) (file window : List ℕ) (at count n : ℕ) (f : FileFault) → window ≡ take count (drop at file) → n ≤ length window
+    → HasFault (drop n window) f → HasFault (drop (at + n) file) f → TellsAnswer told tracks (drop n window) → TellsAnswer told tracks (drop (at + n) file)
+tells_on told tracks file window at count n f is le here there tells =
+    λ packets tracked.
+    let joined = window_joined file window at count n is le in
+    let same = report_answered_faulty packets (drop n window) (drop count (drop at file)) f here (subst (λ (l : List ℕ). HasFault l f) (sym joined) there) in
+    let answer = tells packets tracked in (
+      λ yes. subst (λ (l : List ℕ). IsReportAnswered packets l) joined (same.0 (answer.0 yes)),
+      λ is. answer.1 (same.1 (subst (λ (l : List ℕ). IsReportAnswered packets l) (sym joined) is)),
+    )
 
 pub some_on : {T : Type 0} (o : Option T) {P Q : T → Type 0} → ((x : T) → P x → Q x) → IfSome o P → IfSome o Q
 some_on None f has = tt

@@ -1,12 +1,13 @@
 -- Under its directory entry a file is at fault first at one place and in one way, and then it is no strict file with that closing.
-use Rattle.std.proofs.Common.{◌≡◌, ℕ, ◌<◌, ◌≤◌, ◌⊎◌, inl, inr, Bool, false, List, [], ◌∷◌, ◌++◌, length, count_by, refl, sym, ap, ◌∙◌, subst, arith, append_assoc, true≢false}
+use Rattle.std.proofs.Common.{◌≡◌, ℕ, ◌<◌, ◌≤◌, ◌⊎◌, inl, inr, Bool, false, Option, None, IfSome, List, [], ◌∷◌, ◌++◌, length, count_by, refl, sym, ap, ◌∙◌, subst, arith, append_assoc, true≢false}
 use Rattle.std.proofs.lemmas.List.{append-nil, length-append, length-take}
 use Rattle.r10_packet.specs.Framing.{header_at}
+use Rattle.r10_lossbody.specs.declared.body.LossBody.{LossBody}
 use Rattle.r10_body.proofs.Lone.{packet-length}
 use Rattle.r10_body.specs.Foreign.{IsForeignPacket}
 use Rattle.r10_body.specs.Packets.{Packet, packet_bytes, file_bytes}
-use Rattle.r10_body.specs.Rules.{EachFollows, EndsIndex, MayFollow, has_whole_index, is_index, is_closed_file}
-use Rattle.r10_body.specs.Faults.{HasFault, ReadsPacket, BreaksRule, IsWrongHere, IsAtFault, first_packet}
+use Rattle.r10_body.specs.Rules.{EachFollows, EndsIndex, MayFollow, is_index, is_closed_file, last_report, report_from, report_of}
+use Rattle.r10_body.specs.Faults.{HasFault, IsAnswered, ReadsPacket, BreaksRule, IsWrongHere, IsAtFault, first_packet}
 use Rattle.r10_body.specs.Faults as broken_rules
 use Rattle.r10_body.specs.declared.fault.FileFault.{FileFault}
 use Rattle.r10_body.specs.declared.fault.FileFault.TheVariants.{Rule}
@@ -15,10 +16,11 @@ use Rattle.r10_strict.proofs.Fronts.{first_joined}
 use Rattle.r10_strict.proofs.Ways.{packet_long, first_again}
 use Rattle.r10_strict.proofs.Written.{packet_foreign}
 use Rattle.r10_body.proofs.Indexes.{none_at, not_closed, not_whole, part_of}
-use Rattle.r10_body.proofs.Injective.{one_packet}
+use Rattle.r10_body.proofs.Injective.{one_follower}
 use Rattle.r10_body.proofs.Lists.{same_behind}
-use Rattle.r10_judge.specs.Judged.{SaysClosed, BreaksIn, broken_rule, in_open_file}
-use Rattle.r10_judge.proofs.Judging.{from_bytes, may_break_none}
+use Rattle.r10_judge.specs.Judged.{SaysClosed}
+use Rattle.r10_judge.proofs.Answering.{answered_behind, no_report, reads_behind}
+use Rattle.r10_judge.proofs.Judging.{behind, keeps_all}
 
 -- ---- what stands behind packets that keep the rules
 
@@ -29,24 +31,26 @@ pub record GoesOnWith (closed : Bool) (before : List Packet) (rest : List ℕ) :
   pub may : MayFollow before packet
   pub unclosed : closed ≡ false → is_index packet ≡ false
   pub first : rest ≡ packet_bytes packet ++ more
+  pub answered : IfSome (report_of packet) (λ loss. IsAnswered loss more)
 
 no_bytes : (closed : Bool) (before : List Packet) (rest : List ℕ) → GoesOnWith closed before rest → length rest ≡ 0 → ⊥
 no_bytes closed before rest on none = omega (arith, none, ap length on.first, length-append (packet_bytes on.packet) on.more, packet-length on.packet)
 
-breaks_none : (closed : Bool) (before : List Packet) (p : Packet) (n : ℕ) → MayFollow before p → (closed ≡ false → is_index p ≡ false) → BreaksIn closed before p n → ⊥
-breaks_none closed before p n may unclosed (broken_rule b) = may_break_none before p n may b
-breaks_none closed before p n may unclosed (in_open_file index open_file) = true≢false (sym index ∙ unclosed open_file)
-
 its_reading : (closed : Bool) (before : List Packet) (rest : List ℕ) (on : GoesOnWith closed before rest) → ReadsPacket rest on.packet
 its_reading closed before rest on =
     (on.may.fits, on.may.checksums, ap first_packet on.first ∙ first_again (packet_bytes on.packet) on.more (packet_foreign on.packet on.may.fits))
+
+its_answer : (closed : Bool) (before : List Packet) (rest : List ℕ) (on : GoesOnWith closed before rest) → IfSome (report_of on.packet) (λ loss. IsAnswered loss (behind rest))
+its_answer closed before rest on =
+    let there : behind rest ≡ on.more = ap behind on.first ∙ reads_behind (packet_bytes on.packet) on.more (packet_foreign on.packet on.may.fits) in
+    subst (λ (l : List ℕ). IfSome (report_of on.packet) (λ loss. IsAnswered loss l)) (sym there) on.answered
 
 -- then nothing is wrong there
 nothing_wrong : (closed : Bool) (before : List Packet) (rest : List ℕ) (fault : FileFault) → GoesOnWith closed before rest → IsWrongHere before rest closed fault → ⊥
 nothing_wrong closed before rest fault on (broken_rules.packet some has) =
     apart (packet_bytes on.packet) on.more fault (packet_foreign on.packet on.may.fits) (subst (λ (b : List ℕ). HasFault b fault) on.first has)
 nothing_wrong closed before rest (Rule n) on (broken_rules.rule foreign broken least) =
-    breaks_none closed before on.packet n on.may on.unclosed (from_bytes closed before rest on.packet n (its_reading closed before rest on) broken)
+    keeps_all closed before rest on.packet n (its_reading closed before rest on) on.may on.unclosed (its_answer closed before rest on) broken
 nothing_wrong closed before rest fault on (broken_rules.no_time none one) = no_bytes closed before rest on none
 nothing_wrong closed before rest fault on (broken_rules.no_index none some shut open_end) = no_bytes closed before rest on none
 
@@ -58,28 +62,30 @@ data Meets (closed : Bool) (ps qs : List Packet) (r s : List ℕ) : Type 0 where
   left_on : GoesOnWith closed qs s → Meets closed ps qs r s
   right_on : GoesOnWith closed ps r → Meets closed ps qs r s
 
-goes_on_with : (closed : Bool) (before qs : List Packet) (q : Packet) (r s : List ℕ) → EachFollows before (q ∷ qs) → (closed ≡ false → count_by is_index (q ∷ qs) ≡ 0) → r ≡ (packet_bytes q ++ file_bytes qs) ++ s
+goes_on_with : (closed : Bool) (before qs : List Packet) (q : Packet) (r s : List ℕ) → EachFollows before (q ∷ qs) → (closed ≡ false → count_by is_index (q ∷ qs) ≡ 0) → IfSome (report_from (report_of q) qs) (λ loss. IsAnswered loss s) → r ≡ (packet_bytes q ++ file_bytes qs) ++ s
     → GoesOnWith closed (before ++ []) r
-goes_on_with closed before qs q r s each unclosed is = record {
+goes_on_with closed before qs q r s each unclosed last is = record {
   packet = q;
   more = file_bytes qs ++ s;
   may = subst (λ (b : List Packet). MayFollow b q) (sym (append-nil before)) each.0;
   unclosed = λ open_file. (none_at q qs (part_of q) (unclosed open_file)).0;
   first = is ∙ append_assoc (packet_bytes q) (file_bytes qs) s;
+  answered = answered_behind before qs q s each.1 last;
 }
 
-meets : (closed : Bool) (before ps qs : List Packet) (r s : List ℕ) → EachFollows before ps → EachFollows before qs → (closed ≡ false → count_by is_index ps ≡ 0) → (closed ≡ false → count_by is_index qs ≡ 0)
+meets : (closed : Bool) (o w : Option LossBody) (before ps qs : List Packet) (r s : List ℕ) → EachFollows before ps → EachFollows before qs → (closed ≡ false → count_by is_index ps ≡ 0) → (closed ≡ false → count_by is_index qs ≡ 0)
+    → IfSome (report_from o ps) (λ loss. IsAnswered loss r) → IfSome (report_from w qs) (λ loss. IsAnswered loss s)
     → file_bytes ps ++ r ≡ file_bytes qs ++ s → Meets closed (before ++ ps) (before ++ qs) r s
-meets closed before [] [] r s f g u v e = same refl e
-meets closed before [] (q ∷ qs) r s f g u v e = right_on (goes_on_with closed before qs q r s g v e)
-meets closed before (p ∷ ps) [] r s f g u v e = left_on (goes_on_with closed before ps p s r f u (sym e))
-meets closed before (p ∷ ps) (q ∷ qs) r s f g u v e =
+meets closed o w before [] [] r s f g u v a b e = same refl e
+meets closed o w before [] (q ∷ qs) r s f g u v a b e = right_on (goes_on_with closed before qs q r s g v b e)
+meets closed o w before (p ∷ ps) [] r s f g u v a b e = left_on (goes_on_with closed before ps p s r f u a (sym e))
+meets closed o w before (p ∷ ps) (q ∷ qs) r s f g u v a b e =
     let spread : packet_bytes p ++ (file_bytes ps ++ r) ≡ packet_bytes q ++ (file_bytes qs ++ s) = sym (append_assoc (packet_bytes p) (file_bytes ps) r) ∙ e ∙ append_assoc (packet_bytes q) (file_bytes qs) s in
-    let is : p ≡ q = one_packet p q (file_bytes ps ++ r) (file_bytes qs ++ s) f.0.fits g.0.fits spread in
-    let behind : file_bytes ps ++ r ≡ file_bytes qs ++ s = same_behind (packet_bytes p) (packet_bytes q) (file_bytes ps ++ r) (file_bytes qs ++ s) (ap packet_bytes is) spread in
+    let is : p ≡ q = one_follower before p q (file_bytes ps ++ r) (file_bytes qs ++ s) f.0 g.0 spread in
+    let left : file_bytes ps ++ r ≡ file_bytes qs ++ s = same_behind (packet_bytes p) (packet_bytes q) (file_bytes ps ++ r) (file_bytes qs ++ s) (ap packet_bytes is) spread in
     let each : EachFollows (before ++ p ∷ []) qs = subst (λ (x : Packet). EachFollows (before ++ x ∷ []) qs) (sym is) g.1 in
     let on : Meets closed ((before ++ p ∷ []) ++ ps) ((before ++ p ∷ []) ++ qs) r s =
-    meets closed (before ++ p ∷ []) ps qs r s f.1 each (λ o. (none_at p ps (part_of p) (u o)).3) (λ o. (none_at q qs (part_of q) (v o)).3) behind in
+    meets closed (report_of p) (report_of q) (before ++ p ∷ []) ps qs r s f.1 each (λ o. (none_at p ps (part_of p) (u o)).3) (λ o. (none_at q qs (part_of q) (v o)).3) a b left in
     let front : (before ++ p ∷ []) ++ ps ≡ before ++ p ∷ ps = append_assoc before (p ∷ []) ps in
     let other : (before ++ p ∷ []) ++ qs ≡ before ++ q ∷ qs = append_assoc before (p ∷ []) qs ∙ ap (λ (x : Packet). before ++ x ∷ qs) is in
     subst (λ (b : List Packet). Meets closed b (before ++ q ∷ qs) r s) front (subst (λ (b : List Packet). Meets closed ((before ++ p ∷ []) ++ ps) b r s) other on)
@@ -89,7 +95,7 @@ meets closed before (p ∷ ps) (q ∷ qs) r s f g u v e =
 same_place : (bytes : List ℕ) (closed : Bool) (offset : ℕ) (fault : FileFault) (place : ℕ) (other : FileFault) (x : IsAtFault bytes closed offset fault) (y : IsAtFault bytes closed place other)
     → (x.packets ≡ y.packets) × (x.rest ≡ y.rest)
 same_place bytes closed offset fault place other x y =
-    elim (meets closed [] x.packets y.packets x.rest y.rest x.strict y.strict x.unclosed y.unclosed (sym x.bytes_are ∙ y.bytes_are)) [
+    elim (meets closed None None [] x.packets y.packets x.rest y.rest x.strict y.strict x.unclosed y.unclosed x.answered y.answered (sym x.bytes_are ∙ y.bytes_are)) [
       | same ps rs ↦ (ps, rs)
       | left_on on ↦ absurd (nothing_wrong closed y.packets y.rest other on y.wrong)
       | right_on on ↦ absurd (nothing_wrong closed x.packets x.rest fault on x.wrong)
@@ -150,7 +156,8 @@ nothing_missing packets closed fault two is ends (broken_rules.no_index none som
 
 pub strict_apart : (bytes : List ℕ) (closed : Bool) (offset : ℕ) (fault : FileFault) → IsAtFault bytes closed offset fault → SaysClosed bytes closed → ⊥
 strict_apart bytes closed offset fault x (text, entries, (all, they, say)) =
-    elim (meets closed [] x.packets all x.rest [] x.strict say.file.each x.unclosed (λ open_file. say.file.index (not_whole all (say.closed_is ∙ open_file))) (sym x.bytes_are ∙ they ∙ sym (append-nil (file_bytes all)))) [
+    elim (meets closed None None [] x.packets all x.rest [] x.strict say.file.each x.unclosed (λ open_file. say.file.index (not_whole all (say.closed_is ∙ open_file))) x.answered
+    (no_report (last_report all) (λ loss. IsAnswered loss []) say.file.reports) (sym x.bytes_are ∙ they ∙ sym (append-nil (file_bytes all)))) [
       | same ps rs ↦
           nothing_missing all closed fault say.file.start say.closed_is say.file.index
           (subst (λ (b : List Packet). IsWrongHere b [] closed fault) ps (subst (λ (r : List ℕ). IsWrongHere x.packets r closed fault) rs x.wrong))

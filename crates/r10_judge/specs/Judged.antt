@@ -1,10 +1,10 @@
 -- How far a file is judged: its packets keep the rules so far, or one of them breaks a rule.
-use Rattle.std.specs.Prelude.{◌≡◌, ℕ, ◌≤◌, Bool, false, IsTrue, List, [], ◌++◌, length, count_by, min, Option, Some, None}
+use Rattle.std.specs.Prelude.{◌≡◌, ℕ, ◌-◌, ◌≤◌, ◌↔◌, Bool, false, IsTrue, List, [], ◌++◌, length, count_by, min, Option, Some, None}
 use Rattle.r10_body.specs.Packets.{Packet, file_bytes}
 use Rattle.r10_body.specs.Files.{FileSays, PacketsSay}
 use Rattle.r10_body.specs.Rules.{EachFollows, EndsIndex, MayFollow, is_closed_file, is_index}
 use Rattle.r10_body.specs.Foreign.{IsForeignPacket}
-use Rattle.r10_body.specs.Faults.{BreaksRule, IsWrongHere}
+use Rattle.r10_body.specs.Faults.{BreaksRule, IsReportAnswered, IsWrongHere}
 use Rattle.r10_body.specs.declared.entry.Entry.{Entry}
 use Rattle.r10_body.specs.declared.fault.FileFault.{FileFault}
 use Rattle.r10_body.specs.declared.fault.FileFault.TheVariants.{Rule}
@@ -26,18 +26,19 @@ pub record KeepsRulesSoFar (closed : Bool) (tracks : Tracks) (bytes : List ℕ) 
   pub keep : KeepRules closed packets
   pub tracked : IsTracked tracks packets
 
--- behind packets that keep the rules a packet of any recorder breaks one, and of those that it breaks this is the least
+-- behind packets that keep the rules a packet of any recorder breaks one, whatever stands behind these bytes, and of those that it breaks this is the least
 pub record BreaksAt (closed : Bool) (at : Fault) (bytes : List ℕ) : Type 0 where
   pub packets : List Packet
   pub packet : List ℕ
   pub more : List ℕ
   pub bytes_are : bytes ≡ file_bytes packets ++ (packet ++ more)
   pub keep : KeepRules closed packets
+  pub answered : IsReportAnswered packets packet
   pub foreign : IsForeignPacket packet
   pub number : ℕ
   pub at_is : at ≡ record { offset = length (file_bytes packets); fault = Rule number }
-  pub broken : BreaksRule packets packet closed number
-  pub least : (m : ℕ) → BreaksRule packets packet closed m → number ≤ m
+  pub broken : (later : List ℕ) → BreaksRule packets (packet ++ (more ++ later)) closed number
+  pub least : (later : List ℕ) (m : ℕ) → BreaksRule packets (packet ++ (more ++ later)) closed m → number ≤ m
 
 -- where a judge stands behind these bytes of packets
 abbrev pub StandsAt : Option Fault → Bool → Tracks → List ℕ → Type 0
@@ -46,6 +47,10 @@ StandsAt (Some at) closed tracks bytes = BreaksAt closed at bytes
 
 abbrev pub TracksJudged : Judge → List ℕ → Type 0
 TracksJudged j bytes = StandsAt j.broken j.closed j.tracks bytes
+
+-- what stands next answers the report that stands last, where one does, or not
+abbrev pub TellsAnswer : Bool → Tracks → List ℕ → Type 0
+TellsAnswer told tracks rest = (packets : List Packet) → IsTracked tracks packets → IsTrue told ↔ IsReportAnswered packets rest
 
 -- ---- one packet more
 
@@ -61,6 +66,10 @@ BreaksRuleOfFileFirst closed before p (Some n) = BreaksIn closed before p n × (
 
 abbrev pub stopped_at : List Packet → ℕ → Fault
 stopped_at packets n = record { offset = length (file_bytes packets); fault = Rule n }
+
+-- where a report stands that stands last, and is not answered
+abbrev pub unanswered_at : List Packet → Fault
+unanswered_at packets = record { offset = length (file_bytes packets) - 44; fault = Rule 11 }
 
 -- the least rule that an index packet of an unclosed file breaks, where these are those that it breaks beside
 abbrev pub least_of_index : Option ℕ → ℕ
@@ -82,7 +91,7 @@ pub record TracksStrictFile (closed : Bool) (tracks : Tracks) (bytes : List ℕ)
   pub say : PacketsSay packets text entries closed
   pub tracked : IsTracked tracks packets
 
--- nothing is missing behind packets that keep the rules, or what is missing makes the file end with this fault
+-- nothing is missing behind packets that keep the rules and of which no report stands last, or what is missing makes the file end with this fault
 abbrev pub MayMiss : Bool → List Packet → Option FileFault → Type 0
 MayMiss closed packets None = (2 ≤ length packets) × (is_closed_file packets ≡ closed) × EndsIndex packets
 MayMiss closed packets (Some fault) = IsWrongHere packets [] closed fault

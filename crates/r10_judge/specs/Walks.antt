@@ -1,9 +1,10 @@
 -- How far a file is walked.
-use Rattle.std.specs.Prelude.{◌≡◌, ℕ, ◌<◌, List, ◌++◌, length, drop, Option, Some, None}
+use Rattle.std.specs.Prelude.{◌≡◌, ℕ, ◌<◌, Bool, List, ◌++◌, length, drop, Option, Some, None, IfSome}
 use Rattle.r10_body.specs.Faults.{HasFault}
 use Rattle.r10_body.specs.declared.fault.FileFault.{FileFault}
 use Rattle.r10_strict.specs.Tracks.{TracksForeign}
-use Rattle.r10_judge.specs.Judged.{TracksJudged}
+use Rattle.r10_tracks.specs.declared.tracks.Tracks.{Tracks}
+use Rattle.r10_judge.specs.Judged.{TellsAnswer, TracksJudged}
 use Rattle.r10_judge.specs.declared.walk.Walk.{Walk}
 use Rattle.r10_judge.specs.declared.window.Walked.{Walked}
 
@@ -21,6 +22,11 @@ EndsWithFault (Some fault) rest = (0 < length rest) × HasFault rest fault
 abbrev pub EndsAt : List ℕ → ℕ → FileFault → Type 0
 EndsAt bytes offset fault = EndsWithFault (Some fault) (drop offset bytes)
 
+-- what stands at an offset has this fault, and it is told whether it answers the report that stands last
+pub record IsFaultTold (bytes : List ℕ) (offset : ℕ) (told : Bool) (tracks : Tracks) (fault : FileFault) : Type 0 where
+  pub ends : EndsAt bytes offset fault
+  pub answered : TellsAnswer told tracks (drop offset bytes)
+
 -- the file is walked up to its end, or up to what is no packet of any recorder
 pub record IsWalked (bytes : List ℕ) (walked : Walked) : Type 0 where
   pub before : List ℕ
@@ -28,3 +34,4 @@ pub record IsWalked (bytes : List ℕ) (walked : Walked) : Type 0 where
   pub bytes_are : bytes ≡ before ++ rest
   pub stands : TracksWalked walked.walk before
   pub ends : EndsWithFault walked.fault rest
+  pub answered : IfSome walked.fault (λ _. TellsAnswer walked.answered walked.walk.judge.tracks rest)

@@ -1,18 +1,19 @@
 //! Whether a file keeps the rules, packet by packet.
 
-ghost use Rattle.std.specs.Prelude.{◌≡◌, ◌↔◌, ◌⊎◌, ◌+◌, ◌<◌, ◌≤◌, ◌^◌, ◌++◌, ℕ, List, [], length, true, false, IsTrue, MatchOption, MatchResult, OnOk, OnErr, None, Some};
+ghost use Rattle.std.specs.Prelude.{◌≡◌, ◌↔◌, ◌⊎◌, ◌+◌, ◌<◌, ◌≤◌, ◌^◌, ◌++◌, ℕ, Bool, List, [], length, true, false, IsTrue, MatchOption, MatchResult, OnOk, OnErr, None, Some};
 ghost use Rattle.r10_packet.specs.Framing.{framing_fault, body_at};
-ghost use Rattle.r10_body.specs.Faults.{HasFault, IsAtFault};
+ghost use Rattle.r10_body.specs.Faults.{HasFault, IsAnswered, IsAtFault, IsReportAnswered};
 ghost use Rattle.r10_body.specs.Files.{IsStrict};
 ghost use Rattle.r10_body.specs.Foreign.{IsForeignPacket};
 ghost use Rattle.r10_body.specs.Packets.{Packet, FitsPacket, packet_body, packet_bytes};
-ghost use Rattle.r10_body.specs.Rules.{EndsIndex, KeepsChecksums};
+ghost use Rattle.r10_body.specs.Rules.{EndsIndex, EndsReports, IsGapTold, KeepsChecksums, last_report};
 ghost use Rattle.r10_body.specs.Rules.{is_index as is_index_packet};
-ghost use Rattle.r10_judge.specs.Judged.{TracksJudged, KeepsRulesSoFar, BreaksRuleOfFileFirst, TracksStrictFile, MayMiss, SaysClosed, least_of_index, stopped_at};
+ghost use Rattle.r10_judge.specs.Judged.{TracksJudged, KeepsRulesSoFar, BreaksRuleOfFileFirst, TracksStrictFile, MayMiss, SaysClosed, TellsAnswer, least_of_index, stopped_at, unanswered_at};
 ghost use Rattle.r10_strict.specs.Facts.{AreFactsOf, kind_of};
 ghost use Rattle.r10_tracks.specs.Tracks.{IsTracked};
 
 use r10_body::FileFault;
+use r10_lossbody::LossBody;
 use r10_strict::{Facts, Fault, PacketKind, StrictReading, read_checked};
 use r10_tracks::Tracks;
 use std::alloc::{AllocError, Global};
@@ -49,6 +50,10 @@ impl Judge {
         ensures closed { self.new.closed ≡ self.old.closed }
     {
         if self.broken.is_some() {
+            return Ok(());
+        }
+        if !self.is_answered(packet) {
+            self.stop_at_report();
             return Ok(());
         }
         match read_checked(alloc, packet) {
@@ -104,19 +109,48 @@ impl Judge {
         }
     }
 
-    /// Where and how the file is at fault whose next packet has this fault of framing, checksum or body: there,
-    /// or where a packet before it breaks a rule.
-    pub fn fault_behind(&self, fault: FileFault) -> Fault
-        ensures { (before rest : List ℕ) → TracksJudged self.now before → (0 < length rest) ⊎ (length before ≡ 0) → HasFault rest fault
+    /// Whether what stands next answers the report that stands last, where one does: it is a packet of the channel
+    /// that the report names, and flagged.
+    pub fn is_answered(&self, rest: &[u8]) -> bool
+        ensures { TellsAnswer result self.now.tracks rest.now }
+    {
+        match self.tracks.report() {
+            Some(loss) => answers(&loss, rest),
+            None => true,
+        }
+    }
+
+    /// Where and how the file is at fault whose next packet has this fault of framing, checksum or body: there, or
+    /// where a packet before it breaks a rule. It is told whether that packet answers the report that stands last.
+    pub fn fault_behind(&self, fault: FileFault, answered: bool) -> Fault
+        ensures { (before rest : List ℕ) → TracksJudged self.now before → (0 < length rest) ⊎ (length before ≡ 0) → HasFault rest fault → TellsAnswer answered self.now.tracks rest
             → IsAtFault (before ++ rest) self.now.closed result.offset result.fault }
     {
         match self.first_broken() {
             Some(at) => at,
-            None => {
-                let offset = self.tracks.bytes();
-                Fault { offset, fault }
-            }
+            None => self.next_fault(fault, answered),
         }
+    }
+
+    /// The fault of a file whose packets keep the rules and whose next packet has this fault.
+    fn next_fault(&self, fault: FileFault, answered: bool) -> Fault
+        ensures { (before rest : List ℕ) → KeepsRulesSoFar self.now.closed self.now.tracks before → (0 < length rest) ⊎ (length before ≡ 0) → HasFault rest fault → TellsAnswer answered self.now.tracks rest
+            → IsAtFault (before ++ rest) self.now.closed result.offset result.fault }
+    {
+        if !answered {
+            return self.unanswered();
+        }
+        let offset = self.tracks.bytes();
+        Fault { offset, fault }
+    }
+
+    /// The fault of a report that stands last and isn't answered.
+    fn unanswered(&self) -> Fault
+        ensures { (packets : List Packet) → IsTracked self.now.tracks packets → result ≡ unanswered_at packets }
+    {
+        let offset = self.tracks.bytes().saturating_sub(44);
+        let fault = FileFault::Rule(11);
+        Fault { offset, fault }
     }
 
     fn first_broken(&self) -> Option<Fault>
@@ -129,6 +163,9 @@ impl Judge {
     fn end_of_packets(&self) -> Option<Fault>
         ensures { (bytes : List ℕ) → KeepsRulesSoFar self.now.closed self.now.tracks bytes → MatchOption result (SaysClosed bytes self.now.closed) (λ at. IsAtFault bytes self.now.closed at.offset at.fault) }
     {
+        if self.tracks.report().is_some() {
+            return Some(self.unanswered());
+        }
         let offset = self.tracks.bytes();
         match self.missing() {
             Some(fault) => Some(Fault { offset, fault }),
@@ -170,17 +207,31 @@ impl Judge {
         &self.tracks
     }
 
-    /// Whether the packets are two at least, and have a whole index or no index packet.
+    /// Whether the packets are two at least, have a whole index or no index packet, and no report stands last.
     fn is_whole(&self) -> bool
-        ensures { (packets : List Packet) → IsTracked self.now.tracks packets → (IsTrue result ↔ ((2 ≤ length packets) × EndsIndex packets)) }
+        ensures { (packets : List Packet) → IsTracked self.now.tracks packets → (IsTrue result ↔ ((2 ≤ length packets) × EndsIndex packets × EndsReports packets)) }
     {
-        2 <= self.tracks.packets() && (self.tracks.has_whole_index() || !self.tracks.has_index())
+        if self.tracks.packets() < 2 {
+            return false;
+        }
+        if self.tracks.report().is_some() {
+            return false;
+        }
+        self.has_all_or_none()
+    }
+
+    /// Whether the packets have a whole index or no index packet.
+    fn has_all_or_none(&self) -> bool
+        ensures { (packets : List Packet) → IsTracked self.now.tracks packets → (IsTrue result ↔ EndsIndex packets) }
+    {
+        self.tracks.has_whole_index() || !self.tracks.has_index()
     }
 
     /// Takes the next packet, which keeps the first three rules: it is added, or breaks another one.
     fn take_strict(&mut self, facts: &Facts, body: &[u8]) -> Result<(), AllocError>
         requires { self.old.broken ≡ None }
-        ensures taken { (before : List ℕ) (p : Packet) → KeepsRulesSoFar self.old.closed self.old.tracks before → KeepsChecksums p → AreFactsOf facts.now p → body.now ≡ packet_body p → FitsPacket p
+        ensures taken { (before : List ℕ) (p : Packet) (goes : KeepsRulesSoFar self.old.closed self.old.tracks before) → KeepsChecksums p → IsGapTold (last_report goes.packets) p → IsReportAnswered goes.packets (packet_bytes p)
+            → AreFactsOf facts.now p → body.now ≡ packet_body p → FitsPacket p
             → length (before ++ packet_bytes p) < 2 ^ 63 → OnOk result (TracksJudged self.new (before ++ packet_bytes p)) }
         ensures kept { (before : List ℕ) → TracksJudged self.old before → OnErr result (TracksJudged self.new before) }
         ensures closed { self.new.closed ≡ self.old.closed }
@@ -196,7 +247,7 @@ impl Judge {
 
     /// The least of the rules from 4 on that the next packet breaks.
     fn rule(&self, facts: &Facts, body: &[u8]) -> Option<u8>
-        ensures { (packets : List Packet) (p : Packet) → IsTracked self.now.tracks packets → FitsPacket p → KeepsChecksums p → AreFactsOf facts.now p → body.now ≡ packet_body p
+        ensures { (packets : List Packet) (p : Packet) → IsTracked self.now.tracks packets → FitsPacket p → KeepsChecksums p → IsGapTold (last_report packets) p → AreFactsOf facts.now p → body.now ≡ packet_body p
             → BreaksRuleOfFileFirst self.now.closed packets p result }
     {
         let rule = self.tracks.rule(facts, body);
@@ -218,6 +269,25 @@ impl Judge {
         let offset = self.tracks.bytes();
         let fault = FileFault::Rule(rule);
         self.broken = Some(Fault { offset, fault });
+    }
+
+    /// Stops at the report that stands last.
+    fn stop_at_report(&mut self)
+        ensures tracks { self.new.tracks ≡ self.old.tracks }
+        ensures closed { self.new.closed ≡ self.old.closed }
+        ensures broken { (packets : List Packet) → IsTracked self.old.tracks packets → self.new.broken ≡ Some (unanswered_at packets) }
+    {
+        self.broken = Some(self.unanswered());
+    }
+}
+
+/// Whether a flagged packet stands first that is of the channel of a report.
+fn answers(loss: &LossBody, rest: &[u8]) -> bool
+    ensures { IsTrue result ↔ IsAnswered loss.now rest.now }
+{
+    match r10_packet::Packet::read(rest) {
+        Ok((view, _)) => { view.header.channel == loss.channel && view.header.flags / 16 % 2 == 1 }
+        Err(_) => false,
     }
 }
 

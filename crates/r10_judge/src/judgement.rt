@@ -50,9 +50,13 @@ pub fn judge_file<M: BlockMedium>(
 fn judged(walked: Walked) -> Judgement
     ensures { (bytes : List ℕ) → IsWalked bytes walked → IsJudged bytes walked.walk.judge.closed result }
 {
-    let Walked { walk, fault } = walked;
+    let Walked {
+        walk,
+        fault,
+        answered,
+    } = walked;
     match fault {
-        Some(fault) => Judgement::Faulty(walk.judge.fault_behind(fault)),
+        Some(fault) => Judgement::Faulty(walk.judge.fault_behind(fault, answered)),
         None => match walk.judge.finish() {
             Ok(tracks) => Judgement::Strict(tracks),
             Err(at) => Judgement::Faulty(at),

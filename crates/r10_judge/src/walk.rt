@@ -1,6 +1,7 @@
 //! A file's packets, taken one after the other.
 
-ghost use Rattle.std.specs.Prelude.{◌≡◌, ◌+◌, ◌<◌, ◌≤◌, ◌^◌, ◌++◌, ℕ, List, [], length, take, drop, IfOk};
+ghost use Rattle.std.specs.Prelude.{◌≡◌, ◌+◌, ◌<◌, ◌≤◌, ◌^◌, ◌++◌, ℕ, List, [], length, take, drop, IfOk, IfSome};
+ghost use Rattle.r10_judge.specs.Judged.{TellsAnswer};
 ghost use Rattle.r10_judge.specs.Walks.{TracksWalked, EndsWithFault};
 
 use crate::Judge;
@@ -24,6 +25,8 @@ pub(crate) struct Taken {
     pub length: usize,
     /// The fault of what stands behind them, where something does.
     pub fault: Option<FileFault>,
+    /// Whether that answers the report that stands last, where one does.
+    pub answered: bool,
 }
 
 impl Walk {
@@ -44,6 +47,7 @@ impl Walk {
         ensures stands { IfOk result (λ taken. (before : List ℕ) → TracksWalked self.old before → TracksWalked self.new (before ++ take taken.length bytes.now)) }
         ensures inside { IfOk result (λ taken. taken.length ≤ length bytes.now) }
         ensures ends { IfOk result (λ taken. EndsWithFault taken.fault (drop taken.length bytes.now)) }
+        ensures answered { IfOk result (λ taken. IfSome taken.fault (λ _. TellsAnswer taken.answered self.new.judge.tracks (drop taken.length bytes.now))) }
         ensures closed { self.new.judge.closed ≡ self.old.judge.closed }
     {
         let mut done = 0;
@@ -53,9 +57,11 @@ impl Walk {
                 Ok(packet) => packet,
                 Err(at) => {
                     let fault = Some(at.fault);
+                    let answered = self.judge.is_answered(rest);
                     return Ok(Taken {
                         length: done,
                         fault,
+                        answered,
                     });
                 }
             };
@@ -65,6 +71,7 @@ impl Walk {
         Ok(Taken {
             length: done,
             fault: None,
+            answered: true,
         })
     }
 }

@@ -5,7 +5,7 @@ ghost use Rattle.r10_medium.specs.Disk.{Unchanged};
 ghost use Rattle.r10_blockout.specs.Bytes.{ReadHasCause};
 ghost use Rattle.r10_body.specs.declared.fault.FileFault.TheVariants as file_faults;
 ghost use Rattle.r10_judge.specs.Files.{file_at};
-ghost use Rattle.r10_judge.specs.Walks.{TracksWalked, EndsAt, IsWalked};
+ghost use Rattle.r10_judge.specs.Walks.{TracksWalked, IsFaultTold, IsWalked};
 
 use crate::extent::Extent;
 use crate::walk::{Taken, Walk};
@@ -24,6 +24,8 @@ pub struct Walked {
     pub walk: Walk,
     /// The fault of what stands behind them; `None` at the file's end.
     pub fault: Option<FileFault>,
+    /// Whether that answers the report that stands last, where one does.
+    pub answered: bool,
 }
 
 /// Walks a file whose directory entry is closed or not, which lies inside the medium. The buffer is used
@@ -53,11 +55,20 @@ pub fn walk_file<M: BlockMedium>(
         at += taken.length;
         let fault = taken.fault;
         if fault.is_some() {
-            return Ok(Walked { walk, fault });
+            let answered = taken.answered;
+            return Ok(Walked {
+                walk,
+                fault,
+                answered,
+            });
         }
         window = next_window(window, taken.length);
     }
-    Ok(Walked { walk, fault: None })
+    Ok(Walked {
+        walk,
+        fault: None,
+        answered: true,
+    })
 }
 
 /// The next window behind one of which packets of so many bytes were taken: twice as large where there was none.
@@ -87,7 +98,7 @@ fn take_window<M: BlockMedium>(
     requires walked { TracksWalked walk.old (take at (file_at (M.disk medium.old).blocks extent)) }
     ensures stands { IfOk result (λ taken. TracksWalked walk.new (take (at + taken.length) (file_at (M.disk medium.old).blocks extent))) }
     ensures inside { IfOk result (λ taken. at + taken.length ≤ extent.size) }
-    ensures fault { IfOk result (λ taken. IfSome taken.fault (EndsAt (file_at (M.disk medium.old).blocks extent) (at + taken.length))) }
+    ensures fault { IfOk result (λ taken. IfSome taken.fault (IsFaultTold (file_at (M.disk medium.old).blocks extent) (at + taken.length) taken.answered walk.new.judge.tracks)) }
     ensures cut { IfOk result (λ taken. taken.length ≡ 0 → taken.fault ≡ None → window < extent.size - at) }
     ensures closed { walk.new.judge.closed ≡ walk.old.judge.closed }
     ensures same { Unchanged (M.disk medium.old) (M.disk medium.new) }
@@ -105,6 +116,7 @@ fn take_window<M: BlockMedium>(
     Ok(Taken {
         length: taken.length,
         fault: fault_of(taken.fault, count < left),
+        answered: taken.answered,
     })
 }
 

@@ -1,9 +1,9 @@
 -- What waits in a lane: refused offers, one more at the end, and without the first.
-use Rattle.std.proofs.Common.{◌≡◌, ℕ, ◌≤◌, ◌-◌, ◌∙◌, true, List, [], ◌∷◌, ◌++◌, Option, Some, None, Err, is_none, if◌then◌else◌, drop, length, min, refl, sym, ap, subst, arith}
-use Rattle.std.proofs.lemmas.List.{drop_min}
+use Rattle.std.proofs.Common.{◌≡◌, ℕ, ◌≤◌, ◌-◌, true, List, [], ◌∷◌, ◌++◌, Option, Some, None, Err, is_none, if◌then◌else◌, drop, refl, sym, ap, subst, arith}
 use Rattle.std.proofs.lemmas.Bool.{leb-true, ltb-true}
 use Rattle.r10_count.specs.Checks.{first_broken}
 use Rattle.r10_count.specs.Count.{IsCount}
+use Rattle.r10_body.specs.Gaps.{IsSoundGap}
 use Rattle.r10_body.specs.Messages.{channel_refusal}
 use Rattle.r10_body.specs.declared.entry.Sample.{Sample}
 use Rattle.r10_body.specs.declared.message.Message.{Message}
@@ -46,11 +46,12 @@ passed spec last count message fine =
     (parts.0, not_before last count order.0, small count range.0)
 
 -- and may go behind what waits
-pub waits_more : (spec : ChannelSpec) (last : Option ℕ) (waiting : List Sample) (x : Sample) → Waits spec (count_or_0 last) waiting → first_broken (taking_checks spec last x.count x.message) ≡ None → Waits spec x.count (waiting ++ x ∷ [])
-waits_more spec last waiting x waits fine =
+pub waits_more : (spec : ChannelSpec) (last : Option ℕ) (waiting : List Sample) (x : Sample) → Waits spec (count_or_0 last) waiting → first_broken (taking_checks spec last x.count x.message) ≡ None → IsSoundGap x.gap → Waits spec x.count (waiting ++ x ∷ [])
+waits_more spec last waiting x waits fine sound =
     let fine = passed spec last x.count x.message fine in
     record {
       taken = all_joined (IsTaken spec) waiting (x ∷ []) waits.taken (fine.0, tt);
+      gaps = all_joined (λ (y : Sample). IsSoundGap y.gap) waiting (x ∷ []) waits.gaps (sound, tt);
       counts = all_joined (λ (y : Sample). IsCount y.count) waiting (x ∷ []) waits.counts (fine.2, tt);
       climbs = subst (λ (ns : List ℕ). Climbs 0 ns x.count) (sym (map-joined (λ (y : Sample). y.count) waiting (x ∷ []))) (climbs_push 0 (counts_of waiting) (count_or_0 last) x.count fine.1 waits.climbs);
     }
@@ -74,7 +75,7 @@ raised low lower (n ∷ ns) high less (first, climbs) = (omega (arith, less, fir
 
 pub waits_less : (spec : ChannelSpec) (last : ℕ) (waiting : List Sample) → Waits spec last waiting → Waits spec last (drop 1 waiting)
 waits_less spec last [] waits = waits
-waits_less spec last (x ∷ xs) waits = record { taken = waits.taken.1; counts = waits.counts.1; climbs = raised x.count 0 (counts_of xs) last (omega arith) waits.climbs.1 }
+waits_less spec last (x ∷ xs) waits = record { taken = waits.taken.1; gaps = waits.gaps.1; counts = waits.counts.1; climbs = raised x.count 0 (counts_of xs) last (omega arith) waits.climbs.1 }
 
 -- the first is one that the lane may give
 pub took_first : (lane : Lane) (waiting : List Sample) → Waits lane.spec (count_or_0 lane.last) waiting
@@ -82,7 +83,7 @@ pub took_first : (lane : Lane) (waiting : List Sample) → Waits lane.spec (coun
 took_first lane [] waits = lane_took_stays (record lane { waiting = [] })
 took_first lane (x ∷ xs) waits =
     let next : x.count ≤ first_count_or xs (count_or_0 lane.last) = reaches xs waits.climbs.1 in
-    record { front = refl; others = refl; gives = record { passes = (waits.taken.0, tt); counts = (waits.counts.0, tt); climbs = (omega arith, next) }; rises = next }
+    record { front = refl; others = refl; gives = record { passes = (waits.taken.0, tt); gaps = (waits.gaps.0, tt); counts = (waits.counts.0, tt); climbs = (omega arith, next) }; rises = next }
   where
     reaches : (ys : List Sample) → Climbs x.count (counts_of ys) (count_or_0 lane.last) → x.count ≤ first_count_or ys (count_or_0 lane.last)
     reaches [] climbs = climbs

@@ -1,8 +1,9 @@
 -- What a lane answers to an offer, and what is taken from it.
-use Rattle.std.specs.Prelude.{◌≡◌, ℕ, ◌≤◌, List, [], ◌∷◌, ◌++◌, map, Option, Some, None, Result, MatchResult, is_none, if◌then◌else◌}
+use Rattle.std.specs.Prelude.{◌≡◌, ℕ, ◌≤◌, List, [], ◌∷◌, ◌++◌, map, Some, None, Result, MatchResult, is_none, if◌then◌else◌}
 use Rattle.std.specs.List.{AllByRecursion}
 use Rattle.r10_count.specs.Checks.{first_broken}
 use Rattle.r10_count.specs.Count.{IsCount}
+use Rattle.r10_body.specs.Gaps.{IsSoundGap}
 use Rattle.r10_body.specs.Messages.{channel_refusal}
 use Rattle.r10_body.specs.declared.entry.Sample.{Sample}
 use Rattle.r10_body.specs.declared.message.Message.{Message}
@@ -34,15 +35,17 @@ IsTaken spec x = channel_refusal spec x.message ≡ None
 abbrev pub counts_of : List Sample → List ℕ
 counts_of xs = map (λ x. x.count) xs
 
--- what may wait in a lane: messages that the channel takes, whose counts don't fall up to the last accepted one
+-- what may wait in a lane: messages that the channel takes, with gaps that tell no loss of none, whose counts don't fall up to the last accepted one
 pub record Waits (spec : ChannelSpec) (last : ℕ) (waiting : List Sample) : Type 0 where
   pub taken : AllByRecursion (IsTaken spec) waiting
+  pub gaps : AllByRecursion (λ x. IsSoundGap x.gap) waiting
   pub counts : AllByRecursion (λ x. IsCount x.count) waiting
   pub climbs : Climbs 0 (counts_of waiting) last
 
--- what may be taken from a lane, from one count that it has reached on and up to another: messages that the channel takes, whose counts don't fall
+-- what may be taken from a lane, from one count that it has reached on and up to another: messages that the channel takes, with gaps that tell no loss of none, whose counts don't fall
 pub record Gives (spec : ChannelSpec) (low : ℕ) (samples : List Sample) (high : ℕ) : Type 0 where
   pub passes : AllByRecursion (IsTaken spec) samples
+  pub gaps : AllByRecursion (λ x. IsSoundGap x.gap) samples
   pub counts : AllByRecursion (λ x. IsCount x.count) samples
   pub climbs : Climbs low (counts_of samples) high
 

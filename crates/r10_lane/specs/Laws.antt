@@ -2,6 +2,7 @@
 use Rattle.std.proofs.Common.{◌≡◌, ◌≤◌, ℕ, List, [], ◌∷◌, ◌++◌, Some, refl, sym, ap, subst, ◌∙◌, append_assoc, arith}
 use Rattle.std.specs.List.{AllByRecursion}
 use Rattle.r10_count.specs.Count.{IsCount}
+use Rattle.r10_body.specs.Gaps.{IsSoundGap}
 use Rattle.r10_body.specs.declared.entry.Sample.{Sample}
 use Rattle.r10_body.specs.declared.spec.ChannelSpec.{ChannelSpec}
 use Rattle.r10_machine.specs.Machine.{Lane}
@@ -29,15 +30,16 @@ climbs_to low (x ∷ xs) high higher less (first, climbs) = (first, climbs_to x.
 pub gives_both : (spec : ChannelSpec) (low mid high : ℕ) (xs ys : List Sample) → Gives spec low xs mid → Gives spec mid ys high → Gives spec low (xs ++ ys) high
 gives_both spec low mid high xs ys first second = record {
   passes = all_both (IsTaken spec) xs ys first.passes second.passes;
+  gaps = all_both (λ (x : Sample). IsSoundGap x.gap) xs ys first.gaps second.gaps;
   counts = all_both (λ (x : Sample). IsCount x.count) xs ys first.counts second.counts;
   climbs = climbs_both low mid high xs ys first.climbs second.climbs;
 }
 
 pub gives_up_to : (spec : ChannelSpec) (low high higher : ℕ) (xs : List Sample) → high ≤ higher → Gives spec low xs high → Gives spec low xs higher
-gives_up_to spec low high higher xs less gives = record { passes = gives.passes; counts = gives.counts; climbs = climbs_to low xs high higher less gives.climbs }
+gives_up_to spec low high higher xs less gives = record { passes = gives.passes; gaps = gives.gaps; counts = gives.counts; climbs = climbs_to low xs high higher less gives.climbs }
 
 pub gives_none : (spec : ChannelSpec) (low high : ℕ) → low ≤ high → Gives spec low [] high
-gives_none spec low high less = record { passes = tt; counts = tt; climbs = less }
+gives_none spec low high less = record { passes = tt; gaps = tt; counts = tt; climbs = less }
 
 -- ---- a lane of one thread
 

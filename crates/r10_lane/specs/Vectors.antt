@@ -1,7 +1,9 @@
 -- A lane of two messages, offer by offer.
-use Rattle.std.specs.Prelude.{◌≡◌, ℕ, Bool, true, false, List, [], ◌∷◌, Option, Some, Ok, Err, refl}
+use Rattle.std.specs.Prelude.{◌≡◌, ℕ, false, List, [], ◌∷◌, Option, Some, Ok, Err, refl}
 use Rattle.std.proofs.Common.{lit≤}
 use Rattle.r10_body.specs.declared.entry.Sample.{Sample}
+use Rattle.r10_body.specs.declared.gap.Gap.{Gap}
+use Rattle.r10_body.specs.declared.gap.Gap.TheVariants.{Whole, Lost}
 use Rattle.r10_body.specs.declared.message.Kind.TheVariants as kinds
 use Rattle.r10_body.specs.declared.message.Message.{Message}
 use Rattle.r10_body.specs.declared.message.Message.TheVariants.{Uart}
@@ -16,24 +18,24 @@ channel = record { id = 5; kind = kinds.Uart; capacity = 2; check = 0; bytes = 5
 abbrev text : ℕ → Message
 text byte = Uart false 0 (byte ∷ [])
 
-abbrev sample : ℕ → ℕ → Bool → Sample
+abbrev sample : ℕ → ℕ → Gap → Sample
 sample count byte gap = record { count = count; message = text byte; gap = gap }
 
 abbrev lane : List Sample → Option ℕ → ℕ → ℕ → Lane
 lane waiting last missed lost = record { spec = channel; waiting = waiting; last = last; missed = missed; lost = lost; erased = 0 }
 
 abbrev first : Sample
-first = sample 1001 0x41 false
+first = sample 1001 0x41 Whole
 
 abbrev second : Sample
-second = sample 1002 0x42 false
+second = sample 1002 0x42 Whole
 
 abbrev full : Lane
 full = lane (first ∷ second ∷ []) (Some 1002) 0 0
 
 -- both are messages of the channel, and their counts rise to the last accepted
 both_wait : Waits channel 1002 (first ∷ second ∷ [])
-both_wait = record { taken = (refl, (refl, tt)); counts = (lit≤ tt, (lit≤ tt, tt)); climbs = (lit≤ tt, (lit≤ tt, lit≤ tt)) }
+both_wait = record { taken = (refl, (refl, tt)); gaps = (tt, (tt, tt)); counts = (lit≤ tt, (lit≤ tt, tt)); climbs = (lit≤ tt, (lit≤ tt, lit≤ tt)) }
 
 -- two are accepted, the third is lost
 one_waits : Offers (fresh_lane channel) 1001 (text 0x41) (Ok tt) (lane (first ∷ []) (Some 1001) 0 0)
@@ -45,12 +47,16 @@ two_wait = (refl, refl)
 a_third_is_lost : Offers full 1003 (text 0x43) (Err Overflow) (lane (first ∷ second ∷ []) (Some 1002) 1 1)
 a_third_is_lost = (refl, refl)
 
--- one is taken, and the next that is accepted has a gap
+-- one is taken, and the next that is accepted tells that one was lost
 one_is_taken : TookWaiting (lane (first ∷ second ∷ []) (Some 1002) 1 1) (first ∷ []) (lane (second ∷ []) (Some 1002) 1 1)
-one_is_taken = record { front = refl; others = refl; gives = record { passes = (refl, tt); counts = (lit≤ tt, tt); climbs = (lit≤ tt, lit≤ tt) }; rises = lit≤ tt }
+one_is_taken = record { front = refl; others = refl; gives = record { passes = (refl, tt); gaps = (tt, tt); counts = (lit≤ tt, tt); climbs = (lit≤ tt, lit≤ tt) }; rises = lit≤ tt }
 
-a_gap_is_marked : Offers (lane (second ∷ []) (Some 1002) 1 1) 1004 (text 0x44) (Ok tt) (lane (second ∷ sample 1004 0x44 true ∷ []) (Some 1004) 0 1)
+a_gap_is_marked : Offers (lane (second ∷ []) (Some 1002) 1 1) 1004 (text 0x44) (Ok tt) (lane (second ∷ sample 1004 0x44 (Lost 1) ∷ []) (Some 1004) 0 1)
 a_gap_is_marked = (refl, refl)
+
+-- behind three losses the next tells three
+three_are_told : Offers (lane (second ∷ []) (Some 1002) 3 3) 1004 (text 0x44) (Ok tt) (lane (second ∷ sample 1004 0x44 (Lost 3) ∷ []) (Some 1004) 0 3)
+three_are_told = (refl, refl)
 
 -- the losses stay at the greatest of 64 bits
 losses_stay : refused_lane (lane (first ∷ second ∷ []) (Some 1002) 1 18446744073709551615) 1003 (text 0x43) ≡ lane (first ∷ second ∷ []) (Some 1002) 2 18446744073709551615

@@ -4,6 +4,7 @@ ghost use Rattle.std.specs.Prelude.{◌≡◌, ◌≤◌, ◌++◌, ℕ, List, [
 ghost use Rattle.std.specs.Borrow.{sem};
 ghost use Rattle.std.specs.Io.BufRead.{Rests};
 ghost use Rattle.r10_count.specs.Count.{IsCount};
+ghost use Rattle.r10_body.specs.Gaps.{IsSoundGap};
 ghost use Rattle.r10_body.specs.Messages.{channel_refusal};
 ghost use Rattle.r10_body.specs.declared.entry.Sample.{Sample as SampleValue};
 ghost use Rattle.r10_body.specs.declared.spec.ChannelSpec.{ChannelSpec as ChannelSpecValue};
@@ -14,8 +15,8 @@ use r10_body::{ChannelSpec, Sample};
 /// The end of a lane from which samples are taken, the first accepted first.
 ///
 /// - None of the calls takes memory. Each of them leaves in the lane what it doesn't give.
-/// - A sample that is given passes its channel's check, and its count isn't below that of the
-///   one given before it.
+/// - A sample that is given passes its channel's check, its gap tells no loss of none, and its
+///   count isn't below that of the one given before it.
 /// - A lane is quiet where nobody else holds its sending end. Then all that waits is known, and
 ///   each call gives the first of it, or `None` exactly where nothing waits.
 pub trait LaneOut {
@@ -52,6 +53,7 @@ pub trait LaneOut {
     fn take(&mut self) -> Option<Sample>
         ensures took { MatchOption result (took self.old [] self.new) (λ first. took self.old (first ∷ []) self.new) }
         ensures passes { IfSome result (λ first. channel_refusal (spec_of self.old) first.message ≡ None) }
+        ensures sound { IfSome result (λ first. IsSoundGap first.gap) }
         ensures climbs { IfSome result (λ first. (reached self.old ≤ first.count) × (first.count ≤ reached self.new)) }
         ensures shown { (first : SampleValue) → shows self.old first → result ≡ Some first }
         ensures quiet { IfSome (quiet self.old) (λ waiting. result ≡ slice_get waiting 0) };

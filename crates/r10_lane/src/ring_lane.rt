@@ -8,7 +8,7 @@ ghost use Rattle.r10_lane.specs.Lanes.{Offers, reached, Waits};
 
 use crate::lane_out::LaneOut;
 use circular_buffer::HeapCircularBuffer;
-use r10_body::{ChannelSpec, Message, Refusal, Sample};
+use r10_body::{ChannelSpec, Gap, Message, Refusal, Sample};
 use r10_count::Count;
 use r10_machine::check_offer;
 use std::alloc::{AllocError, Global};
@@ -61,7 +61,7 @@ impl RingLane {
         })
     }
 
-    /// Takes a message in at the end, with a gap mark where some were lost since the last one. Else
+    /// Takes a message in at the end, with how many were lost since the last one. Else
     /// says why not, by the first of these that applies: WrongKind, BadMessage, TooLong, CountBack,
     /// or Overflow where as many wait as the capacity. An overflow counts the message as lost; every
     /// other refusal leaves the lane as it was.
@@ -75,7 +75,7 @@ impl RingLane {
             Ok(count) => count,
             Err(refusal) => return Err(refusal),
         };
-        let gap = self.missed > 0;
+        let gap = Gap::after(self.missed);
         let sample = Sample {
             count,
             message,

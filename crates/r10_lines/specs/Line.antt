@@ -5,6 +5,8 @@ use Rattle.std.specs.Int.{w16, w32, to_be_bytes}
 use Rattle.std.specs.List.{flat_map}
 use Rattle.hex.specs.Hex.{encode_lower}
 use Rattle.r10_body.specs.declared.entry.Entry.{Entry}
+use Rattle.r10_body.specs.declared.gap.Gap.{Gap}
+use Rattle.r10_body.specs.declared.gap.Gap.TheVariants.{Whole, Lost, Unknown}
 use Rattle.r10_body.specs.declared.message.Message.{Message}
 use Rattle.r10_body.specs.declared.message.Message.TheVariants as messages
 use Rattle.r10_lines.specs.Civil.{civil_text}
@@ -42,8 +44,14 @@ message_text (messages.Message data_error format sub bytes) =
 message_text (messages.Time civil) = spaced (codes "time" ∷ civil_text civil ∷ [])
 message_text (messages.Event number count) = spaced (codes "event" ∷ decimal number ∷ decimal count ∷ [])
 
+-- how many messages were lost before an entry; `1+` where a file doesn't tell how many
+abbrev pub gap_text : Gap → List ℕ
+gap_text Whole = codes "0"
+gap_text (Lost n) = decimal n
+gap_text Unknown = codes "1+"
+
 abbrev pub entry_text : Entry → List ℕ
-entry_text e = spaced (codes "entry" ∷ decimal e.channel ∷ decimal e.count ∷ flag_text e.gap ∷ message_text e.message ∷ [])
+entry_text e = spaced (codes "entry" ∷ decimal e.channel ∷ decimal e.count ∷ gap_text e.gap ∷ message_text e.message ∷ [])
 
 -- an entry on a line of its own
 abbrev pub entry_line : Entry → List ℕ

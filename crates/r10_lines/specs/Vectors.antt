@@ -4,6 +4,8 @@ use Rattle.std.specs.Fmt.{digits}
 use Rattle.hex.specs.Hex.{encode_with}
 use Rattle.r10_body.specs.declared.entry.Entry.{Entry}
 use Rattle.r10_body.specs.declared.fault.FileFault.TheVariants as file_faults
+use Rattle.r10_body.specs.declared.gap.Gap.{Gap}
+use Rattle.r10_body.specs.declared.gap.Gap.TheVariants.{Whole, Lost, Unknown}
 use Rattle.r10_body.specs.declared.message.Message.TheVariants as messages
 use Rattle.r10_body.specs.declared.refusal.Refusal.TheVariants as refusals
 use Rattle.r10_machine.specs.declared.mode.Mode.TheVariants as modes
@@ -126,12 +128,24 @@ pub failed-text : mode_text modes.Failed ≡ codes "failed"
 failed-text = refl
 
 -- an empty message
+abbrev pub empty_behind : Gap → ℕ → Entry
+empty_behind gap count = record { channel = 5; count = count; message = messages.Uart false 0 []; gap = gap }
+
 abbrev pub empty_entry : ℕ → Entry
-empty_entry count = record { channel = 5; count = count; message = messages.Uart false 0 []; gap = false }
+empty_entry count = empty_behind Whole count
 
 pub next-lines : reply_lines 11 (replies.Next (Some (empty_entry 1010))) ≡ codes "11 entry 5 1010 0 uart 0 0 -\n"
 unfolding digits
 next-lines = refl
+
+-- behind so many lost ones, and behind some of which a file doesn't tell how many
+pub behind-lost-lines : reply_lines 9 (replies.Next (Some (empty_behind (Lost 70000) 2000))) ≡ codes "9 entry 5 2000 70000 uart 0 0 -\n"
+unfolding digits
+behind-lost-lines = refl
+
+pub behind-unknown-lines : reply_lines 9 (replies.Next (Some (empty_behind Unknown 2000))) ≡ codes "9 entry 5 2000 1+ uart 0 0 -\n"
+unfolding digits
+behind-unknown-lines = refl
 
 pub found-lines : reply_lines 11 (replies.Found (Some (record { number = 1; entry = empty_entry 2000 }))) ≡ codes "11 found 1 entry 5 2000 0 uart 0 0 -\n"
 unfolding digits

@@ -2,10 +2,10 @@
 
 ghost use Rattle.std.specs.Prelude.{◌≡◌, string_bytes, IfOk};
 ghost use Rattle.r10_lines.specs.Civil.{civil_text as civil_digits};
-ghost use Rattle.r10_lines.specs.Line.{entry_line, entry_text as entry_words, message_text as message_words, bytes_text, long_text as eight_digits, word_text as four_digits, words_text as words_digits};
+ghost use Rattle.r10_lines.specs.Line.{entry_line, entry_text as entry_words, gap_text as gap_words, message_text as message_words, bytes_text, long_text as eight_digits, word_text as four_digits, words_text as words_digits};
 ghost use Rattle.r10_lines.specs.Words.{flag_text as flag_digit};
 
-use r10_body::{Entry, Message};
+use r10_body::{Entry, Gap, Message};
 use r10_count::Civil;
 use std::alloc::{AllocError, Global};
 
@@ -17,12 +17,12 @@ pub fn entry_line(alloc: Global, entry: &Entry) -> Result<String, AllocError>
     format!(in alloc; "{text}\n")
 }
 
-/// An entry: its channel, its count, whether it has a gap, and its message.
+/// An entry: its channel, its count, what was lost before it, and its message.
 pub(crate) fn entry_text(alloc: Global, entry: &Entry) -> Result<String, AllocError>
     ensures { IfOk result (λ text. string_bytes text ≡ entry_words entry.now) }
 {
     let (channel, count) = (entry.channel, entry.count.get());
-    let gap = flag_text(entry.gap);
+    let gap = gap_text(alloc, entry.gap)?;
     let message = message_text(alloc, &entry.message)?;
     format!(in alloc; "entry {channel} {count} {gap} {message}")
 }
@@ -71,6 +71,17 @@ fn message_text(alloc: Global, message: &Message) -> Result<String, AllocError>
             format!(in alloc; "time {text}")
         }
         Message::Event { number, count } => format!(in alloc; "event {number} {count}"),
+    }
+}
+
+/// How many messages were lost before an entry; `1+` where a file doesn't tell how many.
+fn gap_text(alloc: Global, gap: Gap) -> Result<String, AllocError>
+    ensures { IfOk result (λ text. string_bytes text ≡ gap_words gap) }
+{
+    match gap {
+        Gap::Whole => String::from_str(alloc, "0"),
+        Gap::Lost(lost) => format!(in alloc; "{lost}"),
+        Gap::Unknown => String::from_str(alloc, "1+"),
     }
 }
 

@@ -1,6 +1,7 @@
 -- What a lane of samples that are there from the start gives.
 use Rattle.std.proofs.Common.{◌≡◌, ◌≤◌, ℕ, ◌+◌, List, [], ◌∷◌, ◌++◌, Option, None, Some, drop, take, zero, suc, slice_get, refl, sym, ap, subst, arith}
 use Rattle.std.specs.Option.{option_and_then}
+use Rattle.r10_body.specs.Gaps.{IsSoundGap}
 use Rattle.r10_body.specs.declared.entry.Sample.{Sample}
 use Rattle.r10_body.specs.declared.message.Message.{Message}
 use Rattle.r10_body.specs.declared.message.Message.TheVariants as messages
@@ -38,10 +39,10 @@ gives_next spec samples at later reached top x there next gives =
       record {
         same = refl;
         gave = front.1;
-        gives = record { passes = (g.passes.0, tt); counts = (g.counts.0, tt); climbs = (g.climbs.0, omega arith) };
+        gives = record { passes = (g.passes.0, tt); gaps = (g.gaps.0, tt); counts = (g.counts.0, tt); climbs = (g.climbs.0, omega arith) };
         rises = g.climbs.0;
       },
-      record { passes = g.passes.1; counts = g.counts.1; climbs = g.climbs.1 },
+      record { passes = g.passes.1; gaps = g.gaps.1; counts = g.counts.1; climbs = g.climbs.1 },
       g.counts.0,
     )
 
@@ -68,6 +69,7 @@ pub record Next (spec : ChannelSpec) (samples : List Sample) (at reached : ℕ) 
   pub ahead : (top : ℕ) × Gives spec now (drop (at + 1) samples) top
   pub bound : IsCount now
   pub passes : IsTaken spec x
+  pub sound : IsSoundGap x.gap
   pub climbs : (reached ≤ x.count) × (x.count ≤ now)
 
 pub tape_next : (spec : ChannelSpec) (samples slice : List Sample) (at reached : ℕ) (x : Sample) (now : ℕ) → slice ≡ samples → Some x ≡ next_in slice at → now ≡ x.count → (top : ℕ) × Gives spec reached (drop at samples) top
@@ -75,7 +77,7 @@ pub tape_next : (spec : ChannelSpec) (samples slice : List Sample) (at reached :
 tape_next spec samples slice at reached x now same is count (top, gives) =
     let there : slice_get samples at ≡ Some x = next_is samples at x (subst (λ (l : List Sample). next_in l at ≡ Some x) same (sym is)) in
     let next = gives_next spec samples at (at + 1) reached top x there (omega arith) gives in
-    rw count (record { took = next.0; ahead = (top, next.1); bound = next.2; passes = next.0.gives.passes.0; climbs = (next.0.gives.climbs.0, omega arith) })
+    rw count (record { took = next.0; ahead = (top, next.1); bound = next.2; passes = next.0.gives.passes.0; sound = next.0.gives.gaps.0; climbs = (next.0.gives.climbs.0, omega arith) })
 
 -- a lane of one thread gives what is put behind others that it gave
 pub moves_next : (old new : Lane) (items xs : List Sample) → TookWaiting old xs new → Gives old.spec 0 items (lane_reached old) → (new.spec ≡ old.spec) × Gives new.spec 0 (items ++ xs) (lane_reached new)

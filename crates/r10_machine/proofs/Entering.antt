@@ -11,6 +11,7 @@ use Rattle.r10_body.specs.Channels.{spec_of}
 use Rattle.r10_body.specs.Files.{on_channel}
 use Rattle.r10_body.specs.Rules.{is_event_of}
 use Rattle.r10_body.specs.declared.entry.Entry.{Entry}
+use Rattle.r10_body.specs.declared.gap.Gap.TheVariants.{Whole}
 use Rattle.r10_body.specs.declared.message.Message.{Message}
 use Rattle.r10_body.specs.declared.message.Message.TheVariants.{Time, Event}
 use Rattle.r10_body.specs.declared.message.Kind.TheVariants as kinds
@@ -54,10 +55,10 @@ none_takes (Some spec) number before there = no_event spec number before spec.ki
 
 -- times and messages are entries
 pub is_entry : (s : Config) (e : Entry) → IsTimeOrMessage s e → IsEntry s e
-is_entry s e fine = by e.message fine.1
+is_entry s e fine = by e.message fine.2
   where
     by : (m : Message) → elim m as (λ m. Type 0) [
-      | Time civil ↦ (e.channel ≡ s.time) × IsCivil civil × (e.gap ≡ false)
+      | Time civil ↦ (e.channel ≡ s.time) × IsCivil civil × (e.gap ≡ Whole)
       | _ ↦ IsSomeAnd (spec_of s.channels e.channel) (λ spec. first_broken (message_checks spec m) ≡ None)
     ] → elim m as (λ m. Type 0) [ Event number before ↦ IsEvent s e number before | _ ↦ IsTimeOrMessage s e ]
     by (Event number before) takes = absurd (none_takes (spec_of s.channels e.channel) number before takes)

@@ -1,7 +1,7 @@
 -- What readers and channels do, mounts and erases, from sound states to sound states.
-use Rattle.std.proofs.Common.{◌≡◌, ◌≤◌, ◌<◌, ℕ, Bool, true, false, not, List, [], ◌∷◌, ◌++◌, map, length, drop, zero, suc, Option, Some, None, refl, sym, ap, ◌∙◌, subst, arith, IfSome, IsSomeAnd, true≢false, ◌==◌, nat_lt, slice_get}
+use Rattle.std.proofs.Common.{◌≡◌, ◌≤◌, ◌<◌, ◌^◌, ℕ, Bool, true, false, not, List, [], ◌∷◌, ◌++◌, map, length, drop, zero, suc, Option, Some, None, refl, sym, ap, ◌∙◌, subst, arith, IfSome, IsSomeAnd, true≢false, ◌==◌, nat_lt, slice_get}
 use Rattle.std.specs.List.{AllByRecursion}
-use Rattle.std.proofs.lemmas.Bool.{eqb-true, eq-eqb, ltb-true, leb-true}
+use Rattle.std.proofs.lemmas.Bool.{eqb-true, eqb-false, eq-eqb, ltb-true, leb-true}
 use Rattle.std.proofs.lemmas.List.{length-append, append_assoc}
 use Rattle.r10_count.specs.Count.{IsCount}
 use Rattle.r10_count.specs.Checks.{first_broken}
@@ -9,6 +9,7 @@ use Rattle.r10_body.specs.declared.entry.Entry.{Entry}
 use Rattle.r10_body.specs.declared.entry.Sample.{Sample}
 use Rattle.r10_body.specs.declared.message.Message.{Message}
 use Rattle.r10_body.specs.declared.refusal.Refusal.TheVariants.{CountRange, CountBack, Overflow}
+use Rattle.r10_body.specs.Gaps.{gap_after, IsSoundGap}
 use Rattle.r10_machine.specs.Config.{Config}
 use Rattle.r10_machine.specs.Machine.{Machine, Lane, File, Cursor, Sets, SetsCursor, cursor_at, cursor_of, lane_of, lane_in, is_channel, with_lane}
 use Rattle.r10_machine.specs.Replay.{Ordered}
@@ -120,18 +121,24 @@ takes_of lane count message all =
     not-not true is = refl
     not-not false is = cc
 
+gap_fits : (missed : ℕ) (b : Bool) → (missed == 0) ≡ b → missed < 2 ^ 64 → IsSoundGap (gap_after missed)
+gap_fits missed true is few = rw is tt
+gap_fits missed false is few = rw is (omega (arith, eqb-false missed 0 is), few)
+
 accepted_sound : (lane : Lane) (count : ℕ) (message : Message) → Takes lane count message → IsSoundLane lane → IsSoundLane (accepted count message lane)
 accepted_sound lane count message takes sound =
-    let new : Sample = record { count = count; message = message; gap = nat_lt 0 lane.missed } in
+    let new : Sample = record { count = count; message = message; gap = gap_after lane.missed } in
     record {
       held = omega (arith, takes.room, length-append lane.waiting (new ∷ []));
       messages = all_push (λ x. first_broken (message_checks lane.spec x.message) ≡ None) lane.waiting new sound.messages takes.message_is;
       counts = all_push (λ x. IsCount x.count) lane.waiting new sound.counts takes.range;
+      gaps = all_push (λ x. IsSoundGap x.gap) lane.waiting new sound.gaps (gap_fits lane.missed (lane.missed == 0) refl sound.missed);
+      missed = omega arith;
     }
 
 accepted_climbs : (files : List File) (lane : Lane) (count : ℕ) (message : Message) → Takes lane count message → LaneClimbs files lane → LaneClimbs files (accepted count message lane)
 accepted_climbs files lane count message takes climbs =
-    let new : Sample = record { count = count; message = message; gap = nat_lt 0 lane.missed } in
+    let new : Sample = record { count = count; message = message; gap = gap_after lane.missed } in
     let before = counts_on lane.spec.id files in
     let is : before ++ map (λ (x : Sample). x.count) (lane.waiting ++ new ∷ []) ≡ before ++ map (λ (x : Sample). x.count) lane.waiting ++ count ∷ [] =
     ap (λ (l : List ℕ). before ++ l) (map-joined (λ (x : Sample). x.count) lane.waiting (new ∷ [])) ∙ sym (append_assoc before (map (λ (x : Sample). x.count) lane.waiting) (count ∷ [])) in
@@ -172,5 +179,5 @@ offers_sound s m channel count message sound fine =
 pub overflows_sound : (s : Config) (m : Machine) (channel : ℕ) → IsSound s m → IsSound s (with_lane channel overflowed m)
 overflows_sound s m channel sound =
     sound_lanes s m channel overflowed sound (λ lane. refl)
-    (λ lane there sound. record { held = sound.held; messages = sound.messages; counts = sound.counts })
+    (λ lane there sound. record { held = sound.held; messages = sound.messages; counts = sound.counts; gaps = sound.gaps; missed = omega arith })
     (λ lane there climbs. climbs)

@@ -17,7 +17,7 @@ specs_kept (c ∷ cs) = ap (λ (specs : List ChannelSpec). c ∷ specs) (specs_k
 
 lanes_sound : (specs : List ChannelSpec) → AllByRecursion IsSoundLane (map fresh_lane specs)
 lanes_sound [] = tt
-lanes_sound (c ∷ cs) = (record { held = omega arith; messages = tt; counts = tt }, lanes_sound cs)
+lanes_sound (c ∷ cs) = (record { held = omega arith; messages = tt; counts = tt; gaps = tt; missed = omega arith }, lanes_sound cs)
 
 lanes_climb : (specs : List ChannelSpec) → AllByRecursion (LaneClimbs []) (map fresh_lane specs)
 lanes_climb [] = tt

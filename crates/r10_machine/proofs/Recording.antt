@@ -93,7 +93,7 @@ ticks_sound s m tick new config sound fine ticks = by (is_recording m.mode) refl
           same = λ f. (refl, refl);
           shows = omega arith;
           within = omega (arith, t.shown, length-append t.file.entries (e ∷ []));
-          fine = own_grows s t.file (e ∷ []) t.its t.unclosed (are_entries s (e ∷ []) ((facts.range, (refl, facts.civil, refl)), tt)) (one_more s t.file e has);
+          fine = own_grows s t.file (e ∷ []) t.its t.unclosed (are_entries s (e ∷ []) ((facts.range, tt, (refl, facts.civil, refl)), tt)) (one_more s t.file e has);
           mode_is = rec ∙ sym t.open_is;
           specs = refl;
           sound_lanes = sound.lanes;
@@ -263,7 +263,7 @@ starts_sound s m name setup new config sound works few starts = by m.tick refl s
         let own : IsOwnFile s g = record {
           first = refl;
           begun = lit< tt;
-          entries = are_entries s (e ∷ []) ((range, (refl, civil, refl)), tt);
+          entries = are_entries s (e ∷ []) ((range, tt, (refl, civil, refl)), tt);
           room = one_more s f e has;
           whole = λ closed. absurd (true≢false (sym closed));
         } in

@@ -107,7 +107,7 @@ lost_sound : (event : EventValue) (olds ends news : List Lane) → LanesAfter ev
 lost_sound event [] [] [] after all = tt
 lost_sound event (old ∷ olds) (end ∷ ends) (new ∷ news) ((n, most, is), after) (here, all) =
     let less = dropped_sound n old here in
-    (subst IsSoundLane (sym is) (record { held = less.held; messages = less.messages; counts = less.counts }), lost_sound event olds ends news after all)
+    (subst IsSoundLane (sym is) (record { held = less.held; messages = less.messages; counts = less.counts; gaps = less.gaps; missed = less.missed }), lost_sound event olds ends news after all)
 lost_sound event olds ends news after all = absurd after
 
 -- files that show the same

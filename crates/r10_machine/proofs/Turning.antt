@@ -112,7 +112,7 @@ erased_specs files (lane ∷ lanes) = ap (λ (l : List ChannelSpec). lane.spec �
 
 erased_sound : (files : List File) (lanes : List Lane) → AllByRecursion IsSoundLane lanes → AllByRecursion IsSoundLane (map (erased_with files) lanes)
 erased_sound files [] all = tt
-erased_sound files (lane ∷ lanes) (here, all) = (record { held = here.held; messages = here.messages; counts = here.counts }, erased_sound files lanes all)
+erased_sound files (lane ∷ lanes) (here, all) = (record { held = here.held; messages = here.messages; counts = here.counts; gaps = here.gaps; missed = here.missed }, erased_sound files lanes all)
 
 erased_climb : (files : List File) (lanes : List Lane) → AllByRecursion (LaneClimbs files) lanes → AllByRecursion (LaneClimbs []) (map (erased_with files) lanes)
 erased_climb files [] all = tt

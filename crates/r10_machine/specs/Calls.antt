@@ -1,7 +1,9 @@
 -- What each call does that is neither refused nor fails: the answer and the new state.
-use Rattle.std.specs.Prelude.{◌≡◌, ℕ, ◌+◌, ◌<◌, Bool, true, false, List, [], ◌∷◌, ◌++◌, length, map, take, drop, count_by, Option, Some, None, IsSomeAnd, nat_lt, slice_get}
+use Rattle.std.specs.Prelude.{◌≡◌, ℕ, ◌+◌, ◌<◌, Bool, true, false, List, [], ◌∷◌, ◌++◌, length, map, take, drop, count_by, Option, Some, None, IsSomeAnd, slice_get}
 use Rattle.std.specs.List.{flat_map, sum_by}
+use Rattle.r10_body.specs.Gaps.{gap_after}
 use Rattle.r10_body.specs.Rules.{is_entry_on}
+use Rattle.r10_body.specs.declared.gap.Gap.TheVariants.{Whole}
 use Rattle.r10_body.specs.declared.entry.Entry.{Entry}
 use Rattle.r10_body.specs.declared.message.Message.{Message}
 use Rattle.r10_body.specs.declared.message.Message.TheVariants as messages
@@ -15,10 +17,10 @@ use Rattle.r10_machine.specs.Replay.{wanted, Ordered}
 
 -- ---- lanes
 
--- a message at the end of a lane, with a gap where some were lost since the last
+-- a message at the end of a lane, with a gap that tells how many were lost since the last
 abbrev pub accepted : ℕ → Message → Lane → Lane
 accepted count message lane = record lane {
-  waiting = lane.waiting ++ record { count = count; message = message; gap = nat_lt 0 lane.missed } ∷ [];
+  waiting = lane.waiting ++ record { count = count; message = message; gap = gap_after lane.missed } ∷ [];
   last = Some count;
   missed = 0;
 }
@@ -34,7 +36,7 @@ without n lane = record lane { waiting = drop n lane.waiting }
 -- ---- the clock
 
 abbrev pub time_entry : Config → Tick → Entry
-time_entry s tick = record { channel = s.time; count = tick.count; message = messages.Time tick.civil; gap = false }
+time_entry s tick = record { channel = s.time; count = tick.count; message = messages.Time tick.civil; gap = Whole }
 
 -- while recording, the file gets a time entry
 abbrev pub TicksIn : Bool → Config → Machine → Tick → Machine → Type 0

@@ -1,6 +1,7 @@
 -- Single cases of the whole machine: the order of refusals, steps and what is none, what is found, and what a recorder tells of itself.
 use Rattle.std.specs.Prelude.{◌≡◌, ℕ, ◌-◌, ◌^◌, true, false, List, [], ◌∷◌, refl, length, map, replicate, Some, None}
 use Rattle.std.proofs.Common.{lit<, lit≤, arith, inl}
+use Rattle.r10_body.specs.declared.gap.Gap.TheVariants.{Whole}
 use Rattle.r10_body.specs.declared.message.Message.TheVariants as messages
 use Rattle.r10_body.specs.declared.refusal.Refusal.TheVariants as refusals
 use Rattle.r10_machine.specs.declared.mode.Mode.TheVariants.{Idle, Recording, Failed}
@@ -299,12 +300,12 @@ other-event = refl
 -- ---- finding: messages at 1000 and 2000
 
 abbrev pub two_messages : File
-two_messages = record begun { entries = first_time ∷ entry 5 1000 (text []) false ∷ entry 5 2000 (text []) false ∷ []; shown = 3 }
+two_messages = record begun { entries = first_time ∷ entry 5 1000 (text []) Whole ∷ entry 5 2000 (text []) Whole ∷ []; shown = 3 }
 
-pub finds-the-first : found two_messages 5 1000 ≡ Some (record { number = 0; entry = entry 5 1000 (text []) false })
+pub finds-the-first : found two_messages 5 1000 ≡ Some (record { number = 0; entry = entry 5 1000 (text []) Whole })
 finds-the-first = refl
 
-pub finds-the-second : found two_messages 5 1500 ≡ Some (record { number = 1; entry = entry 5 2000 (text []) false })
+pub finds-the-second : found two_messages 5 1500 ≡ Some (record { number = 1; entry = entry 5 2000 (text []) Whole })
 finds-the-second = refl
 
 pub finds-nothing-later : found two_messages 5 2001 ≡ None
@@ -322,7 +323,7 @@ pub count-before : count_at begun (record leap_day { centi = 77 }) ≡ None
 count-before = refl
 
 -- the last time alone decides, though an earlier one would be in range
-pub count-past-the-end : count_at (record begun { entries = first_time ∷ entry 1 281474976710655 (messages.Time leap_day) false ∷ []; shown = 2 }) (record leap_day { centi = 79 }) ≡ None
+pub count-past-the-end : count_at (record begun { entries = first_time ∷ entry 1 281474976710655 (messages.Time leap_day) Whole ∷ []; shown = 2 }) (record leap_day { centi = 79 }) ≡ None
 count-past-the-end = refl
 
 -- ---- status: a full lane and one message lost

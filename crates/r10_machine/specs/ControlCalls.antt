@@ -1,10 +1,11 @@
 -- What calls do that are neither refused nor fail: dismount, recording event, commit, seal, erase, and the calls that only tell.
-use Rattle.std.specs.Prelude.{◌≡◌, ℕ, ◌+◌, ◌*◌, ◌%◌, ◌<◌, ◌≤◌, true, List, [], ◌∷◌, false, length, map, count_by, Option, Some, IsSomeAnd, slice_get}
+use Rattle.std.specs.Prelude.{◌≡◌, ℕ, ◌+◌, ◌%◌, ◌≤◌, true, List, [], ◌∷◌, length, map, count_by, Option, Some, IsSomeAnd, slice_get}
 use Rattle.std.specs.List.{flat_map}
 use Rattle.r10_count.specs.declared.civil.Parts.{Parts}
 use Rattle.r10_body.specs.Files.{on_channel}
 use Rattle.r10_body.specs.Rules.{is_event_of}
 use Rattle.r10_body.specs.declared.entry.Entry.{Entry}
+use Rattle.r10_body.specs.declared.gap.Gap.TheVariants.{Whole}
 use Rattle.r10_body.specs.declared.message.Message.TheVariants as messages
 use Rattle.r10_machine.specs.Config.{Config}
 use Rattle.r10_machine.specs.Machine.{Machine, Lane, File, saturated, with_entries, last_file, with_last, last_size}
@@ -22,7 +23,7 @@ event_entry s number count f = record {
   channel = s.event;
   count = count;
   message = messages.Event number (count_by (is_event_of number) f.entries % 65536);
-  gap = false;
+  gap = Whole;
 }
 
 abbrev pub Marks : Config → Machine → ℕ → ℕ → Machine → Type 0

@@ -1,12 +1,13 @@
 -- Whole recordings: each reply is one that the recorder may give, over the states of r10_machine's vectors.
-use Rattle.std.specs.Prelude.{◌≡◌, ◌≢◌, ℕ, true, false, List, [], ◌∷◌, drop, refl, Option, Some, None, slice_index_or}
+use Rattle.std.specs.Prelude.{◌≡◌, ◌≢◌, ℕ, List, [], ◌∷◌, drop, refl, Option, Some, None, slice_index_or}
 use Rattle.std.proofs.Common.{lit<, lit≤, zero, suc}
+use Rattle.r10_body.specs.declared.gap.Gap.TheVariants.{Whole, Lost}
 use Rattle.r10_body.specs.declared.refusal.Refusal.TheVariants as refusals
 use Rattle.r10_machine.specs.declared.mode.Mode.TheVariants.{Idle}
 use Rattle.r10_machine.specs.Config.{Config}
-use Rattle.r10_machine.specs.Machine.{Machine, File, Cursor, Sets, fresh, with_lane}
-use Rattle.r10_machine.specs.Calls.{accepted}
-use Rattle.r10_machine.specs.Vectors.{settings, new, mounted, ticked, started, name, setup_text, leap_day, text, entry, read, small, small_started, two, two-in-order, abc_offered, both_offered, both_pumped, small_stopped, filled_lane, lost, pumped, resumed, stopped, replayed, replayed-in-order}
+use Rattle.r10_machine.specs.Machine.{Machine, Cursor, Sets, fresh, with_lane}
+use Rattle.r10_machine.specs.Calls.{accepted, overflowed}
+use Rattle.r10_machine.specs.Vectors.{settings, new, mounted, ticked, started, name, setup_text, leap_day, text, entry, read, small, small_started, two, two-in-order, abc_offered, both_offered, both_pumped, small_stopped, filled_lane, lost, pumped, resumed, stopped, replayed, replayed-in-order, lost_three, filled_stopped, ticked_again, second_name, started_again, offered_again, after_losses, pumped_again, committed_again, read_second, alone-in-order}
 use Rattle.r10_machine.specs.declared.event.Event.{Event}
 use Rattle.r10_machine.specs.declared.event.Event.TheVariants as ask
 use Rattle.r10_machine.specs.declared.reply.Reply.{Reply}
@@ -45,7 +46,7 @@ pub first-recording : Goes small (fresh small.channels [] 0)
     (say.Done ∷ say.Done ∷ say.Done
     ∷ say.Done ∷ say.Done ∷ say.Moved 2 ∷ say.Stopped (record { taken = 0; left = 0 })
     ∷ say.Cursor 0 ∷ say.Advanced 2
-    ∷ say.Next (Some (entry 5 1000 (text (0x41 ∷ 0x42 ∷ 0x43 ∷ [])) false)) ∷ say.Next (Some (entry 5 1010 (text []) false)) ∷ say.Next None ∷ [])
+    ∷ say.Next (Some (entry 5 1000 (text (0x41 ∷ 0x42 ∷ 0x43 ∷ [])) Whole)) ∷ say.Next (Some (entry 5 1010 (text []) Whole)) ∷ say.Next None ∷ [])
     (read 3 [] small_stopped)
 first-recording = (
   record (fresh small.channels [] 0) { mode = Idle },
@@ -108,8 +109,8 @@ pub a-lost-message : Goes settings new
     ∷ say.Done ∷ say.Done ∷ say.Refused refusals.Overflow
     ∷ say.Moved 2 ∷ say.Done ∷ say.Stopped (record { taken = 1; left = 0 })
     ∷ say.Cursor 0 ∷ say.Advanced 3
-    ∷ say.Next (Some (entry 5 1001 (text (0x41 ∷ [])) false)) ∷ say.Next (Some (entry 5 1002 (text (0x42 ∷ [])) false))
-    ∷ say.Next (Some (entry 5 1004 (text (0x44 ∷ [])) true)) ∷ say.Next None ∷ [])
+    ∷ say.Next (Some (entry 5 1001 (text (0x41 ∷ [])) Whole)) ∷ say.Next (Some (entry 5 1002 (text (0x42 ∷ [])) Whole))
+    ∷ say.Next (Some (entry 5 1004 (text (0x44 ∷ [])) (Lost 1))) ∷ say.Next None ∷ [])
     (read 4 [] stopped)
 a-lost-message = (
   mounted,
@@ -157,6 +158,94 @@ a-lost-message = (
                               read 4 [] stopped,
                               (lit≤ tt, (refl, (refl, (first-set _ _ _, refl)))),
                               refl,
+                            ),
+                          ),
+                        ),
+                      ),
+                    ),
+                  ),
+                ),
+              ),
+            ),
+          ),
+        ),
+      ),
+    ),
+  ),
+)
+
+-- ---- a recording in which three messages are lost, and the first message of the next file tells so
+
+pub three-lost-messages : Goes settings new
+    (ask.Mount ∷ ask.Tick 1000 leap_day ∷ ask.Start name setup_text
+    ∷ ask.Offer 5 1001 (text (0x41 ∷ [])) ∷ ask.Offer 5 1002 (text (0x42 ∷ []))
+    ∷ ask.Offer 5 1003 (text (0x43 ∷ [])) ∷ ask.Offer 5 1004 (text (0x43 ∷ [])) ∷ ask.Offer 5 1005 (text (0x43 ∷ [])) ∷ ask.Stop
+    ∷ ask.Tick 2000 leap_day ∷ ask.Start second_name setup_text ∷ ask.Offer 5 2000 (text (0x44 ∷ [])) ∷ ask.Pump 5 1 ∷ ask.Commit
+    ∷ ask.Cursor 1 (5 ∷ []) 0 281474976710655 ∷ ask.Advance 0 ∷ ask.Next 0 ∷ ask.Next 0 ∷ [])
+    (say.Done ∷ say.Done ∷ say.Done
+    ∷ say.Done ∷ say.Done
+    ∷ say.Refused refusals.Overflow ∷ say.Refused refusals.Overflow ∷ say.Refused refusals.Overflow ∷ say.Stopped (record { taken = 2; left = 0 })
+    ∷ say.Done ∷ say.Done ∷ say.Done ∷ say.Moved 1 ∷ say.Done
+    ∷ say.Cursor 0 ∷ say.Advanced 1 ∷ say.Next (Some (entry 5 2000 (text (0x44 ∷ [])) (Lost 3))) ∷ say.Next None ∷ [])
+    (read_second 2 [] committed_again)
+three-lost-messages = (
+  mounted,
+  (lit≤ tt, (refl, refl)),
+  (
+    ticked,
+    (lit≤ tt, (refl, refl)),
+    (
+      started,
+      (lit≤ tt, (refl, (refl, refl))),
+      (
+        with_lane 5 (accepted 1001 (text (0x41 ∷ []))) started,
+        (lit≤ tt, (refl, refl)),
+        (
+          filled_lane,
+          (lit≤ tt, (refl, refl)),
+          (
+            lost,
+            (lit≤ tt, (refl, refl)),
+            (
+              with_lane 5 overflowed lost,
+              (lit≤ tt, (refl, refl)),
+              (
+                lost_three,
+                (lit≤ tt, (refl, refl)),
+                (
+                  filled_stopped,
+                  (lit≤ tt, (refl, (refl, refl, refl))),
+                  (
+                    ticked_again,
+                    (lit≤ tt, (refl, refl)),
+                    (
+                      started_again,
+                      (lit≤ tt, (refl, (refl, refl))),
+                      (
+                        offered_again,
+                        (lit≤ tt, (refl, refl)),
+                        (
+                          pumped_again,
+                          (lit≤ tt, (refl, (refl, λ some. lit< tt, refl))),
+                          (
+                            committed_again,
+                            (lit≤ tt, (refl, refl)),
+                            (
+                              read_second 0 [] committed_again,
+                              (lit≤ tt, (refl, (refl, (first-new _, refl)))),
+                              (
+                                read_second 2 (after_losses ∷ []) committed_again,
+                                (lit≤ tt, (refl, (after_losses ∷ [], alone-in-order, refl, (first-set _ _ _, refl)))),
+                                (
+                                  read_second 2 [] committed_again,
+                                  (lit≤ tt, (refl, (refl, (first-set _ _ _, refl)))),
+                                  (
+                                    read_second 2 [] committed_again,
+                                    (lit≤ tt, (refl, (refl, (first-set _ _ _, refl)))),
+                                    refl,
+                                  ),
+                                ),
+                              ),
                             ),
                           ),
                         ),

@@ -1,7 +1,8 @@
 -- Single cases of the machine's words: room, what waits, and settings.
-use Rattle.std.specs.Prelude.{◌≡◌, ℕ, ◌-◌, ◌^◌, true, false, List, [], ◌∷◌, refl, length, map, replicate, Some, None}
+use Rattle.std.specs.Prelude.{◌≡◌, ℕ, ◌-◌, ◌^◌, true, List, [], ◌∷◌, ◌++◌, refl, length, map, replicate, Some, None}
 use Rattle.r10_count.specs.Checks.{first_broken}
 use Rattle.r10_body.specs.declared.entry.Entry.{Entry}
+use Rattle.r10_body.specs.declared.gap.Gap.TheVariants.{Whole, Lost}
 use Rattle.r10_body.specs.declared.message.Message.{Message}
 use Rattle.r10_body.specs.declared.message.Kind.TheVariants as kinds
 use Rattle.r10_machine.specs.declared.fault.SettingsFault.TheVariants as settings_faults
@@ -12,7 +13,7 @@ use Rattle.r10_machine.specs.Checks.{is_setup}
 use Rattle.r10_machine.specs.Limits.{settings_rules}
 use Rattle.r10_machine.specs.Calls.{accepted, overflowed, all_waiting, lanes_without, waiting_count}
 use Rattle.r10_machine.specs.Replay.{wanted}
-use Rattle.r10_machine.specs.Vectors.{settings, channel, begun, first_time, text, entry}
+use Rattle.r10_machine.specs.Vectors.{settings, channel, begun, text, entry}
 
 -- ---- setup texts
 
@@ -21,11 +22,11 @@ longest-setup text long = rw long refl
 
 -- ---- what a cursor wants
 
-pub range-of-entries : wanted [] 1000 1002 (entry 1 999 (text []) false ∷ entry 5 1000 (text []) false ∷ entry 6 1002 (text []) false ∷ entry 5 1003 (text []) false ∷ [])
-    ≡ entry 5 1000 (text []) false ∷ entry 6 1002 (text []) false ∷ []
+pub range-of-entries : wanted [] 1000 1002 (entry 1 999 (text []) Whole ∷ entry 5 1000 (text []) Whole ∷ entry 6 1002 (text []) Whole ∷ entry 5 1003 (text []) Whole ∷ [])
+    ≡ entry 5 1000 (text []) Whole ∷ entry 6 1002 (text []) Whole ∷ []
 range-of-entries = refl
 
-pub channels-of-entries : wanted (6 ∷ 7 ∷ []) 0 5000 (entry 5 1000 (text []) false ∷ entry 6 1002 (text []) false ∷ []) ≡ entry 6 1002 (text []) false ∷ []
+pub channels-of-entries : wanted (6 ∷ 7 ∷ []) 0 5000 (entry 5 1000 (text []) Whole ∷ entry 6 1002 (text []) Whole ∷ []) ≡ entry 6 1002 (text []) Whole ∷ []
 channels-of-entries = refl
 
 -- ---- room: a medium of three blocks, and a file with a setup of 100 bytes
@@ -52,37 +53,45 @@ abbrev pub four_bytes : ℕ → Message
 four_bytes n = text (n ∷ n ∷ n ∷ n ∷ [])
 
 abbrev pub full_file : File
-full_file = with_entries (entry 5 1001 (four_bytes 1) false ∷ []) small_file
+full_file = with_entries (entry 5 1001 (four_bytes 1) Whole ∷ []) small_file
 
 pub full-cost : cost_of full_file ≡ 484
 full-cost = refl
 
 -- one that fills the area has room
-pub just-fits : room_for narrow small_file (entry 5 1 (text (replicate 32 0)) false ∷ []) ≡ 1
+pub just-fits : room_for narrow small_file (entry 5 1 (text (replicate 32 0)) Whole ∷ []) ≡ 1
 just-fits = refl
 
 -- an entry behind one that doesn't fit isn't taken, though it is shorter
-pub none-passes : room_for narrow small_file (entry 5 1 (text (replicate 33 0)) false ∷ entry 5 2 (text []) false ∷ []) ≡ 0
+pub none-passes : room_for narrow small_file (entry 5 1 (text (replicate 33 0)) Whole ∷ entry 5 2 (text []) Whole ∷ []) ≡ 0
 none-passes = refl
 
 -- two blocks have room for two messages of four bytes and an empty one, and an area that is spent has none
 abbrev pub three : List Entry
-three = entry 5 1001 (four_bytes 1) false ∷ entry 5 1002 (four_bytes 2) false ∷ entry 5 1003 (text []) false ∷ []
+three = entry 5 1001 (four_bytes 1) Whole ∷ entry 5 1002 (four_bytes 2) Whole ∷ entry 5 1003 (text []) Whole ∷ []
 
 pub fitting-areas : map (λ area. fitting area 364 three) (363 ∷ 483 ∷ 484 ∷ 512 ∷ 1024 ∷ []) ≡ 0 ∷ 0 ∷ 1 ∷ 1 ∷ 3 ∷ []
 fitting-areas = refl
+
+-- a message of one byte needs 117 bytes, and one behind a loss whose number is told 185
+pub fitting-losses : map (λ area. fitting area 364 (entry 5 1 (text (0x44 ∷ [])) Whole ∷ [])) (480 ∷ 481 ∷ []) ++ map (λ area. fitting area 364 (entry 5 1 (text (0x44 ∷ [])) (Lost 3) ∷ [])) (548 ∷ 549 ∷ []) ≡ 0 ∷ 1 ∷ 0 ∷ 1 ∷ []
+fitting-losses = refl
+
+-- so that there is no room for one where an empty one had fit
+pub loss-has-no-room : room_for narrow small_file (record { channel = 5; count = 1; message = text []; gap = Lost 1 } ∷ []) ≡ 0
+loss-has-no-room = refl
 
 -- ---- what waits
 
 -- lanes in another order than their channels, and one that holds more than its capacity
 abbrev pub lanes : List Lane
 lanes =
-    record { spec = channel 6 4; waiting = record { count = 2000; message = text (0x58 ∷ []); gap = false } ∷ []; last = Some 2000; missed = 0; lost = 0; erased = 0 }
-    ∷ record { spec = channel 5 1; waiting = record { count = 2000; message = text (0x59 ∷ []); gap = false } ∷ record { count = 2001; message = text (0x5A ∷ []); gap = false } ∷ []; last = Some 2001; missed = 0; lost = 0; erased = 0 }
+    record { spec = channel 6 4; waiting = record { count = 2000; message = text (0x58 ∷ []); gap = Whole } ∷ []; last = Some 2000; missed = 0; lost = 0; erased = 0 }
+    ∷ record { spec = channel 5 1; waiting = record { count = 2000; message = text (0x59 ∷ []); gap = Whole } ∷ record { count = 2001; message = text (0x5A ∷ []); gap = Whole } ∷ []; last = Some 2001; missed = 0; lost = 0; erased = 0 }
     ∷ []
 
 abbrev pub two_rising : List Entry
-two_rising = entry 5 2000 (text (0x59 ∷ [])) false ∷ entry 6 2000 (text (0x58 ∷ [])) false ∷ []
+two_rising = entry 5 2000 (text (0x59 ∷ [])) Whole ∷ entry 6 2000 (text (0x58 ∷ [])) Whole ∷ []
 
 pub waiting-by-channel : all_waiting lanes ≡ two_rising
 waiting-by-channel = refl
@@ -100,7 +109,7 @@ lossy = overflowed (overflowed (record { spec = channel 5 2; waiting = []; last 
 pub two-lost : lossy ≡ record { spec = channel 5 2; waiting = []; last = None; missed = 2; lost = 9; erased = 0 }
 two-lost = refl
 
-pub one-gap : map (λ x. x.gap) (accepted 2 (text []) (accepted 1 (text []) lossy)).waiting ≡ true ∷ false ∷ []
+pub one-gap : map (λ x. x.gap) (accepted 2 (text []) (accepted 1 (text []) lossy)).waiting ≡ Lost 2 ∷ Whole ∷ []
 one-gap = refl
 
 -- numbers stay at the greatest

@@ -4,6 +4,7 @@ use Rattle.std.specs.List.{AllByRecursion}
 use Rattle.r10_count.specs.Count.{IsCount}
 use Rattle.r10_count.specs.Civil.{IsCivil}
 use Rattle.r10_body.specs.declared.entry.Entry.{Entry}
+use Rattle.r10_body.specs.declared.gap.Gap.TheVariants.{Whole}
 use Rattle.r10_body.specs.declared.message.Message.TheVariants as messages
 use Rattle.r10_machine.specs.declared.mode.Mode.{Mode}
 use Rattle.r10_machine.specs.declared.mode.Mode.TheVariants as modes
@@ -18,7 +19,7 @@ use Rattle.r10_machine.specs.EventChecks.{most_files}
 
 -- a recording event on its channel: its number, and how many of that number came before it, modulo 65,536
 abbrev pub IsEvent : Config → Entry → ℕ → ℕ → Type 0
-IsEvent s e number before = IsCount e.count × (e.channel ≡ s.event) × (number ≤ 4095) × (before < 65536) × (e.gap ≡ false)
+IsEvent s e number before = IsCount e.count × (e.channel ≡ s.event) × (number ≤ 4095) × (before < 65536) × (e.gap ≡ Whole)
 
 -- an entry is a recording event, or a time or a message as its channel takes them
 abbrev pub IsEntry : Config → Entry → Type 0

@@ -1,5 +1,5 @@
 -- What is true of the lanes, entries and cursors of every state that a recorder comes to.
-use Rattle.std.specs.Prelude.{◌≡◌, ℕ, ◌≤◌, Bool, false, not, ◌&&◌, List, [], ◌∷◌, ◌++◌, length, map, filter, Option, Some, None, IsSomeAnd, slice_get}
+use Rattle.std.specs.Prelude.{◌≡◌, ℕ, ◌^◌, ◌<◌, ◌≤◌, Bool, false, not, ◌&&◌, List, [], ◌∷◌, ◌++◌, length, map, filter, Option, Some, None, IsSomeAnd, slice_get}
 use Rattle.std.specs.List.{AllByRecursion, flat_map}
 use Rattle.r10_count.specs.Count.{IsCount}
 use Rattle.r10_count.specs.Civil.{IsCivil}
@@ -7,6 +7,8 @@ use Rattle.r10_count.specs.Checks.{first_broken}
 use Rattle.r10_body.specs.Channels.{spec_of}
 use Rattle.r10_body.specs.Files.{on_channel}
 use Rattle.r10_body.specs.declared.entry.Entry.{Entry}
+use Rattle.r10_body.specs.Gaps.{IsSoundGap}
+use Rattle.r10_body.specs.declared.gap.Gap.TheVariants.{Whole}
 use Rattle.r10_body.specs.declared.message.Message.TheVariants.{Time}
 use Rattle.r10_machine.specs.Config.{Config}
 use Rattle.r10_machine.specs.Machine.{Machine, Lane, File, Cursor, last_file}
@@ -35,6 +37,8 @@ pub record IsSoundLane (lane : Lane) : Type 0 where
   pub held : length lane.waiting ≤ lane.spec.capacity
   pub messages : AllByRecursion (λ x. first_broken (message_checks lane.spec x.message) ≡ None) lane.waiting
   pub counts : AllByRecursion (λ x. IsCount x.count) lane.waiting
+  pub gaps : AllByRecursion (λ x. IsSoundGap x.gap) lane.waiting
+  pub missed : lane.missed < 2 ^ 64
 
 -- the counts of a channel don't fall, from its files' entries over what waits to the last accepted one
 abbrev pub LaneClimbs : List File → Lane → Type 0
@@ -44,8 +48,8 @@ LaneClimbs files lane = Climbs 0 (counts_on lane.spec.id files ++ map (λ x. x.c
 
 -- an entry is a time on the clock's channel, or a message that its channel takes
 abbrev pub IsTimeOrMessage : Config → Entry → Type 0
-IsTimeOrMessage s e = IsCount e.count × elim e.message [
-  | Time civil ↦ (e.channel ≡ s.time) × IsCivil civil × (e.gap ≡ false)
+IsTimeOrMessage s e = IsCount e.count × IsSoundGap e.gap × elim e.message [
+  | Time civil ↦ (e.channel ≡ s.time) × IsCivil civil × (e.gap ≡ Whole)
   | _ ↦ IsSomeAnd (spec_of s.channels e.channel) (λ spec. first_broken (message_checks spec e.message) ≡ None)
 ]
 

@@ -35,7 +35,7 @@ unclosed is = cc
 pub new-sound : IsSound settings new
 new-sound = record {
   channels = refl;
-  lanes = (record { held = lit≤ tt; messages = tt; counts = tt }, (record { held = lit≤ tt; messages = tt; counts = tt }, tt));
+  lanes = (record { held = lit≤ tt; messages = tt; counts = tt; gaps = tt; missed = lit< tt }, (record { held = lit≤ tt; messages = tt; counts = tt; gaps = tt; missed = lit< tt }, tt));
   tick = tt;
   event = tt;
   most = lit≤ tt;
@@ -48,7 +48,7 @@ new-sound = record {
 pub started-sound : IsSound settings started
 started-sound = record {
   channels = refl;
-  lanes = (record { held = lit≤ tt; messages = tt; counts = tt }, (record { held = lit≤ tt; messages = tt; counts = tt }, tt));
+  lanes = (record { held = lit≤ tt; messages = tt; counts = tt; gaps = tt; missed = lit< tt }, (record { held = lit≤ tt; messages = tt; counts = tt; gaps = tt; missed = lit< tt }, tt));
   tick = (lit< tt, refl);
   event = tt;
   most = lit≤ tt;
@@ -57,7 +57,7 @@ started-sound = record {
   cursors = none-open started refl;
   work = record {
     recording = refl;
-    own = (record { first = refl; begun = lit< tt; entries = ((lit< tt, (refl, refl, refl)), tt); room = lit≤ tt; whole = λ is. absurd (unclosed is) }, tt);
+    own = (record { first = refl; begun = lit< tt; entries = ((lit< tt, tt, (refl, refl, refl)), tt); room = lit≤ tt; whole = λ is. absurd (unclosed is) }, tt);
     others = (λ foreign. absurd (differ foreign), tt);
     lanes = (lit≤ tt, (lit≤ tt, tt));
     times = (lit≤ tt, lit≤ tt);
@@ -79,7 +79,7 @@ found-as-it-is = (refl, refl)
 pub marked-sound : IsSound settings marked
 marked-sound = record {
   channels = refl;
-  lanes = (record { held = lit≤ tt; messages = tt; counts = tt }, (record { held = lit≤ tt; messages = tt; counts = tt }, tt));
+  lanes = (record { held = lit≤ tt; messages = tt; counts = tt; gaps = tt; missed = lit< tt }, (record { held = lit≤ tt; messages = tt; counts = tt; gaps = tt; missed = lit< tt }, tt));
   tick = (lit< tt, refl);
   event = lit< tt;
   most = lit≤ tt;
@@ -88,7 +88,7 @@ marked-sound = record {
   cursors = none-open marked refl;
   work = record {
     recording = refl;
-    own = (record { first = refl; begun = lit< tt; entries = ((lit< tt, (refl, refl, refl)), ((lit< tt, refl, lit≤ tt, lit< tt, refl), tt)); room = lit≤ tt; whole = λ is. absurd (unclosed is) }, tt);
+    own = (record { first = refl; begun = lit< tt; entries = ((lit< tt, tt, (refl, refl, refl)), ((lit< tt, refl, lit≤ tt, lit< tt, refl), tt)); room = lit≤ tt; whole = λ is. absurd (unclosed is) }, tt);
     others = (λ foreign. refl, (λ foreign. absurd (differ foreign), tt));
     lanes = (lit≤ tt, (lit≤ tt, tt));
     times = (lit≤ tt, lit≤ tt);

@@ -7,6 +7,8 @@ use Rattle.std.specs.List.Sorted.{IsSortedByKey}
 use Rattle.std.specs.Ordering.{is_lt}
 use Rattle.r10_count.specs.declared.civil.Parts.{Parts}
 use Rattle.r10_body.specs.declared.entry.Entry.{Entry}
+use Rattle.r10_body.specs.declared.gap.Gap.{Gap}
+use Rattle.r10_body.specs.declared.gap.Gap.TheVariants.{Whole, Lost}
 use Rattle.r10_body.specs.declared.message.Message.{Message}
 use Rattle.r10_body.specs.declared.message.Message.TheVariants.{Uart, Time}
 use Rattle.r10_body.specs.declared.message.Kind.TheVariants as kinds
@@ -32,11 +34,11 @@ new = fresh settings.channels [] 0
 abbrev pub text : List ℕ → Message
 text bytes = Uart false 0 bytes
 
-abbrev pub entry : ℕ → ℕ → Message → Bool → Entry
+abbrev pub entry : ℕ → ℕ → Message → Gap → Entry
 entry channel count message gap = record { channel = channel; count = count; message = message; gap = gap }
 
 abbrev pub first_time : Entry
-first_time = entry 1 1000 (Time leap_day) false
+first_time = entry 1 1000 (Time leap_day) Whole
 
 abbrev pub name : List ℕ
 name = 0x46 ∷ 0x4C ∷ 0x54 ∷ 0x31 ∷ []
@@ -98,7 +100,7 @@ abbrev pub small_started : Machine
 small_started = record (fresh small.channels [] 0) { mode = Recording; tick = Some (record { count = 1000; civil = leap_day }); files = begun ∷ [] }
 
 abbrev pub two : List Entry
-two = entry 5 1000 (text (0x41 ∷ 0x42 ∷ 0x43 ∷ [])) false ∷ entry 5 1010 (text []) false ∷ []
+two = entry 5 1000 (text (0x41 ∷ 0x42 ∷ 0x43 ∷ [])) Whole ∷ entry 5 1010 (text []) Whole ∷ []
 
 abbrev pub abc_offered : Machine
 abc_offered = with_lane 5 (accepted 1000 (text (0x41 ∷ 0x42 ∷ 0x43 ∷ []))) small_started
@@ -129,10 +131,10 @@ abbrev pub lost : Machine
 lost = with_lane 5 overflowed filled_lane
 
 abbrev pub first_two : List Entry
-first_two = entry 5 1001 (text (0x41 ∷ [])) false ∷ entry 5 1002 (text (0x42 ∷ [])) false ∷ []
+first_two = entry 5 1001 (text (0x41 ∷ [])) Whole ∷ entry 5 1002 (text (0x42 ∷ [])) Whole ∷ []
 
 abbrev pub after_gap : Entry
-after_gap = entry 5 1004 (text (0x44 ∷ [])) true
+after_gap = entry 5 1004 (text (0x44 ∷ [])) (Lost 1)
 
 abbrev pub pumped : Machine
 pumped = record (with_lane 5 (without 2) lost) { files = record begun { entries = first_time ∷ first_two } ∷ [] }
@@ -142,7 +144,7 @@ resumed = with_lane 5 (accepted 1004 (text (0x44 ∷ []))) pumped
 
 -- the file with all four entries; the steps leave its size to the packing
 abbrev pub whole : File
-whole = record begun { entries = first_time ∷ first_two ++ after_gap ∷ []; shown = 4; closed = true; size = 200 }
+whole = record begun { entries = first_time ∷ first_two ++ after_gap ∷ []; shown = 4; closed = true; size = 212 }
 
 abbrev pub stopped : Machine
 stopped = record (with_lane 5 (without 1) resumed) { mode = Idle; files = whole ∷ [] }
@@ -157,10 +159,65 @@ in-turn = refl
 pub replayed-in-order : Ordered replayed replayed
 replayed-in-order = stands replayed in-turn
 
+-- ---- three lost messages, and a second file
+
+abbrev pub lost_three : Machine
+lost_three = with_lane 5 overflowed (with_lane 5 overflowed lost)
+
+-- the first file, closed with what waited
+abbrev pub filled : File
+filled = record begun { entries = first_time ∷ first_two; shown = 3; closed = true; size = 272 }
+
+abbrev pub filled_stopped : Machine
+filled_stopped = record (with_lane 5 (without 2) lost_three) { mode = Idle; files = filled ∷ [] }
+
+abbrev pub ticked_again : Machine
+ticked_again = record filled_stopped { tick = Some (record { count = 2000; civil = leap_day }) }
+
+abbrev pub second_name : List ℕ
+second_name = 0x46 ∷ 0x4C ∷ 0x54 ∷ 0x32 ∷ []
+
+abbrev pub second_time : Entry
+second_time = entry 1 2000 (Time leap_day) Whole
+
+-- the block behind the first file is its first
+abbrev pub second_begun : File
+second_begun = record begun { name = second_name; entries = second_time ∷ []; first_block = 4 }
+
+abbrev pub started_again : Machine
+started_again = record ticked_again { mode = Recording; files = filled ∷ second_begun ∷ [] }
+
+abbrev pub offered_again : Machine
+offered_again = with_lane 5 (accepted 2000 (text (0x44 ∷ []))) started_again
+
+abbrev pub after_losses : Entry
+after_losses = entry 5 2000 (text (0x44 ∷ [])) (Lost 3)
+
+abbrev pub second_pumped : File
+second_pumped = record second_begun { entries = second_time ∷ after_losses ∷ [] }
+
+abbrev pub pumped_again : Machine
+pumped_again = record (with_lane 5 (without 1) offered_again) { files = filled ∷ second_pumped ∷ [] }
+
+-- 68 bytes, a report of 44 and a packet of 44
+abbrev pub committed_again : Machine
+committed_again = record pumped_again { files = filled ∷ record second_pumped { shown = 2; size = 156 } ∷ [] }
+
+-- a reader of the second file, on channel 5
+abbrev pub read_second : ℕ → List Entry → Machine → Machine
+read_second covered queue m = record m { cursors = Some (record reader { file = 1; covered = covered; queue = queue }) ∷ [] }
+
+alone-in-turn : rises (after_losses ∷ []) ≡ true
+unfolding rises
+alone-in-turn = refl
+
+pub alone-in-order : Ordered (after_losses ∷ []) (after_losses ∷ [])
+alone-in-order = stands (after_losses ∷ []) alone-in-turn
+
 -- ---- the order of a replay
 
 abbrev pub mixed : List Entry
-mixed = entry 6 1000 (text []) false ∷ entry 5 2000 (text []) false ∷ entry 6 2000 (text (0x41 ∷ [])) false ∷ entry 6 2000 (text []) false ∷ []
+mixed = entry 6 1000 (text []) Whole ∷ entry 5 2000 (text []) Whole ∷ entry 6 2000 (text (0x41 ∷ [])) Whole ∷ entry 6 2000 (text []) Whole ∷ []
 
 mixed-in-turn : rises mixed ≡ true
 unfolding rises

@@ -10,7 +10,7 @@ use Rattle.r10_medium.specs.Disk.{Image}
 use Rattle.r10_dirchain.specs.declared.chain.ChainBlock.{ChainBlock}
 use Rattle.r10_volume.specs.Holding.{HoldsFiles, Open}
 use Rattle.r10_machine.specs.Calls.{shown_whole}
-use Rattle.r10_machine.specs.Checks.{idle_checks, recording_checks}
+use Rattle.r10_machine.specs.Checks.{recording_checks}
 use Rattle.r10_machine.specs.Limits.{IsConfig}
 use Rattle.r10_machine.specs.Machine.{File, Lane, Machine, change_last, last_size, saturated, with_last}
 use Rattle.r10_machine.specs.Room.{area, cost_of}
@@ -24,7 +24,7 @@ use Rattle.r10_machine.specs.Step.{Step}
 use Rattle.r10_machine.specs.declared.event.Event.TheVariants.{Commit, Seal}
 use Rattle.r10_machine.specs.declared.reply.Reply.TheVariants as replies
 use Rattle.r10_means.specs.Kept.{Kept, mode_of, idle, recording}
-use Rattle.r10_means.specs.Means.{LanesAreCounted, LaneIsCounted, KeptStepsTo, KeptStandsFor}
+use Rattle.r10_means.specs.Means.{LanesAreCounted, KeptStepsTo, KeptStandsFor}
 use Rattle.r10_means.proofs.Leading.{StepsStaySound, failing, no_fewer, numbers_at}
 
 -- ---- lists

@@ -1,5 +1,5 @@
 -- Offers to lanes, and calls that only tell.
-use Rattle.std.proofs.Common.{◌≡◌, ◌≤◌, ℕ, Bool, true, false, cond, List, [], ◌∷◌, map, Option, Some, None, refl, sym, ap, ◌∙◌, subst, arith}
+use Rattle.std.proofs.Common.{◌≡◌, ◌≤◌, ℕ, Bool, true, false, cond, List, [], ◌∷◌, map, Some, None, refl, sym, ◌∙◌, subst, arith}
 use Rattle.std.specs.Prelude.{IsSomeAnd, is_none, slice_get}
 use Rattle.r10_count.specs.Checks.{first_broken}
 use Rattle.r10_count.specs.declared.civil.Parts.{Parts}
@@ -18,8 +18,8 @@ use Rattle.r10_machine.specs.Step.{Refuses, Step, after_refusal}
 use Rattle.r10_machine.specs.declared.event.Event.TheVariants.{CountAt, Files, Find, Offer, Status}
 use Rattle.r10_machine.specs.declared.reply.Reply.TheVariants as replies
 use Rattle.r10_means.specs.Kept.{Kept, Work, failed, idle, recording, unmounted}
-use Rattle.r10_means.specs.Means.{LanesAreCounted, HasFiles, LaneIsCounted, KeptStepsTo, KeptStandsFor, NumbersAre}
-use Rattle.r10_means.proofs.Leading.{StepsStaySound, failing, no_fewer, same_refusal, still_means}
+use Rattle.r10_means.specs.Means.{LanesAreCounted, KeptStepsTo, KeptStandsFor, NumbersAre}
+use Rattle.r10_means.proofs.Leading.{StepsStaySound, failing, no_fewer, still_means}
 
 -- ---- a lane whose settings and erased entries stay
 

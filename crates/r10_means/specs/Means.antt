@@ -1,7 +1,6 @@
 -- Which machines a recorder stands for.
-use Rattle.std.specs.Prelude.{◌≡◌, ℕ, ◌+◌, List, [], ◌∷◌, Option, None, Some, length}
+use Rattle.std.specs.Prelude.{◌≡◌, ℕ, ◌+◌, List, [], ◌∷◌, None, Some, length}
 use Rattle.r10_medium.specs.Disk.{Image}
-use Rattle.r10_body.specs.declared.refusal.Refusal.{Refusal}
 use Rattle.r10_body.specs.declared.spec.ChannelSpec.{ChannelSpec}
 use Rattle.r10_volume.specs.Holding.{HoldsFiles, OthersAreFound}
 use Rattle.r10_machine.specs.Config.{Config}

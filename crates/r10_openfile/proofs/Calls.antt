@@ -1,5 +1,5 @@
 -- A file that has begun: its last block, and then its entry in the directory.
-use Rattle.std.proofs.Common.{◌≡◌, false, Ok, Err, ℕ, ◌*◌, ◌<◌, ◌⊎◌, ⊎_elim, inl, List, [], ◌∷◌, ◌++◌, length, take, None, Some, Result, sym, ap, subst, ◌∙◌, arith}
+use Rattle.std.proofs.Common.{◌≡◌, false, ℕ, ◌*◌, ◌<◌, ◌⊎◌, ⊎_elim, inl, List, [], ◌∷◌, ◌++◌, length, take, None, Some, Result, sym, ap, subst, ◌∙◌, arith}
 use Rattle.std.specs.Prelude.{◌≢◌, OnOk}
 use Rattle.std.specs.List.{All}
 use Rattle.std.proofs.lemmas.List.{append-nil, take_all}
@@ -23,7 +23,6 @@ use Rattle.r10_dirchain.specs.declared.chain.ChainBlock.{ChainBlock}
 use Rattle.r10_dirchain.proofs.Directories.{some_block, still_holds}
 use Rattle.r10_dirchain.proofs.Turning.{on_ok}
 use Rattle.r10_volume.specs.Holding.{HoldsFiles, IsCarried}
-use Rattle.r10_volume.proofs.Turning.{on_both}
 use Rattle.r10_machine.specs.Config.{Config}
 use Rattle.r10_machine.specs.Machine.{File}
 use Rattle.r10_machine.specs.Room.{next_block}

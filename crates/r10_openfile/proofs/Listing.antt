@@ -11,6 +11,7 @@ use Rattle.r10_blockout.specs.Blocks.{Shows, bytes_from}
 use Rattle.r10_blockout.proofs.Showing.{shown_length}
 use Rattle.r10_body.specs.Files.{FileSays, on_channel}
 use Rattle.r10_body.specs.Packets.{Packet, file_bytes, file_entries}
+use Rattle.r10_body.specs.Rules.{EndsReports}
 use Rattle.r10_body.specs.declared.entry.Entry.{Entry}
 use Rattle.r10_packetout.specs.Carries.{Recording}
 use Rattle.r10_packetout.proofs.Closing.{has_length}
@@ -183,6 +184,7 @@ module _ (s : Config) (old : Image) (chain : List ChainBlock) (files : List File
         cut = record {
           count = length packets;
           within = omega arith;
+          whole = subst EndsReports (sym taken) begun.carries.says.packed.growing.quiet;
           size_is = sym long ∙ ap (λ (l : List Packet). length (file_bytes l)) (sym taken);
           inside = omega (arith, begun.whole);
           agree = subst (λ (l : List Packet). Agree (file_entries l) (take f.shown f.entries)) (sym taken) (subst (λ (l : List Entry). Agree (file_entries packets) l) (sym all_shown) agree);

@@ -8,3 +8,4 @@ pub mod Carrying
 pub mod Entering
 pub mod Relisting
 pub mod Begins
+pub mod Asking

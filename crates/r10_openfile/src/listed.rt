@@ -1,23 +1,23 @@
 //! Listing a file that has begun.
 
-ghost use Rattle.std.specs.Prelude.{◌≡◌, ◌≢◌, ◌<◌, ◌≤◌, ◌⊎◌, List, [], ◌∷◌, ◌++◌, ℕ, None, Some, true, length, OnOk, OnErr};
+ghost use Rattle.std.specs.Prelude.{◌≡◌, ◌≢◌, ◌<◌, ◌⊎◌, List, [], ◌∷◌, ◌++◌, ℕ, None, Some, length, OnOk, OnErr};
 ghost use Rattle.std.specs.List.{All};
 ghost use Rattle.r10_medium.specs.Disk.{Counts, block_at};
 ghost use Rattle.r10_medium.specs.Stop.{Leaves, Settled};
 ghost use Rattle.r10_blockout.specs.Blocks.{bytes_from};
-ghost use Rattle.r10_blockout.specs.Output.{HasRoomOnMedium, first_of};
+ghost use Rattle.r10_blockout.specs.Output.{first_of};
 ghost use Rattle.r10_body.specs.declared.entry.Entry.{Entry as EntryValue};
 ghost use Rattle.r10_packetout.specs.Carries.{Records};
-ghost use Rattle.r10_dirblock.specs.Block.{has_room_for_size};
 ghost use Rattle.r10_dirchain.specs.Chain.{IsDirectory};
-ghost use Rattle.r10_dirchain.specs.OnMedium.{HasNext, IsPublished};
+ghost use Rattle.r10_dirchain.specs.OnMedium.{IsPublished};
 ghost use Rattle.r10_dirchain.specs.Rooms.{block_room};
-ghost use Rattle.r10_dirchain.specs.Steps.{added, blocks_with_one_more, last_block, spare};
+ghost use Rattle.r10_dirchain.specs.Steps.{added, last_block, spare};
 ghost use Rattle.r10_dirchain.specs.declared.chain.ChainBlock.{ChainBlock};
 ghost use Rattle.r10_volume.specs.Holding.{HoldsFiles, IsCarried};
 ghost use Rattle.r10_machine.specs.Config.{Config};
 ghost use Rattle.r10_machine.specs.Machine.{File};
 ghost use Rattle.r10_machine.specs.Says.{MediumSays};
+ghost use Rattle.r10_openfile.specs.Asking.{MayBeListed};
 ghost use Rattle.r10_openfile.specs.Begun.{MayList};
 
 use r10_dirblock::Entry;
@@ -38,13 +38,7 @@ pub fn list_file<M: BlockMedium>(
     room: Room,
     reserved: usize,
 ) -> Result<(), MediumFault>
-    requires inside { HasRoomOnMedium mux.now.out.blocks 0 (length (M.disk medium.old).blocks) }
-    requires carries { (text : List ℕ) × (entries : List EntryValue) × Records mux.now (M.disk medium.old).blocks text entries }
-    requires stands { IsDirectory (M.disk medium.old).blocks directory.old }
-    requires below { All (λ (b : ChainBlock). b.number < first_of mux.now.out.blocks) directory.old }
-    requires next { HasNext (M.disk medium.old).blocks directory.old × (blocks_with_one_more directory.old ≤ reserved) }
-    requires entry { has_room_for_size entry ≡ true }
-    requires ready { length directory.old < block_room room }
+    requires { MayBeListed mux.now (M.disk medium.old).blocks directory.old entry (block_room room) reserved }
     ensures holds { (s : Config) (files : List File) (f : File) → MayList s (M.disk medium.old).blocks directory.old files mux.now f entry
         → OnOk result (HoldsFiles s (M.disk medium.new).blocks directory.new (Some (record { recording = mux.now; shown = length mux.now.out.entries })) (files ++ f ∷ [])) }
     ensures either { (s : Config) (files : List File) (f : File) → MayList s (M.disk medium.old).blocks directory.old files mux.now f entry

@@ -5,19 +5,21 @@ use Rattle.std.proofs.lemmas.Bool.{eqb-true, eq-eqb}
 use Rattle.std.proofs.lemmas.List.{get_or-set_same, get_or-set_other}
 use Rattle.std.proofs.lemmas.List.Elements.{filter-append}
 use Rattle.std.proofs.lemmas.List.Sums.{sum_by-append}
-use Rattle.r10_body.specs.Content.{Content, setup, time, event, uart, bus, arinc, discrete, message, node, root, timed, type_of}
+use Rattle.r10_body.specs.Content.{Content, setup, time, event, uart, bus, arinc, discrete, message, node, root, report, timed, type_of}
 use Rattle.r10_body.specs.Files.{on_channel}
+use Rattle.r10_body.specs.Gaps.{IsSoundGap}
 use Rattle.r10_body.specs.Messages.{channel_refusal, is_kind}
 use Rattle.r10_body.specs.Packets.{Packet, with_gaps, packet_entries, file_entries}
 use Rattle.r10_body.specs.Rules.{is_entry_on, is_event_of}
 use Rattle.r10_body.specs.declared.entry.Entry.{Entry}
 use Rattle.r10_body.specs.declared.entry.Sample.{Sample}
 use Rattle.r10_body.specs.declared.entry.Timed.{Timed}
+use Rattle.r10_body.specs.declared.gap.Gap.{Gap}
+use Rattle.r10_body.specs.declared.gap.Gap.TheVariants.{Whole}
 use Rattle.r10_body.specs.declared.message.Kind.{Kind}
 use Rattle.r10_body.specs.declared.message.Kind.TheVariants as kinds
 use Rattle.r10_body.specs.declared.message.Message.{Message}
 use Rattle.r10_body.specs.declared.message.Message.TheVariants as messages
-use Rattle.r10_body.proofs.Rules.{entries_more}
 use Rattle.r10_body.proofs.Sums.{same_sum}
 use Rattle.r10_builder.specs.Packing.{entry_on, last_sample_count}
 use Rattle.r10_builder.specs.State.{BuilderState}
@@ -32,26 +34,27 @@ one_event : (q : ℕ) (e : Entry) (b : Bool) → is_event_of q e ≡ b → count
 one_event q e true is = rw is refl
 one_event q e false is = rw is refl
 
-none_of : {E : Type 0} (f : E → Timed) (q channel : ℕ) (gap : Bool) (es : List E) → ((e : E) (g : Bool) → is_event_of q (record { channel = channel; count = (f e).count; message = (f e).message; gap = g }) ≡ false)
+none_of : {E : Type 0} (f : E → Timed) (q channel : ℕ) (gap : Gap) (es : List E) → ((e : E) (g : Gap) → is_event_of q (record { channel = channel; count = (f e).count; message = (f e).message; gap = g }) ≡ false)
     → count_by (is_event_of q) (with_gaps channel gap (map f es)) ≡ 0
 none_of f q channel gap [] is = refl
 none_of f q channel gap (e ∷ es) is =
     let first : Entry = record { channel = channel; count = (f e).count; message = (f e).message; gap = gap } in
-    let rest : List Entry = with_gaps channel false (map f es) in
+    let rest : List Entry = with_gaps channel Whole (map f es) in
     let split : count_by (is_event_of q) (first ∷ rest) ≡ count_by (is_event_of q) (first ∷ []) + count_by (is_event_of q) rest = sum_by-append _ (first ∷ []) rest in
-    omega (arith, split, one_event q first false (is e gap), none_of f q channel false es is)
+    omega (arith, split, one_event q first false (is e gap), none_of f q channel Whole es is)
 
 none_at : (q : ℕ) (p : Packet) (c : Content) → type_of c == 2 ≡ false → count_by (is_event_of q) (packet_entries (record p { content = c })) ≡ 0
 none_at q p (setup text) e = refl
 none_at q p (time civil) e = refl
 none_at q p (event one) e = absurd (let no : true ≡ false = e in cc)
-none_at q p (uart es) e = none_of (λ d. timed d.count (messages.Uart d.parity d.sub d.bytes)) q p.channel p.flagged es (λ d g. refl)
-none_at q p (bus es) e = none_of (λ d. timed d.count (messages.Bus1553 d.status d.gap d.words)) q p.channel p.flagged es (λ d g. refl)
-none_at q p (arinc es) e = none_of (λ d. timed d.count (messages.Arinc d.bus d.format d.parity d.high d.word)) q p.channel p.flagged es (λ d g. refl)
-none_at q p (discrete bits es) e = none_of (λ d. timed d.count (messages.Discrete d.states)) q p.channel p.flagged es (λ d g. refl)
-none_at q p (message es) e = none_of (λ d. timed d.count (messages.Message d.data_error d.format d.sub d.bytes)) q p.channel p.flagged es (λ d g. refl)
+none_at q p (uart es) e = none_of (λ d. timed d.count (messages.Uart d.parity d.sub d.bytes)) q p.channel p.gap es (λ d g. refl)
+none_at q p (bus es) e = none_of (λ d. timed d.count (messages.Bus1553 d.status d.gap d.words)) q p.channel p.gap es (λ d g. refl)
+none_at q p (arinc es) e = none_of (λ d. timed d.count (messages.Arinc d.bus d.format d.parity d.high d.word)) q p.channel p.gap es (λ d g. refl)
+none_at q p (discrete bits es) e = none_of (λ d. timed d.count (messages.Discrete d.states)) q p.channel p.gap es (λ d g. refl)
+none_at q p (message es) e = none_of (λ d. timed d.count (messages.Message d.data_error d.format d.sub d.bytes)) q p.channel p.gap es (λ d g. refl)
 none_at q p (node es) e = refl
 none_at q p (root es) e = refl
+none_at q p (report loss) e = refl
 
 pub no_events : (p : Packet) → type_of p.content == 2 ≡ false → HasNoEvents (packet_entries p)
 no_events p other = λ q. none_at q p p.content other
@@ -76,16 +79,16 @@ pub held_joined : (packets : List Packet) (builders builders' : List BuilderStat
 held_joined packets builders builders' more none plain grows = λ q.
     omega (arith, events_more q packets packets builders builders' more grows, two_parts q (file_entries packets) (all_held builders'), two_parts q (file_entries packets) (all_held builders), none q, plain q)
 
--- nor where a packet is written that has none
-pub held_closed : (packets : List Packet) (builders builders' : List BuilderState) (more : List Entry) (p : Packet) → HasNoEvents (all_held builders) → HasNoEvents more → HasNoEvents (packet_entries p)
-    → Grows packets builders more (packets ++ p ∷ []) builders' → HasNoEvents (all_held builders')
-held_closed packets builders builders' more p none plain off grows = λ q.
-    let files : count_by (is_event_of q) (file_entries (packets ++ p ∷ [])) ≡ count_by (is_event_of q) (file_entries packets) + count_by (is_event_of q) (packet_entries p) =
-    ap (λ (es : List Entry). count_by (is_event_of q) es) (entries_more packets p) ∙ two_parts q (file_entries packets) (packet_entries p) in
+-- nor where packets are written that say no more than one that has none
+pub held_closed : (packets now : List Packet) (builders builders' : List BuilderState) (more : List Entry) (p : Packet) → HasNoEvents (all_held builders) → HasNoEvents more → HasNoEvents (packet_entries p)
+    → file_entries now ≡ file_entries packets ++ packet_entries p → Grows packets builders more now builders' → HasNoEvents (all_held builders')
+held_closed packets now builders builders' more p none plain off says grows = λ q.
+    let files : count_by (is_event_of q) (file_entries now) ≡ count_by (is_event_of q) (file_entries packets) + count_by (is_event_of q) (packet_entries p) =
+    ap (λ (es : List Entry). count_by (is_event_of q) es) says ∙ two_parts q (file_entries packets) (packet_entries p) in
     omega (
       arith,
-      events_more q packets (packets ++ p ∷ []) builders builders' more grows,
-      two_parts q (file_entries (packets ++ p ∷ [])) (all_held builders'),
+      events_more q packets now builders builders' more grows,
+      two_parts q (file_entries now) (all_held builders'),
       two_parts q (file_entries packets) (all_held builders),
       files,
       none q,
@@ -141,7 +144,7 @@ plain_at kinds.Arinc q e (messages.Event n o) same is = absurd (no is)
 plain_at kinds.Discrete q e (messages.Event n o) same is = absurd (no is)
 plain_at kinds.Message q e (messages.Event n o) same is = absurd (no is)
 
-found_plain : (channel : ℕ) (s : Sample) (builder : Option BuilderState) → IsSomeAnd builder (λ b. (channel_refusal b.spec s.message ≡ None) × (last_sample_count 0 b.samples ≤ s.count)) → HasNoEvents (entry_on channel s ∷ [])
+found_plain : (channel : ℕ) (s : Sample) (builder : Option BuilderState) → IsSomeAnd builder (λ b. (channel_refusal b.spec s.message ≡ None) × (last_sample_count 0 b.samples ≤ s.count) × IsSoundGap s.gap) → HasNoEvents (entry_on channel s ∷ [])
 found_plain channel s None takes = absurd takes
 found_plain channel s (Some b) takes = λ q. plain_at b.spec.kind q (entry_on channel s) s.message refl (taken b.spec s.message takes.0).kind
 

@@ -3,9 +3,9 @@ pub mod Summing
 pub mod Framing
 pub mod Having
 pub mod Indexing
-mod Carrying
+pub mod Carrying
 mod Events
 mod Own
 mod Begin
 pub mod Closing
-mod Room
+pub mod Room

@@ -12,8 +12,9 @@ use Rattle.r10_body.specs.Content.{type_of}
 use Rattle.r10_body.specs.Cost.{entry_cost}
 use Rattle.r10_body.specs.Files.{on_channel}
 use Rattle.r10_body.specs.Packets.{Packet, file_entries, packet_entries}
-use Rattle.r10_body.specs.Rules.{EachFollows, MayFollow, Rise, is_index, is_time, last_time}
+use Rattle.r10_body.specs.Rules.{EachFollows, MayFollow, Rise, is_index, is_report_packet, is_time, last_time}
 use Rattle.r10_body.specs.declared.entry.Entry.{Entry}
+use Rattle.r10_body.specs.declared.gap.Gap.TheVariants.{Whole}
 use Rattle.r10_body.specs.declared.message.Message.TheVariants as messages
 use Rattle.r10_body.specs.Sequence.{last_count, numbered}
 use Rattle.r10_body.proofs.ChannelLists.{packet_off_channel, rises}
@@ -54,9 +55,9 @@ own_rise packets p builders channel false off none each rise =
     between packets builders p none channel ∙ ap (λ (es : List Entry). before ++ es) (packet_off_channel channel p off) ∙ append-nil before in
     subst (λ (es : List Entry). Rise 0 es) (sym same) rise
 
-own_packed : (packets : List Packet) (p : Packet) (builders : List BuilderState) → Packed packets builders → HasNone p.channel builders → MayFollow packets p → is_index p ≡ false → Packed (packets ++ p ∷ []) builders
-own_packed packets p builders packed none may other =
-    let growing : IsGrowing (packets ++ p ∷ []) = grows_on packets p packed.growing may other in
+own_packed : (packets : List Packet) (p : Packet) (builders : List BuilderState) → Packed packets builders → HasNone p.channel builders → MayFollow packets p → is_index p ≡ false → is_report_packet p ≡ false → Packed (packets ++ p ∷ []) builders
+own_packed packets p builders packed none may other plain =
+    let growing : IsGrowing (packets ++ p ∷ []) = grows_on packets p packed.growing may other plain in
     record {
       growing = growing;
       kept = all_more (KeepsSettings (specs_of builders)) packets p packed.kept (keeps_none p builders none);
@@ -69,14 +70,14 @@ one_cost e = omega (arith, sum_by-cons entry_cost e [])
 -- ---- a packet of one entry more
 
 own_said : (r : Recording) (packets : List Packet) (text : List ℕ) (entries : List Entry) (p : Packet) (e : Entry) (out : Writing) (clock : ℕ) (counts : List ℕ) → Says r packets text entries
-    → HasNone p.channel r.builders → MayFollow packets p → is_index p ≡ false → packet_entries p ≡ e ∷ [] → (p.channel ≡ r.time → type_of p.content ≡ 0x11) → (p.channel ≡ r.event → type_of p.content ≡ 0x02)
+    → HasNone p.channel r.builders → MayFollow packets p → is_index p ≡ false → is_report_packet p ≡ false → packet_entries p ≡ e ∷ [] → (p.channel ≡ r.time → type_of p.content ≡ 0x11) → (p.channel ≡ r.event → type_of p.content ≡ 0x02)
     → last_time 0 (packets ++ p ∷ []) ≡ clock → EventsAreCounted counts (entries ++ e ∷ [])
     → Says (record r { out = out; clock = clock; counts = counts; cost = r.cost + entry_cost e }) (packets ++ p ∷ []) text (entries ++ e ∷ [])
-own_said r packets text entries p e out clock counts says none may other is times events clock_is counted =
+own_said r packets text entries p e out clock counts says none may other plain is times events clock_is counted =
     let two : 2 ≤ length packets = says.packed.growing.start in
     let grows : Grows packets r.builders (e ∷ []) (packets ++ p ∷ []) r.builders = subst (λ (es : List Entry). Grows packets r.builders es (packets ++ p ∷ []) r.builders) is (between packets r.builders p none) in
     record {
-      packed = own_packed packets p r.builders says.packed none may other;
+      packed = own_packed packets p r.builders says.packed none may other plain;
       times = all_more (λ (q : Packet). q.channel ≡ r.time → type_of q.content ≡ 0x11) packets p says.times times;
       events = all_more (λ (q : Packet). q.channel ≡ r.event → type_of q.content ≡ 0x02) packets p says.events events;
       setup_is = ap (λ (ps : List Packet). map (λ (q : Packet). q.content) ps) (take-append-le 1 packets (p ∷ []) (omega (arith, two))) ∙ says.setup_is;
@@ -109,7 +110,7 @@ time_said r packets text entries count civil out says apart later counts is =
     let p : Packet = numbered packets (time_packet r.time count civil) in
     let e : Entry = time_entry_at r.time count civil in
     let may : MayFollow packets p = time_follows packets r.time count civil says.packed.growing (goes r packets text entries r.time 0x11 count says apart.time apart.times.0 says.times later) apart.times.1 counts is in
-    own_said r packets text entries p e out count r.counts says apart.time may refl refl (λ same. refl) (λ same. absurd (apart.differ same)) (last_is 0 packets p refl) (counted_on r.counts entries (e ∷ []) says.counts_are (λ q. refl))
+    own_said r packets text entries p e out count r.counts says apart.time may refl refl refl (λ same. refl) (λ same. absurd (apart.differ same)) (last_is 0 packets p refl) (counted_on r.counts entries (e ∷ []) says.counts_are (λ q. refl))
 
 pub times_carried : (r : Recording) (image : Image) (text : List ℕ) (entries : List Entry) (carried : Records r image text entries) → StandApart r → (count : ℕ) (civil : Parts)
     → last_count 0 (on_channel r.time entries) ≤ count → IsCount count → IsCivil civil → (out : Writing) (later : Image) → Has out later (carried.packets ++ numbered carried.packets (time_packet r.time count civil) ∷ [])
@@ -131,8 +132,8 @@ event_said r packets text entries count number out says apart later counts few l
     let e : Entry = next_event_entry r.event count number entries in
     let may : MayFollow packets p = event_follows packets r.event count number says.packed.growing (goes r packets text entries r.event 0x02 count says apart.event apart.events.0 says.events later) apart.events.1 counts few in
     let entry : packet_entries p ≡ e ∷ [] =
-    ap (λ n. record { channel = r.event; count = count; message = messages.Event number (n % 65536); gap = false } ∷ []) (in_packets packets r.builders entries number says.entries_are says.messages) in
-    own_said r packets text entries p e out r.clock (set r.counts number ((get_or r.counts number 0 + 1) % 65536)) says apart.event may refl entry (λ same. absurd (apart.differ (sym same))) (λ same. refl)
+    ap (λ n. record { channel = r.event; count = count; message = messages.Event number (n % 65536); gap = Whole } ∷ []) (in_packets packets r.builders entries number says.entries_are says.messages) in
+    own_said r packets text entries p e out r.clock (set r.counts number ((get_or r.counts number 0 + 1) % 65536)) says apart.event may refl refl entry (λ same. absurd (apart.differ (sym same))) (λ same. refl)
     (last_same 0 packets p refl ∙ says.clock_is) (counted_more r.counts entries number e (λ q. refl) lt says.counts_are)
 
 pub events_carried : (r : Recording) (image : Image) (text : List ℕ) (entries : List Entry) (carried : Records r image text entries) → StandApart r → (count number : ℕ)

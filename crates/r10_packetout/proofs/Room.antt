@@ -10,19 +10,22 @@ use Rattle.r10_packet.proofs.Lengths.{framed_length}
 use Rattle.r10_body.specs.Cost.{entry_cost, file_cost}
 use Rattle.r10_body.specs.Files.{on_channel}
 use Rattle.r10_body.specs.Packets.{Packet, file_bytes, packet_bytes}
-use Rattle.r10_body.specs.Rules.{Rise}
+use Rattle.r10_body.specs.Rules.{MayFollow, Rise, last_time}
 use Rattle.r10_body.specs.declared.entry.Entry.{Entry}
+use Rattle.r10_body.specs.declared.gap.Gap.{Gap}
+use Rattle.r10_body.specs.declared.gap.Gap.TheVariants.{Whole, Lost, Unknown}
 use Rattle.r10_body.specs.Sequence.{last_count, next_sequence, numbered}
+use Rattle.r10_body.proofs.Reporting.{report_long}
 use Rattle.r10_body.proofs.Rules.{bytes_more}
 use Rattle.r10_builder.specs.State.{BuilderState}
 use Rattle.r10_builder.specs.declared.closed.Closed.{Closed}
 use Rattle.r10_builder.specs.Grows.{all_held}
-use Rattle.r10_builder.specs.Next.{event_packet, setup_packet, time_packet}
+use Rattle.r10_builder.specs.Next.{event_packet, grown_by, report_packet, reporting, setup_packet, time_packet}
 use Rattle.r10_builder.proofs.Rising.{rise_behind}
 use Rattle.r10_builder.specs.Packed.{HandsOn}
 use Rattle.r10_builder.specs.Settings.{AreChannelSettings, specs_of}
 use Rattle.r10_index.specs.Written.{index_size}
-use Rattle.r10_packetout.specs.Packets.{Describes, bare, packet_size}
+use Rattle.r10_packetout.specs.Packets.{Describes, bare, packet_size, report_size}
 use Rattle.r10_packetout.proofs.Framing.{described}
 use Rattle.r10_packetout.specs.Carries.{EventsAreCounted, HasNoEvents, Recording, Says, StandApart, next_event_entry, time_entry_at}
 use Rattle.r10_packetout.proofs.Begin.{begun_says}
@@ -36,28 +39,49 @@ size_is : (header : Header) (body : List ℕ) (p : Packet) (s : ℕ) → Describ
 size_is header body p s is = ap (λ (b : List ℕ). length b) (sym (described header body p s is)) ∙ framed_length (record header { sequence = s }) body
 
 -- behind others, with the index of all
+behind : (header : Header) (body : List ℕ) (before : List Packet) (p : Packet) (n cost : ℕ) → Describes header body p
+    → length (file_bytes (before ++ numbered before p ∷ [])) + index_size n ≤ cost → length (file_bytes before) + packet_size header body + index_size n ≤ cost
+behind header body before p n cost is le =
+    let q : Packet = numbered before p in
+    let bytes : length (file_bytes (before ++ q ∷ [])) ≡ length (file_bytes before) + packet_size header body =
+    ap (λ (b : List ℕ). length b) (bytes_more before q) ∙ length-append (file_bytes before) (packet_bytes q) ∙ ap (λ n. length (file_bytes before) + n) (size_is header body p (next_sequence p.channel before) is) in
+    at_most (length (file_bytes (before ++ q ∷ []))) (length (file_bytes before) + packet_size header body) (index_size n) cost bytes le
+  where
+    at_most : (a b i cost : ℕ) → a ≡ b → a + i ≤ cost → b + i ≤ cost
+    at_most a b i cost e le = omega (arith, e, le)
+
 ends_at : (header : Header) (body : List ℕ) (packets : List Packet) (p : Packet) (cost : ℕ) → Describes header body p
     → length (file_bytes (packets ++ numbered packets p ∷ [])) + index_size (length (packets ++ numbered packets p ∷ [])) ≤ cost → length (file_bytes packets) + packet_size header body + index_size (length packets + 1) ≤ cost
 ends_at header body packets p cost is le =
-    let q : Packet = numbered packets p in
-    let bytes : length (file_bytes (packets ++ q ∷ [])) ≡ length (file_bytes packets) + packet_size header body =
-    ap (λ (b : List ℕ). length b) (bytes_more packets q) ∙ length-append (file_bytes packets) (packet_bytes q) ∙ ap (λ n. length (file_bytes packets) + n) (size_is header body p (next_sequence p.channel packets) is) in
-    let index : index_size (length (packets ++ q ∷ [])) ≡ index_size (length packets + 1) = ap index_size (length-append packets (q ∷ [])) in
-    at_most (length (file_bytes (packets ++ q ∷ []))) (length (file_bytes packets) + packet_size header body) (index_size (length (packets ++ q ∷ []))) (index_size (length packets + 1)) cost bytes index le
-  where
-    at_most : (a b i j cost : ℕ) → a ≡ b → i ≡ j → a + i ≤ cost → b + j ≤ cost
-    at_most a b i j cost e g le = omega (arith, e, g, le)
+    subst (λ n. length (file_bytes packets) + packet_size header body + index_size n ≤ cost) (length-append packets (numbered packets p ∷ []))
+    (behind header body packets p (length (packets ++ numbered packets p ∷ [])) cost is le)
 
 -- ---- each packet that is put
 
+-- its report is as long as any
+pub reported_long : (packets : List Packet) (p : Packet) (g : Gap) → p.gap ≡ g → ((n : ℕ) → g ≡ Lost n → MayFollow packets (numbered packets (report_packet (last_time 0 packets) p.channel n)))
+    → length (file_bytes (reporting packets p)) ≡ length (file_bytes packets) + report_size g
+reported_long packets p Whole e may = rw e (omega arith)
+reported_long packets p (Lost n) e may =
+    let r : Packet = numbered packets (report_packet (last_time 0 packets) p.channel n) in
+    let long : length (file_bytes (packets ++ r ∷ [])) ≡ length (file_bytes packets) + 44 =
+    ap (λ (b : List ℕ). length b) (bytes_more packets r) ∙ length-append (file_bytes packets) (packet_bytes r) ∙ ap (λ n. length (file_bytes packets) + n) (report_long packets r (may n refl) refl) in
+    rw e long
+reported_long packets p Unknown e may = rw e (omega arith)
+
 pub handed_fits : (r : Recording) (packets : List Packet) (text : List ℕ) (entries more : List Entry) (builders : List BuilderState) → Says r packets text entries → StandApart r → HasNoEvents more
-    → (closed : Closed) → HandsOn closed packets r.builders more builders → r.cost + sum_by entry_cost more < 2 ^ 63
-    → length (file_bytes packets) + packet_size closed.header closed.body.items + index_size (length packets + 1) ≤ r.cost + sum_by entry_cost more
+    → (closed : Closed) (hands : HandsOn closed packets r.builders more builders) → r.cost + sum_by entry_cost more < 2 ^ 63
+    → length (file_bytes packets) + report_size closed.gap + packet_size closed.header closed.body.items + index_size (length (grown_by packets hands.packet)) ≤ r.cost + sum_by entry_cost more
 handed_fits r packets text entries more builders says apart plain closed hands small =
-    let is : Describes closed.header closed.body.items hands.packet = record { fits = hands.fits; header_is = ap bare hands.header; body_is = hands.body } in
-    ends_at closed.header closed.body.items packets hands.packet (r.cost + sum_by entry_cost more) is
-    (index_covered (record r { builders = builders; cost = r.cost + sum_by entry_cost more }) (packets ++ numbered packets hands.packet ∷ []) text (entries ++ more)
-    (packet_said r packets text entries more builders says apart plain closed hands r.out) small)
+    let p : Packet = hands.packet in
+    let cost : ℕ = r.cost + sum_by entry_cost more in
+    let is : Describes closed.header closed.body.items p = record { fits = hands.fits; header_is = ap bare hands.header; body_is = hands.body } in
+    let ends = behind closed.header closed.body.items (reporting packets p) p (length (grown_by packets p)) cost is
+    (index_covered (record r { builders = builders; cost = cost }) (grown_by packets p) text (entries ++ more)
+    (packet_said r packets text entries more builders says apart plain closed hands r.out) small) in
+    let front : length (file_bytes (reporting packets p)) ≡ length (file_bytes packets) + report_size closed.gap =
+    reported_long packets p p.gap refl hands.reports ∙ ap (λ (g : Gap). length (file_bytes packets) + report_size g) (sym hands.gap) in
+    subst (λ n. n + packet_size closed.header closed.body.items + index_size (length (grown_by packets p)) ≤ cost) front ends
 
 pub time_fits : (r : Recording) (packets : List Packet) (text : List ℕ) (entries : List Entry) → Says r packets text entries → StandApart r → (count : ℕ) (civil : Parts)
     → last_count 0 (on_channel r.time entries) ≤ count → IsCount count → IsCivil civil → (header : Header) (body : List ℕ) → Describes header body (time_packet r.time count civil)

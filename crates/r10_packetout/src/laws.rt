@@ -19,11 +19,11 @@ ghost use Rattle.r10_builder.specs.Packing.{entry_on};
 ghost use Rattle.r10_builder.specs.State.{BuilderState};
 ghost use Rattle.r10_builder.specs.declared.closed.Closed.{Closed};
 ghost use Rattle.r10_builder.specs.Grows.{all_held};
-ghost use Rattle.r10_builder.specs.Next.{event_packet, setup_packet, time_packet};
+ghost use Rattle.r10_builder.specs.Next.{event_packet, grown_by, setup_packet, time_packet};
 ghost use Rattle.r10_builder.specs.Packed.{HandsOn, TakesInSamples};
 ghost use Rattle.r10_builder.specs.Settings.{AreChannelSettings, BuilderTakes, specs_of};
 ghost use Rattle.r10_packetout.specs.Output.{Has, Writing};
-ghost use Rattle.r10_packetout.specs.Packets.{Describes, packet_size};
+ghost use Rattle.r10_packetout.specs.Packets.{Describes, packet_size, report_size};
 ghost use Rattle.r10_packetout.specs.Carries.{EventsAreCounted, Records, HasNoEvents, Recording, Says, StandApart, next_event_entry, occurrences, time_entry_at};
 
 /// Entries that go into a builder, without a packet, are carried.
@@ -38,11 +38,12 @@ pub fn samples_are_no_events()
     ensures { (channel : ℕ) (s : Sample) (builders : List BuilderState) → BuilderTakes channel s builders → HasNoEvents (entry_on channel s ∷ []) }
 {}
 
-/// What is handed out and put behind the packets is carried, with the entries that were taken in by it.
+/// What is handed out and put behind the packets, and before it a report where a number is told of what was lost, is
+/// carried, with the entries that were taken in by it.
 pub fn packets_are_carried()
     ensures { (r : Recording) (image : MediumImage) (text : List ℕ) (entries : List Entry) (more : List Entry) (builders : List BuilderState) (carried : Records r image text entries)
         → StandApart r → HasNoEvents more → (closed : Closed) (hands : HandsOn closed carried.packets r.builders more builders) (out : Writing) (later : MediumImage)
-        → Has out later (carried.packets ++ numbered carried.packets hands.packet ∷ [])
+        → Has out later (grown_by carried.packets hands.packet)
         → Records (record r { builders = builders; out = out; cost = r.cost + sum_by entry_cost more }) later text (entries ++ more) }
 {}
 
@@ -92,8 +93,8 @@ pub fn packets_have_room()
     ensures index { (r : Recording) (packets : List StrictPacket) (text : List ℕ) (entries : List Entry) → Says r packets text entries → r.cost < 2 ^ 63
         → length (file_bytes packets) + index_size (length packets) ≤ r.cost }
     ensures handed { (r : Recording) (packets : List StrictPacket) (text : List ℕ) (entries : List Entry) (more : List Entry) (builders : List BuilderState) → Says r packets text entries → StandApart r → HasNoEvents more
-        → (closed : Closed) → HandsOn closed packets r.builders more builders → r.cost + sum_by entry_cost more < 2 ^ 63
-        → length (file_bytes packets) + packet_size closed.header closed.body.items + index_size (length packets + 1) ≤ r.cost + sum_by entry_cost more }
+        → (closed : Closed) (hands : HandsOn closed packets r.builders more builders) → r.cost + sum_by entry_cost more < 2 ^ 63
+        → length (file_bytes packets) + report_size closed.gap + packet_size closed.header closed.body.items + index_size (length (grown_by packets hands.packet)) ≤ r.cost + sum_by entry_cost more }
     ensures time { (r : Recording) (packets : List StrictPacket) (text : List ℕ) (entries : List Entry) → Says r packets text entries → StandApart r
         → (count : ℕ) (civil : Parts) → last_count 0 (on_channel r.time entries) ≤ count → IsCount count → IsCivil civil → (header : Header) (body : List ℕ) → Describes header body (time_packet r.time count civil)
         → r.cost + entry_cost (time_entry_at r.time count civil) < 2 ^ 63

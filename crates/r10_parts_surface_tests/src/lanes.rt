@@ -1,7 +1,7 @@
 //! Lanes, in one thread and between two, and what feeds them: `r10_lane`, `r10_port`, `r10_source`.
 
 use crate::made::{CHANNEL, count, empty};
-use r10_body::{Refusal, Timed};
+use r10_body::{Gap, Refusal, Timed};
 use r10_lane::{LaneOut, RingLane};
 use r10_port::{Outlet, Port, lane};
 use r10_source::{ChannelSource, Given, Pumped, pump_source};
@@ -9,8 +9,8 @@ use std::alloc::{AllocError, Global};
 use std::collections::VecDeque;
 use std::test::Fail;
 
-/// What a lane tells, lends and gives: its channel, how many it holds, and the count and gap mark of its first.
-type Turn = (u16, usize, Option<u64>, Option<(u64, bool)>);
+/// What a lane tells, lends and gives: its channel, how many it holds, and of its first the count and what was lost before it.
+type Turn = (u16, usize, Option<u64>, Option<(u64, Gap)>);
 
 fn next<L: LaneOut>(lane: &mut L) -> Turn {
     let channel = lane.spec().id;
@@ -26,11 +26,11 @@ fn three_turns<L: LaneOut>(lane: &mut L) -> [Turn; 3] {
 }
 
 /// The first of two that wait, the second, one that comes behind a loss, and nothing.
-const BEFORE: Turn = (5, 2, Some(1), Some((1, false)));
+const BEFORE: Turn = (5, 2, Some(1), Some((1, Gap::Whole)));
 
 const BEHIND: [Turn; 3] = [
-    (5, 2, Some(2), Some((2, false))),
-    (5, 1, Some(4), Some((4, true))),
+    (5, 2, Some(2), Some((2, Gap::Whole))),
+    (5, 1, Some(4), Some((4, Gap::Lost(1)))),
     (5, 0, None, None),
 ];
 
@@ -49,7 +49,7 @@ fn three_offers(alloc: Global, lane: &mut RingLane) -> [Result<(), Refusal>; 3] 
     ]
 }
 
-/// A lane of two messages loses the third, and the next one has a gap.
+/// A lane of two messages loses the third, and the next one tells it.
 #[test]
 fn a_lane_gives_what_it_accepted(rt: HostRuntime) -> Result<(), Fail> {
     let alloc = rt.alloc();

@@ -1,6 +1,6 @@
 //! What the tests hand in.
 
-use r10_body::{ChannelSpec, Entry, Kind, Message};
+use r10_body::{ChannelSpec, Entry, Gap, Kind, Message};
 use r10_count::{Count, Items, Parts};
 use r10_indexbody::NodeEntry;
 use std::alloc::Global;
@@ -69,7 +69,7 @@ pub(crate) fn entry(alloc: Global, channel: u16, units: u32) -> Entry {
         channel,
         count: count(units),
         message: empty(alloc),
-        gap: false,
+        gap: Gap::Whole,
     }
 }
 

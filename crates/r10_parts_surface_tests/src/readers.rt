@@ -1,7 +1,7 @@
 //! Files that are read and judged: `r10_cursor`, `r10_checker`.
 
 use crate::made::{FIRST, LATER, count, named};
-use r10_body::FileFault;
+use r10_body::{FileFault, Gap};
 use r10_checker::{FileVerdict, Verdict, check_file, check_medium};
 use r10_count::{Civil, Items};
 use r10_cursor::{Reading, count_at, find};
@@ -30,13 +30,13 @@ fn book(alloc: Global, named: &[NodeEntry; 3]) -> Result<IndexBook, AllocError> 
     Ok(book)
 }
 
-/// The first message from 1001 on: its number, its count and its gap mark.
+/// The first message from 1001 on: its number, its count and what was lost before it.
 fn first_from(
     alloc: Global,
     medium: &mut Memory,
     named: &[NodeEntry; 3],
     book: &IndexBook,
-) -> Option<(usize, u64, bool)> {
+) -> Option<(usize, u64, Gap)> {
     let mut buffer = Vec::new(alloc);
     match find(alloc, medium, 0, named, book, 5, count(1001), &mut buffer) {
         Ok(Some(Found { number, entry })) => Some((number, entry.count.get(), entry.gap)),
@@ -51,7 +51,7 @@ fn an_entry_is_found(rt: HostRuntime) -> Result<(), Fail> {
     let book = book(alloc, &named)?;
     let mut medium = recorded(alloc)?;
     let found = first_from(alloc, &mut medium, &named, &book);
-    assert_eq!(rt; found, Some((1, 1010, false)));
+    assert_eq!(rt; found, Some((1, 1010, Gap::Whole)));
     Ok(())
 }
 

@@ -4,7 +4,7 @@ use Rattle.std.specs.Prelude.{filter}
 use Rattle.r10_medium.specs.Disk.{Image}
 use Rattle.r10_blockout.specs.Blocks.{bytes_from}
 use Rattle.r10_indexbody.specs.declared.entry.NodeEntry.{NodeEntry}
-use Rattle.r10_body.specs.Content.{Content, setup, time, event, uart, bus, arinc, discrete, message, node, root}
+use Rattle.r10_body.specs.Content.{Content, setup, time, event, uart, bus, arinc, discrete, message, node, root, report}
 use Rattle.r10_body.specs.declared.entry.Entry.{Entry}
 use Rattle.r10_body.specs.Packets.{Packet, packet_entries, file_bytes, file_entries}
 use Rattle.r10_body.specs.Rules.{EachFollows, is_data, is_index, node_entries}
@@ -40,6 +40,7 @@ no_entries p i = by p.content refl
     by (message es) e = let no : is_index p ≡ false = rw e refl in absurd (unlike (sym i ∙ no))
     by (node es) e = rw e refl
     by (root es) e = rw e refl
+    by (report loss) e = let no : is_index p ≡ false = rw e refl in absurd (unlike (sym i ∙ no))
 
 one_kept : (p : Packet) (ps : List Packet) (b : Bool) → is_index p ≡ b → file_entries (filter is_data (p ∷ ps)) ≡ packet_entries p ++ file_entries (filter is_data ps)
 one_kept p ps true i = let none : filter is_data (p ∷ ps) ≡ filter is_data ps = rw i refl in rw (none, no_entries p i) refl

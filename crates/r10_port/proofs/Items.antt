@@ -3,6 +3,7 @@ use Rattle.std.proofs.Common.{◌≡◌, ℕ, ◌+◌, ◌≤◌, ◌<◌, List,
 use Rattle.std.proofs.Math.Seq.{drop-append_seam}
 use Rattle.std.proofs.lemmas.Bool.{ltb-true}
 use Rattle.r10_count.specs.Count.{IsCount}
+use Rattle.r10_body.specs.Gaps.{IsSoundGap}
 use Rattle.r10_body.specs.Messages.{channel_refusal}
 use Rattle.r10_body.specs.declared.entry.Sample.{Sample}
 use Rattle.r10_body.specs.declared.refusal.Refusal.TheVariants.{CountBack, CountRange}
@@ -38,6 +39,10 @@ first_stays (x ∷ xs) ys first is = is
 pub joins : (items : List Item) (spec : ChannelSpec) (x : Sample) → slice_get items 0 ≡ Some (Announce spec) → ItemMayFollow items (Entry x)
     → (channel_refusal spec x.message ≡ None) × (count_or_0 (last_count_or None (samples items)) ≤ x.count) × IsCount x.count
 joins items spec x first may = passed spec (last_count_or None (samples items)) x.count x.message (subst (λ (o : Option Item). MayJoin o (samples items) (Entry x)) first may).1
+
+-- and its gap tells no loss of none
+pub has_sound_gap : (items : List Item) (spec : ChannelSpec) (x : Sample) → slice_get items 0 ≡ Some (Announce spec) → ItemMayFollow items (Entry x) → IsSoundGap x.gap
+has_sound_gap items spec x first may = (subst (λ (o : Option Item). MayJoin o (samples items) (Entry x)) first may).2
 
 pub has_room : (items : List Item) (spec : ChannelSpec) (x : Sample) → slice_get items 0 ≡ Some (Announce spec) → ItemMayFollow items (Entry x) → 0 < spec.capacity
 has_room items spec x first may = (subst (λ (o : Option Item). MayJoin o (samples items) (Entry x)) first may).0

@@ -1,7 +1,9 @@
 -- What one item sent or received makes of the two ends.
-use Rattle.std.proofs.Common.{◌≡◌, ℕ, ◌+◌, ◌≤◌, ◌<◌, List, [], ◌∷◌, ◌++◌, Option, Some, None, Result, Ok, Err, IsOk, zero, suc, true, false, nat_lt, slice_get, refl, sym, ap, subst, arith, ◌∙◌}
+use Rattle.std.proofs.Common.{◌≡◌, ℕ, ◌+◌, ◌≤◌, ◌<◌, List, [], ◌∷◌, ◌++◌, Option, Some, None, Result, Ok, Err, IsOk, zero, suc, true, false, slice_get, refl, sym, ap, subst, arith, ◌∙◌}
 use Rattle.r10_count.specs.Checks.{first_broken}
+use Rattle.r10_body.specs.Gaps.{gap_after}
 use Rattle.r10_body.specs.declared.entry.Sample.{Sample}
+use Rattle.r10_body.specs.declared.gap.Gap.{Gap}
 use Rattle.r10_body.specs.declared.message.Message.{Message}
 use Rattle.r10_body.specs.declared.refusal.Refusal.TheVariants.{Overflow}
 use Rattle.r10_body.specs.declared.spec.ChannelSpec.{ChannelSpec}
@@ -12,7 +14,7 @@ use Rattle.r10_port.specs.declared.item.Item.{Item}
 use Rattle.r10_port.specs.declared.item.Item.TheVariants.{Announce, Entry}
 use Rattle.r10_port.specs.Items.{samples, last_count_or, ItemMayFollow}
 use Rattle.r10_port.specs.Ends.{Ring, Sending, Receiving, Offered, TookReceived}
-use Rattle.r10_port.proofs.Items.{samples_joined, last_pushed, joins, has_room}
+use Rattle.r10_port.proofs.Items.{samples_joined, last_pushed, joins, has_room, has_sound_gap}
 
 -- ---- the sending end
 
@@ -23,14 +25,14 @@ sending ring spec items last missed lost free = record {
   free = free;
 }
 
-abbrev pub sample : ℕ → Message → ℕ → Sample
-sample count message missed = record { count = count; message = message; gap = nat_lt 0 missed }
+abbrev pub sample : ℕ → Message → Gap → Sample
+sample count message gap = record { count = count; message = message; gap = gap }
 
-pub sends : (ring ring2 : Ring) (spec : ChannelSpec) (items items2 : List Item) (last : Option ℕ) (missed lost free free2 count : ℕ) (message : Message)
-    → ring2 ≡ ring → items2 ≡ items ++ Entry (sample count message missed) ∷ [] → free ≤ free2 + 1 → first_broken (taking_checks spec last count message) ≡ None
+pub sends : (ring ring2 : Ring) (spec : ChannelSpec) (items items2 : List Item) (last : Option ℕ) (missed lost free free2 count : ℕ) (message : Message) (gap : Gap)
+    → gap ≡ gap_after missed → ring2 ≡ ring → items2 ≡ items ++ Entry (sample count message gap) ∷ [] → free ≤ free2 + 1 → first_broken (taking_checks spec last count message) ≡ None
     → Offered (sending ring spec items last missed lost free) count message (Ok tt) (sending ring2 spec items2 (Some count) 0 lost free2)
-sends ring ring2 spec items items2 last missed lost free free2 count message same grown room fine =
-    let samples2 = ap samples grown ∙ samples_joined items (Entry (sample count message missed) ∷ []) in
+sends ring ring2 spec items items2 last missed lost free free2 count message gap told same grown room fine =
+    let samples2 = ap samples grown ∙ samples_joined items (Entry (sample count message gap) ∷ []) ∙ ap (λ (g : Gap). samples items ++ sample count message g ∷ []) told in
     rw fine (λ i. record { ring = same i; lane = record { spec = spec; waiting = samples2 i; last = Some count; missed = 0; lost = lost; erased = 0 }; free = free2 }, room)
 
 pub loses : (ring ring2 : Ring) (spec : ChannelSpec) (items items2 : List Item) (last : Option ℕ) (missed missed2 lost lost2 free free2 count : ℕ) (message : Message)
@@ -63,7 +65,7 @@ takes ring ring2 spec items items2 ahead ahead2 x same grown first may =
     record {
       same = (same, refl);
       received = ap samples grown ∙ samples_joined items (Entry x ∷ []);
-      gives = record { passes = (passes, tt); counts = (count, tt); climbs = (climbs, omega (arith, reaches items items2 x grown)) };
+      gives = record { passes = (passes, tt); gaps = (has_sound_gap items spec x first may, tt); counts = (count, tt); climbs = (climbs, omega (arith, reaches items items2 x grown)) };
       rises = omega (arith, climbs, reaches items items2 x grown);
       room = λ none. absurd (omega (arith, none, has_room items spec x first may));
     }

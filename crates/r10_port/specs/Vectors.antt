@@ -1,7 +1,9 @@
 -- A lane of two messages between two threads, call by call.
-use Rattle.std.specs.Prelude.{◌≡◌, ℕ, Bool, true, false, List, [], ◌∷◌, Option, Some, None, Ok, Err, refl}
-use Rattle.std.proofs.Common.{lit≤, arith}
+use Rattle.std.specs.Prelude.{◌≡◌, ℕ, false, List, [], ◌∷◌, Option, Some, None, Ok, Err, refl}
+use Rattle.std.proofs.Common.{lit<, lit≤, arith}
 use Rattle.r10_body.specs.declared.entry.Sample.{Sample}
+use Rattle.r10_body.specs.declared.gap.Gap.{Gap}
+use Rattle.r10_body.specs.declared.gap.Gap.TheVariants.{Whole, Lost}
 use Rattle.r10_body.specs.declared.message.Kind.TheVariants as kinds
 use Rattle.r10_body.specs.declared.message.Message.{Message}
 use Rattle.r10_body.specs.declared.message.Message.TheVariants.{Uart, Discrete}
@@ -18,7 +20,7 @@ channel = record { id = 5; kind = kinds.Uart; capacity = 2; check = 0; bytes = 5
 abbrev text : ℕ → Message
 text byte = Uart false 0 (byte ∷ [])
 
-abbrev sample : ℕ → ℕ → Bool → Sample
+abbrev sample : ℕ → ℕ → Gap → Sample
 sample count byte gap = record { count = count; message = text byte; gap = gap }
 
 abbrev port : Ring → List Sample → Option ℕ → ℕ → ℕ → ℕ → Sending
@@ -32,13 +34,13 @@ abbrev outlet : Ring → List Sample → Receiving
 outlet ring received = record { ring = ring; spec = channel; received = received; ahead = [] }
 
 abbrev first : Sample
-first = sample 1 0x41 false
+first = sample 1 0x41 Whole
 
 abbrev second : Sample
-second = sample 2 0x42 false
+second = sample 2 0x42 Whole
 
 abbrev fourth : Sample
-fourth = sample 4 0x44 true
+fourth = sample 4 0x44 (Lost 1)
 
 module _ (ring : Ring) where
   abbrev full : Sending
@@ -54,15 +56,19 @@ module _ (ring : Ring) where
   a_third_is_lost : Offered full 3 (text 0x43) (Err Overflow) (port ring (first ∷ second ∷ []) (Some 2) 1 1 0)
   a_third_is_lost = (refl, refl, refl)
 
-  -- one is taken, and the next that is sent has a gap
+  -- one is taken, and the next that is sent tells that one was lost
   one_is_taken : TookReceived (outlet ring []) (first ∷ []) (outlet ring (first ∷ []))
-  one_is_taken = record { same = (refl, refl); received = refl; gives = record { passes = (refl, tt); counts = (lit≤ tt, tt); climbs = (lit≤ tt, lit≤ tt) }; rises = lit≤ tt; room = λ e. absurd (cc) }
+  one_is_taken = record { same = (refl, refl); received = refl; gives = record { passes = (refl, tt); gaps = (tt, tt); counts = (lit≤ tt, tt); climbs = (lit≤ tt, lit≤ tt) }; rises = lit≤ tt; room = λ e. absurd (cc) }
 
   a_gap_is_marked : Offered (port ring (first ∷ second ∷ []) (Some 2) 1 1 0) 4 (text 0x44) (Ok tt) (port ring (first ∷ second ∷ fourth ∷ []) (Some 4) 0 1 0)
   a_gap_is_marked = (refl, lit≤ tt)
 
+  -- behind three losses the next tells three, however many were lost before
+  three_are_told : Offered (port ring (first ∷ second ∷ []) (Some 2) 3 8 0) 4 (text 0x44) (Ok tt) (port ring (first ∷ second ∷ sample 4 0x44 (Lost 3) ∷ []) (Some 4) 0 8 0)
+  three_are_told = (refl, lit≤ tt)
+
   two_are_taken : TookReceived (outlet ring (first ∷ [])) (second ∷ fourth ∷ []) (outlet ring (first ∷ second ∷ fourth ∷ []))
-  two_are_taken = record { same = (refl, refl); received = refl; gives = record { passes = (refl, (refl, tt)); counts = (lit≤ tt, (lit≤ tt, tt)); climbs = (lit≤ tt, (lit≤ tt, lit≤ tt)) }; rises = lit≤ tt; room = λ e. absurd (cc) }
+  two_are_taken = record { same = (refl, refl); received = refl; gives = record { passes = (refl, (refl, tt)); gaps = (tt, ((lit< tt, lit< tt), tt)); counts = (lit≤ tt, (lit≤ tt, tt)); climbs = (lit≤ tt, (lit≤ tt, lit≤ tt)) }; rises = lit≤ tt; room = λ e. absurd (cc) }
 
   -- what is left between the two ends
   one_is_left : unreceived (outlet ring (first ∷ [])) full ≡ second ∷ []
@@ -94,16 +100,20 @@ announced : ItemMayFollow [] (Announce channel)
 announced = tt
 
 one_may_follow : ItemMayFollow (Announce channel ∷ []) (Entry first)
-one_may_follow = (lit≤ tt, refl)
+one_may_follow = (lit≤ tt, refl, tt)
 
 two_may_follow : ItemMayFollow (Announce channel ∷ Entry first ∷ []) (Entry second)
-two_may_follow = (lit≤ tt, refl)
+two_may_follow = (lit≤ tt, refl, tt)
 
 back_may_not : ItemMayFollow (Announce channel ∷ Entry second ∷ []) (Entry first) → ⊥
 back_may_not may = absurd (cc)
 
 unannounced_may_not : ItemMayFollow [] (Entry first) → ⊥
 unannounced_may_not may = may
+
+-- one that tells a loss of none may not
+no_loss_of_none : ItemMayFollow (Announce channel ∷ []) (Entry (sample 1 0x41 (Lost 0))) → ⊥
+no_loss_of_none may = absurd (omega (arith, may.2.0))
 
 -- on a channel without room nothing follows
 none_may_follow : ItemMayFollow (Announce (record channel { capacity = 0 }) ∷ []) (Entry first) → ⊥

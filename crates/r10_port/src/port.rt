@@ -8,7 +8,7 @@ ghost use Rattle.r10_port.specs.Ends.{Offered, sent};
 
 use crate::item::Item;
 use crate::rule::InOrder;
-use r10_body::{ChannelSpec, Message, Refusal, Sample};
+use r10_body::{ChannelSpec, Gap, Message, Refusal, Sample};
 use r10_count::Count;
 use r10_machine::check_offer;
 use rtrb::{Producer, PushError};
@@ -58,7 +58,7 @@ impl Model for Port {
 }
 
 impl Port {
-    /// Sends a message, with a gap mark where some were lost since the last one that was sent. Else says why not, by the first
+    /// Sends a message, with how many were lost since the last one that was sent. Else says why not, by the first
     /// of these that applies: WrongKind, BadMessage, TooLong, CountBack, or Overflow where as many wait as the capacity. An
     /// overflow counts the message as lost; every other refusal leaves the port as it was. A lane of capacity 0 accepts no
     /// message. This takes no memory and waits for nobody.
@@ -69,10 +69,11 @@ impl Port {
         if let Err(refusal) = check_offer(&self.spec, self.last, count.get(), &message) {
             return Err(refusal);
         }
+        let gap = Gap::after(self.missed);
         let sample = Sample {
             count,
             message,
-            gap: self.missed > 0,
+            gap,
         };
         let capacity = self.spec.capacity;
         match push_within(&mut self.producer, capacity, Item::Entry(sample)) {

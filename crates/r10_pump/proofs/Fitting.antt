@@ -1,5 +1,5 @@
 -- Entries of which the first fit into a file's area, and the next has no room.
-use Rattle.std.proofs.Common.{◌≡◌, ◌⊎◌, inl, inr, ℕ, zero, suc, ◌+◌, ◌-◌, ◌*◌, ◌<◌, ◌≤◌, Bool, true, false, List, [], ◌∷◌, ◌++◌, length, take, drop, map, min, nat_le, Option, Some, None, refl, sym, ap, ◌∙◌, subst, arith, slice_get, length-append, cond, ◌==◌}
+use Rattle.std.proofs.Common.{◌≡◌, ◌⊎◌, inl, inr, ℕ, zero, suc, ◌+◌, ◌-◌, ◌<◌, ◌≤◌, Bool, true, false, List, [], ◌∷◌, ◌++◌, length, take, drop, map, min, nat_le, Option, Some, None, refl, sym, ap, ◌∙◌, subst, arith, slice_get, length-append, cond, ◌==◌}
 use Rattle.std.specs.Prelude.{IsSomeAnd, IfSome}
 use Rattle.std.proofs.lemmas.Bool.{cases_lt, leb-true, le-leb}
 use Rattle.std.proofs.lemmas.List.{append-nil, length-map, map-append, nil_from_length}

@@ -1,7 +1,7 @@
 // Recorders one after the other on one medium, whose indexes have groups of different sizes.
 
 use crate::recording::{LEAP_DAY, settings_of, text};
-use r10_body::{Entry, Message};
+use r10_body::{Entry, Gap, Message};
 use r10_count::{Civil, Count, Items};
 use r10_machine::{Event, FileInfo, Found, Reply, Stopped};
 use r10_medium::{BlockMedium, Memory};
@@ -106,7 +106,7 @@ fn hundredth() -> Result<Found, Fail> {
         channel: 1,
         count: Count::of(1099).ok_or("not a count")?,
         message: Message::Time { civil },
-        gap: false,
+        gap: Gap::Whole,
     };
     Ok(Found { number: 99, entry })
 }

@@ -1,6 +1,6 @@
 // Events that are told to a world, and its replies.
 
-use r10_body::{ChannelSpec, Entry, Kind, Message, Refusal};
+use r10_body::{ChannelSpec, Entry, Gap, Kind, Message, Refusal};
 use r10_count::{Count, Items, Parts};
 use r10_machine::{Event, Found, Reply, Settings, Stopped};
 use r10_medium::{BlockMedium, Memory};
@@ -21,7 +21,7 @@ pub(crate) const LEAP_DAY: Parts = Parts {
 };
 
 /// The first recording: setup, time, two UART messages, node and root, a header a line and then its body
-pub(crate) const FIRST: [u8; 272] = [
+const FIRST: [u8; 272] = [
     0x25, 0xEB, 0, 0, 0x20, 0, 0, 0, 8, 0, 0, 0, 8, 0, 0, 1, 0xE8, 3, 0, 0, 0, 0, 0x3D, 0xF0, //
     0x0C, 0, 0, 0, 0x41, 0x42, 0x43, 0x44, //
     0x25, 0xEB, 1, 0, 0x24, 0, 0, 0, 12, 0, 0, 0, 8, 0, 0, 0x11, 0xE8, 3, 0, 0, 0, 0, 0x46, 0, //
@@ -40,8 +40,46 @@ pub(crate) const FIRST: [u8; 272] = [
     0xE8, 3, 0, 0, 0, 0, 0, 0, 212, 0, 0, 0, 0, 0, 0, 0,
 ];
 
+/// The directory's first block up to its first entry's end: a file of 168 bytes that nobody closed.
+const LISTED: [u8; 176] = [
+    0x46, 0x4F, 0x52, 0x54, 0x59, 0x74, 0x77, 0x6F, 0x0F, 0, 0, 1, 0, 0, 2, 0, 0x56, 0x4F, 0x4C, 0,
+    0, 0, 0, 0, //
+    0, 0, 0, 0, 0, 0, 0, 0, 0, 0, 0, 0, 0, 0, 0, 0, 0, 0, 0, 0, 0, 0, 0, 0, //
+    0, 0, 0, 0, 0, 0, 0, 1, 0, 0, 0, 0, 0, 0, 0, 1, 0x46, 0x4C, 0x54, 0x31, 0, 0, 0, 0, //
+    0, 0, 0, 0, 0, 0, 0, 0, 0, 0, 0, 0, 0, 0, 0, 0, 0, 0, 0, 0, 0, 0, 0, 0, //
+    0, 0, 0, 0, 0, 0, 0, 0, 0, 0, 0, 0, 0, 0, 0, 0, 0, 0, 0, 0, 0, 0, 0, 0, //
+    0, 0, 0, 0, 0, 0, 0, 3, 0, 0, 0, 0, 0, 0, 0, 1, 0, 0, 0, 0, 0, 0, 0, 0xA8, //
+    0x32, 0x39, 0x30, 0x32, 0x32, 0x30, 0x32, 0x34, 0x31, 0x32, 0x33, 0x34, 0x35, 0x36, 0x37, 0x38,
+    0, 0, 0, 0, 0, 0, 0, 0, //
+    0x2D, 0x2D, 0x2D, 0x2D, 0x2D, 0x2D, 0x2D, 0x2D,
+];
+
+/// That file, as it was recorded before there were reports: two messages, and one behind a loss.
+const BEFORE: [u8; 168] = [
+    0x25, 0xEB, 0, 0, 0x20, 0, 0, 0, 8, 0, 0, 0, 8, 0, 0, 1, 0xE8, 3, 0, 0, 0, 0, 0x3D, 0xF0, //
+    0x0C, 0, 0, 0, 0x41, 0x42, 0x43, 0x44, 0x25, 0xEB, 1, 0, 0x24, 0, 0, 0, 0x0C, 0, 0, 0, 8, 0, 0,
+    0x11, //
+    0xE8, 3, 0, 0, 0, 0, 0x46, 0, 1, 3, 0, 0, 0x78, 0x56, 0x34, 0x12, 0x29, 2, 0x24, 0x20, 0x25,
+    0xEB, 5, 0, //
+    0x38, 0, 0, 0, 0x20, 0, 0, 0, 8, 0, 0, 0x50, 0xE9, 3, 0, 0, 0, 0, 0x73, 0x3F, 0, 0, 0, 0x80, //
+    0xE9, 3, 0, 0, 0, 0, 0, 0, 1, 0, 0, 0, 0x41, 0, 0xEA, 3, 0, 0, 0, 0, 0, 0, 1, 0, //
+    0, 0, 0x42, 0, 0x25, 0xEB, 5, 0, 0x2C, 0, 0, 0, 0x12, 0, 0, 0, 8, 1, 0x10, 0x50, 0xEC, 3, 0, 0, //
+    0, 0, 0x6C, 0x40, 0, 0, 0, 0x80, 0xEC, 3, 0, 0, 0, 0, 0, 0, 1, 0, 0, 0, 0x44, 0, 0, 0,
+];
+
+/// Its index: a node of four entries, and a root.
+const INDEX: [u8; 168] = [
+    0x25, 0xEB, 0, 0, 0x6C, 0, 0, 0, 0x54, 0, 0, 0, 8, 1, 0, 3, 0xE8, 3, 0, 0, 0, 0, 0xD5, 0xF3, //
+    4, 0, 0, 0x80, 0xE8, 3, 0, 0, 0, 0, 0, 0, 0, 0, 1, 0, 0, 0, 0, 0, 0, 0, 0, 0, //
+    0xE8, 3, 0, 0, 0, 0, 0, 0, 1, 0, 0x11, 0, 0x20, 0, 0, 0, 0, 0, 0, 0, 0xE9, 3, 0, 0, //
+    0, 0, 0, 0, 5, 0, 0x50, 0, 0x44, 0, 0, 0, 0, 0, 0, 0, 0xEC, 3, 0, 0, 0, 0, 0, 0, //
+    5, 0, 0x50, 0, 0x7C, 0, 0, 0, 0, 0, 0, 0, 0x25, 0xEB, 0, 0, 0x3C, 0, 0, 0, 0x24, 0, 0, 0, //
+    8, 2, 0, 3, 0xE8, 3, 0, 0, 0, 0, 0x75, 0xF4, 2, 0, 0, 0, 0xE8, 3, 0, 0, 0, 0, 0, 0, //
+    0xA8, 0, 0, 0, 0, 0, 0, 0, 0xE8, 3, 0, 0, 0, 0, 0, 0, 0x14, 1, 0, 0, 0, 0, 0, 0,
+];
+
 /// 16 blocks, 2 of them for the directory, and a UART channel 5 that keeps two messages.
-pub(crate) fn settings(rt: &impl Abort, alloc: Global) -> Result<Settings, AllocError> {
+fn settings(rt: &impl Abort, alloc: Global) -> Result<Settings, AllocError> {
     settings_of(rt, alloc, 16, 100)
 }
 
@@ -83,7 +121,7 @@ fn uart(alloc: Global, bytes: &[u8]) -> Result<Message, AllocError> {
 
 /// An event of a step. The channel is 5 and the cursor 0.
 #[derive(Clone, Copy)]
-pub(crate) enum Ask {
+enum Ask {
     Mount,
     Tick,
     Start,
@@ -92,6 +130,7 @@ pub(crate) enum Ask {
     Commit,
     Find(u64),
     Stop,
+    Seal,
     Cursor,
     Advance,
     Next,
@@ -100,7 +139,7 @@ pub(crate) enum Ask {
 
 /// The reply that it is to have.
 #[derive(Clone, Copy)]
-pub(crate) enum Want {
+enum Want {
     Done,
     Moved(usize),
     Found(usize, u64, &'static [u8]),
@@ -108,12 +147,14 @@ pub(crate) enum Want {
     Cursor,
     Advanced(usize),
     Given(u64, &'static [u8]),
+    /// A message behind a loss of which no number is told.
+    Behind(u64, &'static [u8]),
     Nothing,
     Refused(Refusal),
 }
 
 /// The first recording, found in while it is written, and its replay.
-pub(crate) const RECORDED: &[(Ask, Want)] = &[
+const RECORDED: &[(Ask, Want)] = &[
     (Ask::Mount, Want::Done),
     (Ask::Tick, Want::Done),
     (Ask::Start, Want::Done),
@@ -131,7 +172,7 @@ pub(crate) const RECORDED: &[(Ask, Want)] = &[
     (Ask::Dismount, Want::Done),
 ];
 
-pub(crate) fn event_of(alloc: Global, ask: Ask) -> Result<Event, AllocError> {
+fn event_of(alloc: Global, ask: Ask) -> Result<Event, AllocError> {
     Ok(match ask {
         Ask::Mount => Event::Mount,
         Ask::Tick => Event::Tick {
@@ -155,6 +196,7 @@ pub(crate) fn event_of(alloc: Global, ask: Ask) -> Result<Event, AllocError> {
             count,
         },
         Ask::Stop => Event::Stop,
+        Ask::Seal => Event::Seal,
         Ask::Cursor => Event::Cursor {
             file: 0,
             channels: Items::of(Vec::from_slice(alloc, &[5])?),
@@ -167,39 +209,36 @@ pub(crate) fn event_of(alloc: Global, ask: Ask) -> Result<Event, AllocError> {
     })
 }
 
-/// A message of channel 5 as an entry without a gap.
-fn entry(alloc: Global, count: u64, bytes: &[u8]) -> Result<Entry, Fail> {
+/// A message of channel 5 as an entry.
+fn entry(alloc: Global, count: u64, bytes: &[u8], gap: Gap) -> Result<Entry, Fail> {
     Ok(Entry {
         channel: 5,
         count: Count::of(count).ok_or("not a count")?,
         message: uart(alloc, bytes)?,
-        gap: false,
+        gap,
     })
 }
 
-pub(crate) fn reply_of(alloc: Global, want: Want) -> Result<Reply, Fail> {
+fn reply_of(alloc: Global, want: Want) -> Result<Reply, Fail> {
     Ok(match want {
         Want::Done => Reply::Done,
         Want::Moved(moved) => Reply::Moved(moved),
         Want::Found(number, count, bytes) => {
-            let entry = entry(alloc, count, bytes)?;
+            let entry = entry(alloc, count, bytes, Gap::Whole)?;
             Reply::Found(Some(Found { number, entry }))
         }
         Want::Stopped(taken, left) => Reply::Stopped(Stopped { taken, left }),
         Want::Cursor => Reply::Cursor(0),
         Want::Advanced(queued) => Reply::Advanced(queued),
-        Want::Given(count, bytes) => Reply::Next(Some(entry(alloc, count, bytes)?)),
+        Want::Given(count, bytes) => Reply::Next(Some(entry(alloc, count, bytes, Gap::Whole)?)),
+        Want::Behind(count, bytes) => Reply::Next(Some(entry(alloc, count, bytes, Gap::Unknown)?)),
         Want::Nothing => Reply::Next(None),
         Want::Refused(refusal) => Reply::Refused(refusal),
     })
 }
 
 /// Whether a world gives these replies to these events.
-fn replies<M: BlockMedium>(
-    alloc: Global,
-    world: &mut World<M>,
-    table: &[(Ask, Want)],
-) -> Result<bool, Fail> {
+fn replies(alloc: Global, world: &mut World<Memory>, table: &[(Ask, Want)]) -> Result<bool, Fail> {
     let mut events = Vec::new(alloc);
     let mut wanted = Vec::new(alloc);
     for (ask, want) in table {
@@ -247,5 +286,50 @@ fn a_medium_without_a_directory_is_not_mounted(rt: HostRuntime) -> Result<(), Fa
     ];
     assert!(rt; replies(alloc, &mut world, &table)?);
     assert_eq!(rt; world.into_medium().failures(), 0);
+    Ok(())
+}
+
+/// A medium with that file.
+fn left_before(alloc: Global) -> Result<Memory, Fail> {
+    let mut image = Vec::new(alloc);
+    image.extend_from_slice(&[0; 512])?;
+    image.extend_from_slice(&LISTED)?;
+    image.extend_from_slice(&[0; 848])?;
+    image.extend_from_slice(&BEFORE)?;
+    image.extend_from_slice(&[0; 6488])?;
+    if image.len() % 512 != 0 {
+        return Err("part of a block".into());
+    }
+    Ok(Memory::of_image(alloc, &image)?)
+}
+
+/// A seal closes it, its replay tells of a loss and of no number, and its bytes stay.
+const SEALED: &[(Ask, Want)] = &[
+    (Ask::Mount, Want::Done),
+    (Ask::Seal, Want::Done),
+    (Ask::Cursor, Want::Cursor),
+    (Ask::Advance, Want::Advanced(3)),
+    (Ask::Next, Want::Given(1001, b"A")),
+    (Ask::Next, Want::Given(1002, b"B")),
+    (Ask::Next, Want::Behind(1004, b"D")),
+    (Ask::Next, Want::Nothing),
+];
+
+/// What was recorded before there were reports is sealed and replayed as it was.
+#[test]
+fn a_recording_without_reports_is_sealed(rt: HostRuntime) -> Result<(), Fail> {
+    let alloc = rt.alloc();
+    let settings = settings(&rt, alloc)?;
+    let medium = left_before(alloc)?;
+    if medium.blocks() != settings.blocks() {
+        return Err("another medium".into());
+    }
+    let Ok(mut world) = World::new(alloc, settings, medium) else {
+        panic!(rt; "no memory for a world");
+    };
+    assert!(rt; replies(alloc, &mut world, SEALED)?);
+    let image = world.into_medium().image(alloc)?;
+    assert_eq!(rt; image.get(1536..1704), Some(BEFORE.as_slice()));
+    assert_eq!(rt; image.get(1704..1872), Some(INDEX.as_slice()));
     Ok(())
 }

@@ -1,3 +1,4 @@
 pub mod Sealing
 pub mod Judging
 pub mod Leftover
+pub mod Asking

@@ -1,6 +1,6 @@
 -- What became of feeds, put together.
 use Rattle.std.proofs.Common.{◌≡◌, ℕ, ◌+◌, ◌<◌, suc, List, [], ◌∷◌, ◌++◌, length, map, get_or, count_by, refl, sym, ap, subst, ◌∙◌, arith, Option, Some, None}
-use Rattle.std.specs.Prelude.{IsSomeAnd, false, nat_lt}
+use Rattle.std.specs.Prelude.{IsSomeAnd}
 use Rattle.std.specs.List.{AllZip}
 use Rattle.r10_body.specs.Files.{on_channel}
 use Rattle.r10_body.specs.declared.entry.Entry.{Entry}
@@ -47,16 +47,16 @@ module _ {S F : Type 0} (rest_of : S → List Timed) (own : List Entry) (source_
 sent_there : (lane : Lane) (spec : ChannelSpec) (more : List Sample) (all : List Sample) → lane ≡ fresh_lane spec → all ≡ lane.waiting ++ more → all ≡ more
 sent_there lane spec more all new is = is ∙ ap (λ (l : Lane). l.waiting ++ more) new
 
-none_missed : (lane : Lane) (spec : ChannelSpec) → lane ≡ fresh_lane spec → nat_lt 0 lane.missed ≡ false
-none_missed lane spec new = ap (λ (l : Lane). nat_lt 0 l.missed) new
+none_missed : (lane : Lane) (spec : ChannelSpec) → lane ≡ fresh_lane spec → lane.missed ≡ 0
+none_missed lane spec new = ap (λ (l : Lane). l.missed) new
 
 one_came : (specs : List ChannelSpec) (own : List Entry) (table : FeedTable) (line : SendingLine) (report : FeedReport) → Waits specs table line → Comes own table.items line report → FeedCame specs own table (feed_end report)
 one_came specs own table line report waits comes =
     let fed = comes.fed.1 in
     let settled = comes.settled in
     let channel : comes.later.channel ≡ table.channel = comes.fed.0 ∙ waits.channel_is in
-    let all : sent comes.later.port ≡ accepted_of false fed.tried =
-    sent_there line.port.lane waits.unused.spec (accepted_of (nat_lt 0 line.port.lane.missed) fed.tried) (sent comes.later.port) waits.unused.lane_is fed.sent_is
+    let all : sent comes.later.port ≡ accepted_of 0 fed.tried =
+    sent_there line.port.lane waits.unused.spec (accepted_of line.port.lane.missed fed.tried) (sent comes.later.port) waits.unused.lane_is fed.sent_is
     ∙ ap (λ b. accepted_of b fed.tried) (none_missed line.port.lane waits.unused.spec waits.unused.lane_is) in
     record {
       channel_is = settled.channel_is ∙ channel;

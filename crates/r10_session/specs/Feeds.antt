@@ -1,5 +1,5 @@
 -- What becomes of the items of feeds.
-use Rattle.std.specs.Prelude.{◌≡◌, ℕ, List, ◌++◌, false, length, map, count_by}
+use Rattle.std.specs.Prelude.{◌≡◌, ℕ, List, ◌++◌, length, map, count_by}
 use Rattle.std.specs.List.{AllZip}
 use Rattle.r10_body.specs.Files.{on_channel}
 use Rattle.r10_body.specs.declared.entry.Entry.{Entry}
@@ -38,7 +38,7 @@ pub record Comes (own : List Entry) (items : List Timed) (line : SendingLine) (r
 abbrev pub feed_end : FeedReport → FeedEnd
 feed_end r = record { channel = r.channel; accepted = r.accepted; refused = r.refused; erased = r.erased; filed = r.filed; rest = length r.rest.items }
 
--- Of a table's items the first were offered in turn to a new lane of its channel, which answered as a lane does. Those that it accepted, with their gap marks,
+-- Of a table's items the first were offered in turn to a new lane of its channel, which answered as a lane does. Those that it accepted, each telling how many were lost before it,
 -- are what erases took, then what the recorder's own files have of the channel, and then the rest, each once and in order; and the numbers are theirs.
 pub record FeedCame (specs : List ChannelSpec) (own : List Entry) (table : FeedTable) (end : FeedEnd) : Type 0 where
   pub channel_is : end.channel ≡ table.channel
@@ -52,9 +52,9 @@ pub record FeedCame (specs : List ChannelSpec) (own : List Entry) (table : FeedT
   pub gone : List Sample
   pub kept : List Sample
   pub rest : List Sample
-  pub accepted_are : accepted_of false tried ≡ (gone ++ kept) ++ rest
+  pub accepted_are : accepted_of 0 tried ≡ (gone ++ kept) ++ rest
   pub entries_are : on_channel table.channel own ≡ entries_on table.channel kept
-  pub accepted_is : end.accepted ≡ saturated (length (accepted_of false tried))
+  pub accepted_is : end.accepted ≡ saturated (length (accepted_of 0 tried))
   pub refused_is : end.refused ≡ saturated (count_by is_refused tried)
   pub erased_is : end.erased ≡ saturated (length gone)
   pub filed_is : end.filed ≡ saturated (length kept)

@@ -4,7 +4,7 @@ use std::fmt;
 use std::time::Duration;
 
 /// What was measured.
-#[derive(Clone, Copy, Debug, Default)]
+#[derive(Clone, Copy, Default)]
 pub struct Figures {
     /// How many bytes each message has.
     pub bytes: usize,

@@ -49,13 +49,14 @@ fn message(alloc: Global, number: u32, bytes: &[u8]) -> Result<Timed, AllocError
     Ok(Timed { count, message })
 }
 
-/// A source of so many messages with these bytes.
+/// A source of so many messages with these bytes, which gives this signal.
 pub fn source_of(
     alloc: Global,
     messages: u32,
     bytes: &[u8],
-    signal: Arc<AtomicBool, Global>,
+    signal: &Arc<AtomicBool, Global>,
 ) -> Result<Listed, AllocError> {
+    let signal = Arc::try_clone(signal)?;
     let mut left = VecDeque::new(alloc);
     for number in 0..messages {
         left.push_back(message(alloc, number, bytes)?)?;

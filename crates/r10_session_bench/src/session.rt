@@ -9,7 +9,7 @@ ghost use Rattle.r10_medium.specs.MemoryDisk.{memory_disk};
 use crate::apparatus::{Apparatus, made};
 use crate::fault::Fault;
 use crate::figures::Figures;
-use crate::halfway::{Halfway, source_of};
+use crate::halfway::{Halfway, Listed, source_of};
 use r10_body::Refusal;
 use r10_count::{Items, Parts};
 use r10_gauge::Pass;
@@ -65,9 +65,19 @@ fn signal_of(alloc: Global) -> Result<Arc<AtomicBool, Global>, AllocError> {
     Ok(Arc::new(alloc, AtomicBool::new(false))?)
 }
 
-/// The same signal.
-fn again(signal: &Arc<AtomicBool, Global>) -> Result<Arc<AtomicBool, Global>, AllocError> {
-    Ok(Arc::try_clone(signal)?)
+/// Four sources of so many messages with these bytes, which give this signal.
+fn four_of(
+    alloc: Global,
+    messages: u32,
+    bytes: &[u8],
+    signal: &Arc<AtomicBool, Global>,
+) -> Result<[Listed; 4], AllocError> {
+    Ok([
+        source_of(alloc, messages, bytes, signal)?,
+        source_of(alloc, messages, bytes, signal)?,
+        source_of(alloc, messages, bytes, signal)?,
+        source_of(alloc, messages, bytes, signal)?,
+    ])
 }
 
 /// Counts in what became of a feed's messages. Whether its account adds up: each of so many that were offered was accepted or refused, and each that was
@@ -221,20 +231,17 @@ pub fn run<R: Threads + Wait + Clock + Sync>(
     bytes: &[u8],
 ) -> Result<Figures, Fault> {
     let signal = signal_of(alloc)?;
-    let listed = source_of(alloc, messages, bytes, again(&signal)?)?;
-    let Ok(first) = Box::new(alloc, listed) else {
+    let [first, second, third, fourth] = four_of(alloc, messages, bytes, &signal)?;
+    let Ok(first) = Box::new(alloc, first) else {
         return Err(Fault::Memory(AllocError));
     };
-    let listed = source_of(alloc, messages, bytes, again(&signal)?)?;
-    let Ok(second) = Box::new(alloc, listed) else {
+    let Ok(second) = Box::new(alloc, second) else {
         return Err(Fault::Memory(AllocError));
     };
-    let listed = source_of(alloc, messages, bytes, again(&signal)?)?;
-    let Ok(third) = Box::new(alloc, listed) else {
+    let Ok(third) = Box::new(alloc, third) else {
         return Err(Fault::Memory(AllocError));
     };
-    let listed = source_of(alloc, messages, bytes, again(&signal)?)?;
-    let Ok(fourth) = Box::new(alloc, listed) else {
+    let Ok(fourth) = Box::new(alloc, fourth) else {
         return Err(Fault::Memory(AllocError));
     };
     let gate = Halfway {

@@ -2,6 +2,8 @@
 #![tactic(auto)]
 
 #[cfg(test)]
+mod losing;
+#[cfg(test)]
 mod made;
 #[cfg(test)]
 mod meeting;

@@ -6,6 +6,7 @@ ghost use Rattle.r10_held.specs.LockFact.{outlet_received, outlet_spec};
 ghost use Rattle.r10_held.specs.Naming.{AreNamed, ring_for};
 ghost use Rattle.r10_medium.specs.MemoryDisk.{memory_disk};
 
+use crate::losing::Seen;
 use crate::made::{Made, cabinet_of};
 use r10_body::Refusal;
 use r10_count::{Items, Parts};
@@ -170,6 +171,26 @@ pub fn run_two<N: Rings + Send + Sync, R: Threads + Wait + Sync, G: Gate + Sync>
     run_and_end(rt, alloc, gate, cabinet, feeds, Vec::new(alloc), players)
 }
 
+/// A feed of the channel 5 and a reader, while a file is recorded.
+pub fn run_recorded<N: Rings + Send + Sync, R: Threads + Wait + Sync, G: Gate + Sync>(
+    rt: &R,
+    alloc: Global,
+    gate: &G,
+    made: Made,
+    source: AnySource,
+) -> Result<SessionReport<Memory>, Fail>
+    requires new { IsNew memory_disk outlet_spec outlet_received made.recorder }
+    requires named { AreNamed N.rings made.recorder.lanes }
+    requires five { ring_for 5 N.rings ≡ Some made.five.ring }
+{
+    let Made { recorder, five, .. } = made;
+    let (cabinet, pass) = cabinet_of::<N>(alloc, recorder)?;
+    let cursor = begun(rt, alloc, &cabinet)?;
+    let feeds = one_feed(alloc, five, source)?;
+    let players = alone(alloc, Player::new(cursor, pass))?;
+    run_and_end(rt, alloc, gate, cabinet, feeds, Vec::new(alloc), players)
+}
+
 /// A feed of the channel 5, while no file is recorded.
 pub fn run_one<N: Rings + Send + Sync, R: Threads + Wait + Sync>(
     rt: &R,
@@ -219,6 +240,19 @@ fn entries_in<M: BlockMedium>(report: &SessionReport<M>) -> usize {
         }
     }
     entries
+}
+
+/// What is seen of the entries that were read.
+pub fn seen_in<M: BlockMedium>(report: &SessionReport<M>) -> Seen {
+    let mut seen = Seen::new();
+    for transcript in &report.transcripts {
+        for instalment in &transcript.instalments {
+            for entry in instalment.entries.as_slice() {
+                seen.see(entry);
+            }
+        }
+    }
+    seen
 }
 
 pub fn end_of<M: BlockMedium + Drop>(alloc: Global, report: SessionReport<M>) -> Outcome {

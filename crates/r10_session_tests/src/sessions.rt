@@ -1,8 +1,9 @@
 // Sessions of a recorder with the channels 5 and 6.
 
+use crate::losing::{ALL, Barrier, LOST, Losing};
 use crate::made::make;
 use crate::meeting::{Meet, Meeting, Place, Shut};
-use crate::run::{Outcome, end_of, run_one, run_two};
+use crate::run::{Outcome, end_of, run_one, run_recorded, run_two, seen_in};
 use crate::sources::Listed;
 use r10_shared::{AnySource, Open};
 use std::marker::Brand;
@@ -71,6 +72,30 @@ fn nobody_works_behind_a_shut_gate(rt: HostRuntime) -> Result<(), Fail> {
         Outcome {
             feeds: [Some((5, 0, 0, 0, 0, 0)), Some((6, 0, 0, 0, 0, 0))],
             entries: 0,
+            audited: Ok(true),
+        }
+    );
+    Ok(())
+}
+
+#[test]
+fn a_loss_of_70_000_messages_says_its_number(rt: HostRuntime) -> Result<(), Fail> {
+    let alloc = rt.alloc();
+    let barrier = Barrier::new(alloc)?;
+    let source: AnySource = Box::new(alloc, Losing::of(alloc, &barrier)?)?;
+    let made = make(alloc, 2)?;
+    let report = run_recorded::<Brand, _, _>(&rt, alloc, &*barrier, made, source)?;
+    assert_eq!(rt; barrier.in_vain(), false);
+    let seen = seen_in(&report);
+    let refused = seen.lost();
+    let accepted = seen.entries;
+    assert_eq!(rt; (seen.wrong, accepted.wrapping_add(refused)), (0, ALL));
+    assert_eq!(rt; seen.greatest >= LOST, true);
+    assert_eq!(rt;
+        end_of(alloc, report),
+        Outcome {
+            feeds: [Some((5, accepted, refused, 0, accepted, 0)), None],
+            entries: accepted as usize,
             audited: Ok(true),
         }
     );

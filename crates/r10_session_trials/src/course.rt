@@ -18,7 +18,7 @@ impl Gate for First {
 }
 
 /// What control asks for while the feeds run.
-#[derive(Clone, Copy, Debug, PartialEq, Eq)]
+#[derive(Clone, Copy, PartialEq, Eq)]
 pub enum Course {
     /// Nothing.
     Plain,

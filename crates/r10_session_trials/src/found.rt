@@ -12,7 +12,7 @@ use r10_medium::{BlockMedium, Memory};
 use std::alloc::Global;
 
 /// What a new recorder finds on a medium: the messages of both channels, in the order of the files, and whether each file is strict.
-#[derive(Debug, Drop)]
+#[derive(Drop)]
 pub struct Found {
     pub entries: Vec<Entry>,
     pub strict: bool,

@@ -1,6 +1,6 @@
 //! A source that gives what it was made of, and what its messages are.
 
-use r10_body::{Message, Timed};
+use r10_body::{Gap, Message, Timed};
 use r10_count::{Count, Items};
 use r10_source::{ChannelSource, Given};
 use std::alloc::{AllocError, Global};
@@ -57,11 +57,12 @@ pub fn source(alloc: Global) -> Result<Listed, AllocError> {
 }
 
 /// Whether this is the message of this number, behind no overflow.
-pub fn is_message(number: u64, count: Count, message: &Message, gap: bool) -> bool {
+pub fn is_message(number: u64, count: Count, message: &Message, gap: Gap) -> bool {
     match message {
         Message::Uart { parity, sub, bytes } => {
             let bytes = bytes.as_slice();
-            !gap && count.get() == count_of(number)
+            gap == Gap::Whole
+                && count.get() == count_of(number)
                 && !*parity
                 && *sub == 0
                 && bytes.len() == 1

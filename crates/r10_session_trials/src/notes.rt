@@ -1,7 +1,7 @@
 //! What came of a session.
 
 /// What was done again where memory was refused, and what came otherwise than it is to come: the first of each.
-#[derive(Clone, Copy, Debug, Default)]
+#[derive(Clone, Copy, Default)]
 pub struct Notes {
     pub again: Option<&'static str>,
     pub wrong: Option<&'static str>,

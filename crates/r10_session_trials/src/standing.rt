@@ -11,7 +11,7 @@ use r10_medium::BlockMedium;
 pub const CHANNELS: [u16; 2] = [5, 6];
 
 /// How a recorder is, without what other threads change: what waits in its lanes.
-#[derive(Clone, Copy, Debug, PartialEq, Eq)]
+#[derive(Clone, Copy, PartialEq, Eq)]
 pub struct Standing {
     pub mode: Option<Mode>,
     pub tick: Option<Count>,

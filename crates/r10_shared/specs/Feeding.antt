@@ -1,5 +1,5 @@
 -- What became of a feed.
-use Rattle.std.specs.Prelude.{◌≡◌, ℕ, ◌++◌, List, map, count_by, nat_lt, Option, Some, None}
+use Rattle.std.specs.Prelude.{◌≡◌, ℕ, ◌++◌, List, map, count_by, Option, Some, None}
 use Rattle.r10_body.specs.declared.entry.Timed.{Timed}
 use Rattle.r10_machine.specs.Machine.{saturated}
 use Rattle.r10_port.specs.Ends.{Sending, sent}
@@ -7,15 +7,15 @@ use Rattle.r10_source.specs.Pumps.{Tried, OffersAll, is_accepted, is_refused, ac
 use Rattle.r10_shared.specs.Naming.{SendingLine}
 use Rattle.r10_shared.specs.declared.source.Tally.{Tally}
 
--- the source's list begins with what was tried, each offered in turn, accepted or refused; what was sent has grown by the accepted ones with
--- their gap marks, over the same ring; and so many were accepted and refused
+-- the source's list begins with what was tried, each offered in turn, accepted or refused; what was sent has grown by the accepted ones, each with
+-- the number of those lost before it, over the same ring; and so many were accepted and refused
 pub record FedFrom (before : List Timed) (old new : Sending) (tally : Tally) : Type 0 where
   pub tried : List Tried
   pub left : List Timed
   pub given : before ≡ map (λ t. t.item) tried ++ left
   pub offers : OffersAll old tried new
   pub same : (new.ring ≡ old.ring) × (new.lane.spec ≡ old.lane.spec)
-  pub sent_is : sent new ≡ sent old ++ accepted_of (nat_lt 0 old.lane.missed) tried
+  pub sent_is : sent new ≡ sent old ++ accepted_of old.lane.missed tried
   pub accepted_is : tally.accepted ≡ saturated (count_by is_accepted tried)
   pub refused_is : tally.refused ≡ saturated (count_by is_refused tried)
 

@@ -1,9 +1,8 @@
 -- What offers and turns come to, one after the other.
-use Rattle.std.proofs.Common.{◌≡◌, ℕ, ◌+◌, ◌-◌, ◌≤◌, Bool, true, false, ◌||◌, cond, List, [], ◌∷◌, ◌++◌, map, length, count_by, is_ok, is_err, nat_lt, Option, Some, None, Result, Ok, Err, MatchOption, MatchResult, refl, sym, ap, subst, ◌∙◌, append_assoc, length-append, arith}
+use Rattle.std.proofs.Common.{◌≡◌, ℕ, ◌+◌, ◌-◌, ◌≤◌, Bool, true, false, cond, List, [], ◌∷◌, ◌++◌, map, length, count_by, is_ok, is_err, Option, Some, None, Result, Ok, Err, MatchOption, MatchResult, refl, sym, ap, subst, ◌∙◌, append_assoc, length-append, arith}
 use Rattle.std.specs.List.{AllByRecursion}
 use Rattle.std.proofs.lemmas.List.{append-nil, map-append}
 use Rattle.std.proofs.lemmas.List.Sums.{sum_by-append, sum_by-cons}
-use Rattle.std.proofs.lemmas.Bool.{lt-ltb}
 use mir.Val.{bool_byte}
 use Rattle.r10_count.specs.Checks.{first_broken}
 use Rattle.r10_body.specs.declared.entry.Timed.{Timed}
@@ -15,12 +14,12 @@ use Rattle.r10_machine.specs.Machine.{saturated}
 use Rattle.r10_port.specs.Ends.{Sending, Offered, sent}
 use Rattle.r10_port.proofs.Offers.{offered_same}
 use Rattle.r10_source.specs.declared.pump.Pumped.{Pumped}
-use Rattle.r10_source.specs.Pumps.{Tried, OffersAll, PumpsSource, is_accepted, is_refused, is_overflow, gap_after, accepted_with, accepted_of}
+use Rattle.r10_source.specs.Pumps.{Tried, OffersAll, PumpsSource, is_accepted, is_refused, is_overflow, missed_after, accepted_with, accepted_of}
 
 -- ---- one offer
 
-abbrev pub has_gap : Sending → Bool
-has_gap port = nat_lt 0 port.lane.missed
+abbrev pub missed_at : Sending → ℕ
+missed_at port = port.lane.missed
 
 some_is : {X : Type 0} {a b : X} → Some a ≡ Some b → a ≡ b
 some_is is = cc
@@ -30,26 +29,19 @@ none_of [] r all is = absurd (cc)
 none_of ((true, f) ∷ checks) r (here, all) is = none_of checks r all is
 none_of ((false, f) ∷ checks) r (here, all) is = subst (λ (r : Refusal). is_overflow r ≡ false) (some_is is) here
 
-or_false : (a b : Bool) → b ≡ false → (a || b) ≡ a
-or_false true b is = refl
-or_false false b is = is
+-- one more where the answer is such a refusal
+abbrev more_if : ℕ → Bool → ℕ
+more_if missed b = cond b (saturated (missed + 1)) missed
 
-or_true : (a b : Bool) → b ≡ true → (a || b) ≡ true
-or_true true b is = refl
-or_true false b is = is
-
-one_more : (missed : ℕ) → nat_lt 0 (saturated (missed + 1)) ≡ true
-one_more missed = lt-ltb 0 (saturated (missed + 1)) (omega arith)
-
--- what one offer sends, and the gap that it leaves
+-- what one offer sends, and how many were lost then
 abbrev pub Became : Sending → Timed → Result (Unit {0}) Refusal → Sending → Type 0
-Became old item answer new = (sent new ≡ sent old ++ accepted_with (has_gap old) item answer) × (has_gap new ≡ gap_after (has_gap old) answer)
+Became old item answer new = (sent new ≡ sent old ++ accepted_with (missed_at old) item answer) × (missed_at new ≡ missed_after (missed_at old) answer)
 
 pub became : (old : Sending) (item : Timed) (answer : Result (Unit {0}) Refusal) (new : Sending) → Offered old item.count item.message answer new → Became old item answer new
 became old item answer new offered = by (first_broken (offer_checks (Some old.lane) item.count item.message)) refl answer offered
   where
     stays : (r : Refusal) → is_overflow r ≡ false → new ≡ old → Became old item (Err r) new
-    stays r other same = (ap sent same ∙ sym (append-nil (sent old)), ap has_gap same ∙ sym (or_false (has_gap old) (is_overflow r) other))
+    stays r other same = (ap sent same ∙ sym (append-nil (sent old)), ap missed_at same ∙ sym (ap (more_if (missed_at old)) other))
 
     by : (first : Option Refusal) → first_broken (offer_checks (Some old.lane) item.count item.message) ≡ first → (answer : Result (Unit {0}) Refusal)
         → MatchOption first
@@ -60,10 +52,10 @@ became old item answer new offered = by (first_broken (offer_checks (Some old.la
         → Became old item answer new
     by (Some r) is answer (refused, same) =
         subst (λ (a : Result (Unit {0}) Refusal). Became old item a new) (sym refused) (stays r (none_of (offer_checks (Some old.lane) item.count item.message) r (refl, (refl, (refl, (refl, (refl, tt))))) is) same)
-    by None is (Ok x) (same, room) = (ap sent same, ap has_gap same)
+    by None is (Ok x) (same, room) = (ap sent same, ap missed_at same)
     by None is (Err r) (overflow, full, same) = (
       ap sent same ∙ sym (append-nil (sent old)),
-      ap has_gap same ∙ one_more old.lane.missed ∙ sym (or_true (has_gap old) (is_overflow r) (ap is_overflow overflow)),
+      ap missed_at same ∙ sym (ap (more_if (missed_at old)) (ap is_overflow overflow)),
     )
 
 -- ---- offers
@@ -72,13 +64,13 @@ pub offers_join : (a b c : Sending) (xs ys : List Tried) → OffersAll a xs b �
 offers_join a b c [] ys first second = subst (λ (p : Sending). OffersAll p ys c) first second
 offers_join a b c (x ∷ xs) ys (next, offered, rest) second = (next, offered, offers_join next b c xs ys rest second)
 
-pub offers_sent : (old new : Sending) (tried : List Tried) → OffersAll old tried new → sent new ≡ sent old ++ accepted_of (has_gap old) tried
+pub offers_sent : (old new : Sending) (tried : List Tried) → OffersAll old tried new → sent new ≡ sent old ++ accepted_of (missed_at old) tried
 offers_sent old new [] same = ap sent same ∙ sym (append-nil (sent old))
 offers_sent old new (t ∷ tried) (next, offered, rest) =
     let one = became old t.item t.answer next offered in
-    let more : sent next ++ accepted_of (has_gap next) tried ≡ (sent old ++ accepted_with (has_gap old) t.item t.answer) ++ accepted_of (gap_after (has_gap old) t.answer) tried =
+    let more : sent next ++ accepted_of (missed_at next) tried ≡ (sent old ++ accepted_with (missed_at old) t.item t.answer) ++ accepted_of (missed_after (missed_at old) t.answer) tried =
     λ i. one.0 i ++ accepted_of (one.1 i) tried in
-    offers_sent next new tried rest ∙ more ∙ append_assoc (sent old) (accepted_with (has_gap old) t.item t.answer) (accepted_of (gap_after (has_gap old) t.answer) tried)
+    offers_sent next new tried rest ∙ more ∙ append_assoc (sent old) (accepted_with (missed_at old) t.item t.answer) (accepted_of (missed_after (missed_at old) t.answer) tried)
 
 pub offers_same : (old new : Sending) (tried : List Tried) → OffersAll old tried new → (new.ring ≡ old.ring) × (new.lane.spec ≡ old.lane.spec)
 offers_same old new [] is = (ap (λ (p : Sending). p.ring) is, ap (λ (p : Sending). p.lane.spec) is)

@@ -1,9 +1,11 @@
 -- What becomes at a port of what a source gives.
-use Rattle.std.specs.Prelude.{◌≡◌, ℕ, ◌≤◌, Bool, true, false, ◌||◌, List, [], ◌∷◌, ◌++◌, map, length, count_by, is_ok, is_err, nat_lt, Result, Ok, Err}
+use Rattle.std.specs.Prelude.{◌≡◌, ℕ, ◌+◌, ◌≤◌, Bool, true, false, List, [], ◌∷◌, ◌++◌, map, length, count_by, is_ok, is_err, Result, Ok, Err, if◌then◌else◌}
+use Rattle.r10_body.specs.Gaps.{gap_after}
 use Rattle.r10_body.specs.declared.entry.Sample.{Sample}
 use Rattle.r10_body.specs.declared.entry.Timed.{Timed}
 use Rattle.r10_body.specs.declared.refusal.Refusal.{Refusal}
 use Rattle.r10_body.specs.declared.refusal.Refusal.TheVariants.{Overflow}
+use Rattle.r10_machine.specs.Machine.{saturated}
 use Rattle.r10_port.specs.Ends.{Sending, Offered, sent}
 use Rattle.r10_source.specs.declared.pump.Pumped.{Pumped}
 
@@ -26,19 +28,19 @@ is_refused t = is_err t.answer
 abbrev pub is_overflow : Refusal → Bool
 is_overflow r = elim r [ Overflow ↦ true | _ ↦ false ]
 
--- whether a message was lost since the last that was accepted
-abbrev pub gap_after : Bool → Result (Unit {0}) Refusal → Bool
-gap_after gap (Ok x) = false
-gap_after gap (Err r) = gap || is_overflow r
+-- how many messages were lost since the last that was accepted, behind an answer; the number stays at the greatest of 64 bits
+abbrev pub missed_after : ℕ → Result (Unit {0}) Refusal → ℕ
+missed_after missed (Ok x) = 0
+missed_after missed (Err r) = if is_overflow r then saturated (missed + 1) else missed
 
-abbrev pub accepted_with : Bool → Timed → Result (Unit {0}) Refusal → List Sample
-accepted_with gap item (Ok x) = record { count = item.count; message = item.message; gap = gap } ∷ []
-accepted_with gap item (Err r) = []
+abbrev pub accepted_with : ℕ → Timed → Result (Unit {0}) Refusal → List Sample
+accepted_with missed item (Ok x) = record { count = item.count; message = item.message; gap = gap_after missed } ∷ []
+accepted_with missed item (Err r) = []
 
--- the accepted ones, each with a gap mark exactly where one was lost since the accepted one before
-abbrev pub accepted_of : Bool → List Tried → List Sample
-accepted_of gap [] = []
-accepted_of gap (t ∷ tried) = accepted_with gap t.item t.answer ++ accepted_of (gap_after gap t.answer) tried
+-- the accepted ones, each with the number of those that were lost since the accepted one before
+abbrev pub accepted_of : ℕ → List Tried → List Sample
+accepted_of missed [] = []
+accepted_of missed (t ∷ tried) = accepted_with missed t.item t.answer ++ accepted_of (missed_after missed t.answer) tried
 
 -- so many turns: what was tried, accepted and refused, is the front of what the source had, and the source has the rest;
 -- the port stays on its ring and on its channel
@@ -47,7 +49,7 @@ pub record PumpsSource (most : ℕ) (before after : List Timed) (old new : Sendi
   pub given : before ≡ map (λ t. t.item) tried ++ after
   pub offers : OffersAll old tried new
   pub same : (new.ring ≡ old.ring) × (new.lane.spec ≡ old.lane.spec)
-  pub sent : sent new ≡ sent old ++ accepted_of (nat_lt 0 old.lane.missed) tried
+  pub sent : sent new ≡ sent old ++ accepted_of old.lane.missed tried
   pub accepted : pumped.accepted ≡ count_by is_accepted tried
   pub refused : pumped.refused ≡ count_by is_refused tried
   pub turns : length tried ≤ most

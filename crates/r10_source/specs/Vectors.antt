@@ -1,8 +1,10 @@
 -- A source of three messages, pumped to a port that has room for two.
-use Rattle.std.specs.Prelude.{◌≡◌, ℕ, Bool, true, false, List, [], ◌∷◌, Option, Some, None, Result, Ok, Err, refl}
+use Rattle.std.specs.Prelude.{◌≡◌, ℕ, true, false, List, [], ◌∷◌, Option, Some, None, Result, Ok, Err, refl}
 use Rattle.std.proofs.Common.{lit≤}
 use Rattle.r10_body.specs.declared.entry.Sample.{Sample}
 use Rattle.r10_body.specs.declared.entry.Timed.{Timed}
+use Rattle.r10_body.specs.declared.gap.Gap.{Gap}
+use Rattle.r10_body.specs.declared.gap.Gap.TheVariants.{Whole, Lost}
 use Rattle.r10_body.specs.declared.message.Kind.TheVariants as kinds
 use Rattle.r10_body.specs.declared.message.Message.TheVariants.{Uart}
 use Rattle.r10_body.specs.declared.refusal.Refusal.{Refusal}
@@ -19,7 +21,7 @@ channel = record { id = 5; kind = kinds.Uart; capacity = 2; check = 0; bytes = 5
 abbrev timed : ℕ → Timed
 timed count = record { count = count; message = Uart false 0 [] }
 
-abbrev sample : ℕ → Bool → Sample
+abbrev sample : ℕ → Gap → Sample
 sample count gap = record { count = count; message = Uart false 0 []; gap = gap }
 
 abbrev port : Ring → List Sample → Option ℕ → ℕ → ℕ → Sending
@@ -43,11 +45,11 @@ the_end : GivesNext End [] []
 the_end = (refl, refl)
 
 -- in two turns two are accepted
-two_turns : (ring : Ring) → PumpsSource 2 (timed 1 ∷ timed 2 ∷ timed 3 ∷ []) (timed 3 ∷ []) (port ring [] None 0 2) (port ring (sample 1 false ∷ sample 2 false ∷ []) (Some 2) 0 0) (record { accepted = 2; refused = 0; ended = false })
+two_turns : (ring : Ring) → PumpsSource 2 (timed 1 ∷ timed 2 ∷ timed 3 ∷ []) (timed 3 ∷ []) (port ring [] None 0 2) (port ring (sample 1 Whole ∷ sample 2 Whole ∷ []) (Some 2) 0 0) (record { accepted = 2; refused = 0; ended = false })
 two_turns ring = record {
   tried = tried 1 (Ok tt) ∷ tried 2 (Ok tt) ∷ [];
   given = refl;
-  offers = (port ring (sample 1 false ∷ []) (Some 1) 0 1, (refl, lit≤ tt), (port ring (sample 1 false ∷ sample 2 false ∷ []) (Some 2) 0 0, (refl, lit≤ tt), refl));
+  offers = (port ring (sample 1 Whole ∷ []) (Some 1) 0 1, (refl, lit≤ tt), (port ring (sample 1 Whole ∷ sample 2 Whole ∷ []) (Some 2) 0 0, (refl, lit≤ tt), refl));
   same = (refl, refl);
   sent = refl;
   accepted = refl;
@@ -57,11 +59,11 @@ two_turns ring = record {
 }
 
 -- and in ten the third is refused, and the source ends
-ten_turns : (ring : Ring) → PumpsSource 10 (timed 3 ∷ []) [] (port ring (sample 1 false ∷ sample 2 false ∷ []) (Some 2) 0 0) (port ring (sample 1 false ∷ sample 2 false ∷ []) (Some 2) 1 0) (record { accepted = 0; refused = 1; ended = true })
+ten_turns : (ring : Ring) → PumpsSource 10 (timed 3 ∷ []) [] (port ring (sample 1 Whole ∷ sample 2 Whole ∷ []) (Some 2) 0 0) (port ring (sample 1 Whole ∷ sample 2 Whole ∷ []) (Some 2) 1 0) (record { accepted = 0; refused = 1; ended = true })
 ten_turns ring = record {
   tried = tried 3 (Err Overflow) ∷ [];
   given = refl;
-  offers = (port ring (sample 1 false ∷ sample 2 false ∷ []) (Some 2) 1 0, (refl, refl, refl), refl);
+  offers = (port ring (sample 1 Whole ∷ sample 2 Whole ∷ []) (Some 2) 1 0, (refl, refl, refl), refl);
   same = (refl, refl);
   sent = refl;
   accepted = refl;
@@ -70,7 +72,11 @@ ten_turns ring = record {
   ended = λ e. refl;
 }
 
--- only a loss makes a gap, and only of the next that is accepted
-marks : accepted_of false (tried 1 (Err BadMessage) ∷ tried 2 (Ok tt) ∷ tried 3 (Err Overflow) ∷ tried 4 (Err BadMessage) ∷ tried 5 (Ok tt) ∷ tried 6 (Ok tt) ∷ [])
-    ≡ sample 2 false ∷ sample 5 true ∷ sample 6 false ∷ []
+-- only a loss makes a gap, and only of the next that is accepted, which tells how many were lost
+marks : accepted_of 0 (tried 1 (Err BadMessage) ∷ tried 2 (Ok tt) ∷ tried 3 (Err Overflow) ∷ tried 4 (Err BadMessage) ∷ tried 5 (Err Overflow) ∷ tried 6 (Ok tt) ∷ tried 7 (Ok tt) ∷ [])
+    ≡ sample 2 Whole ∷ sample 6 (Lost 2) ∷ sample 7 Whole ∷ []
 marks = refl
+
+-- those that were lost before count too, and the number stays at the greatest of 64 bits
+lost_before : accepted_of 18446744073709551614 (tried 1 (Err Overflow) ∷ tried 2 (Err Overflow) ∷ tried 3 (Ok tt) ∷ []) ≡ sample 3 (Lost 18446744073709551615) ∷ []
+lost_before = refl

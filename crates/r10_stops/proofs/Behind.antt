@@ -1,5 +1,5 @@
 -- Calls behind which a recorder's files are safe.
-use Rattle.std.proofs.Common.{◌≡◌, ◌⊎◌, ⊎_elim, inl, inr, false, List, map, Result, Ok, Err, refl, sym, ap, ◌∙◌, subst}
+use Rattle.std.proofs.Common.{◌≡◌, ◌⊎◌, ⊎_elim, inl, inr, false, List, map, Result, Ok, Err, refl, sym, ◌∙◌, subst}
 use Rattle.std.specs.Prelude.{OnOk}
 use Rattle.r10_body.specs.declared.refusal.Refusal.{Refusal}
 use Rattle.r10_dirchain.specs.declared.chain.ChainBlock.{ChainBlock}
@@ -12,7 +12,7 @@ use Rattle.r10_machine.specs.declared.mode.Mode.TheVariants as modes
 use Rattle.r10_machine.specs.declared.reply.Reply.{Reply as ReplyValue}
 use Rattle.r10_machine.specs.declared.reply.Reply.TheVariants.{Refused}
 use Rattle.r10_means.specs.Kept.{Kept, Work, mode_of, unmounted, idle, recording, failed}
-use Rattle.r10_means.specs.Means.{HasFiles, KeptStepsTo, KeptStandsFor}
+use Rattle.r10_means.specs.Means.{HasFiles, KeptStandsFor}
 use Rattle.r10_medium.proofs.Stops.{stayed, weakened}
 use Rattle.r10_medium.specs.Disk.{Disk, Image, IsSynced, Unchanged}
 use Rattle.r10_medium.specs.Stop.{Leaves, Settled}

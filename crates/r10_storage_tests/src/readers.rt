@@ -1,6 +1,7 @@
 // Files of a directory, read by number, and a packet that is read alone.
 use crate::packets::FIRST;
-use r10_body::FileFault;
+use crate::verdicts::with_loss;
+use r10_body::{FileFault, Gap};
 use r10_count::{Civil, Count, Items, Parts};
 use r10_cursor::{Cursor, ReadRefusal, Reader, read_packet};
 use r10_dirblock::{DirBlock, Entries, Entry, encode, pad};
@@ -24,10 +25,10 @@ fn time_of(rt: &impl Abort, centi: u16) -> Civil {
     Civil::of(parts).expect(rt, "a time")
 }
 
-// a directory in block 1 that lists the first recording in block 2, closed or not
-fn listing(rt: &impl Abort, closed: bool) -> DirBlock {
+// a directory in block 1 that lists a recording of so many bytes in block 2, closed or not
+fn listing(rt: &impl Abort, size: u64, closed: bool) -> DirBlock {
     let time = time_of(rt, 78);
-    let open = Entry::begun(b"F", 2, time).sized(272);
+    let open = Entry::begun(b"F", 2, time).sized(size);
     let entry = if closed { open.closed_at(time) } else { open };
     let mut entries = Entries::new();
     entries.push(entry);
@@ -40,12 +41,18 @@ fn listing(rt: &impl Abort, closed: bool) -> DirBlock {
     }
 }
 
-// a medium with this directory
-fn recorded(rt: &impl Abort, alloc: Global, closed: bool) -> Result<(Memory, Directory), Fail> {
+// a medium with this directory and the recording
+fn recorded(
+    rt: &impl Abort,
+    alloc: Global,
+    bytes: &[u8],
+    closed: bool,
+) -> Result<(Memory, Directory), Fail> {
     let mut medium = Memory::new(alloc, 3)?;
     let mut recording = [0; 512];
-    recording[..272].copy_from_slice(&FIRST);
-    let directory = encode(&listing(rt, closed));
+    assert!(rt; bytes.len() <= 512);
+    recording[..bytes.len()].copy_from_slice(bytes);
+    let directory = encode(&listing(rt, bytes.len() as u64, closed));
     assert!(rt; medium.blocks() == 3);
     let _ = medium.write(1, &directory);
     assert!(rt; medium.blocks() == 3);
@@ -58,7 +65,7 @@ fn recorded(rt: &impl Abort, alloc: Global, closed: bool) -> Result<(Memory, Dir
 
 #[test]
 fn a_message_is_found_by_the_number_of_its_file(rt: HostRuntime) -> Result<(), Fail> {
-    let (mut medium, directory) = recorded(&rt, rt.alloc(), true)?;
+    let (mut medium, directory) = recorded(&rt, rt.alloc(), &FIRST, true)?;
     let mut reader = Reader::new(rt.alloc());
     let count = Count::of(1001).ok_or("no count")?;
     assert!(rt; medium.blocks() == 3);
@@ -68,6 +75,21 @@ fn a_message_is_found_by_the_number_of_its_file(rt: HostRuntime) -> Result<(), F
         _ => None,
     };
     assert_eq!(rt; told, Some((1, 1010)));
+    Ok(())
+}
+
+#[test]
+fn a_message_tells_how_many_were_lost_before_it(rt: HostRuntime) -> Result<(), Fail> {
+    let (mut medium, directory) = recorded(&rt, rt.alloc(), &with_loss(), false)?;
+    let mut reader = Reader::new(rt.alloc());
+    let count = Count::of(1011).ok_or("no count")?;
+    assert!(rt; medium.blocks() == 3);
+    let found = reader.find(rt.alloc(), &mut medium, &directory, None, 0, 5, count);
+    let told = match &found {
+        Ok(Some(found)) => Some((found.number, found.entry.gap)),
+        _ => None,
+    };
+    assert_eq!(rt; told, Some((2, Gap::Lost(1))));
     Ok(())
 }
 
@@ -83,7 +105,7 @@ fn a_file_is_checked_under_its_entry(rt: HostRuntime) -> Result<(), Fail> {
         (false, 0, Err(bad)),
         (true, 1, Err(missing)),
     ] {
-        let (mut medium, directory) = recorded(&rt, rt.alloc(), closed)?;
+        let (mut medium, directory) = recorded(&rt, rt.alloc(), &FIRST, closed)?;
         let mut reader = Reader::new(rt.alloc());
         reader.clear();
         assert!(rt; medium.blocks() == 3);
@@ -97,7 +119,7 @@ fn a_file_is_checked_under_its_entry(rt: HostRuntime) -> Result<(), Fail> {
 
 #[test]
 fn a_count_is_told_by_a_time_of_the_file(rt: HostRuntime) -> Result<(), Fail> {
-    let (mut medium, directory) = recorded(&rt, rt.alloc(), true)?;
+    let (mut medium, directory) = recorded(&rt, rt.alloc(), &FIRST, true)?;
     let mut reader = Reader::new(rt.alloc());
     let civil = time_of(&rt, 80);
     assert!(rt; medium.blocks() == 3);
@@ -111,7 +133,7 @@ fn a_count_is_told_by_a_time_of_the_file(rt: HostRuntime) -> Result<(), Fail> {
 
 #[test]
 fn an_instalment_is_taken_once(rt: HostRuntime) -> Result<(), Fail> {
-    let (mut medium, directory) = recorded(&rt, rt.alloc(), true)?;
+    let (mut medium, directory) = recorded(&rt, rt.alloc(), &FIRST, true)?;
     let mut reader = Reader::new(rt.alloc());
     let from = Count::of(1001).ok_or("no count")?;
     let to = Count::of(1010).ok_or("no count")?;
@@ -142,7 +164,7 @@ fn unlisted(alloc: Global) -> Result<Memory, AllocError> {
 fn a_packet_is_read(rt: HostRuntime) -> Result<(), Fail> {
     let mut medium = unlisted(rt.alloc())?;
     let mut buffer = Vec::new(rt.alloc());
-    let counts = match read_packet(rt.alloc(), &mut medium, 0, 68, &mut buffer) {
+    let counts = match read_packet(rt.alloc(), &mut medium, 0, 68, None, &mut buffer) {
         Ok(entries) => [0, 1, 2].map(|n| entries.get(n).map(|entry| entry.count.get())),
         Err(_) => [None; 3],
     };

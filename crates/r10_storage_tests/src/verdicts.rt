@@ -1,7 +1,7 @@
 // All files of a medium, each with its verdict, and the first fault of a file.
 use crate::packets::FIRST;
 use r10_body::{FileFault, Refusal};
-use r10_checker::{Verdict, check_medium, find_fault};
+use r10_checker::{Verdict, check_file, check_medium, find_fault};
 use r10_dirblock::{DirBlock, Entries, Entry, encode, pad};
 use r10_judge::Judge;
 use r10_medium::{BlockMedium, Faulty, Memory};
@@ -9,6 +9,28 @@ use r10_strict::Fault;
 use std::alloc::{AllocError, Global};
 use std::process::Abort;
 use std::test::Fail;
+
+// the report that a message was lost on channel 5
+const REPORT: [u8; 44] = [
+    0x25, 0xEB, 0, 0, 0x2C, 0, 0, 0, 20, 0, 0, 0, 8, 1, 0, 0, 0xE8, 3, 0, 0, 0, 0, 0x55, 0xF0, //
+    0, 0, 0, 0, 0x4C, 0x4F, 0x53, 0x53, 5, 0, 0, 0, 1, 0, 0, 0, 0, 0, 0, 0,
+];
+
+// a flagged packet of this channel: an empty message at 1011
+const FLAGGED: [u8; 40] = [
+    0x25, 0xEB, 5, 0, 0x28, 0, 0, 0, 16, 0, 0, 0, 8, 1, 0x10, 0x50, 0xF3, 3, 0, 0, 0, 0, 0x6D,
+    0x40, //
+    0, 0, 0, 0x80, 0xF3, 3, 0, 0, 0, 0, 0, 0, 0, 0, 0, 0,
+];
+
+// the data of the first recording, then the report and what answers it
+pub(crate) fn with_loss() -> [u8; 208] {
+    let mut bytes = [0; 208];
+    bytes[..124].copy_from_slice(&FIRST[..124]);
+    bytes[124..168].copy_from_slice(&REPORT);
+    bytes[168..].copy_from_slice(&FLAGGED);
+    bytes
+}
 
 // a file of so many bytes, from a block on
 fn file(first_block: u64, size: u64, closed: bool) -> Entry {
@@ -108,5 +130,27 @@ fn a_setup_alone_lacks_a_time(rt: HostRuntime) -> Result<(), Fail> {
     let offset = 32;
     let fault = FileFault::Rule(4);
     assert!(rt; judge.end() == Some(Fault { offset, fault }));
+    Ok(())
+}
+
+// the same, cut behind the report
+fn with_report() -> [u8; 168] {
+    let mut bytes = [0; 168];
+    bytes[..124].copy_from_slice(&FIRST[..124]);
+    bytes[124..].copy_from_slice(&REPORT);
+    bytes
+}
+
+#[test]
+fn a_report_is_answered(rt: HostRuntime) -> Result<(), Fail> {
+    let alloc = rt.alloc();
+    let bytes = with_loss();
+    let cut = with_report();
+    let offset = 124;
+    let fault = FileFault::Rule(11);
+    assert!(rt; find_fault(alloc, &bytes, false)?.is_none());
+    assert!(rt; find_fault(alloc, &cut, false)? == Some(Fault { offset, fault }));
+    assert!(rt; check_file(alloc, &bytes)? == Verdict::Strict);
+    assert!(rt; check_file(alloc, &cut)? == Verdict::Lenient { opaque: 0 });
     Ok(())
 }

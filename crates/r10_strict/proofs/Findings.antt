@@ -9,7 +9,7 @@ use Rattle.r10_packet.proofs.Fields.{AreBytes}
 use Rattle.r10_packet.proofs.Kept.{whole_of}
 use Rattle.r10_body.specs.Bodies.{IsBodyOf}
 use Rattle.r10_body.specs.Content.{Content, FitsContent, body_of, type_of}
-use Rattle.r10_body.specs.Packets.{Packet, packet_bytes}
+use Rattle.r10_body.specs.Packets.{Packet, flagged, packet_bytes}
 use Rattle.r10_body.specs.Rules.{KeepsChecksums}
 use Rattle.r10_body.specs.Faults.{KeepsHeader, KeepsFiller, ReadsPacket, BreaksRule}
 use Rattle.r10_body.specs.Faults as broken_rules
@@ -35,6 +35,7 @@ one_or_more before bytes closed m (broken_rules.index p reads breaks) = lit≤ t
 one_or_more before bytes closed m (broken_rules.unclosed p reads index unclosed) = lit≤ tt
 one_or_more before bytes closed m (broken_rules.counters p reads breaks) = lit≤ tt
 one_or_more before bytes closed m (broken_rules.events p reads breaks) = lit≤ tt
+one_or_more before bytes closed m (broken_rules.reports p loss reads is breaks) = lit≤ tt
 
 two_or_more : (before : List Packet) (bytes : List ℕ) (closed : Bool) (m : ℕ) → KeepsHeader bytes → BreaksRule before bytes closed m → 2 ≤ m
 two_or_more before bytes closed m keeps (broken_rules.version breaks) = absurd (breaks keeps)
@@ -48,6 +49,7 @@ two_or_more before bytes closed m keeps (broken_rules.index p reads breaks) = li
 two_or_more before bytes closed m keeps (broken_rules.unclosed p reads index unclosed) = lit≤ tt
 two_or_more before bytes closed m keeps (broken_rules.counters p reads breaks) = lit≤ tt
 two_or_more before bytes closed m keeps (broken_rules.events p reads breaks) = lit≤ tt
+two_or_more before bytes closed m keeps (broken_rules.reports p loss reads is breaks) = lit≤ tt
 
 three_or_more : (before : List Packet) (bytes : List ℕ) (closed : Bool) (m : ℕ) → KeepsHeader bytes → (opaque_at bytes ≡ false → KeepsFiller bytes) → BreaksRule before bytes closed m → 3 ≤ m
 three_or_more before bytes closed m keeps least (broken_rules.version breaks) = absurd (breaks keeps)
@@ -61,6 +63,7 @@ three_or_more before bytes closed m keeps least (broken_rules.index p reads brea
 three_or_more before bytes closed m keeps least (broken_rules.unclosed p reads index unclosed) = lit≤ tt
 three_or_more before bytes closed m keeps least (broken_rules.counters p reads breaks) = lit≤ tt
 three_or_more before bytes closed m keeps least (broken_rules.events p reads breaks) = lit≤ tt
+three_or_more before bytes closed m keeps least (broken_rules.reports p loss reads is breaks) = lit≤ tt
 
 -- ---- the answers
 
@@ -134,10 +137,10 @@ wrongly_checked bytes h r eh own filled iff not =
     not_read bytes own (λ _. filled.1)
     (λ p reads.
     let is = framed bytes p reads in
-    let flags : (header_at bytes).flags ≡ flag_at 4 p.flagged + p.check = ap (λ (g : Header). g.flags) is.header in
+    let flags : (header_at bytes).flags ≡ flag_at 4 (flagged p) + p.check = ap (λ (g : Header). g.flags) is.header in
     let type : (header_at bytes).data_type ≡ type_of p.content = ap (λ (g : Header). g.data_type) is.header in
     let right : IsCheckedRight (header_at bytes) =
-    λ t. ap (λ n. n % 4) flags ∙ low_flag p.flagged p.check reads.0.check ∙ reads.1 (subst (λ n. IsTrue (goes_unchecked n)) type t) in
+    λ t. ap (λ n. n % 4) flags ∙ low_flag (flagged p) p.check reads.0.check ∙ reads.1 (subst (λ n. IsTrue (goes_unchecked n)) type t) in
     let yes : r ≡ true = iff.1 (subst IsCheckedRight (sym eh) right) in
     let differ : true ≡ false = sym yes ∙ not in absurd cc)
 

@@ -1,4 +1,4 @@
--- The entries of the kinds whose messages have bytes, and their bodies.
+-- The entries of the kinds whose messages have bytes, their bodies, and those of loss reports.
 use Rattle.std.proofs.Common.{◌≡◌, ℕ, ◌+◌, ◌/◌, ◌%◌, ◌^◌, ◌<◌, List, ◌++◌, length, refl, sym, ap, arith}
 use Rattle.r10_count.specs.Bytes.{le_bytes}
 use Rattle.r10_count.specs.Count.{IsCount, stamp}
@@ -12,7 +12,9 @@ use Rattle.r10_message.specs.declared.entry.MessageEntry.{MessageEntry}
 use Rattle.r10_message.proofs.Bodies.{is_body as is_message, body_is as message_is}
 use Rattle.r10_message.proofs.Entries.{entry_of as message_entry_of, entry_read as message_read}
 use Rattle.r10_body.specs.Bodies.{IsBodyOf}
-use Rattle.r10_body.specs.Content.{Content, uart, message, timed}
+use Rattle.r10_lossbody.specs.Loss.{IsLossBody}
+use Rattle.r10_lossbody.specs.declared.body.LossBody.{LossBody}
+use Rattle.r10_body.specs.Content.{Content, uart, message, report, timed}
 use Rattle.r10_body.specs.declared.message.Message.TheVariants as messages
 use Rattle.r10_strict.specs.Glance.{IsGlimpse, IsPlain}
 use Rattle.r10_strict.proofs.Scanned.{plain_body, body_plain}
@@ -56,3 +58,10 @@ message_body_of type counter es body t plain =
 pub message_body_only : (type counter : ℕ) (content : Content) (body : List ℕ) → type ≡ 0x30 → IsBodyOf type counter content body → (es : List MessageEntry) × IsPlain message_form es body
 message_body_only type counter (message es) body t is = (es, body_plain message_form es body (message_is es body (is.fits, is.body_is)))
 message_body_only type counter content body t is = absurd (omega (arith, is.type_is))
+
+pub loss_body_of : (type counter : ℕ) (loss : LossBody) (body : List ℕ) → type ≡ 0 → IsLossBody loss body → IsBodyOf type counter (report loss) body
+loss_body_of type counter loss body t is = record { type_is = sym t; fits = is.0; body_is = is.1 }
+
+pub loss_body_only : (type counter : ℕ) (content : Content) (body : List ℕ) → type ≡ 0 → IsBodyOf type counter content body → (loss : LossBody) × IsLossBody loss body
+loss_body_only type counter (report loss) body t is = (loss, (is.fits, is.body_is))
+loss_body_only type counter content body t is = absurd (omega (arith, is.type_is))

@@ -3,6 +3,7 @@ pub mod First
 pub mod Parts
 pub mod Findings
 pub mod Tallies
+pub mod Retelling
 pub mod Telling
 pub mod Scanned
 pub mod Glances

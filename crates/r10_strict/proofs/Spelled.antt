@@ -18,9 +18,10 @@ use Rattle.r10_packet.proofs.Lengths.{header_length, filled_length}
 use Rattle.r10_packet.proofs.Whole.{read_whole, found_whole, filler_at}
 use Rattle.r10_body.specs.Bodies.{IsBodyOf}
 use Rattle.r10_body.specs.Content.{Content}
-use Rattle.r10_body.specs.Packets.{Packet, FitsPacket, packet_body, packet_rest, packet_bytes, header_of}
+use Rattle.r10_body.specs.Packets.{Packet, FitsPacket, flagged, packet_body, packet_rest, packet_bytes, header_of}
 use Rattle.r10_body.specs.Rules.{KeepsChecksums}
 use Rattle.r10_body.specs.Faults.{KeepsHeader, KeepsFiller, ReadsPacket}
+use Rattle.r10_body.proofs.Gaps.{flag_told, flag_sound}
 use Rattle.r10_body.proofs.Sentences.{packet_sentence, rest_words}
 use Rattle.r10_strict.specs.Header.{packet_of}
 
@@ -122,7 +123,7 @@ framed bytes p (fits, sums, first) =
       header = header;
       body_is = body;
       checksum = ap has_data_checksum (sym all) ∙ whole.checksum;
-      keeps = (version, ap (λ f. bit_and f 0xEC) flags ∙ own_flags_at p.flagged p.check fits.check, omega (arith, size, fits.short));
+      keeps = (version, ap (λ f. bit_and f 0xEC) flags ∙ own_flags_at (flagged p) p.check fits.check, omega (arith, size, fits.short));
       filler = behind ∙ sym (ap (λ f. filled (checksum_bits f) (body_at bytes) (least_filler (checksum_bits f) (body_at bytes))) flags
           ∙ ap (λ b. filled (checksum_bits h.flags) b (least_filler (checksum_bits h.flags) b)) body);
     }
@@ -171,7 +172,7 @@ reads_made bytes content fits sound checked keeps filler is sums =
     let found = found_whole bytes fits sound checked in
     let whole = whole_of bytes sound in
     let lengths = lengths_of h whole.sound.lengths in
-    let flags : h.flags ≡ flag_at 4 (bit_of 4 h.flags) + h.flags % 4 = told_flags h.flags found.fits.flags keeps.1 in
+    let flags : h.flags ≡ flag_at 4 (flagged p) + h.flags % 4 = told_flags h.flags found.fits.flags keeps.1 ∙ ap (λ b. flag_at 4 b + h.flags % 4) (sym (flag_told (bit_of 4 h.flags))) in
     let low : checksum_bits h.flags ≡ checksum_bits (h.flags % 4) = low_bits h.flags in
     let rest : slice_range bytes 24 h.packet_len ≡ packet_rest p =
     filler ∙ ap (λ b. filled b body (least_filler b body)) low ∙ ap (λ b. filled (checksum_bits (h.flags % 4)) b (least_filler (checksum_bits (h.flags % 4)) b)) is.body_is in
@@ -183,6 +184,7 @@ reads_made bytes content fits sound checked keeps filler is sums =
       record {
         channel = found.fits.channel;
         sequence = found.fits.sequence;
+        gap = flag_sound (bit_of 4 h.flags);
         check = omega arith;
         counter = found.fits.counter;
         content = is.fits;

@@ -12,15 +12,19 @@ use Rattle.r10_a429.proofs.Bodies.{body-length as arinc_length}
 use Rattle.r10_discrete.proofs.Bodies.{body-length as discrete_length}
 use Rattle.r10_message.specs.Message.{message_entry_size}
 use Rattle.r10_message.proofs.Bodies.{body-length as message_length}
-use Rattle.r10_body.specs.Content.{Content, setup, time, event, uart, bus, arinc, discrete, message, node, root, type_of, body_of, timed, messages_of}
-use Rattle.r10_body.specs.Cost.{entry_cost}
+use Rattle.r10_body.specs.Content.{Content, setup, time, event, uart, bus, arinc, discrete, message, node, root, report, type_of, body_of, timed, messages_of}
+use Rattle.r10_body.specs.Cost.{plain_cost}
+use Rattle.r10_body.specs.Gaps.{gap_of_flag}
 use Rattle.r10_body.specs.Packets.{packet_bytes, with_gaps}
 use Rattle.r10_body.specs.Rules.{Rise}
 use Rattle.r10_body.specs.declared.entry.Timed.{Timed}
+use Rattle.r10_body.specs.declared.gap.Gap.{Gap}
+use Rattle.r10_body.specs.declared.gap.Gap.TheVariants.{Whole}
 use Rattle.r10_body.specs.declared.message.Message.TheVariants as messages
 use Rattle.r10_body.specs.Sequence.{last_count}
 use Rattle.r10_count.specs.Bytes.{bit_of}
 use Rattle.r10_packet.specs.declared.header.Header.{Header}
+use Rattle.r10_body.proofs.Gaps.{flag_told}
 use Rattle.r10_strict.specs.Facts.{AreFactsOf, TellsCounts, kind_of}
 use Rattle.r10_strict.specs.Header.{packet_of}
 use Rattle.r10_strict.specs.declared.facts.PacketKind.{PacketKind}
@@ -30,25 +34,25 @@ use Rattle.r10_strict.specs.declared.tally.Tally.{Tally}
 
 -- ---- numbers and costs
 
-entries_from : (t : Tally) (ms : List Timed) (channel : ℕ) (gap : Bool) → (fold with_message t ms).entries ≡ t.entries + length (with_gaps channel gap ms)
+entries_from : (t : Tally) (ms : List Timed) (channel : ℕ) (gap : Gap) → (fold with_message t ms).entries ≡ t.entries + length (with_gaps channel gap ms)
 entries_from t [] channel gap = omega arith
-entries_from t (m ∷ ms) channel gap = omega (arith, entries_from (with_message t m) ms channel false)
+entries_from t (m ∷ ms) channel gap = omega (arith, entries_from (with_message t m) ms channel Whole)
 
-pub entries_are : (ms : List Timed) (channel : ℕ) (gap : Bool) → (tally_of ms).entries ≡ length (with_gaps channel gap ms)
+pub entries_are : (ms : List Timed) (channel : ℕ) (gap : Gap) → (tally_of ms).entries ≡ length (with_gaps channel gap ms)
 entries_are ms channel gap = omega (arith, entries_from empty_tally ms channel gap)
 
-cost_from : (t : Tally) (ms : List Timed) (channel : ℕ) (gap : Bool) → (fold with_message t ms).cost ≡ t.cost + sum_by entry_cost (with_gaps channel gap ms)
+cost_from : (t : Tally) (ms : List Timed) (channel : ℕ) (gap : Gap) → (fold with_message t ms).cost ≡ t.cost + sum_by plain_cost (with_gaps channel gap ms)
 cost_from t [] channel gap = omega arith
 cost_from t (m ∷ ms) channel gap =
-    omega (arith, cost_from (with_message t m) ms channel false, sum_by-cons entry_cost (record { channel = channel; count = m.count; message = m.message; gap = gap }) (with_gaps channel false ms))
+    omega (arith, cost_from (with_message t m) ms channel Whole, sum_by-cons plain_cost (record { channel = channel; count = m.count; message = m.message; gap = gap }) (with_gaps channel Whole ms))
 
-pub cost_is : (ms : List Timed) (channel : ℕ) (gap : Bool) → (tally_of ms).cost ≡ sum_by entry_cost (with_gaps channel gap ms)
+pub cost_is : (ms : List Timed) (channel : ℕ) (gap : Gap) → (tally_of ms).cost ≡ sum_by plain_cost (with_gaps channel gap ms)
 cost_is ms channel gap = omega (arith, cost_from empty_tally ms channel gap)
 
 -- ---- counts
 
 -- counts so far, and entries behind them, come to these
-pub record GoesOn (s t : Spread) (ms : List Timed) (channel : ℕ) (gap : Bool) : Type 0 where
+pub record GoesOn (s t : Spread) (ms : List Timed) (channel : ℕ) (gap : Gap) : Type 0 where
   pub first : t.first ≡ s.first
   pub last : t.last ≡ last_count s.last (with_gaps channel gap ms)
   pub greatest : (bound : ℕ) → (t.greatest ≤ bound) ↔ ((s.greatest ≤ bound) × AllByRecursion (λ e. e.count ≤ bound) (with_gaps channel gap ms))
@@ -64,11 +68,11 @@ true_both true true h g = refl
 true_both true false h g = absurd (let no : false ≡ true = g in cc)
 true_both false b h g = absurd (let no : false ≡ true = h in cc)
 
-spread_from : (n cost : ℕ) (s : Spread) (ms : List Timed) (channel : ℕ) (gap : Bool)
+spread_from : (n cost : ℕ) (s : Spread) (ms : List Timed) (channel : ℕ) (gap : Gap)
     → (t : Spread) × ((fold with_message (record { entries = n; cost = cost; counts = Some s }) ms).counts ≡ Some t) × GoesOn s t ms channel gap
 spread_from n cost s [] channel gap = (s, refl, record { first = refl; last = refl; greatest = λ bound. (λ h. (h, tt), λ h. h.0); rise = (λ h. (h, tt), λ h. h.0) })
 spread_from n cost s (m ∷ ms) channel gap =
-    let left = spread_from (n + 1) (cost + timed_cost m) (spread_behind (Some s) m.count) ms channel false in
+    let left = spread_from (n + 1) (cost + timed_cost m) (spread_behind (Some s) m.count) ms channel Whole in
     let on = left.2 in (
       left.0,
       left.1,
@@ -86,10 +90,10 @@ spread_from n cost s (m ∷ ms) channel gap =
       },
     )
 
-pub counts_are : (ms : List Timed) (channel : ℕ) (gap : Bool) → TellsCounts (tally_of ms).counts (with_gaps channel gap ms)
+pub counts_are : (ms : List Timed) (channel : ℕ) (gap : Gap) → TellsCounts (tally_of ms).counts (with_gaps channel gap ms)
 counts_are [] channel gap = refl
 counts_are (m ∷ ms) channel gap =
-    let left = spread_from 1 (0 + timed_cost m) (spread_behind None m.count) ms channel false in
+    let left = spread_from 1 (0 + timed_cost m) (spread_behind None m.count) ms channel Whole in
     let on = left.2 in
     let is : (tally_of (m ∷ ms)).counts ≡ Some left.0 = left.1 in
     rw is (record {
@@ -128,6 +132,7 @@ content_cheap counter (discrete bits es) = omega (arith, discrete_length bits es
 content_cheap counter (message es) = omega (arith, message_length es, entries_cheap message_entry_size (λ e. timed e.count (messages.Message e.data_error e.format e.sub e.bytes)) (λ e. omega arith) es)
 content_cheap counter (node es) = omega arith
 content_cheap counter (root es) = omega arith
+content_cheap counter (report loss) = omega arith
 
 -- ---- all facts
 
@@ -136,11 +141,11 @@ pub facts_told : (h : Header) (kind : PacketKind) (t : Tally) (content : Content
     → AreFactsOf (record { channel = h.channel; sequence = h.sequence; flagged = bit_of 4 h.flags; counter = h.counter; data_type = h.data_type; kind = kind; length = h.packet_len; entries = t.entries; cost = t.cost; counts = t.counts }) (packet_of h content)
 facts_told h kind t content kinds sums type size =
     let ms = messages_of h.counter content in
-    let gap = bit_of 4 h.flags in
+    let gap = gap_of_flag (bit_of 4 h.flags) in
     record {
       channel = refl;
       sequence = refl;
-      flagged = refl;
+      flagged = sym (flag_told (bit_of 4 h.flags));
       counter = refl;
       data_type = type;
       kind = kinds;

@@ -18,10 +18,10 @@ use Rattle.r10_indexbody.specs.Index as index_bodies
 use Rattle.r10_message.specs.Message as message_bodies
 use Rattle.r10_uart.specs.Uart as uart_bodies
 use Rattle.r10_body.proofs.Lenient.{strict-lenient}
-use Rattle.r10_body.specs.Content.{Content, setup, time, event, uart, bus, arinc, discrete, message, node, root, type_of, body_of, messages_of, FitsContent}
+use Rattle.r10_body.specs.Content.{Content, setup, time, event, uart, bus, arinc, discrete, message, node, root, report, type_of, body_of, messages_of, FitsContent}
 use Rattle.r10_body.specs.Files.{IsStrict}
-use Rattle.r10_body.specs.Foreign.{known_types, selects_other, is_opaque_packet, opaque_at, IsForeignBody, IsForeignPacket, IsForeignFile}
-use Rattle.r10_body.specs.Packets.{Packet, FitsPacket, packet_body, packet_rest, packet_bytes, header_of}
+use Rattle.r10_body.specs.Foreign.{known_types, is_loss_report, selects_other, is_opaque_packet, opaque_at, IsForeignBody, IsForeignPacket, IsForeignFile}
+use Rattle.r10_body.specs.Packets.{Packet, FitsPacket, flagged, packet_body, packet_rest, packet_bytes, header_of}
 use Rattle.r10_body.proofs.Sentences.{packet_sentence, rest_length, rest_words}
 use Rattle.r10_body.proofs.Rules.{follows_fit}
 
@@ -84,6 +84,7 @@ unselected counter (uart entries) fits =
 unselected counter (bus entries) fits = refl
 unselected counter (arinc entries) fits = refl
 unselected counter (discrete bits entries) fits = refl
+unselected counter (report loss) fits = refl
 unselected counter (message entries) fits =
     none_of _ _ _ _ _ _ refl refl refl refl (off (type_of (message entries) == 48) _ (message_clear (length entries) (flat_map message_bodies.message_entry entries) fits.counted)) refl
 unselected counter (node entries) fits =
@@ -91,25 +92,26 @@ unselected counter (node entries) fits =
 unselected counter (root entries) fits =
     none_of _ _ _ _ _ _ refl refl (off (type_of (root entries) == 3) _ (root_clear (length entries) (flat_map index_bodies.root_entry entries) fits.counted)) refl refl refl
 
-known : (content : Content) → not (list_any (λ type. type == type_of content) known_types) ≡ false
-known (setup text) = refl
-known (time civil) = refl
-known (event e) = refl
-known (uart entries) = refl
-known (bus entries) = refl
-known (arinc entries) = refl
-known (discrete bits entries) = refl
-known (message entries) = refl
-known (node entries) = refl
-known (root entries) = refl
+known : (counter : ℕ) (content : Content) → not (list_any (λ type. type == type_of content) known_types || is_loss_report (type_of content) (body_of counter content)) ≡ false
+known counter (setup text) = refl
+known counter (time civil) = refl
+known counter (event e) = refl
+known counter (uart entries) = refl
+known counter (bus entries) = refl
+known counter (arinc entries) = refl
+known counter (discrete bits entries) = refl
+known counter (message entries) = refl
+known counter (node entries) = refl
+known counter (root entries) = refl
+known counter (report loss) = refl
 
 four : (a b c d : Bool) → a ≡ false → b ≡ false → c ≡ false → d ≡ false → (a || b || c || d) ≡ false
 four a b c d p q r s = rw (p, q, r, s) refl
 
 header_clear : (p : Packet) → FitsPacket p → is_opaque_packet (header_of p) (packet_body p) ≡ false
 header_clear p fits =
-    let flags = flags_clear p.flagged p.check fits.check in
-    four _ _ _ _ flags.0 flags.1 (known p.content) (unselected p.counter p.content fits.content)
+    let flags = flags_clear (flagged p) p.check fits.check in
+    four _ _ _ _ flags.0 flags.1 (known p.counter p.content) (unselected p.counter p.content fits.content)
 
 -- ---- a packet of the recorder's is one of any
 

@@ -1,8 +1,9 @@
--- What a header says to the first rules, and the packet that a header and a content are.
+-- What a header says to the first rules, and the packet that a header and a content are, by itself.
 use Rattle.std.specs.Prelude.{◌≡◌, ℕ, ◌%◌, ◌≤◌, ◌==◌, ◌||◌, Bool, IsTrue, bit_and, length}
 use Rattle.r10_count.specs.Bytes.{bit_of}
 use Rattle.r10_packet.specs.declared.header.Header.{Header}
 use Rattle.r10_body.specs.Content.{Content, type_of}
+use Rattle.r10_body.specs.Gaps.{gap_of_flag}
 use Rattle.r10_body.specs.Packets.{Packet, packet_bytes}
 use Rattle.r10_strict.specs.Facts.{AreFactsOf}
 use Rattle.r10_strict.specs.declared.facts.Facts.{Facts}
@@ -13,14 +14,14 @@ IsOwnHeader h = (h.version ≡ 8) × (bit_and h.flags 0xEC ≡ 0) × (h.packet_l
 
 -- packets of this type have no data checksum
 abbrev pub goes_unchecked : ℕ → Bool
-goes_unchecked type = type == 0x01 || type == 0x11 || type == 0x02 || type == 0x03
+goes_unchecked type = type == 0x01 || type == 0x11 || type == 0x02 || type == 0x03 || type == 0x00
 
 -- such a packet has none
 abbrev pub IsCheckedRight : Header → Type 0
 IsCheckedRight h = IsTrue (goes_unchecked h.data_type) → h.flags % 4 ≡ 0
 
 abbrev pub packet_of : Header → Content → Packet
-packet_of h content = record { channel = h.channel; sequence = h.sequence; flagged = bit_of 4 h.flags; check = h.flags % 4; counter = h.counter; content = content }
+packet_of h content = record { channel = h.channel; sequence = h.sequence; gap = gap_of_flag (bit_of 4 h.flags); check = h.flags % 4; counter = h.counter; content = content }
 
 -- these are the facts of that packet, where it has the header's data type and length
 abbrev pub AreFactsOfHeader : Facts → Header → Content → Type 0

@@ -32,7 +32,7 @@ empty_tally = record { entries = 0; cost = 0; counts = None }
 abbrev pub tally_of : List Timed → Tally
 tally_of messages = fold with_message empty_tally messages
 
--- what a packet with these messages is, where one without messages is told by its data type and by its word
+-- what a packet with these messages is that is no loss report, where one without messages is told by its data type and by its word
 abbrev pub told_kind : ℕ → Bool → List Timed → PacketKind
 told_kind type node [] = if type == 1 then Setup else if node then Node else Root
 told_kind type node (t ∷ ts) = elim t.message [ messages.Time civil ↦ Time civil | messages.Event number occurrence ↦ Event number occurrence | _ ↦ Data ]

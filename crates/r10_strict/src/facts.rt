@@ -1,6 +1,7 @@
 //! What a packet says to the rules of a file.
 
 use r10_count::{Civil, Count};
+use r10_lossbody::LossBody;
 
 /// What a packet carries, as far as the rules of a file ask.
 #[derive(Clone, Copy, Debug, PartialEq, Eq)]
@@ -21,6 +22,10 @@ pub enum PacketKind {
     Node,
     /// An index packet that names nodes.
     Root,
+    /// How many messages were lost before the packet behind it.
+    Report {
+        loss: LossBody,
+    },
 }
 
 /// The counts of a packet's entries, of which there is one at least.
@@ -48,9 +53,9 @@ pub struct Facts {
     pub kind: PacketKind,
     /// The length of the whole packet in bytes.
     pub length: usize,
-    /// How many entries it has: none where it is a setup or an index packet.
+    /// How many entries it has: none where it is a setup or an index packet or a loss report.
     pub entries: usize,
-    /// What its entries cost in a file.
+    /// What its entries cost in a file, without a report before it.
     pub cost: u64,
     /// The counts of its entries, where it has any.
     pub counts: Option<Spread>,

@@ -31,11 +31,15 @@ fn is_own(header: &Header) -> bool
     header.version == 8 && header.flags & 0xEC == 0 && header.packet_len <= 524_288
 }
 
-/// Whether packets of this data type have no data checksum: setup, time, event and index packets.
+/// Whether packets of this data type have no data checksum: setup, time, event and index packets, and loss reports.
 fn goes_unchecked(data_type: u8) -> bool
     ensures { result ≡ has_no_checksum data_type }
 {
-    data_type == 0x01 || data_type == 0x11 || data_type == 0x02 || data_type == 0x03
+    data_type == 0x01
+        || data_type == 0x11
+        || data_type == 0x02
+        || data_type == 0x03
+        || data_type == 0x00
 }
 
 /// Whether there is no data checksum where this recorder writes none.

@@ -5,7 +5,7 @@ ghost use Rattle.std.specs.List.{sum_by};
 ghost use Rattle.r10_strict.specs.Tally.{empty_tally, spread_behind, tally_behind, tally_of, timed_cost};
 
 use crate::facts::Spread;
-use r10_body::{ENTRY_COST, Timed, cost};
+use r10_body::{ENTRY_COST, Gap, Timed, cost};
 use r10_count::Count;
 
 /// What entries come to, one by one.
@@ -68,6 +68,14 @@ impl Tally {
     }
 }
 
+/// What an entry of a message costs, where no report stands before it.
+fn plain_cost(message: &Timed) -> u64
+    requires { timed_cost message.now < 2 ^ 64 }
+    ensures { result ≡ timed_cost message.now }
+{
+    ENTRY_COST + cost(&message.message, Gap::Whole)
+}
+
 /// What messages come to.
 pub(crate) fn tally_messages(messages: &[Timed]) -> Tally
     requires { sum_by timed_cost messages.now < 2 ^ 64 }
@@ -75,7 +83,7 @@ pub(crate) fn tally_messages(messages: &[Timed]) -> Tally
 {
     let mut tally = Tally::new();
     for message in messages {
-        tally = tally.and(message.count, ENTRY_COST + cost(&message.message));
+        tally = tally.and(message.count, plain_cost(message));
     }
     tally
 }

@@ -1,7 +1,7 @@
 //! How a channel's messages become packets: `r10_builder`.
 
 use crate::made::{CHANNEL, WORD, count};
-use r10_body::{ChannelSpec, Kind, Sample};
+use r10_body::{ChannelSpec, Gap, Kind, Sample};
 use r10_builder::{Builder, Closed, Reason};
 use std::alloc::{AllocError, Global};
 use std::test::Fail;
@@ -13,7 +13,7 @@ const BUS: ChannelSpec = ChannelSpec {
 };
 
 /// A sample of a word.
-fn word(units: u64, gap: bool) -> Result<Sample, Fail> {
+fn word(units: u64, gap: Gap) -> Result<Sample, Fail> {
     Ok(Sample {
         count: count(units)?,
         message: WORD,
@@ -37,11 +37,11 @@ fn pushed(builder: &mut Builder, sample: Sample) -> Option<Closed> {
 fn closed(alloc: Global) -> Result<[Option<Closed>; 5], Fail> {
     let mut builder = Builder::new(alloc, BUS);
     builder.ready()?;
-    let first = pushed(&mut builder, word(5000, false)?);
-    let second = pushed(&mut builder, word(1_005_000, false)?);
-    let third = pushed(&mut builder, word(2_005_001, false)?);
+    let first = pushed(&mut builder, word(5000, Gap::Whole)?);
+    let second = pushed(&mut builder, word(1_005_000, Gap::Whole)?);
+    let third = pushed(&mut builder, word(2_005_001, Gap::Whole)?);
     let aged = builder.age(count(3_005_002)?);
-    if let Some(spare) = pushed(&mut builder, word(3_005_002, false)?) {
+    if let Some(spare) = pushed(&mut builder, word(3_005_002, Gap::Whole)?) {
         builder.recycle(spare);
     }
     Ok([first, second, third, aged, builder.flush()])
@@ -61,6 +61,7 @@ fn words_are_packed(rt: HostRuntime) -> Result<(), Fail> {
                 header,
                 body,
                 entries,
+                gap,
                 reason,
             },
         ) = packet
@@ -69,8 +70,8 @@ fn words_are_packed(rt: HostRuntime) -> Result<(), Fail> {
         };
         if entries == 2 {
             assert_eq!(rt;
-                (header.counter.get(), body.as_slice()),
-                (5000, bytes.as_slice())
+                (header.counter.get(), body.as_slice(), gap),
+                (5000, bytes.as_slice(), Gap::Whole)
             );
         }
         if place < 5 {
@@ -91,10 +92,10 @@ fn words_are_packed(rt: HostRuntime) -> Result<(), Fail> {
 }
 
 /// Why a packet of so many words is closed by one more.
-fn reason(alloc: Global, spec: ChannelSpec, words: u64, gap: bool) -> Result<Option<Reason>, Fail> {
+fn reason(alloc: Global, spec: ChannelSpec, words: u64, gap: Gap) -> Result<Option<Reason>, Fail> {
     let mut builder = Builder::new(alloc, spec);
     for _ in 0..words {
-        let _ = pushed(&mut builder, word(5000, false)?);
+        let _ = pushed(&mut builder, word(5000, Gap::Whole)?);
     }
     Ok(pushed(&mut builder, word(5000, gap)?).map(|closed| closed.reason))
 }
@@ -102,9 +103,9 @@ fn reason(alloc: Global, spec: ChannelSpec, words: u64, gap: bool) -> Result<Opt
 #[test]
 fn packets_are_closed_for_reasons(rt: HostRuntime) -> Result<(), Fail> {
     for (number, bytes, words, gap, why) in [
-        (65_535, 524_288, 1, true, Reason::Gap),
-        (1, 524_288, 1, false, Reason::Number),
-        (65_535, 128, 12, false, Reason::Size),
+        (65_535, 524_288, 1, Gap::Lost(3), Reason::Gap),
+        (1, 524_288, 1, Gap::Whole, Reason::Number),
+        (65_535, 128, 12, Gap::Whole, Reason::Size),
     ] {
         let spec = ChannelSpec {
             number,

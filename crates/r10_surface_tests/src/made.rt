@@ -1,6 +1,6 @@
 //! What the tests hand in.
 
-use r10_body::{ChannelSpec, Entry, Kind, Message};
+use r10_body::{ChannelSpec, Entry, Gap, Kind, Message};
 use r10_count::{Civil, Count, Items, Parts};
 use r10_indexbody::NodeEntry;
 use std::alloc::{AllocError, Global};
@@ -79,7 +79,7 @@ pub(crate) fn entry(alloc: Global, channel: u16, units: u64, bytes: &[u8]) -> Re
         channel,
         count: count(units)?,
         message: uart(alloc, bytes)?,
-        gap: false,
+        gap: Gap::Whole,
     })
 }
 

@@ -2,7 +2,8 @@
 
 use crate::made::{CHANNEL, WORD, count, leap_day, uart};
 use r10_body::{
-    ChannelSpec, FileFault, Glance, Kind, Message, Refusal, Timed, cost, decode, encode, is_opaque,
+    ChannelSpec, FileFault, Gap, Glance, Kind, Message, Refusal, Timed, cost, decode, encode,
+    is_opaque,
 };
 use r10_count::{Items, Reading};
 use r10_packet::Header;
@@ -41,12 +42,15 @@ fn channels_take_messages_of_their_kind(rt: HostRuntime) -> Result<(), Fail> {
             bits: 8,
             ..CHANNEL
         };
-        assert_eq!(rt; (spec.check(&message), cost(&message)), (Ok(()), bytes));
+        assert_eq!(rt;
+            (spec.check(&message), cost(&message, Gap::Whole)),
+            (Ok(()), bytes)
+        );
     }
     let civil = leap_day()?;
     let (number, count) = (3, 1);
-    assert_eq!(rt; cost(&Message::Time { civil }), 8);
-    assert_eq!(rt; cost(&Message::Event { number, count }), 12);
+    assert_eq!(rt; cost(&Message::Time { civil }, Gap::Lost(1)), 76);
+    assert_eq!(rt; cost(&Message::Event { number, count }, Gap::Unknown), 12);
     Ok(())
 }
 

@@ -3,7 +3,7 @@
 ghost use Rattle.std.specs.Prelude.{◌≡◌};
 
 use crate::made::{CHANNEL, count, empty};
-use r10_body::{ChannelSpec, Refusal, Sample};
+use r10_body::{ChannelSpec, Gap, Refusal, Sample};
 use r10_lane::LaneOut;
 use r10_port::{Outlet, Port, lane};
 use std::alloc::Global;
@@ -53,7 +53,7 @@ fn send_all(alloc: Global, port: Port, done: &AtomicBool) -> Sent
 }
 
 /// What is seen of the messages that came: how many, the count that comes next where none is lost, how many counts were lower
-/// than that, and how many gap marks were not where one was lost.
+/// than that, and how many told another number of losses than there were.
 #[derive(Clone, Copy, Debug, Default, PartialEq, Eq)]
 struct Seen {
     taken: u64,
@@ -68,7 +68,7 @@ impl Seen {
         if count < self.next {
             self.fallen = self.fallen.wrapping_add(1);
         }
-        if sample.gap != (count > self.next) {
+        if sample.gap != Gap::after(count.saturating_sub(self.next)) {
             self.wrong = self.wrong.wrapping_add(1);
         }
         self.taken = self.taken.wrapping_add(1);

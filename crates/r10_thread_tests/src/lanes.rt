@@ -3,7 +3,7 @@
 ghost use Rattle.std.specs.Prelude.{◌≡◌};
 
 use crate::made::{CHANNEL, count, empty};
-use r10_body::{Refusal, Sample};
+use r10_body::{Gap, Refusal, Sample};
 use r10_lane::LaneOut;
 use r10_port::{Port, lane};
 use std::alloc::Global;
@@ -15,36 +15,42 @@ fn offer(port: &mut Port, alloc: Global, units: u32) -> Result<(), Refusal>
     port.offer(count(units), empty(alloc))
 }
 
-/// The count and the gap mark.
-fn marks(taken: Option<Sample>) -> Option<(u64, bool)> {
+/// The count, and what was lost before it.
+fn told(taken: Option<Sample>) -> Option<(u64, Gap)> {
     let Sample { count, gap, .. } = taken?;
     Some((count.get(), gap))
 }
 
 #[test]
-fn a_full_lane_loses_a_message_and_marks_the_gap(rt: HostRuntime) -> Result<(), Fail> {
+fn a_full_lane_loses_messages_and_tells_how_many(rt: HostRuntime) -> Result<(), Fail> {
     let alloc = rt.alloc();
     let (mut port, mut outlet) = lane(alloc, CHANNEL)?;
-    let mut answers = [Ok(()); 4];
-    for (place, units) in [1, 2, 3].into_iter().enumerate() {
+    let mut answers = [Ok(()); 5];
+    for (place, units) in [1, 2, 3, 4].into_iter().enumerate() {
         answers[place] = offer(&mut port, alloc, units);
     }
     let held = outlet.held();
     let lent = outlet.front().map(|first| first.count.get());
-    let first = marks(outlet.take());
-    answers[3] = offer(&mut port, alloc, 4);
+    let first = told(outlet.take());
+    answers[4] = offer(&mut port, alloc, 5);
     let taken = [
         first,
-        marks(outlet.take()),
-        marks(outlet.take()),
-        marks(outlet.take()),
+        told(outlet.take()),
+        told(outlet.take()),
+        told(outlet.take()),
     ];
-    assert_eq!(rt; answers, [Ok(()), Ok(()), Err(Refusal::Overflow), Ok(())]);
+    let full = Err(Refusal::Overflow);
+    assert_eq!(rt; answers, [Ok(()), Ok(()), full, full, Ok(())]);
     assert_eq!(rt;
         taken,
-        [Some((1, false)), Some((2, false)), Some((4, true)), None]
+        [
+            Some((1, Gap::Whole)),
+            Some((2, Gap::Whole)),
+            Some((5, Gap::Lost(2))),
+            None
+        ]
     );
-    assert_eq!(rt; (held, lent, port.sent(), port.lost()), (2, Some(1), 3, 1));
+    assert_eq!(rt; (held, lent, port.sent(), port.lost()), (2, Some(1), 3, 2));
     Ok(())
 }
 
@@ -57,9 +63,9 @@ fn the_rest_goes_into_room(rt: HostRuntime) -> Result<(), Fail> {
     let left = outlet.left(&mut port);
     let mut room = Vec::with_capacity(alloc, 1)?;
     outlet.rest_into(&mut port, &mut room);
-    let moved = marks(room.pop());
+    let moved = told(room.pop());
     let rest = outlet.rest(alloc, &mut port)?.len();
     assert_eq!(rt; answers, [Ok(()), Ok(())]);
-    assert_eq!(rt; (left, moved, rest), (2, Some((1, false)), 1));
+    assert_eq!(rt; (left, moved, rest), (2, Some((1, Gap::Whole)), 1));
     Ok(())
 }

@@ -3,8 +3,9 @@ mod OnChannels
 mod Either
 pub mod OnTimes
 mod OnEvents
+mod OnReports
 mod Fronts
 mod Named
 mod OnIndex
 mod Least
-mod Joins
+pub mod Joins

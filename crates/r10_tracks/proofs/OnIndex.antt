@@ -1,6 +1,6 @@
 -- The index of a file's packets, with and without a packet more.
-use Rattle.std.proofs.Common.{◌≡◌, ◌⊎◌, inl, inr, ⊎_elim, ◌==◌, Option, None, Some, is_some, not, ℕ, zero, suc, ◌+◌, ◌-◌, ◌*◌, ◌^◌, ◌<◌, ◌≤◌, Bool, true, false, cond, IsTrue, List, [], ◌∷◌, ◌++◌, length, take, drop, refl, sym, ap, subst, ◌∙◌, arith, append_assoc}
-use Rattle.std.specs.Prelude.{count_by, filter, min, ◌↔◌, ◌&&◌, nat_le, MatchOption}
+use Rattle.std.proofs.Common.{◌≡◌, ◌⊎◌, inl, inr, ◌==◌, Option, None, Some, is_some, not, ℕ, zero, suc, ◌+◌, ◌-◌, ◌*◌, ◌^◌, ◌<◌, ◌≤◌, Bool, true, false, cond, IsTrue, List, [], ◌∷◌, ◌++◌, length, take, drop, refl, sym, ap, subst, ◌∙◌, arith}
+use Rattle.std.specs.Prelude.{count_by, filter, min, ◌↔◌, ◌&&◌, ◌||◌, MatchOption}
 use Rattle.std.proofs.lemmas.Bool.{eqb-true, le-leb, leb-true}
 use Rattle.std.specs.List.{AllByRecursion}
 use Rattle.std.proofs.lemmas.List.{append-nil, length-append, length-drop, length-take, take_all, take_min, drop_min}
@@ -12,13 +12,12 @@ use Rattle.r10_indexbody.specs.declared.entry.NodeEntry.{NodeEntry}
 use Rattle.r10_indexbody.specs.declared.entry.RootEntry.{RootEntry}
 use Rattle.r10_indexbody.proofs.Nodes.{one_node_body}
 use Rattle.r10_indexbody.proofs.Roots.{one_root_body}
-use Rattle.r10_body.specs.Content.{Content, FitsContent, setup, time, event, uart, bus, arinc, discrete, message, node, root, body_of}
+use Rattle.r10_body.specs.Content.{Content, FitsContent, setup, time, event, uart, bus, arinc, discrete, message, node, root, report, body_of}
 use Rattle.r10_body.specs.Packets.{Packet, FitsPacket, packet_body, packet_bytes, packet_entries, file_bytes}
-use Rattle.r10_body.specs.Rules.{MayFollow, EachFollows, HasPlace, KeepsIndex, IsNextNode, IsNextRoot, is_time, is_index, is_data, is_node, is_root, is_closed_file, all_named, has_whole_index, closed_from, group_size, last_root, node_entry_of, node_entries, root_entry_of, last_time, unnamed}
+use Rattle.r10_body.specs.Rules.{MayFollow, EachFollows, HasPlace, KeepsIndex, IsNextNode, IsNextRoot, is_time, is_index, is_report_packet, is_data, is_node, is_root, is_closed_file, all_named, has_whole_index, closed_from, group_size, last_root, node_entry_of, node_entries, root_entry_of, last_time, unnamed}
 use Rattle.r10_body.proofs.Groups.{none_unnamed, root_before, root_with, size_grows, size_of_node, size_of_root, size_stays, unnamed_with}
 use Rattle.r10_body.proofs.Indexes.{Part, datum, node_here, root_here, part_of, counted, counted_first, counted_yes, counted_no, index_len, index_long, no_nodes, no_roots, not_closed}
 use Rattle.r10_body.proofs.Rules.{bytes_more, follows_fit}
-use Rattle.r10_body.proofs.Sentences.{type_fits}
 use Rattle.r10_index.specs.Book.{Book}
 use Rattle.r10_index.specs.Counted.{IsBookOf, CountsEntriesUpTo}
 use Rattle.r10_index.specs.Written.{names}
@@ -63,6 +62,7 @@ as_node (discrete bits es) e = absurd (cc)
 as_node (message es) e = absurd (cc)
 as_node (node es) e = record { entries = es; is = refl }
 as_node (root es) e = absurd (cc)
+as_node (report loss) e = absurd (cc)
 
 as_root : (c : Content) → Root ≡ kind_of c → IsA root c
 as_root (setup text) e = absurd (cc)
@@ -75,6 +75,7 @@ as_root (discrete bits es) e = absurd (cc)
 as_root (message es) e = absurd (cc)
 as_root (node es) e = absurd (cc)
 as_root (root es) e = record { entries = es; is = refl }
+as_root (report loss) e = absurd (cc)
 
 -- ---- entries
 
@@ -157,6 +158,10 @@ no_root_then (Some offset) false says none = absurd (no none)
 pub no_root_says : (root : Option ℕ) (b : Bool) → is_some root ≡ not b → root ≡ None → b ≡ true
 no_root_says offset true says none = refl
 no_root_says offset false says none = absurd (no (sym (ap (λ (o : Option ℕ). is_some o) none) ∙ says))
+
+-- an index packet has the last time's counter
+index_or_report : (p : Packet) → is_index p ≡ true → IsTrue (is_index p || is_report_packet p)
+index_or_report p is = rw is refl
 
 -- ---- a node
 
@@ -355,7 +360,7 @@ node_added t u ps p f ix tells may short kind bytes_is start_at group_at pending
     let sums = node_sums t.bytes u.start (length a.entries) (length (packet_bytes p)) t.nodes (count_by is_data ps) t.pending size.0 (size.1 ∙ ap (λ m. min 100 (count_by is_data ps - 100 * m)) (sym ix.nodes)) size.2
     (omega (arith, ix.few, datas_are t ps ix)) stands in
     let pending : u.pending ≡ t.pending + 1 = omega (arith, pending_at, stands, ix.bytes, whole, short) in
-    let here : root_entry_of (length (file_bytes ps)) p ≡ root_at clock (u.start + 2028 * t.pending) = ap (λ m. root_at m (length (file_bytes ps))) (may.counters.1 i) ∙ ap (λ m. root_at clock m) (sym ix.bytes ∙ stands) in
+    let here : root_entry_of (length (file_bytes ps)) p ≡ root_at clock (u.start + 2028 * t.pending) = ap (λ m. root_at m (length (file_bytes ps))) (may.counters.1 (index_or_report p i)) ∙ ap (λ m. root_at clock m) (sym ix.bytes ∙ stands) in
     let loose : unnamed (ps ++ p ∷ []) ≡ names clock u.start (t.pending + 1) =
     unnamed_with ps p n ∙ ap (λ (es : List RootEntry). es ++ root_entry_of (length (file_bytes ps)) p ∷ []) (ix.loose ∙ same_names t.pending t.start t.bytes u.start clock (t.pending == 0) refl start_at)
     ∙ ap (λ (e : RootEntry). names clock u.start t.pending ++ e ∷ []) here ∙ sym (names_more clock u.start t.pending) in
@@ -403,7 +408,7 @@ root_added t u ps p f bytes ix tells may short kind bytes_is is =
       link = (
         omega (arith, counted is_root ps p, counted_yes is_root p r),
         omega (arith, ix.bytes, whole, short),
-        λ own. root_with own ps p r ∙ ap (λ m. root_at p.counter m) (sym ix.bytes) ∙ ap (λ m. root_at m t.bytes) (may.counters.1 i ∙ sym (last_more 0 ps p untimed)),
+        λ own. root_with own ps p r ∙ ap (λ m. root_at p.counter m) (sym ix.bytes) ∙ ap (λ m. root_at m t.bytes) (may.counters.1 (index_or_report p i) ∙ sym (last_more 0 ps p untimed)),
       );
       closed = sym (last_closed false ps p ∙ r);
     } in
@@ -427,6 +432,7 @@ datum_keeps ps p n r = datum_at p.content refl where
   datum_at (arinc es) e = rw e (λ k. k, λ k. k)
   datum_at (discrete bits es) e = rw e (λ k. k, λ k. k)
   datum_at (message es) e = rw e (λ k. k, λ k. k)
+  datum_at (report loss) e = rw e (λ k. k, λ k. k)
   datum_at (node es) e = let yes : is_node p ≡ true = rw e refl in absurd (no (sym n ∙ yes))
   datum_at (root es) e = let yes : is_root p ≡ true = rw e refl in absurd (no (sym r ∙ yes))
 

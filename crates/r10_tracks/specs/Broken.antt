@@ -1,7 +1,7 @@
 -- The least rule that a packet breaks behind others.
-use Rattle.std.specs.Prelude.{ℕ, ◌≤◌, List, Option, Some, None}
+use Rattle.std.specs.Prelude.{ℕ, ◌≤◌, List, Option, Some, None, IfSome}
 use Rattle.r10_body.specs.Packets.{Packet}
-use Rattle.r10_body.specs.Rules.{KeepsStart, KeepsChannels, KeepsSequence, KeepsCounts, KeepsIndex, KeepsCounters, KeepsEvents, MayFollow}
+use Rattle.r10_body.specs.Rules.{KeepsStart, KeepsChannels, KeepsSequence, KeepsCounts, KeepsIndex, KeepsCounters, KeepsEvents, IsSoundReport, report_of, MayFollow}
 
 -- a packet breaks this rule behind these
 pub data Breaks (before : List Packet) (p : Packet) : ℕ → Type 0 where
@@ -12,6 +12,8 @@ pub data Breaks (before : List Packet) (p : Packet) : ℕ → Type 0 where
   index : ¬ KeepsIndex before p → Breaks before p 8
   counters : ¬ KeepsCounters before p → Breaks before p 9
   events : ¬ KeepsEvents before p → Breaks before p 10
+  -- a report that is none whatever comes behind it
+  reports : ¬ IfSome (report_of p) IsSoundReport → Breaks before p 11
 
 -- it may come next, or this is the least rule that it breaks
 abbrev pub BreaksLaterRuleFirst : List Packet → Packet → Option ℕ → Type 0

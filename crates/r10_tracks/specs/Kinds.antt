@@ -1,7 +1,7 @@
 -- Which kinds of packet the rules tell apart.
 use Rattle.std.specs.Prelude.{Bool, true, false}
 use Rattle.r10_strict.specs.declared.facts.PacketKind.{PacketKind}
-use Rattle.r10_strict.specs.declared.facts.PacketKind.TheVariants.{Setup, Time, Event, Data, Node, Root}
+use Rattle.r10_strict.specs.declared.facts.PacketKind.TheVariants.{Setup, Time, Event, Data, Node, Root, Report}
 
 abbrev pub setup_kind : PacketKind → Bool
 setup_kind Setup = true
@@ -24,3 +24,7 @@ abbrev pub index_kind : PacketKind → Bool
 index_kind Node = true
 index_kind Root = true
 index_kind kind = false
+
+abbrev pub report_kind : PacketKind → Bool
+report_kind (Report loss) = true
+report_kind kind = false

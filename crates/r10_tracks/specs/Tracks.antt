@@ -1,7 +1,7 @@
 -- What is kept of a file's packets so far, and a packet that comes next.
 use Rattle.std.specs.Prelude.{◌≡◌, ℕ, ◌^◌, ◌<◌, List, [], ◌∷◌, ◌++◌, length}
 use Rattle.r10_body.specs.Packets.{Packet, FitsPacket, packet_body, file_bytes}
-use Rattle.r10_body.specs.Rules.{KeepsChecksums, EachFollows, MayFollow}
+use Rattle.r10_body.specs.Rules.{KeepsChecksums, EachFollows, MayFollow, IsGapTold, last_report}
 use Rattle.r10_strict.specs.Facts.{AreFactsOf}
 use Rattle.r10_strict.specs.declared.facts.Facts.{Facts}
 use Rattle.r10_tracks.specs.Channels.{AreKept}
@@ -20,12 +20,14 @@ pub record IsTracked (t : Tracks) (packets : List Packet) : Type 0 where
   pub events : PacketEventsAreCounted t.events.counted packets
   pub index : IsIndexed t.index packets
   pub totals : AreTotals t.totals packets
+  pub report : t.report ≡ last_report packets
 
--- this packet comes next behind these, keeps the rules that it keeps alone, and says this
+-- this packet comes next behind these, with what the last of them reports of it, keeps the rules that it keeps alone, and says this
 pub record ComesNext (t : Tracks) (packets : List Packet) (p : Packet) (facts : Facts) (body : List ℕ) : Type 0 where
   pub tracked : IsTracked t packets
   pub fits : FitsPacket p
   pub checksums : KeepsChecksums p
+  pub told : IsGapTold (last_report packets) p
   pub tells : AreFactsOf facts p
   pub body_is : body ≡ packet_body p
 

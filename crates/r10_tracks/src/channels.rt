@@ -1,16 +1,17 @@
 //! What is kept of each channel, and the rules of channels, sequence numbers and counts.
 
-ghost use Rattle.std.specs.Prelude.{◌≡◌, ◌+◌, ◌<◌, ◌≤◌, ◌||◌, false, ◌↔◌, ◌∷◌, [], ◌++◌, ℕ, List, IsTrue, OnOk, nat_eq};
+ghost use Rattle.std.specs.Prelude.{◌≡◌, ◌+◌, ◌<◌, ◌≤◌, ◌||◌, ◌↔◌, ◌∷◌, [], ◌++◌, ℕ, List, IsTrue, OnOk, nat_eq};
 ghost use Rattle.std.specs.HashMap.{get, spare};
 ghost use Rattle.r10_body.specs.Content.{type_of};
 ghost use Rattle.r10_body.specs.Files.{on_channel};
 ghost use Rattle.r10_body.specs.Packets.{Packet, packet_entries, file_entries};
-ghost use Rattle.r10_body.specs.Rules.{EachFollows, KeepsChannels, KeepsSequence, KeepsCounts, is_setup_packet, is_time, is_event, is_index};
+ghost use Rattle.r10_body.specs.Rules.{EachFollows, KeepsChannels, KeepsSequence, KeepsCounts, is_setup_packet, is_time, is_event, is_index, is_report_packet};
+ghost use Rattle.r10_body.specs.declared.gap.Gap.TheVariants.{Whole};
 ghost use Rattle.r10_strict.specs.Facts.{AreFactsOf};
 ghost use Rattle.r10_body.specs.Sequence.{next_sequence, last_count};
 ghost use Rattle.r10_tracks.specs.Channels.{HaveType, IsKeptOfChannel, AreKept};
 
-use crate::kinds::{is_data_kind, is_index_kind, is_setup_kind};
+use crate::kinds::{is_data_kind, is_index_kind, is_report_kind, is_setup_kind};
 use r10_count::Count;
 use r10_strict::{Facts, Spread};
 use std::alloc::{AllocError, Global};
@@ -119,16 +120,16 @@ pub(crate) fn keeps_channels(track: Option<ChannelTrack>, facts: &Facts) -> bool
 /// Whether a packet has the data type of its channel, and a flag only if it has data.
 fn suits_channel(track: Option<ChannelTrack>, facts: &Facts) -> bool
     ensures { (packets : List Packet) (p : Packet) → IsKeptOfChannel packets facts.now.channel track → AreFactsOf facts.now p
-        → (IsTrue result ↔ ((0 < p.channel → HaveType p.channel (type_of p.content) packets) × (IsTrue (is_setup_packet p || is_time p || is_event p || is_index p) → p.flagged ≡ false))) }
+        → (IsTrue result ↔ ((0 < p.channel → HaveType p.channel (type_of p.content) packets) × (IsTrue (is_setup_packet p || is_time p || is_event p || is_index p || is_report_packet p) → p.gap ≡ Whole))) }
 {
     keeps_type(track, facts) && may_have_flag(facts)
 }
 
-/// Whether channel 0 has the packet exactly where it is a setup or an index packet.
+/// Whether channel 0 has the packet exactly where it is a setup or an index packet or a loss report.
 fn is_at_home(facts: &Facts) -> bool
-    ensures { (p : Packet) → AreFactsOf facts.now p → (IsTrue result ↔ (IsTrue (is_setup_packet p || is_index p) ↔ (p.channel ≡ 0))) }
+    ensures { (p : Packet) → AreFactsOf facts.now p → (IsTrue result ↔ (IsTrue (is_setup_packet p || is_index p || is_report_packet p) ↔ (p.channel ≡ 0))) }
 {
-    if is_setup_kind(&facts.kind) || is_index_kind(&facts.kind) {
+    if is_setup_kind(&facts.kind) || is_index_kind(&facts.kind) || is_report_kind(&facts.kind) {
         facts.channel == 0
     } else {
         facts.channel != 0
@@ -147,7 +148,7 @@ fn keeps_type(track: Option<ChannelTrack>, facts: &Facts) -> bool
 
 /// Whether only a packet of data is flagged.
 fn may_have_flag(facts: &Facts) -> bool
-    ensures { (p : Packet) → AreFactsOf facts.now p → (IsTrue result ↔ (IsTrue (is_setup_packet p || is_time p || is_event p || is_index p) → p.flagged ≡ false)) }
+    ensures { (p : Packet) → AreFactsOf facts.now p → (IsTrue result ↔ (IsTrue (is_setup_packet p || is_time p || is_event p || is_index p || is_report_packet p) → p.gap ≡ Whole)) }
 {
     if is_data_kind(&facts.kind) {
         true

@@ -1,7 +1,7 @@
 //! Which kinds of packet the rules tell apart.
 
 ghost use Rattle.std.specs.Prelude.{◌≡◌};
-ghost use Rattle.r10_tracks.specs.Kinds.{setup_kind, time_kind, data_kind, index_kind};
+ghost use Rattle.r10_tracks.specs.Kinds.{setup_kind, time_kind, data_kind, index_kind, report_kind};
 
 use r10_strict::PacketKind;
 
@@ -27,4 +27,10 @@ pub(crate) fn is_index_kind(kind: &PacketKind) -> bool
     ensures { result ≡ index_kind kind.now }
 {
     matches!(*kind, PacketKind::Node | PacketKind::Root)
+}
+
+pub(crate) fn is_report_kind(kind: &PacketKind) -> bool
+    ensures { result ≡ report_kind kind.now }
+{
+    matches!(*kind, PacketKind::Report { .. })
 }

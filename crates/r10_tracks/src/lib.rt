@@ -1,4 +1,4 @@
-//! What is kept of a strict file's packets so far tells of the next packet which of the rules 4 to 10 it breaks first.
+//! What is kept of a strict file's packets so far tells of the next packet which of the rules from 4 on it breaks first.
 #![tactic(auto)]
 
 mod channels;
@@ -7,6 +7,7 @@ mod index;
 mod kinds;
 mod laws;
 mod names;
+mod reports;
 mod times;
 mod totals;
 mod tracks;

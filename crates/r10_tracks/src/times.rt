@@ -1,14 +1,14 @@
 //! How many packets there are, the counter of the first, the last time, and the rules of the start and of counters.
 
-ghost use Rattle.std.specs.Prelude.{◌≡◌, ◌^◌, ◌<◌, ◌↔◌, ◌∷◌, [], ◌++◌, ℕ, List, length, take, IsTrue, None};
+ghost use Rattle.std.specs.Prelude.{◌≡◌, ◌||◌, ◌^◌, ◌<◌, ◌↔◌, ◌∷◌, [], ◌++◌, ℕ, List, length, take, IsTrue, None};
 ghost use Rattle.std.specs.List.{AllByRecursion};
 ghost use Rattle.r10_count.specs.Count.{IsCount};
 ghost use Rattle.r10_body.specs.Packets.{Packet, file_bytes};
-ghost use Rattle.r10_body.specs.Rules.{KeepsStart, KeepsCounters, is_index, last_time};
+ghost use Rattle.r10_body.specs.Rules.{KeepsStart, KeepsCounters, is_index, is_report_packet, last_time};
 ghost use Rattle.r10_strict.specs.Facts.{AreFactsOf};
 ghost use Rattle.r10_tracks.specs.Times.{AreTimes, last_mark};
 
-use crate::kinds::{is_index_kind, is_setup_kind, is_time_kind};
+use crate::kinds::{is_index_kind, is_report_kind, is_setup_kind, is_time_kind};
 use r10_count::{Civil, Count};
 use r10_strict::{Facts, PacketKind};
 
@@ -65,12 +65,12 @@ impl TimeTracks {
         }
     }
 
-    /// Rule 9: whether the first time has the counter of the setup packet, and an index packet that of
-    /// the last time.
+    /// Rule 9: whether the first time has the counter of the setup packet, and an index packet or a
+    /// loss report that of the last time.
     pub(crate) fn keeps_counters(&self, facts: &Facts) -> bool
         ensures { (packets : List Packet) (p : Packet) → AreTimes self.now packets → AreFactsOf facts.now p → (IsTrue result ↔ KeepsCounters packets p) }
     {
-        self.is_setup_counter(facts) && self.is_index_counter(facts)
+        self.is_setup_counter(facts) && self.is_last_counter(facts)
     }
 
     /// Whether the second packet has the counter of the first.
@@ -84,11 +84,11 @@ impl TimeTracks {
         }
     }
 
-    /// Whether an index packet has the counter of the last time.
-    fn is_index_counter(&self, facts: &Facts) -> bool
-        ensures { (packets : List Packet) (p : Packet) → AreTimes self.now packets → AreFactsOf facts.now p → (IsTrue result ↔ (IsTrue (is_index p) → p.counter ≡ last_time 0 packets)) }
+    /// Whether an index packet or a loss report has the counter of the last time.
+    fn is_last_counter(&self, facts: &Facts) -> bool
+        ensures { (packets : List Packet) (p : Packet) → AreTimes self.now packets → AreFactsOf facts.now p → (IsTrue result ↔ (IsTrue (is_index p || is_report_packet p) → p.counter ≡ last_time 0 packets)) }
     {
-        if is_index_kind(&facts.kind) {
+        if is_index_kind(&facts.kind) || is_report_kind(&facts.kind) {
             facts.counter.get() == self.counter()
         } else {
             true

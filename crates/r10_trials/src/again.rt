@@ -12,7 +12,7 @@ use r10_world::{World, run};
 use std::alloc::{AllocError, Global};
 
 /// How a step went.
-#[derive(Clone, Copy, Debug, PartialEq, Eq)]
+#[derive(Clone, Copy, PartialEq, Eq)]
 enum Told {
     /// The reply that is wanted came at once.
     Once,
@@ -92,14 +92,27 @@ pub fn tell_again(alloc: Global, course: &Course, asks: u32) -> Result<String, T
     let told = tell_each(alloc, course, &mut world);
     let reads = reads_as(alloc, world, end.as_slice());
     let behind = ask(alloc, BEHIND);
-    let came = match (made, told) {
-        _ if !reads => "not as wanted",
-        (_, Told::Otherwise) => "not as wanted",
-        (_, Told::Again) => "as wanted, a step was told again",
-        (Told::Once, Told::Once) => "as wanted",
-        (_, Told::Once) => "as wanted, the recorder was made again",
-    };
-    Ok(line_of(alloc, came, before, behind)?)
+    Ok(line_of(alloc, came_of(made, told, reads), before, behind)?)
+}
+
+/// What came of steps that were told, by a recorder that was made so.
+fn came_of(made: Told, told: Told, reads: bool) -> &'static str {
+    if !reads {
+        return "not as wanted";
+    }
+    match told {
+        Told::Otherwise => "not as wanted",
+        Told::Again => "as wanted, a step was told again",
+        Told::Once => came_at_once(made),
+    }
+}
+
+/// What came where all that was told came at once.
+fn came_at_once(made: Told) -> &'static str {
+    match made {
+        Told::Once => "as wanted",
+        _ => "as wanted, the recorder was made again",
+    }
 }
 
 /// Runs the whole course in one call behind so many asks for memory, and goes on behind the number that it answered where it ended early.
@@ -116,20 +129,32 @@ pub fn run_on(alloc: Global, course: &Course, asks: u32) -> Result<String, Trial
         let _ = run(&mut world, &events[done..], &mut replies);
     }
     let behind = ask(alloc, BEHIND);
-    let (came, wanted) = (replies.as_slice(), course.replies.as_slice());
-    let alike = came
+    let is_over = done == events.len();
+    let came = ran(replies.as_slice(), course.replies.as_slice(), is_over, made);
+    Ok(line_of(alloc, came, before, behind)?)
+}
+
+/// What came of a run, which was over at once or went on.
+fn ran(came: &[Reply], wanted: &[Reply], is_over: bool, made: Told) -> &'static str {
+    let other = came
         .iter()
         .zip(wanted)
         .position(|(reply, wanted)| *reply != *wanted);
-    let came = match alike {
-        Some(place) if is_refused_at(came, place) => "as wanted, up to a step that was refused",
-        Some(_) => "not as wanted",
-        None if came.len() != wanted.len() => "not as wanted",
-        None if done < events.len() => "as wanted, the run went on",
-        None if made == Told::Again => "as wanted, the recorder was made again",
-        None => "as wanted",
-    };
-    Ok(line_of(alloc, came, before, behind)?)
+    if let Some(place) = other {
+        return if is_refused_at(came, place) {
+            "as wanted, up to a step that was refused"
+        } else {
+            "not as wanted"
+        };
+    }
+    if came.len() != wanted.len() {
+        return "not as wanted";
+    }
+    if is_over {
+        came_at_once(made)
+    } else {
+        "as wanted, the run went on"
+    }
 }
 
 /// Whether the reply in this place says that memory was refused.
@@ -151,14 +176,16 @@ pub fn judge_again(alloc: Global, course: &Course, asks: u32) -> Result<String, 
         Err(_) => (check_file(alloc, bytes)?, Told::Again),
     };
     let behind = ask(alloc, BEHIND);
-    let came = if verdict != Verdict::Strict {
-        "not as wanted"
-    } else if told == Told::Again {
-        "as wanted, judged again"
-    } else {
-        "as wanted"
-    };
+    let came = judged(verdict == Verdict::Strict, told == Told::Again);
     Ok(line_of(alloc, came, before, behind)?)
+}
+
+fn judged(is_strict: bool, is_again: bool) -> &'static str {
+    match (is_strict, is_again) {
+        (false, _) => "not as wanted",
+        (true, true) => "as wanted, judged again",
+        (true, false) => "as wanted",
+    }
 }
 
 fn tell_each(alloc: Global, course: &Course, world: &mut World<Memory>) -> Told {

@@ -2,12 +2,14 @@
 
 use crate::fault::TrialFault;
 use crate::scene::{formatted, image_behind, medium_of, told};
+use crate::title::{Act, Task};
 use r10_machine::{Event, Reply, Settings};
+use r10_medium::Crashing;
 use r10_script::Script;
 use std::alloc::{AllocError, Global};
 
 /// A recorder's settings, the bytes that its medium has, and the steps that it does.
-#[derive(Debug, Drop)]
+#[derive(Drop)]
 pub struct Course {
     pub settings: Settings,
     pub image: Vec<u8>,
@@ -16,30 +18,33 @@ pub struct Course {
     pub replies: Vec<Reply>,
 }
 
-/// The course of the steps behind the first so many, on the medium that these leave, with a status at its end.
-pub fn course_behind(alloc: Global, script: Script, first: usize) -> Result<Course, TrialFault> {
-    let Script { settings, events } = script;
-    let (first, mut events) = parted(alloc, events, first)?;
-    let fresh = formatted(alloc, &settings)?;
-    let image = image_behind(alloc, &settings, fresh.as_slice(), first.as_slice())?;
-    events.push(Event::Status)?;
-    course_of(alloc, settings, image, events)
-}
-
-/// The course of the first so many steps, on a formatted medium, and the steps behind them.
-pub fn course_before(
+/// The course of a task, and the steps that a new recorder is to do behind it. A task that a new recorder ends has the first so many steps, on a
+/// formatted medium; another one has those behind them, on the medium that these leave, with a status at its end.
+pub fn course_of(
     alloc: Global,
     script: Script,
-    first: usize,
+    task: Task,
 ) -> Result<(Course, Vec<Event>), TrialFault> {
     let Script { settings, events } = script;
-    let (first, rest) = parted(alloc, events, first)?;
-    let image = formatted(alloc, &settings)?;
-    let course = course_of(alloc, settings, image, first)?;
-    Ok((course, rest))
+    let (front, mut rest) = parted(alloc, events, task.first)?;
+    let fresh = formatted(alloc, &settings)?;
+    if is_ended_by_another(task.act) {
+        let course = answered(alloc, settings, fresh, front)?;
+        return Ok((course, rest));
+    }
+    let image = image_behind(alloc, &settings, fresh.as_slice(), front.as_slice())?;
+    rest.push(Event::Status)?;
+    let course = answered(alloc, settings, image, rest)?;
+    Ok((course, Vec::new(alloc)))
 }
 
-fn course_of(
+/// Whether a new recorder does the steps behind the first.
+fn is_ended_by_another(act: Act) -> bool {
+    matches!(act, Act::Fails | Act::Stops | Act::Spoils)
+}
+
+/// The course of these steps, with the replies over a medium that never fails.
+fn answered(
     alloc: Global,
     settings: Settings,
     image: Vec<u8>,
@@ -53,6 +58,17 @@ fn course_of(
         events,
         replies,
     })
+}
+
+/// What a recorder answers whose medium stops after so many calls, and the medium.
+pub fn stopped(
+    alloc: Global,
+    course: &Course,
+    calls: u64,
+) -> Result<(Vec<Reply>, Crashing), TrialFault> {
+    let medium = medium_of(alloc, course.image.as_slice())?;
+    let medium = Crashing::new(alloc, medium, calls)?;
+    told(alloc, &course.settings, medium, course.events.as_slice())
 }
 
 /// The first so many events, and those behind them.

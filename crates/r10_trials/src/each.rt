@@ -1,8 +1,8 @@
 //! A stop after each call of the medium, and a failure of each.
 
-use crate::course::Course;
+use crate::course::{Course, stopped};
 use crate::fault::TrialFault;
-use crate::scene::{first_of, image_behind, medium_of, told};
+use crate::scene::{first_of, image_behind, image_left, medium_of, told};
 use crate::shown::{Shown, judged_on, shown_on};
 use crate::tally::{Found, Named, Row, place_in, raise, word_of};
 use r10_body::Refusal;
@@ -21,7 +21,7 @@ const CHOICES: [Choice; 4] = [
 ];
 
 /// What a new recorder finds before a step and behind it, on a medium that never fails.
-#[derive(Debug, Drop)]
+#[derive(Drop)]
 struct Around {
     place: usize,
     before: Shown,
@@ -36,11 +36,9 @@ pub fn try_each(alloc: Global, course: &Course, from: u64) -> Result<Vec<Named>,
     let mut last_image = Vec::from_slice(alloc, course.image.as_slice())?;
     let mut last_row = 0;
     for calls in from..MOST {
-        let medium = Crashing::new(alloc, medium_of(alloc, course.image.as_slice())?, calls)?;
-        let (replies, medium) = told(alloc, &course.settings, medium, course.events.as_slice())?;
-        let image = medium.image(alloc, Choice::Read)?.image(alloc)?;
-        let mut row = Row::default();
-        note_change(&mut row, course, last_image.as_slice(), image.as_slice());
+        let (replies, medium) = stopped(alloc, course, calls)?;
+        let image = image_left(alloc, &medium, Choice::Read)?;
+        let row = change(course, last_image.as_slice(), image.as_slice());
         add_to(rows.as_mut_slice(), last_row, &row);
         last_image = image;
         let Some(place) = failed_at(replies.as_slice()) else {
@@ -52,10 +50,7 @@ pub fn try_each(alloc: Global, course: &Course, from: u64) -> Result<Vec<Named>,
         let mut row = Row::default();
         raise(&mut row.calls);
         note_replies(&mut row, course, replies.as_slice(), place);
-        for choice in CHOICES {
-            let image = medium.image(alloc, choice)?.image(alloc)?;
-            note_image(alloc, &mut row, course, &around, image.as_slice())?;
-        }
+        note_images(alloc, &mut row, course, &around, &medium)?;
         note_failure(alloc, &mut row, course, &around, calls.saturating_add(1))?;
         last_row = place_in(&mut rows, word_at(course, place))?;
         add_to(rows.as_mut_slice(), last_row, &row);
@@ -100,13 +95,17 @@ fn failed_at(replies: &[Reply]) -> Option<usize> {
         .position(|reply| *reply == Reply::Refused(Refusal::Medium))
 }
 
-/// Counts what the last call changed.
-fn note_change(row: &mut Row, course: &Course, old: &[u8], new: &[u8]) {
-    match changed_block(old, new) {
-        Some(block) if block <= course.settings.directory() => raise(&mut row.directory),
-        Some(_) => raise(&mut row.data),
-        None => (),
+/// What the last call changed.
+fn change(course: &Course, old: &[u8], new: &[u8]) -> Row {
+    let mut row = Row::default();
+    if let Some(block) = changed_block(old, new) {
+        if block <= course.settings.directory() {
+            row.directory = 1;
+        } else {
+            row.data = 1;
+        }
     }
+    row
 }
 
 /// The number of the first block that differs.
@@ -144,6 +143,21 @@ fn is_failed(event: &Event, reply: &Reply) -> bool {
         },
         _ => *reply == Reply::Refused(Refusal::Failed),
     }
+}
+
+/// Counts what is found on each image that a stop may leave, and their files.
+fn note_images(
+    alloc: Global,
+    row: &mut Row,
+    course: &Course,
+    around: &Around,
+    medium: &Crashing,
+) -> Result<(), TrialFault> {
+    for choice in CHOICES {
+        let image = image_left(alloc, medium, choice)?;
+        note_image(alloc, row, course, around, image.as_slice())?;
+    }
+    Ok(())
 }
 
 /// Counts what is found on an image that a stop left, and its files.

@@ -1,12 +1,12 @@
 //! One stop, or one failure, and what a new recorder answers then.
 
-use crate::course::Course;
+use crate::course::{Course, stopped};
 use crate::each::changed_block;
 use crate::fault::TrialFault;
-use crate::scene::{image_behind, medium_of, told};
+use crate::scene::{image_behind, image_left, medium_of, told};
 use r10_lines::reply_lines;
 use r10_machine::{Event, Reply, Settings};
-use r10_medium::{Choice, Crashing, Faulty};
+use r10_medium::{Choice, Faulty};
 use std::alloc::{AllocError, Global};
 
 /// The lines of replies, of which the first is to the step behind the first `done` ones.
@@ -24,18 +24,21 @@ fn lines_of(alloc: Global, done: usize, replies: &[Reply]) -> Result<String, All
 fn call_line(alloc: Global, course: &Course, call: u64) -> Result<String, TrialFault> {
     let before = image_after(alloc, course, call.saturating_sub(1))?;
     let behind = image_after(alloc, course, call)?;
-    let line = match changed_block(before.as_slice(), behind.as_slice()) {
-        Some(block) => format!(in alloc; "call {call} changes block {block}\n")?,
-        None => format!(in alloc; "call {call} changes no block\n")?,
-    };
-    Ok(line)
+    let changed = changed_block(before.as_slice(), behind.as_slice());
+    Ok(line_of_call(alloc, call, changed)?)
+}
+
+fn line_of_call(alloc: Global, call: u64, changed: Option<usize>) -> Result<String, AllocError> {
+    match changed {
+        Some(block) => format!(in alloc; "call {call} changes block {block}\n"),
+        None => format!(in alloc; "call {call} changes no block\n"),
+    }
 }
 
 /// What is read after so many calls.
 fn image_after(alloc: Global, course: &Course, calls: u64) -> Result<Vec<u8>, TrialFault> {
-    let medium = Crashing::new(alloc, medium_of(alloc, course.image.as_slice())?, calls)?;
-    let (_, medium) = told(alloc, &course.settings, medium, course.events.as_slice())?;
-    Ok(medium.image(alloc, Choice::Read)?.image(alloc)?)
+    let (_, medium) = stopped(alloc, course, calls)?;
+    Ok(image_left(alloc, &medium, Choice::Read)?)
 }
 
 /// The lines of a course whose call of this number fails, from 1, and of a new recorder that does the rest on the medium as it stands then.
@@ -45,14 +48,14 @@ pub fn fail_at(
     rest: &[Event],
     call: u64,
 ) -> Result<String, TrialFault> {
-    let mut text = call_line(alloc, course, call)?;
+    let changes = call_line(alloc, course, call)?;
     let medium = Faulty::new(medium_of(alloc, course.image.as_slice())?, call);
     let (replies, medium) = told(alloc, &course.settings, medium, course.events.as_slice())?;
-    text.push_str(lines_of(alloc, 0, replies.as_slice())?.as_str())?;
+    let lines = lines_of(alloc, 0, replies.as_slice())?;
     let image = medium.into_medium().image(alloc)?;
     let behind = rest_lines(alloc, course, rest, image.as_slice())?;
-    text.push_str("a new recorder\n")?;
-    text.push_str(behind.as_str())?;
+    let (changes, lines, behind) = (changes.as_str(), lines.as_str(), behind.as_str());
+    let text = format!(in alloc; "{changes}{lines}a new recorder\n{behind}")?;
     Ok(text)
 }
 
@@ -64,8 +67,7 @@ pub fn stop_after(
     calls: u64,
 ) -> Result<String, TrialFault> {
     let mut text = call_line(alloc, course, calls)?;
-    let medium = Crashing::new(alloc, medium_of(alloc, course.image.as_slice())?, calls)?;
-    let (replies, medium) = told(alloc, &course.settings, medium, course.events.as_slice())?;
+    let (replies, medium) = stopped(alloc, course, calls)?;
     text.push_str(lines_of(alloc, 0, replies.as_slice())?.as_str())?;
     for (choice, line) in [
         (Choice::Synced, "a new recorder, on what was synced\n"),
@@ -79,7 +81,7 @@ pub fn stop_after(
             "a new recorder, on what was synced but for the lowest block\n",
         ),
     ] {
-        let image = medium.image(alloc, choice)?.image(alloc)?;
+        let image = image_left(alloc, &medium, choice)?;
         let behind = rest_lines(alloc, course, rest, image.as_slice())?;
         text.push_str(line)?;
         text.push_str(behind.as_str())?;

@@ -3,7 +3,7 @@
 use crate::fault::TrialFault;
 use r10_body::Refusal;
 use r10_machine::{Event, Reply, Settings};
-use r10_medium::{BlockMedium, Memory};
+use r10_medium::{BlockMedium, Choice, Crashing, Memory};
 use r10_world::{World, run};
 use std::alloc::{AllocError, Global};
 
@@ -92,6 +92,12 @@ pub fn image_behind(
 ) -> Result<Vec<u8>, TrialFault> {
     let (_, medium) = told(alloc, settings, medium_of(alloc, image)?, events)?;
     Ok(medium.image(alloc)?)
+}
+
+/// The bytes of an image that a stop may leave.
+pub fn image_left(alloc: Global, medium: &Crashing, choice: Choice) -> Result<Vec<u8>, AllocError> {
+    let left = medium.image(alloc, choice)?;
+    left.image(alloc)
 }
 
 /// The first so many, or all where there are fewer.

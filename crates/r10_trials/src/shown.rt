@@ -10,7 +10,7 @@ use r10_medium::Memory;
 use std::alloc::{AllocError, Global};
 
 /// What a new recorder finds on a medium.
-#[derive(Debug, Drop, PartialEq, Eq)]
+#[derive(Drop, PartialEq, Eq)]
 pub struct Shown {
     /// The replies to a mount and a listing.
     pub replies: Vec<Reply>,
@@ -19,7 +19,7 @@ pub struct Shown {
 }
 
 /// How many files of a medium were judged.
-#[derive(Clone, Copy, Debug, Default)]
+#[derive(Clone, Copy)]
 pub struct Judged {
     pub files: u64,
     /// Those of which the verdict is that they are strict.

@@ -4,7 +4,7 @@ use r10_machine::Event;
 use std::alloc::{AllocError, Global};
 
 /// Which files were found.
-#[derive(Clone, Copy, Debug, PartialEq, Eq)]
+#[derive(Clone, Copy)]
 pub enum Found {
     /// Those from before the step.
     Old,
@@ -17,7 +17,7 @@ pub enum Found {
 }
 
 /// How often each was found.
-#[derive(Clone, Copy, Debug, Default)]
+#[derive(Clone, Copy, Default)]
 pub struct Finds {
     pub old: u64,
     pub new: u64,
@@ -26,7 +26,7 @@ pub struct Finds {
 }
 
 /// What the stops and failures in steps of one word came to.
-#[derive(Clone, Copy, Debug, Default)]
+#[derive(Clone, Copy, Default)]
 pub struct Row {
     /// The calls of the medium, each of which was stopped and failed.
     pub calls: u64,
@@ -48,7 +48,7 @@ pub struct Row {
 }
 
 /// The row of a word.
-#[derive(Clone, Copy, Debug)]
+#[derive(Clone, Copy)]
 pub struct Named {
     pub word: &'static str,
     pub row: Row,

@@ -3,45 +3,35 @@
 use crate::fault::TrialFault;
 
 /// What is tried with a script. Its first steps may be done by a recorder that is gone when the rest begins.
-#[derive(Clone, Copy, Debug)]
-pub enum Task {
+#[derive(Clone, Copy)]
+pub enum Act {
     /// Behind the first steps the medium is stopped after so many calls, and after each call more in turn; and each call behind the first so
     /// many fails in turn.
-    Each {
-        calls: u64,
-        first: usize,
-    },
+    Each,
     /// The call of this number, from 1, fails in the first steps, and a new recorder does the rest.
-    Fails {
-        call: u64,
-        first: usize,
-    },
+    Fails,
     /// The first steps are stopped after so many calls, and a new recorder does the rest on each image that the stop may leave.
-    Stops {
-        calls: u64,
-        first: usize,
-    },
-    /// The byte in this place of the medium is another one behind the first steps, and a new recorder does the rest.
-    Spoils {
-        place: usize,
-        byte: u8,
-        first: usize,
-    },
-    /// Behind so many steps each step is told, again where memory was refused, after so many asks for memory.
-    Again {
-        asks: u32,
-        first: usize,
-    },
-    /// Behind so many steps all others are run at once, and run on behind the number that was answered, after so many asks for memory.
-    Runs {
-        asks: u32,
-        first: usize,
-    },
-    /// The bytes of the files that so many steps leave are judged as one file, again where memory was refused, after so many asks for memory.
-    Judges {
-        asks: u32,
-        first: usize,
-    },
+    Stops,
+    /// The byte in a place of the medium is another one behind the first steps, and a new recorder does the rest.
+    Spoils,
+    /// Behind the first steps each step is told, again where memory was refused, after so many asks for memory.
+    Again,
+    /// Behind the first steps all others are run at once, and run on behind the number that was answered, after so many asks for memory.
+    Runs,
+    /// The bytes of the files that the first steps leave are judged as one file, again where memory was refused, after so many asks for memory.
+    Judges,
+}
+
+/// What a trial asks for.
+#[derive(Clone, Copy)]
+pub struct Task {
+    pub act: Act,
+    /// The calls, the asks for memory or the byte.
+    pub number: u32,
+    /// The place of a byte, and else 0.
+    pub place: usize,
+    /// How many steps are the first.
+    pub first: usize,
 }
 
 /// A trial, as it stands in the input.
@@ -60,50 +50,54 @@ pub fn trial_of(place: usize, lines: &str) -> Result<Trial<'_>, TrialFault> {
     }
 }
 
-/// What the title of the trial in this place asks for: `NAME each CALLS STEPS`, `NAME fails CALL STEPS`, `NAME stops CALLS STEPS`,
-/// `NAME spoils PLACE BYTE STEPS`, `NAME again ASKS STEPS`, `NAME runs ASKS STEPS` or `NAME judges ASKS STEPS`.
+/// What the title of the trial in this place asks for: `NAME WORD NUMBER STEPS`, where the word is that of an act, and `NAME spoils PLACE BYTE
+/// STEPS`.
 pub fn task_of(place: usize, title: &str) -> Result<Task, TrialFault> {
-    match words_of(title) {
+    match read_title(title) {
         Some(task) => Ok(task),
         None => Err(TrialFault::NoTrial { place }),
     }
 }
 
-fn words_of(title: &str) -> Option<Task> {
+fn read_title(title: &str) -> Option<Task> {
     let (words, first) = title.rsplit_once(' ')?;
-    let first = first.parse().ok()?;
-    let mut words = words.split(' ');
-    let _name = words.next()?;
-    match words.next()? {
-        "each" => {
-            let calls = words.next()?.parse().ok()?;
-            Some(Task::Each { calls, first })
-        }
-        "fails" => {
-            let call = words.next()?.parse().ok()?;
-            Some(Task::Fails { call, first })
-        }
-        "stops" => {
-            let calls = words.next()?.parse().ok()?;
-            Some(Task::Stops { calls, first })
-        }
-        "spoils" => {
-            let place = words.next()?.parse().ok()?;
-            let byte = words.next()?.parse().ok()?;
-            Some(Task::Spoils { place, byte, first })
-        }
-        "again" => {
-            let asks = words.next()?.parse().ok()?;
-            Some(Task::Again { asks, first })
-        }
-        "runs" => {
-            let asks = words.next()?.parse().ok()?;
-            Some(Task::Runs { asks, first })
-        }
-        "judges" => {
-            let asks = words.next()?.parse().ok()?;
-            Some(Task::Judges { asks, first })
-        }
+    let (words, number) = words.rsplit_once(' ')?;
+    let (first, number) = (number_of(first)?, number_of(number)?);
+    let (words, place) = placed(words);
+    let (_, word) = words.rsplit_once(' ')?;
+    let act = act_of(word)?;
+    Some(Task {
+        act,
+        number,
+        place: place as usize,
+        first: first as usize,
+    })
+}
+
+/// The number that stands last, and the words before it; 0 and all words where none does.
+fn placed(words: &str) -> (&str, u32) {
+    match words.rsplit_once(' ') {
+        Some((front, last)) => match number_of(last) {
+            Some(place) => (front, place),
+            None => (words, 0),
+        },
+        None => (words, 0),
+    }
+}
+
+fn number_of(word: &str) -> Option<u32> {
+    word.parse().ok()
+}
+
+fn act_of(word: &str) -> Option<Act> {
+    match word {
+        "each" => Some(Act::Each),
+        "fails" => Some(Act::Fails),
+        "stops" => Some(Act::Stops),
+        "spoils" => Some(Act::Spoils),
+        "again" => Some(Act::Again),
+        "runs" => Some(Act::Runs),
+        "judges" => Some(Act::Judges),
         _ => None,
     }
 }

@@ -1,14 +1,14 @@
 //! Trials in order.
 
 use crate::again::{judge_again, run_on, tell_again};
-use crate::course::{Course, course_before, course_behind};
+use crate::course::{Course, course_of};
 use crate::each::try_each;
 use crate::fault::TrialFault;
 use crate::named::{fail_at, spoil_byte, stop_after};
 use crate::tally::Row;
-use crate::title::{Task, Trial, task_of, trial_of};
-use r10_machine::Reply;
-use r10_script::read_script;
+use crate::title::{Act, Task, Trial, task_of, trial_of};
+use r10_machine::{Event, Reply};
+use r10_script::{Script, read_script};
 use std::alloc::Global;
 use std::io::Write;
 
@@ -22,7 +22,8 @@ pub fn try_all<W: Write>(alloc: Global, text: &str, writer: &mut W) -> Result<()
     for lines in text.split("\n== ") {
         place = place.saturating_add(1);
         let trial = trial_of(place, lines)?;
-        let row = try_one(alloc, place, trial, writer)?;
+        let (row, lines) = try_one(alloc, place, trial)?;
+        writer.write_all(lines.as_bytes())?;
         whole = whole.join(&row);
     }
     let lines = whole.lines(alloc, "all trials")?;
@@ -30,87 +31,60 @@ pub fn try_all<W: Write>(alloc: Global, text: &str, writer: &mut W) -> Result<()
     Ok(())
 }
 
-fn try_one<W: Write>(
-    alloc: Global,
-    place: usize,
-    trial: Trial<'_>,
-    writer: &mut W,
-) -> Result<Row, TrialFault> {
+/// The row of a trial, and its lines.
+fn try_one(alloc: Global, place: usize, trial: Trial<'_>) -> Result<(Row, String), TrialFault> {
     let task = task_of(place, trial.title)?;
-    let script = match read_script(alloc, trial.script.as_bytes()) {
-        Ok(script) => script,
-        Err(fault) => return Err(TrialFault::Script { place, fault }),
-    };
-    writer.write_all(b"== ")?;
-    writer.write_all(trial.title.as_bytes())?;
-    writer.write_all(b"\n")?;
-    match task {
-        Task::Each { calls, first } => {
-            let course = course_behind(alloc, script, first)?;
-            let row = each_lines(alloc, &course, calls, writer)?;
-            Ok(row)
-        }
-        Task::Fails { call, first } => {
-            let (course, rest) = course_before(alloc, script, first)?;
-            let lines = fail_at(alloc, &course, rest.as_slice(), call)?;
-            writer.write_all(lines.as_bytes())?;
-            Ok(Row::default())
-        }
-        Task::Stops { calls, first } => {
-            let (course, rest) = course_before(alloc, script, first)?;
-            let lines = stop_after(alloc, &course, rest.as_slice(), calls)?;
-            writer.write_all(lines.as_bytes())?;
-            Ok(Row::default())
-        }
-        Task::Spoils { place, byte, first } => {
-            let (course, rest) = course_before(alloc, script, first)?;
-            let lines = spoil_byte(alloc, &course, rest.as_slice(), place, byte)?;
-            writer.write_all(lines.as_bytes())?;
-            Ok(Row::default())
-        }
-        Task::Again { asks, first } => {
-            let course = course_behind(alloc, script, first)?;
-            let line = tell_again(alloc, &course, asks)?;
-            writer.write_all(line.as_bytes())?;
-            Ok(Row::default())
-        }
-        Task::Runs { asks, first } => {
-            let course = course_behind(alloc, script, first)?;
-            let line = run_on(alloc, &course, asks)?;
-            writer.write_all(line.as_bytes())?;
-            Ok(Row::default())
-        }
-        Task::Judges { asks, first } => {
-            let course = course_behind(alloc, script, first)?;
-            let line = judge_again(alloc, &course, asks)?;
-            writer.write_all(line.as_bytes())?;
-            Ok(Row::default())
-        }
+    let script = script_of(alloc, place, trial.script)?;
+    let (course, rest) = course_of(alloc, script, task)?;
+    let (row, lines) = tried(alloc, &task, &course, rest.as_slice())?;
+    let (title, lines) = (trial.title, lines.as_str());
+    let text = format!(in alloc; "== {title}\n{lines}")?;
+    Ok((row, text))
+}
+
+fn script_of(alloc: Global, place: usize, text: &str) -> Result<Script, TrialFault> {
+    match read_script(alloc, text.as_bytes()) {
+        Ok(script) => Ok(script),
+        Err(fault) => Err(TrialFault::Script { place, fault }),
     }
 }
 
-/// Tries each call of a course behind the first so many, and writes the lines of each word of a step, and of all.
-fn each_lines<W: Write>(
+/// What a task came to: a row, and the lines.
+fn tried(
     alloc: Global,
+    task: &Task,
     course: &Course,
-    calls: u64,
-    writer: &mut W,
-) -> Result<Row, TrialFault> {
+    rest: &[Event],
+) -> Result<(Row, String), TrialFault> {
+    let number = u64::from(task.number);
+    let lines = match task.act {
+        Act::Each => return each_lines(alloc, course, number),
+        Act::Fails => fail_at(alloc, course, rest, number)?,
+        Act::Stops => stop_after(alloc, course, rest, number)?,
+        Act::Spoils => spoil_byte(alloc, course, rest, task.place, (number % 256) as u8)?,
+        Act::Again => tell_again(alloc, course, task.number)?,
+        Act::Runs => run_on(alloc, course, task.number)?,
+        Act::Judges => judge_again(alloc, course, task.number)?,
+    };
+    Ok((Row::default(), lines))
+}
+
+/// Tries each call of a course behind the first so many: the row of all, and the lines of each word of a step, and of all.
+fn each_lines(alloc: Global, course: &Course, calls: u64) -> Result<(Row, String), TrialFault> {
+    let rows = try_each(alloc, course, calls)?;
     let (steps, refused) = (course.replies.len(), refused_of(course.replies.as_slice()));
-    let line = format!(in alloc;
+    let mut text = format!(in alloc;
         "{steps} steps, {refused} of them refused over a medium that never fails\n"
     )?;
-    writer.write_all(line.as_bytes())?;
-    let rows = try_each(alloc, course, calls)?;
     let mut whole = Row::default();
     for named in &rows {
         let lines = named.row.lines(alloc, named.word)?;
-        writer.write_all(lines.as_bytes())?;
+        text.push_str(lines.as_str())?;
         whole = whole.join(&named.row);
     }
     let lines = whole.lines(alloc, "all")?;
-    writer.write_all(lines.as_bytes())?;
-    Ok(whole)
+    text.push_str(lines.as_str())?;
+    Ok((whole, text))
 }
 
 /// How many of these refuse.

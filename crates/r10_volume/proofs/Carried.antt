@@ -1,5 +1,5 @@
 -- The file that is written, as it is whatever files the medium has.
-use Rattle.std.proofs.Common.{◌≡◌, ℕ, take, sym, ap, subst, arith}
+use Rattle.std.proofs.Common.{ℕ, take, sym, subst, arith}
 use Rattle.r10_blockout.specs.Blocks.{Shows}
 use Rattle.r10_body.specs.Packets.{file_bytes}
 use Rattle.r10_volume.specs.Holding.{IsCarried, IsWritten, Open}

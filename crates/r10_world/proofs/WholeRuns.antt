@@ -27,7 +27,7 @@ FilesAreFound = (s : Config) (image : Image) (files : List File) → MediumHas s
 
 abbrev pub RecordingsAccount : Type 0
 RecordingsAccount = (s : Config) (channel : ℕ) (files : List File) (failures : ℕ) (events : List EventValue) (replies : List ReplyValue) (images : List Image) (new : Machine) → IsConfig s → AllByRecursion IsFoundFile files → length files ≤ most_files s
-    → is_some (spec_of s.channels channel) ≡ true → Run s (fresh s.channels files failures) events replies images new → IsAccount channel new (accepted_entries channel false events replies)
+    → is_some (spec_of s.channels channel) ≡ true → Run s (fresh s.channels files failures) events replies images new → IsAccount channel new (accepted_entries channel 0 events replies)
 
 abbrev pub FoundFilesStay : Type 0
 FoundFilesStay = (s : Config) (files : List File) (failures : ℕ) (events : List EventValue) (replies : List ReplyValue) (images : List Image) (new : Machine) → IsConfig s → AllByRecursion IsFoundFile files → length files ≤ most_files s

@@ -49,7 +49,7 @@ pub record Recovers {M : Type 0} (disk : M → Disk) (s : Config) (old : Disk) (
 
 -- ---- a whole recording, with no word of a recorder
 
--- From a machine with files of which each is found again, on each channel with the same entries, the replies to the events are a run, and the medium says the files that it ends with. On each channel the messages that the replies accepted, in their order and with the gap marks that the losses before them ask for, are those that erases took, those in the lists of the files that the run began, and those that wait, each once; where the medium failed, what is shown stands first and what waits stands last. While nothing is erased, the files that were found stay the first, with what they show. Where a stop left the files before, then at any moment a stop leaves those of a state of the run, or those that the next event makes of them.
+-- From a machine with files of which each is found again, on each channel with the same entries, the replies to the events are a run, and the medium says the files that it ends with. On each channel the messages that the replies accepted, in their order and each with the number of those that were lost before it, are those that erases took, those in the lists of the files that the run began, and those that wait, each once; where the medium failed, what is shown stands first and what waits stands last. While nothing is erased, the files that were found stay the first, with what they show. Where a stop left the files before, then at any moment a stop leaves those of a state of the run, or those that the next event makes of them.
 pub record Records (s : Config) (files : List File) (events : List EventValue) (replies : List ReplyValue) (old new : Disk) : Type 0 where
   pub again : List File
   pub same : AreAgain files again
@@ -57,6 +57,6 @@ pub record Records (s : Config) (files : List File) (events : List EventValue) (
   pub machine : Machine
   pub run : Run s (fresh s.channels again old.failures) events replies images machine
   pub says : MediumSays s new.blocks machine.files
-  pub accounts : (channel : ℕ) → IsSome (spec_of s.channels channel) → IsAccount channel machine (accepted_entries channel false events replies)
+  pub accounts : (channel : ℕ) → IsSome (spec_of s.channels channel) → IsAccount channel machine (accepted_entries channel 0 events replies)
   pub found : list_any may_erase (zip events replies) ≡ false → AreStillFirst again machine.files
   pub left : Settled (λ image. MediumSays s image files) old → Leaves (IsLeft s (fresh s.channels again old.failures) events replies) old new

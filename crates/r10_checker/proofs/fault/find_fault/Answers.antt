@@ -27,7 +27,7 @@ returns-in-Err c =
     let at = c.fault_behind.result in
     subst (λ k. IsAtFault c.args.bytes.now k at.offset at.fault) so_far.4
     (subst (λ (l : List ℕ). IsAtFault l c.loop-rest.judge.closed at.offset at.fault) (sym so_far.1)
-    (c.fault_behind.ensures before rest so_far.3 (inl (some_left rest c.is_empty.result c.is_empty.ensures c.loop-rest-test.true)) c.in-Err.ensures.fault.1))
+    (c.fault_behind.ensures before rest so_far.3 (inl (some_left rest c.is_empty.result c.is_empty.ensures c.loop-rest-test.true)) c.in-Err.ensures.fault.1 c.is_answered-answered.ensures))
 
 pub returns : goal.returns
 returns c =

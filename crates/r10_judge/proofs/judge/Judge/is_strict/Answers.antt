@@ -7,8 +7,8 @@ pub returns-in-None : goal.returns-in-None
 returns-in-None c = λ bytes stands closed.
     let goes : KeepsRulesSoFar c.args.self.now.closed c.args.self.now.tracks bytes = at_none c.args.self.now.broken c.args.self.now.closed c.args.self.now.tracks bytes c.in-None.is stands in
     let whole = c.is_whole.ensures goes.packets goes.tracked in (
-      (λ is. whole_is_strict bytes goes.packets goes.bytes_are (record { each = goes.keep.strict; start = (whole.0 is).0; index = (whole.0 is).1 })),
-      (λ strict. let file = strict_is_whole bytes goes.packets goes.bytes_are goes.keep.strict strict in whole.1 (file.start, file.index)),
+      (λ is. whole_is_strict bytes goes.packets goes.bytes_are (record { each = goes.keep.strict; start = (whole.0 is).0; index = (whole.0 is).1; reports = (whole.0 is).2 })),
+      (λ strict. let file = strict_is_whole bytes goes.packets goes.bytes_are goes.keep.strict strict in whole.1 (file.start, file.index, file.reports)),
     )
 
 pub returns-in-Some : goal.returns-in-Some

@@ -2,7 +2,7 @@ use Rattle.std.proofs.Common.{◌≡◌, ◌+◌, ◌-◌, ◌<◌, ◌≤◌, �
 use Rattle.std.proofs.lemmas.List.{length-drop}
 use Rattle.r10_body.specs.Faults.{HasFault}
 use Rattle.r10_strict.specs.Tracks.{TracksForeign}
-use Rattle.r10_judge.specs.Judged.{TracksJudged}
+use Rattle.r10_judge.specs.Judged.{TellsAnswer, TracksJudged}
 use Rattle.r10_judge.proofs.Parts.{rest_is, short_on, taken_on}
 use Rattle.r10_judge.proofs.walk.Walk.take.Goals as goal
 
@@ -13,6 +13,9 @@ returns-in-Err-clause-ends c =
       omega (arith, c.loop-done-test.true, length-drop done bytes),
       subst (λ (l : List ℕ). HasFault l c.in-Err.at.fault) (rest_is bytes done) c.in-Err.ensures.fault.1,
     )
+
+pub returns-in-Err-clause-answered : goal.returns-in-Err-clause-answered
+returns-in-Err-clause-answered c = subst (λ (l : List ℕ). TellsAnswer c.is_answered-answered.result c.loop-done.self.judge.tracks l) (rest_is c.args.bytes.now c.loop-done.done) c.is_answered-answered.ensures
 
 pub loop-done-preserved : goal.loop-done-preserved
 loop-done-preserved c =

@@ -10,7 +10,7 @@ pub invariant_of-self : goal.invariant_of-self
 invariant_of-self c =
     let s = c.self.inside in
     let fine = c.in-Ok.ensures in
-    rw c.in-Ok-try_push_back.ensures.ok (record { room = c.self.invariant.room; waits = waits_more s.spec s.last s.waiting.items _ c.self.invariant.waits (rw (fine.0) (fine.1)) })
+    rw c.in-Ok-try_push_back.ensures.ok (record { room = c.self.invariant.room; waits = waits_more s.spec s.last s.waiting.items _ c.self.invariant.waits (rw (fine.0) (fine.1)) c.after-gap.ensures.sound })
 
 pub returns-clause-offers : goal.returns-clause-offers
 returns-clause-offers c = elim c.match-try_push_back.branch [

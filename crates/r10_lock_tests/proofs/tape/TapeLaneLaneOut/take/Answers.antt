@@ -21,6 +21,11 @@ returns-clause-passes c =
     subst (λ (t : Tape). IsTaken t.spec c.in-Some.sample) c.self.view_is
     (tape_next s.spec s.samples.items _ s.at s.reached c.in-Some.sample c.get-self-inside.result c.as_slice.ensures.value c.in-Some.ensures c.get-self-inside.ensures.value c.self.invariant.ahead).passes
 
+pub returns-clause-sound : goal.returns-clause-sound
+returns-clause-sound c =
+    let s = c.self.inside in
+    (tape_next s.spec s.samples.items _ s.at s.reached c.in-Some.sample c.get-self-inside.result c.as_slice.ensures.value c.in-Some.ensures c.get-self-inside.ensures.value c.self.invariant.ahead).sound
+
 pub returns-clause-climbs : goal.returns-clause-climbs
 returns-clause-climbs c =
     let s = c.self.inside in

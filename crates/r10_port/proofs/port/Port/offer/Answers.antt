@@ -12,7 +12,7 @@ pub invariant_of-self : goal.invariant_of-self
 invariant_of-self c =
     let s = c.self.inside in
     let items = sent s.producer in
-    let x = sample c.args.count c.args.message s.missed in
+    let x = sample c.args.count c.args.message c.after-gap.result in
     rw c.in-Ok.ensures.ok.1 (record {
       announced = first_stays items _ (Announce s.spec) c.self.invariant.announced;
       last = last_pushed items x;
@@ -30,8 +30,8 @@ returns-clause-offered c =
     elim c.match-push_within.branch [
       | in-Ok w ↦ rw (w.self-is, w.result-is) (
           subst (λ (v : Sending). Offered v c.args.count c.args.message (Ok tt) (sending (ring_of new.end) s.spec (sent new) (Some c.args.count) 0 s.lost (min s.spec.capacity (known_free new)))) c.self.view_is (
-          sends (ring_of old.end) (ring_of new.end) s.spec (sent old) (sent new) s.last s.missed s.lost (min s.spec.capacity (known_free old)) (min s.spec.capacity (known_free new)) c.args.count c.args.message
-          (λ i. (r.0 i, r.1 i, r.2 i, r.3 i)) w.in-Ok.ensures.ok.1 w.in-Ok.ensures.ok.2 fine))
+          sends (ring_of old.end) (ring_of new.end) s.spec (sent old) (sent new) s.last s.missed s.lost (min s.spec.capacity (known_free old)) (min s.spec.capacity (known_free new)) c.args.count c.args.message c.after-gap.result
+          c.after-gap.ensures.is (λ i. (r.0 i, r.1 i, r.2 i, r.3 i)) w.in-Ok.ensures.ok.1 w.in-Ok.ensures.ok.2 fine))
       | in-Err-push_within w ↦
           let full = w.in-Err-push_within.ensures.full in
           let missed = w.saturating_add-self-inside-in-Err-push_within in

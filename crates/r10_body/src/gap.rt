@@ -1,0 +1,56 @@
+//! What was lost before a message.
+
+ghost use Rattle.std.specs.Prelude.{◌≡◌, ◌↔◌, IsTrue};
+ghost use Rattle.r10_body.specs.Gaps.{IsSoundGap, gap_after, gap_of_flag, is_gap};
+
+/// Whether messages of a channel were refused between a message and the one before it, because the channel's lane was full.
+#[derive(Clone, Copy, Debug, PartialEq, Eq)]
+pub enum Gap {
+    /// None were.
+    Whole,
+    /// So many were, at least one.
+    Lost(u64),
+    /// At least one was: only a file that was found says so.
+    Unknown,
+}
+
+impl Gap {
+    /// The gap behind so many refusals.
+    pub fn after(missed: u64) -> Gap
+        ensures is { result ≡ gap_after missed }
+        ensures sound { IsSoundGap result }
+    {
+        if missed == 0 {
+            Gap::Whole
+        } else {
+            Gap::Lost(missed)
+        }
+    }
+
+    /// The gap that a packet's flag alone tells.
+    pub fn of_flag(flagged: bool) -> Gap
+        ensures { result ≡ gap_of_flag flagged }
+    {
+        if flagged { Gap::Unknown } else { Gap::Whole }
+    }
+
+    /// Whether a packet that begins behind it is flagged.
+    pub fn is_gap(&self) -> bool
+        ensures { result ≡ is_gap self.now }
+    {
+        match self {
+            Gap::Whole => false,
+            Gap::Lost(_) | Gap::Unknown => true,
+        }
+    }
+
+    /// Whether it tells no loss of none.
+    pub fn is_sound(&self) -> bool
+        ensures { IsTrue result ↔ IsSoundGap self.now }
+    {
+        match self {
+            Gap::Lost(lost) => *lost > 0,
+            Gap::Whole | Gap::Unknown => true,
+        }
+    }
+}
