@@ -1,10 +1,12 @@
 -- What a step of the directory does to the medium, and what a stop leaves of it.
-use Rattle.std.specs.Prelude.{◌≡◌, ◌≢◌, ◌⊎◌, ℕ, ◌+◌, ◌<◌, List, [], ◌∷◌, length, Result, OnOk}
+use Rattle.std.specs.Prelude.{◌≡◌, ◌≢◌, ◌⊎◌, ℕ, ◌+◌, ◌<◌, ◌≤◌, List, [], ◌∷◌, length, Result, OnOk, IsErrOf}
 use Rattle.std.specs.List.{All}
-use Rattle.r10_medium.specs.Disk.{Disk, Image, IsSynced, block_at}
+use Rattle.r10_medium.specs.Disk.{Disk, Image, IsSynced, Rose, block_at}
 use Rattle.r10_medium.specs.Stop.{Settled, Leaves, ComesBy, SameBut}
 use Rattle.r10_dirblock.specs.Block.{block_bytes}
 use Rattle.r10_dirchain.specs.declared.chain.ChainBlock.{ChainBlock}
+use Rattle.r10_dirchain.specs.declared.formatting.FormatError.{FormatError}
+use Rattle.r10_dirchain.specs.declared.formatting.FormatError.TheVariants as format_errors
 use Rattle.r10_dirchain.specs.Chain.{IsDirectory, HoldsBlock, at}
 
 -- the same but in blocks of these numbers
@@ -56,3 +58,8 @@ pub record HasNext (image : Image) (chain : List ChainBlock) : Type 0 where
 pub record IsPublished (chain : List ChainBlock) (disk : Disk) : Type 0 where
   pub directory : IsDirectory disk.blocks chain
   pub synced : IsSynced disk
+
+-- failures don't fall, and a fault of the medium has one as its cause
+pub record FormatHasCause {T : Type 0} (old new : Disk) (result : Result T FormatError) : Type 0 where
+  pub no_fewer : old.failures ≤ new.failures
+  pub cause : IsErrOf result format_errors.Medium → Rose old.failures new.failures

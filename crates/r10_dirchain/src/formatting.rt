@@ -2,12 +2,12 @@
 ghost use Rattle.std.specs.Prelude.{◌≡◌, ◌⊎◌, ◌≤◌, ◌+◌, ◌↔◌, [], ◌∷◌, None, false, length, OnOk, IsErrOf};
 ghost use Rattle.r10_count.specs.Checks.{first_broken};
 ghost use Rattle.r10_count.specs.Names.{is_volume};
-ghost use Rattle.r10_medium.specs.Disk.{IsSynced, MayLeave, Rose, block_at};
+ghost use Rattle.r10_medium.specs.Disk.{IsSynced, MayLeave, block_at};
 ghost use Rattle.r10_medium.specs.Stop.{Settled, Leaves};
 ghost use Rattle.r10_dirblock.specs.Block.{block_bytes};
 ghost use Rattle.r10_dirchain.specs.Chain.{at};
 ghost use Rattle.r10_dirchain.specs.Mount.{mount_rules};
-ghost use Rattle.r10_dirchain.specs.OnMedium.{Turned};
+ghost use Rattle.r10_dirchain.specs.OnMedium.{FormatHasCause, Turned};
 ghost use Rattle.r10_dirchain.specs.Steps.{formatted};
 
 use crate::ChainBlock;
@@ -48,8 +48,7 @@ pub fn format<M: BlockMedium>(
 
     ensures named { IsErrOf result FormatError.BadName ↔ (is_volume volume.now ≡ false) }
     ensures untouched { IsErrOf result FormatError.BadName → medium.new ≡ medium.old }
-    ensures no_fewer { (M.disk medium.old).failures ≤ (M.disk medium.new).failures }
-    ensures cause { IsErrOf result FormatError.Medium → Rose (M.disk medium.old).failures (M.disk medium.new).failures }
+    ensures counts { FormatHasCause (M.disk medium.old) (M.disk medium.new) result }
 {
     if !is_volume(volume) {
         return Err(FormatError::BadName);

@@ -3,4 +3,5 @@ pub mod Places
 pub mod Ending
 pub mod Packets
 pub mod Output
+pub mod Writes
 pub mod Carries

@@ -1,11 +1,11 @@
 //! Steps on the directory of a medium in use.
 
-ghost use Rattle.std.specs.Prelude.{◌≡◌, ◌⊎◌, ℕ, List, [], ◌∷◌, length, None, OnOk, OnErr};
-ghost use Rattle.r10_medium.specs.Disk.{Counts};
+ghost use Rattle.std.specs.Prelude.{◌≡◌, ◌⊎◌, ℕ, List, [], ◌∷◌, None, OnOk, OnErr};
 ghost use Rattle.r10_medium.specs.Stop.{Leaves, Settled};
 ghost use Rattle.r10_dirchain.specs.Chain.{IsDirectory, at};
 ghost use Rattle.r10_dirchain.specs.OnMedium.{IsPublished, Turns};
 ghost use Rattle.r10_dirchain.specs.Steps.{emptied, with_shutdown};
+ghost use Rattle.r10_packetout.specs.Writes.{WritesCounted};
 ghost use Rattle.r10_machine.specs.Config.{Config};
 ghost use Rattle.r10_machine.specs.Machine.{File};
 ghost use Rattle.r10_machine.specs.Bytes.{KeepBytes};
@@ -34,8 +34,7 @@ pub fn dismount<M: BlockMedium>(
     ensures moments { (s : Config) (files : List File) → HoldsFiles s (M.disk medium.old).blocks directory.old None files → Settled (λ image. MediumSays s image files) (M.disk medium.old)
         → Leaves (λ image. MediumSays s image files) (M.disk medium.old) (M.disk medium.new) }
     ensures settled { (s : Config) (files : List File) → HoldsFiles s (M.disk medium.old).blocks directory.old None files → OnOk result (IsSettled s files (M.disk medium.new)) }
-    ensures blocks { length (M.disk medium.new).blocks ≡ length (M.disk medium.old).blocks }
-    ensures counts { Counts (M.disk medium.old) (M.disk medium.new) result }
+    ensures writes { WritesCounted (M.disk medium.old) (M.disk medium.new) result }
 {
     directory.set_shutdown(medium, 0xFF)
 }
@@ -55,8 +54,7 @@ pub fn erase<M: BlockMedium>(medium: &mut M, directory: &mut Directory) -> Resul
     ensures moments { (s : Config) (files : List File) → HoldsFiles s (M.disk medium.old).blocks directory.old None files → Settled (λ image. MediumSays s image files) (M.disk medium.old)
         → Leaves (λ image. MediumSays s image files ⊎ MediumSays s image []) (M.disk medium.old) (M.disk medium.new) }
     ensures settled { (s : Config) (files : List File) → HoldsFiles s (M.disk medium.old).blocks directory.old None files → OnOk result (IsSettled s [] (M.disk medium.new)) }
-    ensures blocks { length (M.disk medium.new).blocks ≡ length (M.disk medium.old).blocks }
-    ensures counts { Counts (M.disk medium.old) (M.disk medium.new) result }
+    ensures writes { WritesCounted (M.disk medium.old) (M.disk medium.new) result }
 {
     directory.erase(medium)
 }

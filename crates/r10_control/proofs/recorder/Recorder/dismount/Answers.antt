@@ -47,7 +47,7 @@ returns-in-Ok-clause-steps g c =
     (λ m means.
     let holds = c.in-Ok.ensures.holds k.config m.files (held k c.in-Idle.directory (disk w.medium).blocks m at means.files) in
     dismount_done c.a_step_stays_sound.ensures k (disk w.medium).blocks later.blocks (disk w.medium).failures later.failures m c.in-Idle.directory c.self.invariant.limits means at
-    holds.says holds.found c.dismount.ensures.counts.no_fewer))
+    holds.says holds.found c.dismount.ensures.writes.counts.no_fewer))
 
 pub returns-in-Err-dismount-clause-steps : goal.returns-in-Err-dismount-clause-steps
 returns-in-Err-dismount-clause-steps g c =
@@ -61,8 +61,8 @@ returns-in-Err-dismount-clause-steps g c =
     → KeptStepsTaking none_taken v.kept m events.Dismount (replies.Refused refusals.Medium) (record k { work = work_of c.turn-in-Err-dismount.new.work }) later.blocks later.failures) c.self.view_is
     (subst (λ (x : Doing). (m : Machine) → KeptStandsFor k (disk w.medium).blocks (disk w.medium).failures m → KeptStepsTaking none_taken k m events.Dismount (replies.Refused refusals.Medium) (record k { work = work_of x }) later.blocks later.failures) (sym c.turn-in-Err-dismount.ensures)
     (λ m means.
-    dismount_fails c.a_step_stays_sound.ensures k (disk w.medium).blocks later.blocks (disk w.medium).failures later.failures m c.self.invariant.limits means fine c.dismount.ensures.counts.no_fewer
-    (c.in-Err-dismount.ensures.counts.cause refl) (c.dismount.ensures.says k.config m.files (held k c.in-Idle.directory (disk w.medium).blocks m at means.files))))
+    dismount_fails c.a_step_stays_sound.ensures k (disk w.medium).blocks later.blocks (disk w.medium).failures later.failures m c.self.invariant.limits means fine c.dismount.ensures.writes.counts.no_fewer
+    (c.in-Err-dismount.ensures.writes.counts.cause refl) (c.dismount.ensures.says k.config m.files (held k c.in-Idle.directory (disk w.medium).blocks m at means.files))))
 
 pub returns-in-Err-clause-owned : goal.returns-in-Err-clause-owned
 returns-in-Err-clause-owned g c =

@@ -72,7 +72,7 @@ returns-in-Ok-erase-clause-steps g c =
     (λ m means.
     let holds = c.in-Ok-erase.ensures.holds k.config m.files (held k c.in-Idle.directory (disk w.medium).blocks m at means.files) in
     erase_done c.a_step_stays_sound.ensures k (disk w.medium).blocks later.blocks (disk w.medium).failures later.failures m c.in-Idle.directory c.erase.new.directory c.self.invariant.limits means at fine
-    holds c.erase.ensures.counts.no_fewer))
+    holds c.erase.ensures.writes.counts.no_fewer))
 
 pub returns-in-Err-erase-clause-steps : goal.returns-in-Err-erase-clause-steps
 returns-in-Err-erase-clause-steps g c =
@@ -87,8 +87,8 @@ returns-in-Err-erase-clause-steps g c =
     → KeptStepsTaking none_taken v.kept m events.Erase (replies.Refused refusals.Medium) (record k { work = work_of c.turn.new.work }) later.blocks later.failures) c.self.view_is
     (subst (λ (x : Doing). (m : Machine) → KeptStandsFor k (disk w.medium).blocks (disk w.medium).failures m → KeptStepsTaking none_taken k m events.Erase (replies.Refused refusals.Medium) (record k { work = work_of x }) later.blocks later.failures) (sym c.turn.ensures)
     (λ m means.
-    erase_fails c.a_step_stays_sound.ensures k (disk w.medium).blocks later.blocks (disk w.medium).failures later.failures m c.self.invariant.limits means fine c.erase.ensures.counts.no_fewer
-    (c.in-Err-erase.ensures.counts.cause refl) (c.in-Err-erase.ensures.failed k.config m.files (held k c.in-Idle.directory (disk w.medium).blocks m at means.files))))
+    erase_fails c.a_step_stays_sound.ensures k (disk w.medium).blocks later.blocks (disk w.medium).failures later.failures m c.self.invariant.limits means fine c.erase.ensures.writes.counts.no_fewer
+    (c.in-Err-erase.ensures.writes.counts.cause refl) (c.in-Err-erase.ensures.failed k.config m.files (held k c.in-Idle.directory (disk w.medium).blocks m at means.files))))
 
 pub returns-in-Err-clause-owned : goal.returns-in-Err-clause-owned
 returns-in-Err-clause-owned g c =
