@@ -6,6 +6,8 @@ pub mod Tallies
 pub mod Retelling
 pub mod Telling
 pub mod Scanned
+pub mod Texts
+pub mod Once
 pub mod Glances
 pub mod Fronts
 pub mod Faults

@@ -1,5 +1,5 @@
 -- What a packet says to the rules, whatever number is told of what was lost before it.
-use Rattle.std.proofs.Common.{◌≡◌, ◌↔◌, ℕ, ◌+◌, ◌≤◌, List, [], ◌∷◌, length, map, take, Option, Some, None, refl, sym, subst, ◌∙◌, arith}
+use Rattle.std.proofs.Common.{◌≡◌, ℕ, List, [], ◌∷◌, length, Option, Some, None, refl, subst, ◌∙◌, arith}
 use Rattle.std.specs.List.{sum_by}
 use Rattle.std.proofs.lemmas.List.Sums.{sum_by-cons}
 use Rattle.r10_body.specs.Content.{messages_of}
@@ -11,7 +11,7 @@ use Rattle.r10_body.specs.declared.gap.Gap.{Gap}
 use Rattle.r10_body.specs.declared.gap.Gap.TheVariants.{Whole}
 use Rattle.r10_body.proofs.Lone.{packet-length}
 use Rattle.r10_body.proofs.Retold.{IsRetold}
-use Rattle.r10_strict.specs.Facts.{AreFactsOf, Spans, TellsCounts}
+use Rattle.r10_strict.specs.Facts.{AreFactsOf, TellsCounts}
 use Rattle.r10_strict.specs.declared.facts.Facts.{Facts}
 use Rattle.r10_strict.specs.declared.facts.Spread.{Spread}
 

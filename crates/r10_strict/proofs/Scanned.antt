@@ -1,8 +1,7 @@
 -- What entries come to that are read where they stand.
-use Rattle.std.proofs.Common.{◌≡◌, ℕ, ◌+◌, ◌*◌, ◌^◌, ◌<◌, ◌≤◌, true, List, [], ◌∷◌, ◌++◌, length, map, take, refl, sym, subst, ap, ◌∙◌, Some, arith, length-append}
+use Rattle.std.proofs.Common.{◌≡◌, ℕ, ◌+◌, ◌*◌, ◌^◌, ◌<◌, ◌≤◌, ◌&&◌, Bool, true, false, max, nat_le, Some, List, [], ◌∷◌, ◌++◌, length, map, refl, sym, subst, ap, ◌∙◌, arith, length-append}
 use Rattle.std.specs.List.{fold}
-use Rattle.std.proofs.lemmas.List.{take-append-le}
-use Rattle.std.proofs.Math.Seq.{take-append_seam}
+use Rattle.std.proofs.lemmas.Bool.{leb-true}
 use Rattle.r10_count.specs.Bytes.{le_bytes}
 use Rattle.r10_count.proofs.Fronts.{same_u32}
 use Rattle.r10_count.specs.Form.{Form, IsSpelled, IsBody, OpensAll, SuitsAll, spelled_all}
@@ -14,27 +13,6 @@ use Rattle.r10_strict.specs.Glance.{IsGlimpse, IsPlain}
 use Rattle.r10_strict.specs.Tally.{empty_tally, tally_behind, tally_of, timed_cost, with_message}
 use Rattle.r10_strict.specs.declared.scan.Glimpse.{Glimpse}
 use Rattle.r10_strict.specs.declared.tally.Tally.{Tally}
-
--- ---- the first entry
-
--- what bytes that begin with an entry tell of it
-pub record BeginsWith {E : Type 0} (form : Form E) (before : ℕ) (e : E) (bytes : List ℕ) : Type 0 where
-  pub front : form.front ≤ length bytes
-  pub told : form.told (take form.front bytes) ≡ Some (length (form.spelled before e))
-  pub within : length (form.spelled before e) ≤ length bytes
-  pub first : take (length (form.spelled before e)) bytes ≡ form.spelled before e
-
-pub begins_with : {E : Type 0} (form : Form E) (before : ℕ) (e : E) (bytes rest : List ℕ) → form.Fits before e → bytes ≡ form.spelled before e ++ rest → BeginsWith form before e bytes
-begins_with form before e bytes rest fits is =
-    let s = form.spelled before e in
-    let tells = form.tells before e fits in
-    let long : length bytes ≡ length s + length rest = ap (λ (t : List ℕ). length t) is ∙ length-append s rest in
-    record {
-      front = omega (arith, tells.0);
-      told = ap form.told (ap (take form.front) is ∙ take-append-le form.front s rest tells.0) ∙ tells.1;
-      within = omega arith;
-      first = ap (take (length s)) is ∙ take-append_seam s rest;
-    }
 
 -- ---- all entries
 
@@ -70,6 +48,39 @@ scanned_more form said before bytes count rest after tally g e is q so_far =
           (behind.0, subst (λ n. IsSpelled form n behind.0 after) at behind.2);
       few = omega (arith, so_far.few);
       cheap = omega (arith, so_far.cheap, is.cheap);
+    }
+
+-- with one entry or more: while the counts rise, the last one is the greatest
+abbrev pub tally_at : ℕ → ℕ → ℕ → ℕ → ℕ → Bool → Tally
+tally_at entries cost first last greatest rise = record { entries = entries; cost = cost; counts = Some (record { first = first; last = last; greatest = greatest; rise = rise }) }
+
+pub record ScannedTo {E : Type 0} (form : Form E) (said : E → Timed) (before : ℕ) (bytes : List ℕ) (entries cost first last greatest : ℕ) (rise : Bool) (rest : List ℕ) : Type 0 where
+  pub scanned : Scanned form said before bytes last rest (tally_at entries cost first last greatest rise)
+  pub top : rise ≡ true → greatest ≡ last
+
+pub scanned_one : {E : Type 0} (form : Form E) (said : E → Timed) (before : ℕ) (bytes after : List ℕ) (g : Glimpse) (e : E)
+    → IsGlimpse form said before (form.spelled before e) g e → bytes ≡ form.spelled before e ++ after → ScannedTo form said before bytes 1 g.cost g.count g.count g.count true after
+scanned_one form said before bytes after g e is q =
+    let one = scanned_more form said before bytes before bytes after empty_tally g e is q (scanned_none form said before bytes) in
+    let sum : 0 + g.cost ≡ g.cost = omega arith in
+    record { scanned = subst (λ n. Scanned form said before bytes g.count after (tally_at 1 n g.count g.count g.count true)) sum one; top = λ _. refl }
+
+same_rise : (rise : Bool) (last greatest count : ℕ) → (rise ≡ true → greatest ≡ last) → (rise && nat_le last count) ≡ (rise && nat_le greatest count)
+same_rise true last greatest count top = ap (λ n. nat_le n count) (sym (top refl))
+same_rise false last greatest count top = refl
+
+new_top : (rise : Bool) (greatest count : ℕ) → (rise && nat_le greatest count) ≡ true → max greatest count ≡ count
+new_top true greatest count is = let le : greatest ≤ count = leb-true greatest count is in omega (arith, le)
+new_top false greatest count is = cc
+
+pub scanned_on : {E : Type 0} (form : Form E) (said : E → Timed) (before : ℕ) (bytes : List ℕ) (entries cost first last greatest : ℕ) (rise : Bool) (rest after : List ℕ) (g : Glimpse) (e : E)
+    → IsGlimpse form said last (form.spelled last e) g e → rest ≡ form.spelled last e ++ after → ScannedTo form said before bytes entries cost first last greatest rise rest
+    → ScannedTo form said before bytes (entries + 1) (cost + g.cost) first g.count (max greatest g.count) (rise && nat_le greatest g.count) after
+scanned_on form said before bytes entries cost first last greatest rise rest after g e is q so_far =
+    let more = scanned_more form said before bytes last rest after (tally_at entries cost first last greatest rise) g e is q so_far.scanned in
+    record {
+      scanned = subst (λ b. Scanned form said before bytes g.count after (tally_at (entries + 1) (cost + g.cost) first g.count (max greatest g.count) b)) (same_rise rise last greatest g.count so_far.top) more;
+      top = new_top rise greatest g.count;
     }
 
 stuck : {E : Type 0} (form : Form E) (count : ℕ) (rest : List ℕ) (tail : List E) → 0 < length rest

@@ -134,7 +134,7 @@ packet_clear p fits =
     let read = read_alone p fits in
     ap (λ (h : Header). is_opaque_packet h (body_at (packet_bytes p))) read.header ∙ ap (is_opaque_packet (header_of p)) read.body_is ∙ header_clear p fits
 
-body_foreign : (p : Packet) → FitsPacket p → IsForeignBody (type_of p.content) (packet_body p)
+pub body_foreign : (p : Packet) → FitsPacket p → IsForeignBody (type_of p.content) (packet_body p)
 body_foreign p fits =
     strict-lenient (type_of p.content) p.counter (packet_body p) (messages_of p.counter p.content)
     (p.content, record { type_is = refl; fits = fits.content; body_is = refl }, refl)

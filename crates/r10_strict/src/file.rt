@@ -56,11 +56,20 @@ impl ForeignTrack {
                 return Err(Fault { offset, fault });
             }
         };
+        self.add(&packet);
+        Ok(packet)
+    }
+
+    /// Takes a packet that stands first in bytes that follow, and that any recorder may have written.
+    pub fn add(&mut self, packet: &ForeignPacket)
+        requires some { 24 ≤ packet.now.length }
+        requires short { self.old.offset + packet.now.length < 2 ^ 64 }
+        ensures { (before bytes : List ℕ) → TracksForeign self.old before → IsFirst bytes packet.now → TracksForeign self.new (before ++ take packet.now.length bytes) }
+    {
         *self = ForeignTrack {
             offset: self.offset + packet.length as u64,
             opaque: self.opaque + u64::from(packet.opaque),
         };
-        Ok(packet)
     }
 
     /// The number of opaque packets of a file that ends here; a file without a packet is at fault.

@@ -1,8 +1,8 @@
-//! The entries of the kinds whose messages have bytes or words.
+//! The entries of the kinds whose messages have bytes.
 
 use crate::scan::{Glance, Glimpse};
+use crate::text::split_text;
 use r10_body::ENTRY_COST;
-use r10_count::{Count, split_u32, unpadded};
 use r10_message::MessageEntry;
 use r10_uart::UartEntry;
 
@@ -12,24 +12,20 @@ impl Glance for UartEntry {
 
     ghost said = { λ e. timed e.count (Uart e.parity e.sub e.bytes) };
 
-    fn glance(before: u64, bytes: &[u8]) -> Option<Glimpse> {
+    #[inline(always)]
+    fn glance(before: u64, bytes: &[u8]) -> Option<(Glimpse, &[u8])> {
         let _ = before;
-        let Some((count, rest)) = Count::of_stamp(bytes) else {
+        let Some(front) = split_text(bytes) else {
             return None;
         };
-        let Some((header, rest)) = split_u32(rest) else {
-            return None;
-        };
-        let Some(text) = unpadded(rest, (header % 0x1_0000) as usize) else {
-            return None;
-        };
-        if header / 0x4000_0000 % 2 == 1 {
+        if front.header / 0x4000_0000 % 2 == 1 {
             return None;
         }
-        Some(Glimpse {
-            count,
-            cost: ENTRY_COST + 12 + text.len() as u64,
-        })
+        let glimpse = Glimpse {
+            count: front.count,
+            cost: ENTRY_COST + 12 + (front.header % 0x1_0000) as u64,
+        };
+        Some((glimpse, front.rest))
     }
 }
 
@@ -39,20 +35,16 @@ impl Glance for MessageEntry {
 
     ghost said = { λ e. timed e.count (Message e.data_error e.format e.sub e.bytes) };
 
-    fn glance(before: u64, bytes: &[u8]) -> Option<Glimpse> {
+    #[inline(always)]
+    fn glance(before: u64, bytes: &[u8]) -> Option<(Glimpse, &[u8])> {
         let _ = before;
-        let Some((count, rest)) = Count::of_stamp(bytes) else {
+        let Some(front) = split_text(bytes) else {
             return None;
         };
-        let Some((header, rest)) = split_u32(rest) else {
-            return None;
+        let glimpse = Glimpse {
+            count: front.count,
+            cost: ENTRY_COST + 12 + (front.header % 0x1_0000) as u64,
         };
-        let Some(text) = unpadded(rest, (header % 0x1_0000) as usize) else {
-            return None;
-        };
-        Some(Glimpse {
-            count,
-            cost: ENTRY_COST + 12 + text.len() as u64,
-        })
+        Some((glimpse, front.rest))
     }
 }

@@ -2,6 +2,7 @@
 //! with all that the rules of a file ask of it, or the least of the first three rules that it breaks.
 #![tactic(auto)]
 
+mod any;
 mod body;
 mod entries;
 mod facts;
@@ -14,7 +15,9 @@ mod packet;
 mod scan;
 mod strict;
 mod tally;
+mod text;
 
+pub use any::{AnyPacket, read_any};
 pub use facts::{Facts, PacketKind, Spread};
 pub use file::{Fault, ForeignTrack, judge_foreign};
 pub use foreign_body::is_foreign_body;

@@ -19,7 +19,7 @@ pub struct ForeignPacket {
 }
 
 /// The fault of a file where a packet has this fault of framing.
-fn fault_of(fault: PacketFault) -> FileFault
+pub(crate) fn fault_of(fault: PacketFault) -> FileFault
     ensures { result ≡ named fault }
 {
     match fault {

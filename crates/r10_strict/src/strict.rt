@@ -82,7 +82,7 @@ fn parts(bytes: &[u8]) -> Option<(Header, &[u8])>
 
 /// What the strict reading finds of the packet that stands first and has this header and this body. It is told whether the
 /// data checksum is right, and stands behind the least filler.
-fn find(
+pub(crate) fn find(
     alloc: Global,
     header: &Header,
     body: &[u8],
