@@ -6,8 +6,9 @@ ghost use Rattle.r10_judge.specs.Judged.{TracksJudged};
 ghost use Rattle.r10_checker.specs.Verdict.{IsVerdict};
 ghost use Rattle.r10_checker.specs.declared.check.Verdict.TheVariants as verdicts;
 
+use crate::verdict::walked_verdict;
 use r10_body::FileFault;
-use r10_judge::Judge;
+use r10_judge::{Judge, walk_bytes};
 use r10_strict::{Fault, ForeignTrack};
 use std::alloc::{AllocError, Global};
 
@@ -28,18 +29,8 @@ pub enum Verdict {
 pub fn check_file(alloc: Global, bytes: &[u8]) -> Result<Verdict, AllocError>
     ensures { IfOk result (IsVerdict bytes.now) }
 {
-    let mut track = ForeignTrack::new();
-    let mut judge = Judge::new(alloc, true);
-    let mut rest = bytes;
-    while !rest.is_empty() {
-        let packet = match track.take(rest) {
-            Ok(packet) => packet,
-            Err(at) => return Ok(faulty(&at)),
-        };
-        judge.take(alloc, &rest[..packet.length])?;
-        rest = &rest[packet.length..];
-    }
-    Ok(end_verdict(&track, &judge))
+    let walked = walk_bytes(alloc, bytes, true)?;
+    Ok(walked_verdict(&walked))
 }
 
 /// The verdict on a file that ends here, by its packets, whoever wrote them, and by the rules that they keep.

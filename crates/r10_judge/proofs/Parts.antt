@@ -1,5 +1,5 @@
 -- Parts of a file's bytes, and what is known of them.
-use Rattle.std.proofs.Common.{◌≡◌, ℕ, zero, suc, ◌+◌, ◌-◌, ◌*◌, ◌^◌, ◌<◌, ◌≤◌, inl, inr, List, [], ◌++◌, length, take, drop, Bool, true, false, Option, Some, None, IfSome, is_some, refl, sym, ap, ◌∙◌, subst, arith, append_assoc, take_all}
+use Rattle.std.proofs.Common.{◌≡◌, ℕ, zero, suc, ◌+◌, ◌-◌, ◌*◌, ◌^◌, ◌<◌, ◌≤◌, inl, inr, List, [], ◌++◌, length, take, drop, Bool, true, false, Option, Some, None, IfSome, Result, Ok, Err, IfOk, is_some, refl, sym, ap, ◌∙◌, subst, arith, append_assoc, take_all}
 use Rattle.std.specs.List.{concat}
 use Rattle.std.proofs.Math.Seq.{take-add}
 use Rattle.std.proofs.lemmas.Bool.{cases_lt}
@@ -108,6 +108,10 @@ tells_on told tracks file window at count n f is le here there tells =
 pub some_on : {T : Type 0} (o : Option T) {P Q : T → Type 0} → ((x : T) → P x → Q x) → IfSome o P → IfSome o Q
 some_on None f has = tt
 some_on (Some x) f has = f x has
+
+pub ok_on : {T F : Type 0} (r : Result T F) {P Q : T → Type 0} → ((x : T) → P x → Q x) → IfOk r P → IfOk r Q
+ok_on (Ok x) f has = f x has
+ok_on (Err e) f has = tt
 
 pub none_is : (o : Option FileFault) → is_some o ≡ false → o ≡ None
 none_is None none = refl

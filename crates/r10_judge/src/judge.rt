@@ -1,6 +1,6 @@
 //! Whether a file keeps the rules, packet by packet.
 
-ghost use Rattle.std.specs.Prelude.{◌≡◌, ◌↔◌, ◌⊎◌, ◌+◌, ◌<◌, ◌≤◌, ◌^◌, ◌++◌, ℕ, Bool, List, [], length, true, false, IsTrue, MatchOption, MatchResult, OnOk, OnErr, None, Some};
+ghost use Rattle.std.specs.Prelude.{◌≡◌, ◌↔◌, ◌⊎◌, ◌+◌, ◌<◌, ◌≤◌, ◌^◌, ◌++◌, ℕ, Bool, List, [], length, take, true, false, IsTrue, IfOk, IfErr, MatchOption, MatchResult, OnOk, OnErr, Ok, None, Some, is_some};
 ghost use Rattle.r10_packet.specs.Framing.{framing_fault, body_at};
 ghost use Rattle.r10_body.specs.Faults.{HasFault, IsAnswered, IsAtFault, IsReportAnswered};
 ghost use Rattle.r10_body.specs.Files.{IsStrict};
@@ -10,11 +10,16 @@ ghost use Rattle.r10_body.specs.Rules.{EndsIndex, EndsReports, IsGapTold, KeepsC
 ghost use Rattle.r10_body.specs.Rules.{is_index as is_index_packet};
 ghost use Rattle.r10_judge.specs.Judged.{TracksJudged, KeepsRulesSoFar, BreaksRuleOfFileFirst, TracksStrictFile, MayMiss, SaysClosed, TellsAnswer, least_of_index, stopped_at, unanswered_at};
 ghost use Rattle.r10_strict.specs.Facts.{AreFactsOf, kind_of};
+ghost use Rattle.r10_strict.specs.Strict.{FindsPacket};
+ghost use Rattle.r10_strict.specs.Tracks.{IsFirst};
 ghost use Rattle.r10_tracks.specs.Tracks.{IsTracked};
 
 use r10_body::FileFault;
 use r10_lossbody::LossBody;
-use r10_strict::{Facts, Fault, PacketKind, StrictReading, read_checked};
+use r10_strict::{
+    AnyPacket, Facts, Fault, ForeignPacket, PacketKind, StrictReading, read_any, read_checked,
+    read_foreign,
+};
 use r10_tracks::Tracks;
 use std::alloc::{AllocError, Global};
 
@@ -49,6 +54,23 @@ impl Judge {
         ensures kept { (before : List ℕ) → TracksJudged self.old before → OnErr result (TracksJudged self.new before) }
         ensures closed { self.new.closed ≡ self.old.closed }
     {
+        if self.is_broken() {
+            return Ok(());
+        }
+        match read_checked(alloc, packet) {
+            Ok(reading) => self.take_read(&reading, packet),
+            Err(error) => Err(error),
+        }
+    }
+
+    /// Takes the next packet, whoever wrote it, of which this is what its strict reading finds. Where memory is refused, it
+    /// isn't taken.
+    pub fn take_read(&mut self, reading: &StrictReading, packet: &[u8]) -> Result<(), AllocError>
+        ensures taken { (before : List ℕ) → TracksJudged self.old before → IsForeignPacket packet.now → FindsPacket packet.now reading.now → length (before ++ packet.now) < 2 ^ 63
+            → OnOk result (TracksJudged self.new (before ++ packet.now)) }
+        ensures kept { (before : List ℕ) → TracksJudged self.old before → OnErr result (TracksJudged self.new before) }
+        ensures closed { self.new.closed ≡ self.old.closed }
+    {
         if self.broken.is_some() {
             return Ok(());
         }
@@ -56,14 +78,60 @@ impl Judge {
             self.stop_at_report();
             return Ok(());
         }
-        match read_checked(alloc, packet) {
-            Ok(StrictReading::Strict(facts)) => self.take_strict(&facts, body_of(packet)),
-            Ok(StrictReading::Breaks(rule)) => {
-                self.stop(rule);
+        match reading {
+            StrictReading::Strict(facts) => self.take_strict(facts, body_of(packet)),
+            StrictReading::Breaks(rule) => {
+                self.stop(*rule);
                 Ok(())
             }
+        }
+    }
+
+    /// Takes the packet that stands first in bytes that follow, and says how it is: each body that this recorder wrote is
+    /// read once. A packet at fault isn't taken.
+    pub fn take_first(
+        &mut self,
+        alloc: Global,
+        bytes: &[u8],
+    ) -> Result<Result<ForeignPacket, FileFault>, AllocError>
+        ensures found { IfOk result (λ r. IfOk r (IsFirst bytes.now)) }
+        ensures taken { IfOk result (λ r. IfOk r (λ packet. (before : List ℕ) → TracksJudged self.old before → length (before ++ take packet.length bytes.now) < 2 ^ 63
+            → TracksJudged self.new (before ++ take packet.length bytes.now))) }
+        ensures fault { IfOk result (λ r. IfErr r (HasFault bytes.now)) }
+        ensures kept { IfOk result (λ r. OnErr r (self.new ≡ self.old)) }
+        ensures closed { self.new.closed ≡ self.old.closed }
+    {
+        if self.is_broken() {
+            return Ok(read_foreign(bytes));
+        }
+        match read_any(alloc, bytes) {
+            Ok(Ok(any)) => self.take_any(&any, bytes),
+            Ok(Err(fault)) => Ok(Err(fault)),
             Err(error) => Err(error),
         }
+    }
+
+    /// Takes a packet of any recorder's that stands first in bytes.
+    fn take_any(
+        &mut self,
+        any: &AnyPacket,
+        bytes: &[u8],
+    ) -> Result<Result<ForeignPacket, FileFault>, AllocError>
+        requires { any.now.packet.length ≤ length bytes.now }
+        ensures packet { IfOk result (λ r. r ≡ Ok any.now.packet) }
+        ensures taken { IsFirst bytes.now any.now.packet → FindsPacket (take any.now.packet.length bytes.now) any.now.reading → IfOk result (λ _. (before : List ℕ) → TracksJudged self.old before
+            → length (before ++ take any.now.packet.length bytes.now) < 2 ^ 63 → TracksJudged self.new (before ++ take any.now.packet.length bytes.now)) }
+        ensures closed { self.new.closed ≡ self.old.closed }
+    {
+        self.take_read(&any.reading, &bytes[..any.packet.length])?;
+        Ok(Ok(any.packet))
+    }
+
+    /// Whether a packet breaks a rule. What comes behind it isn't read as this recorder's.
+    fn is_broken(&self) -> bool
+        ensures { result ≡ is_some self.now.broken }
+    {
+        self.broken.is_some()
     }
 
     /// Whether the packets so far are a strict file, whatever its directory entry is: closed by an

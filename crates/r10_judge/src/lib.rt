@@ -14,4 +14,4 @@ pub use judge::Judge;
 pub use judgement::{Judgement, judge_file};
 pub use laws::{fault_or_strict, next_packet, one_first_fault};
 pub use walk::Walk;
-pub use window::{Walked, walk_file};
+pub use window::{Walked, walk_bytes, walk_file};

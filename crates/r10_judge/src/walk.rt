@@ -53,10 +53,10 @@ impl Walk {
         let mut done = 0;
         while done < bytes.len() {
             let rest = &bytes[done..];
-            let packet = match self.track.take(rest) {
+            let packet = match self.judge.take_first(alloc, rest)? {
                 Ok(packet) => packet,
-                Err(at) => {
-                    let fault = Some(at.fault);
+                Err(fault) => {
+                    let fault = Some(fault);
                     let answered = self.judge.is_answered(rest);
                     return Ok(Taken {
                         length: done,
@@ -65,7 +65,7 @@ impl Walk {
                     });
                 }
             };
-            self.judge.take(alloc, &rest[..packet.length])?;
+            self.track.add(&packet);
             done += packet.length;
         }
         Ok(Taken {

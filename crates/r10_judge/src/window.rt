@@ -12,7 +12,7 @@ use crate::walk::{Taken, Walk};
 use r10_blockout::{ReadFault, read_bytes};
 use r10_body::FileFault;
 use r10_medium::BlockMedium;
-use std::alloc::Global;
+use std::alloc::{AllocError, Global};
 
 /// How many bytes are read at once, but where a packet has more: as many as this recorder's longest packet has.
 const WINDOW: usize = 524_288;
@@ -26,6 +26,20 @@ pub struct Walked {
     pub fault: Option<FileFault>,
     /// Whether that answers the report that stands last, where one does.
     pub answered: bool,
+}
+
+/// Walks a file that stands in memory, and whose directory entry is closed or not.
+pub fn walk_bytes(alloc: Global, bytes: &[u8], closed: bool) -> Result<Walked, AllocError>
+    ensures walked { IfOk result (IsWalked bytes.now) }
+    ensures closed { IfOk result (λ walked. walked.walk.judge.closed ≡ closed) }
+{
+    let mut walk = Walk::new(alloc, closed);
+    let taken = walk.take(alloc, bytes)?;
+    Ok(Walked {
+        walk,
+        fault: taken.fault,
+        answered: taken.answered,
+    })
 }
 
 /// Walks a file whose directory entry is closed or not, which lies inside the medium. The buffer is used
