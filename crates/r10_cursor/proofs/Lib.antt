@@ -21,3 +21,5 @@ pub mod HowFar
 mod Slots
 mod Stepping
 mod FirstPackets
+mod Lower
+mod Moving

@@ -1,12 +1,11 @@
 -- A file of packets with the written index behind it keeps all rules, and is closed.
-use Rattle.std.proofs.Common.{◌≡◌, ℕ, zero, suc, ◌+◌, ◌-◌, ◌*◌, ◌/◌, ◌%◌, ◌^◌, ◌<◌, ◌≤◌, ◌⊎◌, inl, inr, Bool, true, false, cond, ◌==◌, ◌&&◌, ◌||◌, IsTrue, List, [], ◌∷◌, ◌++◌, length, take, drop, refl, sym, ap, subst, ◌∙◌, arith, append_assoc, Option, None, Some}
-use Rattle.std.specs.Prelude.{count_by, filter, min, nat_lt, nat_le}
+use Rattle.std.proofs.Common.{◌≡◌, ℕ, zero, suc, ◌+◌, ◌-◌, ◌*◌, ◌/◌, ◌%◌, ◌^◌, ◌<◌, ◌≤◌, ◌⊎◌, inl, inr, Bool, true, false, cond, ◌&&◌, List, [], ◌∷◌, ◌++◌, length, take, drop, refl, sym, ap, subst, ◌∙◌, arith, append_assoc, Option, None, Some}
+use Rattle.std.specs.Prelude.{count_by, filter, min, nat_lt}
 use Rattle.std.specs.List.{AllByRecursion}
 use Rattle.std.proofs.lemmas.Bool.{le-leb, ltb-false, ltb-true}
 use Rattle.std.proofs.lemmas.List.{append-nil, length-append, length-drop, length-take}
 use Rattle.std.proofs.lemmas.List.Elements.{filter-append, recursion_from_All, All-from_recursion, All-drop, All-take}
 use Rattle.std.proofs.lemmas.List.Sums.{length-filter}
-use Rattle.std.proofs.lemmas.List.Concat.{flat_map-append}
 use Rattle.r10_count.specs.Count.{IsCount}
 use Rattle.r10_indexbody.specs.Index.{FitsNode, FitsRoot}
 use Rattle.r10_indexbody.specs.declared.entry.NodeEntry.{NodeEntry}
@@ -15,17 +14,17 @@ use Rattle.r10_body.specs.declared.entry.Entry.{Entry}
 use Rattle.r10_indexbody.proofs.Nodes.{body-length as node_length}
 use Rattle.r10_indexbody.proofs.Roots.{body-length as root_length}
 use Rattle.r10_body.specs.Packets.{Packet, FitsPacket, packet_bytes, file_bytes, file_entries}
-use Rattle.r10_body.specs.Rules.{MayFollow, EachFollows, IsFile, Rise, is_setup_packet, is_time, is_index, is_data, is_node, is_root, is_closed_file, closed_from, all_named, has_whole_index, packet_on, is_entry_on, node_entries, root_entry_of, last_nodes, unnamed, last_root, last_report, group_size, last_time}
+use Rattle.r10_body.specs.Rules.{MayFollow, EachFollows, IsFile, Rise, is_time, is_index, is_data, is_node, is_root, is_closed_file, closed_from, all_named, packet_on, is_entry_on, node_entries, root_entry_of, last_nodes, unnamed, last_root, last_report, group_size, last_time}
 use Rattle.r10_body.specs.Sequence.{next_sequence}
 use Rattle.r10_body.proofs.ChannelLists.{rises}
 use Rattle.r10_body.proofs.Groups.{unnamed_with, none_unnamed, root_with, root_before, size_stays, size_grows, size_of_node, size_of_root}
 use Rattle.r10_body.proofs.Indexes.{counted, counted_first, counted_yes, counted_no, index_long, no_nodes, no_roots, none_at, not_whole, part_of}
 use Rattle.r10_body.proofs.Lengths.{last_with}
 use Rattle.r10_body.proofs.Lone.{packet-length}
-use Rattle.r10_body.proofs.Reporting.{quiet_more, time_fits}
+use Rattle.r10_body.proofs.Reporting.{time_fits}
 use Rattle.r10_body.proofs.Rules.{follows_more, follows_fit, bytes_more}
 use Rattle.r10_body.proofs.Sentences.{type_fits, rest_length}
-use Rattle.r10_index.specs.Written.{index_packet, node_packet, group_nodes, node_count, root_entries, link_of, root_packet, groups, index_of, IsGroup}
+use Rattle.r10_index.specs.Written.{node_packet, group_nodes, node_count, root_entries, link_of, root_packet, groups, index_of, IsGroup}
 
 no : false ≡ true → ⊥
 no e = cc
