@@ -130,53 +130,50 @@ pub(crate) const ASK_NOTHING: &str = "these words ask for nothing";
 /// How many characters of a word are printed.
 const MOST: usize = 60;
 
+/// The whole command line: each command is added as it is made.
 pub(crate) fn command_line<'a>(alloc: Global) -> Result<Command<'a>, AllocError> {
-    let sim = Command::new(alloc, "sim")
-        .about(ABOUT_SIM)
-        .after_help(MORE_SIM)
-        .arg(flag(
-            alloc,
-            "image",
-            "Write the medium's image in place of the lines",
-        ))?;
-    let run = Command::new(alloc, "run")
-        .about(ABOUT_RUN)
-        .after_help(MORE_RUN);
-    let format = Command::new(alloc, "format")
-        .about(ABOUT_FORMAT)
-        .after_help(MORE_FORMAT)
+    let line = Command::new(alloc, "r10")
+        .bin_name("r10")?
+        .version(VERSION)
+        .about(ABOUT)
+        .after_help(MORE);
+    let line = line.subcommand(sim_line(alloc)?)?;
+    let line = line.subcommand(plain_line(alloc, "run", ABOUT_RUN, MORE_RUN))?;
+    let line = line.subcommand(format_line(alloc)?)?;
+    let line = line.subcommand(plain_line(alloc, "files", ABOUT_FILES, MORE_FILES))?;
+    let line = line.subcommand(play_line(alloc)?)?;
+    line.subcommand(plain_line(alloc, "check", ABOUT_CHECK, MORE_CHECK))
+}
+
+/// A command without options.
+fn plain_line<'a>(alloc: Global, name: &'a str, about: &'a str, more: &'a str) -> Command<'a> {
+    Command::new(alloc, name).about(about).after_help(more)
+}
+
+/// The command `sim`.
+fn sim_line<'a>(alloc: Global) -> Result<Command<'a>, AllocError> {
+    plain_line(alloc, "sim", ABOUT_SIM, MORE_SIM).arg(flag(
+        alloc,
+        "image",
+        "Write the medium's image in place of the lines",
+    ))
+}
+
+/// The command `format`, whose options must all be given.
+fn format_line<'a>(alloc: Global) -> Result<Command<'a>, AllocError> {
+    plain_line(alloc, "format", ABOUT_FORMAT, MORE_FORMAT)
         .arg(number(
             alloc,
             "blocks",
             "The blocks of the medium, of 512 bytes each",
         ))?
         .arg(number(alloc, "directory", "The blocks reserved for the directory"))?
-        .arg(volume(alloc))?;
-    let files = Command::new(alloc, "files")
-        .about(ABOUT_FILES)
-        .after_help(MORE_FILES);
-    let play = play_line(alloc)?;
-    let check = Command::new(alloc, "check")
-        .about(ABOUT_CHECK)
-        .after_help(MORE_CHECK);
-    Command::new(alloc, "r10")
-        .bin_name("r10")?
-        .version(VERSION)
-        .about(ABOUT)
-        .after_help(MORE)
-        .subcommand(sim)?
-        .subcommand(run)?
-        .subcommand(format)?
-        .subcommand(files)?
-        .subcommand(play)?
-        .subcommand(check)
+        .arg(volume(alloc))
 }
 
 /// The command `play`, whose options may all be left out.
 fn play_line<'a>(alloc: Global) -> Result<Command<'a>, AllocError> {
-    Command::new(alloc, "play")
-        .about(ABOUT_PLAY)
-        .after_help(MORE_PLAY)
+    plain_line(alloc, "play", ABOUT_PLAY, MORE_PLAY)
         .arg(free(alloc, "file", "The file's number [default: 0]").value_parser(value_parser!(
             usize
         )))?
