@@ -65,7 +65,7 @@ impl Judge {
 
     /// Takes the next packet, whoever wrote it, of which this is what its strict reading finds. Where memory is refused, it
     /// isn't taken.
-    pub fn take_read(&mut self, reading: &StrictReading, packet: &[u8]) -> Result<(), AllocError>
+    fn take_read(&mut self, reading: &StrictReading, packet: &[u8]) -> Result<(), AllocError>
         ensures taken { (before : List ℕ) → TracksJudged self.old before → IsForeignPacket packet.now → FindsPacket packet.now reading.now → length (before ++ packet.now) < 2 ^ 63
             → OnOk result (TracksJudged self.new (before ++ packet.now)) }
         ensures kept { (before : List ℕ) → TracksJudged self.old before → OnErr result (TracksJudged self.new before) }
@@ -89,7 +89,7 @@ impl Judge {
 
     /// Takes the packet that stands first in bytes that follow, and says how it is: each body that this recorder wrote is
     /// read once. A packet at fault isn't taken.
-    pub fn take_first(
+    pub(crate) fn take_first(
         &mut self,
         alloc: Global,
         bytes: &[u8],
@@ -111,7 +111,7 @@ impl Judge {
         }
     }
 
-    /// Takes a packet of any recorder's that stands first in bytes.
+    /// Takes the packet that stands first in bytes, with what its strict reading finds, and hands it back.
     fn take_any(
         &mut self,
         any: &AnyPacket,
