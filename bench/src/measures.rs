@@ -1,0 +1,402 @@
+//! The measures. Making the messages, and beginning a file, is not timed.
+
+use crate::clock::{thread_time, timed};
+use crate::fault::{Fault, Refusal};
+use crate::index::own_header;
+use crate::judge::{Verdict, check_file};
+use crate::medium::Memory;
+use crate::message::{Kind, LAST, Message, Spec, TENTH};
+use crate::packet::{HEADER, finish};
+use crate::recorder::{Channel, Cursor, Recorder};
+use std::hint::black_box;
+use std::io::{self, Write};
+use std::ops::Range;
+use std::time::Duration;
+
+/// The channels, which take messages in turn.
+const CHANNELS: [u16; 4] = [3, 4, 5, 6];
+
+/// How many messages may wait on a channel.
+const WAITING: usize = 256;
+
+/// How many messages are offered before each channel is pumped.
+const ROUND: u32 = 1024;
+
+/// How many rounds there are to a commit, where a file is recorded, and where it is replayed too.
+const ROUNDS: u32 = 64;
+const INSTALMENT: u32 = 4;
+
+/// The greatest number of entries in a packet.
+const NUMBER: usize = 65_535;
+
+/// How often an entry is looked for.
+const SEARCHES: u32 = 10_000;
+
+/// How many counts a message comes behind the one before it, which is on another of the four channels: 2 ms and 200 us.
+const STEPS: [u64; 2] = [20_000, 2_000];
+
+/// How many packets a file has at most.
+const MOST_PACKETS: u32 = 10_000_000;
+
+/// A message that is to be offered, and its number.
+struct Timed {
+    number: u64,
+    message: Message,
+}
+
+/// A line of what is printed.
+pub fn say(name: &str, value: u128, unit: &str) {
+    println!("{name} {value} {unit}");
+}
+
+/// How many of these there are in a second, where there are so many in this time.
+fn a_second(amount: u64, time: Duration) -> u128 {
+    u128::from(amount) * 1_000_000_000 / time.as_nanos().max(1)
+}
+
+/// The messages of these numbers, each with bytes of its own.
+fn make(numbers: Range<u32>, text: &[u8]) -> Vec<Timed> {
+    let one = |number: u32| Timed {
+        number: u64::from(number),
+        message: Message::Uart {
+            parity: false,
+            sub: 0,
+            bytes: text.to_vec(),
+        },
+    };
+    numbers.map(one).collect()
+}
+
+/// The messages of a round, before a number.
+fn make_round(round: u32, number: u32) -> Vec<Timed> {
+    let first = round * ROUND;
+    make(first..number.min(first + ROUND), &[0x55; 32])
+}
+
+fn spec(id: u16, capacity: usize, check: usize, number: usize) -> Spec {
+    Spec {
+        id,
+        kind: Kind::Uart,
+        capacity,
+        check,
+        bytes: 524_288,
+        number,
+        bits: 0,
+    }
+}
+
+type InMemory = Recorder<Memory>;
+
+/// A recorder that records a file, with room for so many messages, of which so many stand in a packet at most.
+fn begin(messages: u32, number: usize) -> Result<InMemory, Refusal> {
+    let medium = Memory::new((148 * u64::from(messages) / 512 + 64) as usize);
+    let specs = CHANNELS.map(|id| spec(id, WAITING, 2, number));
+    Recorder::begin(
+        medium,
+        &specs,
+        b"ABCD",
+        [0, 0, 0, 0, 0x24, 0x11, 0x26, 0x20],
+    )
+}
+
+fn channel_of(number: u64) -> u16 {
+    CHANNELS[(number % 4) as usize]
+}
+
+/// Offers messages, each so many counts behind the one before it, and pumps each channel.
+#[inline(never)]
+fn record(recorder: &mut InMemory, messages: Vec<Timed>, step: u64) -> Result<(), Refusal> {
+    for Timed { number, message } in messages {
+        recorder.offer(channel_of(number), number * step, message)?;
+    }
+    for channel in CHANNELS {
+        recorder.pump(channel, WAITING)?;
+    }
+    Ok(())
+}
+
+/// The plain copy, and one channel's queue and packets: 8 bytes a message.
+pub fn channel(number: u32) -> Result<(), Fault> {
+    let text = [0x55; 8];
+    let mut copied = Vec::with_capacity(524_288);
+    let mut channel = Channel::new(spec(1, ROUND as usize, 0, NUMBER));
+    let (mut copying, mut packing, mut taken) = (Duration::ZERO, Duration::ZERO, 0u64);
+    for round in 0..number.div_ceil(ROUND) {
+        let messages = make(round * ROUND..number.min((round + 1) * ROUND), &text);
+        timed(&mut copying, || copy_all(&messages, &mut copied))?;
+        taken += timed(&mut packing, || pack_all(messages, &mut channel))??;
+    }
+    if taken != u64::from(number) || channel.lost() > 0 {
+        return Err(Fault::Lost);
+    }
+    say("copy", a_second(taken, copying), "messages/s");
+    say("channel", a_second(taken, packing), "messages/s");
+    Ok(())
+}
+
+/// Copies the bytes of each message to the end of a buffer, which is emptied where it is full.
+fn copy_all(messages: &[Timed], copied: &mut Vec<u8>) {
+    for timed in messages {
+        if let Message::Uart { bytes, .. } = &timed.message {
+            if copied.capacity() - copied.len() < bytes.len() {
+                copied.clear();
+            }
+            copied.extend_from_slice(bytes);
+        }
+    }
+    black_box(copied);
+}
+
+/// Offers messages to a channel and puts them into packets, which are let go.
+fn pack_all(messages: Vec<Timed>, channel: &mut Channel) -> Result<u64, Refusal> {
+    for Timed { number, message } in messages {
+        channel.offer(number, message)?;
+    }
+    let mut taken = 0;
+    while let Some(sample) = channel.take() {
+        if channel.must_close(&sample) {
+            if let Some((packet, ..)) = channel.close() {
+                black_box(packet).clear();
+            }
+        }
+        channel.push(&sample);
+        taken += 1;
+    }
+    Ok(taken)
+}
+
+/// Records a file and closes it.
+#[inline(never)]
+fn record_all(number: u32) -> Result<(InMemory, Duration), Fault> {
+    let mut recorder = begin(number, NUMBER)?;
+    let mut recording = Duration::ZERO;
+    for round in 0..number.div_ceil(ROUND) {
+        let messages = make_round(round, number);
+        timed(&mut recording, || {
+            record(&mut recorder, messages, 1)?;
+            if round % ROUNDS == ROUNDS - 1 {
+                recorder.commit()
+            } else {
+                Ok(())
+            }
+        })??;
+    }
+    if timed(&mut recording, || recorder.stop())?? > 0 {
+        return Err(Fault::Lost);
+    }
+    Ok((recorder, recording))
+}
+
+fn take_all(cursor: &mut Cursor) -> u64 {
+    let mut taken = 0;
+    while let Some(entry) = cursor.next() {
+        black_box(&entry);
+        taken += 1;
+    }
+    taken
+}
+
+/// Takes a cursor's next instalment and all that it gives, and answers how many entries that was.
+#[inline(never)]
+fn take_instalment(recorder: &mut InMemory, cursor: &mut Cursor) -> Result<u64, Refusal> {
+    recorder.advance(cursor)?;
+    Ok(take_all(cursor))
+}
+
+/// Writes the file that is recorded to standard output.
+pub fn write(number: u32) -> Result<(), Fault> {
+    let (mut recorder, _) = record_all(number)?;
+    io::stdout().write_all(recorder.bytes()?)?;
+    Ok(())
+}
+
+/// The whole recorder, and where it is asked for the replay of what it recorded.
+pub fn recorder(number: u32, replays: bool) -> Result<(), Fault> {
+    let (mut recorder, recording) = record_all(number)?;
+    say("recorder", a_second(number.into(), recording), "messages/s");
+    say("recorder-file", recorder.size().into(), "bytes");
+    if !replays {
+        return Ok(());
+    }
+    let (mut checking, mut replaying) = (Duration::ZERO, Duration::ZERO);
+    let mut cursor = timed(&mut checking, || recorder.cursor(Vec::new(), 0, LAST))??;
+    let taken = timed(&mut replaying, || {
+        take_instalment(&mut recorder, &mut cursor)
+    })??;
+    if taken < u64::from(number) {
+        return Err(Fault::Lost);
+    }
+    say("check", a_second(recorder.size(), checking), "bytes/s");
+    say("replay", a_second(taken, replaying), "entries/s");
+    say("replay-entries", taken.into(), "entries");
+    Ok(())
+}
+
+/// A file is replayed behind each commit, while it is recorded.
+pub fn follow(number: u32) -> Result<(), Fault> {
+    let mut recorder = begin(number, NUMBER)?;
+    let mut cursor = recorder.cursor(Vec::new(), 0, LAST)?;
+    let (mut replaying, mut taken, rounds) = (Duration::ZERO, 0, number.div_ceil(ROUND));
+    for round in 0..rounds {
+        record(&mut recorder, make_round(round, number), 1)?;
+        if round % INSTALMENT == INSTALMENT - 1 {
+            recorder.commit()?;
+            taken += timed(&mut replaying, || {
+                take_instalment(&mut recorder, &mut cursor)
+            })??;
+        }
+    }
+    recorder.commit()?;
+    taken += timed(&mut replaying, || {
+        take_instalment(&mut recorder, &mut cursor)
+    })??;
+    if taken < u64::from(number) {
+        return Err(Fault::Lost);
+    }
+    say("replay-behind", a_second(taken, replaying), "entries/s");
+    Ok(())
+}
+
+/// Records so many packets of one message each, so many counts apart.
+fn fill(packets: u32, step: u64) -> Result<(InMemory, Duration), Fault> {
+    let mut recorder = begin(packets, 1)?;
+    let mut recording = Duration::ZERO;
+    for round in 0..packets.div_ceil(ROUND) {
+        let messages = make_round(round, packets);
+        timed(&mut recording, || record(&mut recorder, messages, step))??;
+    }
+    timed(&mut recording, || recorder.commit())??;
+    Ok((recorder, recording))
+}
+
+/// Looks for messages here and there in a file, and answers how many were found.
+#[inline(never)]
+fn find_all(
+    recorder: &mut InMemory,
+    packets: u32,
+    step: u64,
+    back: Option<u64>,
+) -> Result<u32, Refusal> {
+    let mut found = 0;
+    for search in 0..SEARCHES {
+        let number = u64::from(search.wrapping_mul(7919) % packets);
+        let count = number * step;
+        let there = recorder.find(channel_of(number), count, back)?;
+        if there.is_some_and(|it| it.entry.count == count && it.number as u64 == number / 4) {
+            found += 1;
+        }
+    }
+    Ok(found)
+}
+
+/// Entries are found in a file of many packets.
+pub fn find(number: u32) -> Result<(), Fault> {
+    for step in STEPS {
+        let packets = number.clamp(1, MOST_PACKETS);
+        let (mut recorder, recording) = fill(packets, step)?;
+        say(
+            &format!("packets-{step}"),
+            a_second(packets.into(), recording),
+            "packets/s",
+        );
+        for (name, back) in [("find", Some(TENTH)), ("find-short", None)] {
+            let mut finding = Duration::ZERO;
+            let found = timed(&mut finding, || {
+                find_all(&mut recorder, packets, step, back)
+            })??;
+            if found != SEARCHES {
+                return Err(Fault::Lost);
+            }
+            say(
+                &format!("{name}-{step}"),
+                finding.as_nanos() / u128::from(SEARCHES),
+                "ns",
+            );
+        }
+    }
+    Ok(())
+}
+
+/// A file of many packets is closed.
+pub fn close(number: u32) -> Result<(), Fault> {
+    let (mut recorder, _) = fill(number.min(MOST_PACKETS), STEPS[1])?;
+    let (shown, mut closing) = (recorder.size(), Duration::ZERO);
+    if timed(&mut closing, || recorder.stop())?? > 0 {
+        return Err(Fault::Lost);
+    }
+    say(
+        "close",
+        a_second(recorder.size() - shown, closing),
+        "bytes/s",
+    );
+    say("close-index", (recorder.size() - shown).into(), "bytes");
+    Ok(())
+}
+
+/// The files that are judged: channels, packet flags of the checksum, bytes of a message.
+const SHAPES: [(u16, u8, usize); 6] = [
+    (4, 3, 1024),
+    (4, 2, 1024),
+    (256, 3, 1024),
+    (256, 2, 1024),
+    (4, 3, 64),
+    (4, 3, 8),
+];
+
+/// How many bytes a file has at most, and how many for each message that is asked for.
+const MOST: usize = 0x2000_0000;
+const SHARE: usize = 64;
+
+/// How many bytes the messages of a packet have with their headers, at most.
+const PACKET: usize = 65_536;
+
+/// A file of messages of so many bytes, on so many channels.
+fn make_file(channels: u16, flags: u8, text: usize, bytes: usize) -> Vec<u8> {
+    let mut file = Vec::with_capacity(bytes + PACKET);
+    let mut packet = Vec::new();
+    let mut put = |header, body: &[u8]| {
+        packet.clear();
+        packet.resize(HEADER, 0);
+        packet.extend_from_slice(body);
+        finish(&mut packet, header);
+        file.extend_from_slice(&packet);
+    };
+    put(own_header(0, 0x01, 0, 0), &[0x0C, 0, 0, 0]);
+    put(
+        own_header(1, 0x11, 0, 0),
+        &[1, 2, 0, 0, 0, 0, 0, 0, 0x23, 0x11, 0x26, 0x20],
+    );
+    let mut body = 0x8000_0000u32.to_le_bytes().to_vec();
+    let message = Message::Uart {
+        parity: false,
+        sub: 0,
+        bytes: vec![0x55; text],
+    };
+    for _ in 0..PACKET / (text + 14) {
+        message.write(0, 0, &mut body);
+    }
+    for number in 0..bytes / (body.len() + 28) {
+        let channel = (number % usize::from(channels)) as u16 + 2;
+        let sequence = (number / usize::from(channels)) as u8;
+        let header = own_header(channel, 0x50, sequence, 0);
+        put(crate::packet::Header { flags, ..header }, &body);
+    }
+    file
+}
+
+/// Files are judged.
+pub fn judge(number: u32) -> Result<(), Fault> {
+    for (channels, flags, text) in SHAPES {
+        let bytes = (number as usize).min(MOST / SHARE) * SHARE;
+        let file = make_file(channels, flags, text, bytes);
+        let start = thread_time()?;
+        let verdict = check_file(black_box(&file));
+        let judging = thread_time()?.saturating_sub(start);
+        if verdict != Verdict::Strict {
+            return Err(Fault::Lost);
+        }
+        let name = format!("judge-{channels}-{flags}-{text}");
+        say(&name, a_second(file.len() as u64, judging), "bytes/s");
+    }
+    Ok(())
+}
