@@ -10,6 +10,8 @@ mod medium;
 mod message;
 mod packet;
 mod recorder;
+#[cfg(test)]
+mod tests;
 
 use fault::Fault;
 use std::process::ExitCode;

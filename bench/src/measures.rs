@@ -104,7 +104,6 @@ fn channel_of(number: u64) -> u16 {
 }
 
 /// Offers messages, each so many counts behind the one before it, and pumps each channel.
-#[inline(never)]
 fn record(recorder: &mut InMemory, messages: Vec<Timed>, step: u64) -> Result<(), Refusal> {
     for Timed { number, message } in messages {
         recorder.offer(channel_of(number), number * step, message)?;
@@ -165,20 +164,24 @@ fn pack_all(messages: Vec<Timed>, channel: &mut Channel) -> Result<u64, Refusal>
     Ok(taken)
 }
 
-/// Records a file and closes it.
+/// Records the messages of a round, and shows what was recorded where a commit is due.
 #[inline(never)]
+fn record_round(recorder: &mut InMemory, messages: Vec<Timed>, round: u32) -> Result<(), Refusal> {
+    record(recorder, messages, 1)?;
+    if round % ROUNDS == ROUNDS - 1 {
+        recorder.commit()?;
+    }
+    Ok(())
+}
+
+/// Records a file and closes it.
 fn record_all(number: u32) -> Result<(InMemory, Duration), Fault> {
     let mut recorder = begin(number, NUMBER)?;
     let mut recording = Duration::ZERO;
     for round in 0..number.div_ceil(ROUND) {
         let messages = make_round(round, number);
         timed(&mut recording, || {
-            record(&mut recorder, messages, 1)?;
-            if round % ROUNDS == ROUNDS - 1 {
-                recorder.commit()
-            } else {
-                Ok(())
-            }
+            record_round(&mut recorder, messages, round)
         })??;
     }
     if timed(&mut recording, || recorder.stop())?? > 0 {

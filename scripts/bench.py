@@ -1,0 +1,284 @@
+#!/usr/bin/env python3
+"""Measures the proved program of crates/r10_bench beside the plain Rust program of bench/, and prints a table.
+
+    scripts/bench.py [MESSAGES]                    three runs of each, in turn; of each measure the middle one
+    scripts/bench.py [MESSAGES] --instructions     instructions a message too, by valgrind, of smaller runs
+    scripts/bench.py [MESSAGES] --memory           the memory that a replay takes too, by bench/count_malloc.c
+
+MESSAGES is 1,000,000 where no number is given. The proved program is crates/r10_bench/out/r10_bench, or that of --proved. The plain one is built by cargo
+where it is not there, without a registry; --plain names another. Both print processor time of their thread. A ratio is how fast the proved program
+is, of the plain one: at 0.50 it takes twice as long. Status 1 where the two recorded files of other sizes.
+"""
+import argparse
+import collections
+import os
+import pathlib
+import re
+import subprocess
+import sys
+import tempfile
+import time
+
+TOP = pathlib.Path(__file__).resolve().parent.parent
+PLAIN = TOP / 'bench' / 'target' / 'release' / 'r10_plain'
+PROVED = TOP / 'crates' / 'r10_bench' / 'out' / 'r10_bench'
+
+# Each measure: its name, what it is, and its unit.
+FILES = (('1,024', 4, 3, 32), ('1,024', 4, 2, 16), ('1,024', 256, 3, 32), ('1,024', 256, 2, 16), ('64', 4, 3, 32), ('8', 4, 3, 32))
+MEASURES = [
+    ('recorder', 'whole recorder, messages of 32 bytes: offer, pump, commit and stop', 'messages/s'),
+    ('replay', 'replay of the closed file in one instalment', 'entries/s'),
+    ('replay-behind', 'replay behind commits, 4,096 entries each', 'entries/s'),
+    ('check', 'the closed file is judged before its replay', 'bytes/s'),
+    ('channel', 'lane and builder, messages of 8 bytes', 'messages/s'),
+    ('copy', 'plain copy of the same bytes', 'messages/s'),
+    ('packets-20000', 'recording packets of one message each', 'packets/s'),
+    ('find-20000', 'find, packets of a channel 8 ms apart', 'ns'),
+    ('find-short-20000', 'the same, where the plain program begins at the last packet that is not too late', 'ns'),
+    ('find-2000', 'find, packets of a channel 0.8 ms apart', 'ns'),
+    ('find-short-2000', 'the same, where the plain program begins at the last packet that is not too late', 'ns'),
+    ('close', 'index of a file of packets of one message each', 'bytes/s'),
+] + [('judge-%d-%d-%s' % (channels, flags, size.replace(',', '')),
+      'judging messages of %s bytes, %d channels, checksums of %d bits' % (size, channels, bits), 'bytes/s') for size, channels, flags, bits in FILES]
+
+# What both must agree on.
+SAME = (('recorder-file', 'bytes of the file'), ('replay-entries', 'entries of the replay'), ('close-index', 'bytes of the index'))
+
+# The lines of the proved program, and the measures that their groups are.
+LINES = (
+    (r'plain copy +\d+ ms +(\d+) messages/s', ('copy',)),
+    (r'lane and builder +\d+ ms +(\d+) messages/s', ('channel',)),
+    (r'recorder: .* a file of (\d+) bytes, \d+ us +(\d+) messages/s', ('recorder-file', 'recorder')),
+    (r'replay: (\d+) entries in 1 instalments, .* us +(\d+) entries/s; the file is checked in (\d+) us', ('replay-entries', 'replay', 'check-time')),
+    (r'replay: .* us +(\d+) entries/s; the file is checked in \d+ us', ('replay-behind',)),
+    (r'find: \d+ packets .*, (\d+) counts apart, recorded at (\d+) packets/s: (\d+) ns each', ('step', 'packets', 'find')),
+    (r'close: .*: (\d+) bytes of index in \d+ us +(\d+) bytes/s', ('close-index', 'close')),
+    (r'judging \d+ bytes, +(\d+) channels, checksum (\d), messages of +(\d+) bytes: +\d+ ms +(\d+) bytes/s', ('channels', 'flags', 'size', 'judge')),
+)
+
+
+# The numbers of messages of which instructions are counted, and the functions of each part: the words behind the number, the names of its functions, and those that they
+# call beside it.
+COUNTED = (65536, 131072)
+PARTS = (
+    ('whole recorder: offer, pump and commit', ([], ['r10_bench::whole::run'], 'make'), (['record'], ['measures::record_round'], None)),
+    ('replay of the closed file', ([], ['r10_bench::replay::take_instalment'], None), (['replay'], ['measures::take_instalment'], None)),
+)
+
+
+def proved_figures(text):
+    """What the proved program printed, by the names of the plain one."""
+    found = {}
+    for line in text.splitlines():
+        for form, names in LINES:
+            seen = re.match(form, line)
+            if seen:
+                here = dict(zip(names, map(int, seen.groups())))
+                if 'step' in here:
+                    step = here['step']
+                    here = {'packets-%d' % step: here['packets'], 'find-%d' % step: here['find'], 'find-short-%d' % step: here['find']}
+                elif 'judge' in here:
+                    here = {'judge-%d-%d-%d' % (here['channels'], here['flags'], here['size']): here['judge']}
+                # Of a small number both replays have one instalment: the first one that is printed is that of the closed file.
+                if 'replay' in found and 'replay' in here:
+                    here = {'replay-behind': here['replay']}
+                found.update(here)
+                break
+    if 'check-time' in found:
+        found['check'] = found['recorder-file'] * 1000000 // max(1, found['check-time'])
+    return found
+
+
+def plain_figures(text):
+    """What the plain program printed."""
+    return {name: int(value) for name, value, _ in (line.split(' ') for line in text.splitlines())}
+
+
+def output(words, **more):
+    """What a program prints, which must end well."""
+    ended = subprocess.run([str(word) for word in words], stdout=subprocess.PIPE, text=True, **more)
+    if ended.returncode:
+        sys.exit('bench: %s: status %d' % (' '.join(map(str, words)), ended.returncode))
+    return ended.stdout
+
+
+def middle(runs, name):
+    """The middle figure of a measure, and how far the others are from it, of 100."""
+    figures = sorted(run[name] for run in runs if name in run)
+    if not figures:
+        return None, 0
+    at = figures[len(figures) // 2]
+    return at, round(100 * (figures[-1] - figures[0]) / max(1, at))
+
+
+def told(value, unit):
+    """A figure as the table has it."""
+    if value is None:
+        return '-'
+    if unit == 'ns':
+        return '%.2f µs' % (value / 1000) if value < 100000 else '%.0f µs' % (value / 1000)
+    if unit == 'bytes/s':
+        return '%.2f GB/s' % (value / 1e9)
+    return '%.1f million %s' % (value / 1e6, unit)
+
+
+def ratio(proved, plain, unit):
+    """How fast the proved program is, of the plain one."""
+    if not proved or not plain:
+        return '-'
+    return '%.2f' % (plain / proved if unit == 'ns' else proved / plain)
+
+
+def print_table(proved, plain):
+    """The table of the middle figures."""
+    print('| Measure | Proved | Plain | Ratio |\n|---|---|---|---|')
+    widest = 0
+    for name, words, unit in MEASURES:
+        (ours, spread), (theirs, other) = middle(proved, name), middle(plain, name)
+        widest = max(widest, spread, other)
+        print('| %s | %s | %s | %s |' % (words, told(ours, unit), told(theirs, unit), ratio(ours, theirs, unit)))
+    print('\nThe three runs of a measure lie up to %d of 100 apart.' % widest)
+
+
+def differing(proved, plain):
+    """What the programs do not agree on."""
+    for name, words in SAME:
+        seen = {run.get(name) for run in proved + plain}
+        if len(seen) > 1:
+            yield '%s differ: %s' % (words, sorted(map(str, seen)))
+
+
+def first_line(words):
+    """The first line that a program prints, or a dash where there is none."""
+    try:
+        return subprocess.run(words, cwd=TOP, stdout=subprocess.PIPE, stderr=subprocess.DEVNULL, text=True).stdout.partition('\n')[0] or '-'
+    except OSError:
+        return '-'
+
+
+def print_machine(words, before):
+    """Where, when and of what the figures are."""
+    lines = pathlib.Path('/proc/cpuinfo').read_text(encoding='utf-8').splitlines()
+    model = next((line.partition(':')[2].strip() for line in lines if line.startswith('model name')), 'unknown')
+    load = 'load %.1f before, %.1f behind' % (before, os.getloadavg()[0])
+    commit = first_line(['git', 'rev-parse', '--short', 'HEAD'])
+    print('%s, %d processors, %s; %s; commit %s; %s.' % (model, os.cpu_count(), load, time.strftime('%d %B %Y, %H:%M UTC', time.gmtime()), commit,
+                                                  first_line(['rustc', '--version'])))
+    print('%s messages, %d runs of each program in turn, of each measure the middle one; processor time of the thread.\n' % (
+        format(words.messages, ','), words.runs))
+
+
+def costs_in(log):
+    """The instructions of a run, by the names of functions: those in each itself, and those of all calls from one to another."""
+    names, own, calls = {}, collections.Counter(), collections.Counter()
+    here = called = None
+    for line in log.read_text(encoding='utf-8', errors='replace').splitlines():
+        named = re.match(r'(fn|cfn)=\((\d+)\)(?: (.*))?', line)
+        if named:
+            name = names.setdefault(named[2], named[3])
+            if named[1] == 'fn':
+                here = name
+            else:
+                called = name
+        elif line.startswith('calls='):
+            pass
+        elif re.match(r'[\d+*-]\S* \d+$', line):
+            cost = int(line.split(' ')[1])
+            if called is None:
+                own[here] += cost
+            else:
+                calls[here, called] += cost
+                called = None
+    return own, calls
+
+
+def cost_of(log, forms, less):
+    """The instructions in functions of these forms and in all that they call, but for calls of functions of the last form. None where there are no such functions."""
+    own, calls = costs_in(log)
+    within = {name for name in list(own) + [one for _, one in calls] if name and any(re.search(form, name) for form in forms)}
+    cost = sum(count for name, count in own.items() if name in within)
+    for (caller, name), count in calls.items():
+        if caller in within and name not in within and not (less and re.search(less, name)):
+            cost += count
+    return cost if within else None
+
+
+def instructions(program, number, folder, part):
+    """The instructions of a part in a run of a program with so many messages."""
+    log = pathlib.Path(folder) / 'callgrind'
+    words, forms, less = part
+    output(['valgrind', '--tool=callgrind', '--callgrind-out-file=%s' % log, program, number] + words, stderr=subprocess.DEVNULL)
+    return cost_of(log, forms, less)
+
+
+def print_instructions(words):
+    """Instructions a message: those of a run with more messages, less those of one with fewer, by the difference."""
+    print('\n| Instructions a message | Proved | Plain | Ratio |\n|---|---|---|---|')
+    with tempfile.TemporaryDirectory() as folder:
+        for name, proved, plain in PARTS:
+            found = []
+            for program, part in ((words.proved, proved), (words.plain, plain)):
+                few, many = [instructions(program, number, folder, part) for number in COUNTED]
+                found.append(None if many is None else (many - few) / (COUNTED[1] - COUNTED[0]))
+            print('| %s | %s | %s | %s |' % (name, *('-' if it is None else '%.0f' % it for it in found),
+                                              '-' if None in found else '%.2f' % (found[1] / found[0])))
+
+
+def most_asked(program, number, parts, shim, line):
+    """How many bytes a program asks for at most, beyond those that it has, until it prints a line that begins so; and the text that it prints."""
+    ended = subprocess.run([str(program), str(number)] + parts, stdout=subprocess.PIPE, stderr=subprocess.PIPE, env={**os.environ, 'LD_PRELOAD': str(shim)})
+    if ended.returncode:
+        sys.exit('bench: %s: status %d' % (program, ended.returncode))
+    text = ended.stdout.decode()
+    at = 0 if text.startswith(line) else text.index('\n' + line) + 1
+    asked = [tuple(map(int, it.split(b' ')[1:])) for it in ended.stderr.splitlines() if it.startswith(b'asked ')]
+    for (had, _, _), (_, most, written) in zip(asked, asked[1:]):
+        if written == at:
+            return most - had, text
+    return None, text
+
+
+def print_memory(words):
+    """The memory that the replay of a closed file takes, by its entries."""
+    with tempfile.TemporaryDirectory() as folder:
+        shim = pathlib.Path(folder) / 'count_malloc.so'
+        subprocess.run([os.environ.get('CC', 'cc'), '-O2', '-shared', '-fPIC', '-o', shim, TOP / 'bench' / 'count_malloc.c'], check=True)
+        ours, text = most_asked(words.proved, words.messages, [], shim, 'replay: ')
+        theirs, other = most_asked(words.plain, words.messages, ['replay'], shim, 'check ')
+        entries = proved_figures(text)['replay-entries'], plain_figures(other)['replay-entries']
+    bytes_each = ['-' if most is None else '%.0f' % (most / number) for most, number in zip((ours, theirs), entries)]
+    print('\nA replay of %s entries in one instalment asks for at most %s bytes an entry (proved) and %s (plain), beyond what the recorder and its medium had.' % (
+        format(entries[0], ','), *bytes_each))
+
+
+def main(words):
+    parser = argparse.ArgumentParser(description=__doc__, formatter_class=argparse.RawDescriptionHelpFormatter)
+    parser.add_argument('messages', nargs='?', type=int, default=1000000)
+    parser.add_argument('--proved', type=pathlib.Path, default=PROVED)
+    parser.add_argument('--plain', type=pathlib.Path, default=PLAIN)
+    parser.add_argument('--runs', type=int, default=3)
+    parser.add_argument('--instructions', action='store_true')
+    parser.add_argument('--memory', action='store_true')
+    words = parser.parse_args(words)
+    if not words.proved.is_file():
+        sys.exit('bench: there is no %s: rt run in crates/r10_bench makes it' % words.proved)
+    if words.plain == PLAIN and not PLAIN.is_file():
+        subprocess.run(['cargo', 'build', '--release', '--offline', '--quiet'], cwd=TOP / 'bench', check=True)
+    before, proved, plain = os.getloadavg()[0], [], []
+    for _ in range(words.runs):
+        proved.append(proved_figures(output([words.proved, words.messages])))
+        plain.append(plain_figures(output([words.plain, words.messages])))
+    print_machine(words, before)
+    print_table(proved, plain)
+    wrong = list(differing(proved, plain))
+    for line in wrong:
+        print(line)
+    if words.instructions:
+        print_instructions(words)
+    if words.memory:
+        print_memory(words)
+    return int(bool(wrong))
+
+
+if __name__ == '__main__':
+    sys.exit(main(sys.argv[1:]))
