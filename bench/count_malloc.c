@@ -12,6 +12,7 @@
 #include <stdio.h>
 #include <string.h>
 #include <sys/syscall.h>
+#include <sys/uio.h>
 #include <unistd.h>
 
 extern void *__libc_malloc(size_t);
@@ -102,18 +103,33 @@ void *memalign(size_t align, size_t size)
     return aligned_alloc(align, size);
 }
 
-ssize_t write(int file, const void *bytes, size_t size)
+static void tell(int file)
 {
-    if (file == 1) {
-        char line[96];
-        int long_ = snprintf(line, sizeof line, "asked %zu %zu %zu\n", now, most, written);
-        syscall(SYS_write, 2, line, (size_t)long_);
-        most = now;
-    }
-    ssize_t done = syscall(SYS_write, file, bytes, size);
+    if (file != 1)
+        return;
+    char line[96];
+    int size = snprintf(line, sizeof line, "asked %zu %zu %zu\n", now, most, written);
+    syscall(SYS_write, 2, line, (size_t)size);
+    most = now;
+}
+
+static ssize_t told(int file, ssize_t done)
+{
     if (file == 1 && done > 0)
         written += (size_t)done;
     return done;
+}
+
+ssize_t write(int file, const void *bytes, size_t size)
+{
+    tell(file);
+    return told(file, syscall(SYS_write, file, bytes, size));
+}
+
+ssize_t writev(int file, const struct iovec *parts, int number)
+{
+    tell(file);
+    return told(file, syscall(SYS_writev, file, parts, number));
 }
 
 ssize_t __write(int file, const void *bytes, size_t size)

@@ -6,11 +6,10 @@
     scripts/bench.py [MESSAGES] --memory           the memory that a replay takes too, by bench/count_malloc.c
 
 MESSAGES is 1,000,000 where no number is given. The proved program is crates/r10_bench/out/r10_bench, or that of --proved. The plain one is built by cargo
-where it is not there, without a registry; --plain names another. Both print processor time of their thread. A ratio is how fast the proved program
-is, of the plain one: at 0.50 it takes twice as long. Status 1 where the two recorded files of other sizes.
+where it is not there, without a registry; --plain names another. Both measure the processor time of their thread. A ratio is how fast the proved program
+is, of the plain one: at 0.50 it takes twice as long. Status 1 where the file of one, its index or its replay has another size than that of the other.
 """
 import argparse
-import collections
 import os
 import pathlib
 import re
@@ -33,10 +32,10 @@ MEASURES = [
     ('channel', 'lane and builder, messages of 8 bytes', 'messages/s'),
     ('copy', 'plain copy of the same bytes', 'messages/s'),
     ('packets-20000', 'recording packets of one message each', 'packets/s'),
-    ('find-20000', 'find, packets of a channel 8 ms apart', 'ns'),
-    ('find-short-20000', 'the same, where the plain program begins at the last packet that is not too late', 'ns'),
-    ('find-2000', 'find, packets of a channel 0.8 ms apart', 'ns'),
-    ('find-short-2000', 'the same, where the plain program begins at the last packet that is not too late', 'ns'),
+    ('find-20000', 'find, packets of a channel 8 ms apart; the plain program reads one or two', 'ns'),
+    ('find-tenth-20000', 'the same; the plain program begins a tenth of a second before', 'ns'),
+    ('find-2000', 'find, packets of a channel 0.8 ms apart; the plain program reads one or two', 'ns'),
+    ('find-tenth-2000', 'the same; the plain program begins a tenth of a second before', 'ns'),
     ('close', 'index of a file of packets of one message each', 'bytes/s'),
 ] + [('judge-%d-%d-%s' % (channels, flags, size.replace(',', '')),
       'judging messages of %s bytes, %d channels, checksums of %d bits' % (size, channels, bits), 'bytes/s') for size, channels, flags, bits in FILES]
@@ -57,13 +56,8 @@ LINES = (
 )
 
 
-# The numbers of messages of which instructions are counted, and the functions of each part: the words behind the number, the names of its functions, and those that they
-# call beside it.
+# The numbers of messages of which instructions are counted.
 COUNTED = (65536, 131072)
-PARTS = (
-    ('whole recorder: offer, pump and commit', ([], ['r10_bench::whole::run'], 'make'), (['record'], ['measures::record_round'], None)),
-    ('replay of the closed file', ([], ['r10_bench::replay::take_instalment'], None), (['replay'], ['measures::take_instalment'], None)),
-)
 
 
 def proved_figures(text):
@@ -76,7 +70,7 @@ def proved_figures(text):
                 here = dict(zip(names, map(int, seen.groups())))
                 if 'step' in here:
                     step = here['step']
-                    here = {'packets-%d' % step: here['packets'], 'find-%d' % step: here['find'], 'find-short-%d' % step: here['find']}
+                    here = {'packets-%d' % step: here['packets'], 'find-%d' % step: here['find'], 'find-tenth-%d' % step: here['find']}
                 elif 'judge' in here:
                     here = {'judge-%d-%d-%d' % (here['channels'], here['flags'], here['size']): here['judge']}
                 # Of a small number both replays have one instalment: the first one that is printed is that of the closed file.
@@ -103,7 +97,7 @@ def output(words, **more):
 
 
 def middle(runs, name):
-    """The middle figure of a measure, and how far the others are from it, of 100."""
+    """The middle figure of a measure, and how far the runs are apart, of 100."""
     figures = sorted(run[name] for run in runs if name in run)
     if not figures:
         return None, 0
@@ -137,7 +131,7 @@ def print_table(proved, plain):
         (ours, spread), (theirs, other) = middle(proved, name), middle(plain, name)
         widest = max(widest, spread, other)
         print('| %s | %s | %s | %s |' % (words, told(ours, unit), told(theirs, unit), ratio(ours, theirs, unit)))
-    print('\nThe three runs of a measure lie up to %d of 100 apart.' % widest)
+    print('\nThe runs of a measure lie up to %d of 100 apart.' % widest)
 
 
 def differing(proved, plain):
@@ -164,64 +158,47 @@ def print_machine(words, before):
     commit = first_line(['git', 'rev-parse', '--short', 'HEAD'])
     print('%s, %d processors, %s; %s; commit %s; %s.' % (model, os.cpu_count(), load, time.strftime('%d %B %Y, %H:%M UTC', time.gmtime()), commit,
                                                   first_line(['rustc', '--version'])))
-    print('%s messages, %d runs of each program in turn, of each measure the middle one; processor time of the thread.\n' % (
+    print('%s messages; the middle one of %d runs of each program, in turn; processor time of the thread.\n' % (
         format(words.messages, ','), words.runs))
 
 
-def costs_in(log):
-    """The instructions of a run, by the names of functions: those in each itself, and those of all calls from one to another."""
-    names, own, calls = {}, collections.Counter(), collections.Counter()
-    here = called = None
-    for line in log.read_text(encoding='utf-8', errors='replace').splitlines():
-        named = re.match(r'(fn|cfn)=\((\d+)\)(?: (.*))?', line)
-        if named:
-            name = names.setdefault(named[2], named[3])
-            if named[1] == 'fn':
-                here = name
-            else:
-                called = name
-        elif line.startswith('calls='):
-            pass
-        elif re.match(r'[\d+*-]\S* \d+$', line):
-            cost = int(line.split(' ')[1])
-            if called is None:
-                own[here] += cost
-            else:
-                calls[here, called] += cost
-                called = None
-    return own, calls
-
-
-def cost_of(log, forms, less):
-    """The instructions in functions of these forms and in all that they call, but for calls of functions of the last form. None where there are no such functions."""
-    own, calls = costs_in(log)
-    within = {name for name in list(own) + [one for _, one in calls] if name and any(re.search(form, name) for form in forms)}
-    cost = sum(count for name, count in own.items() if name in within)
-    for (caller, name), count in calls.items():
-        if caller in within and name not in within and not (less and re.search(less, name)):
-            cost += count
-    return cost if within else None
-
-
-def instructions(program, number, folder, part):
-    """The instructions of a part in a run of a program with so many messages."""
+def spans(program, words, folder):
+    """The instructions between two readings of the clock, by what is printed: a list for each part of the program that reads the clock before it prints."""
     log = pathlib.Path(folder) / 'callgrind'
-    words, forms, less = part
-    output(['valgrind', '--tool=callgrind', '--callgrind-out-file=%s' % log, program, number] + words, stderr=subprocess.DEVNULL)
-    return cost_of(log, forms, less)
+    marks = ['--dump-before=%s' % name for name in ('clock_gettime*', 'write', '__write', 'writev')]
+    output(['valgrind', '--tool=callgrind', '--combine-dumps=yes', '--callgrind-out-file=%s' % log] + marks + [program] + words, stderr=subprocess.DEVNULL)
+    found, here, mark = [], None, ''
+    with log.open(encoding='utf-8', errors='replace') as lines:
+        for line in lines:
+            if line.startswith('desc: Trigger: '):
+                mark = line
+            elif line.startswith('totals: '):
+                if 'clock_gettime' not in mark:
+                    here = None
+                elif here is None:
+                    here = []
+                    found.append(here)
+                else:
+                    here.append(int(line.split()[1]))
+    return [it for it in found if it]
+
+
+def instructions(words, number, folder):
+    """The instructions of the whole recorder and of a replay, of both programs, with so many messages."""
+    _, _, recorder, replay, *_ = spans(words.proved, [number], folder)
+    proved = sum(recorder[::2]), sum(replay[2:4])
+    recorder, replay = spans(words.plain, [number, 'replay'], folder)
+    return proved, (sum(recorder[::2]), replay[2])
 
 
 def print_instructions(words):
     """Instructions a message: those of a run with more messages, less those of one with fewer, by the difference."""
-    print('\n| Instructions a message | Proved | Plain | Ratio |\n|---|---|---|---|')
     with tempfile.TemporaryDirectory() as folder:
-        for name, proved, plain in PARTS:
-            found = []
-            for program, part in ((words.proved, proved), (words.plain, plain)):
-                few, many = [instructions(program, number, folder, part) for number in COUNTED]
-                found.append(None if many is None else (many - few) / (COUNTED[1] - COUNTED[0]))
-            print('| %s | %s | %s | %s |' % (name, *('-' if it is None else '%.0f' % it for it in found),
-                                              '-' if None in found else '%.2f' % (found[1] / found[0])))
+        few, many = [instructions(words, number, folder) for number in COUNTED]
+    print('\n| Instructions a message | Proved | Plain | Ratio |\n|---|---|---|---|')
+    for at, name in enumerate(('whole recorder: offer, pump and commit', 'replay of the closed file in one instalment')):
+        proved, plain = [(more[at] - less[at]) / (COUNTED[1] - COUNTED[0]) for more, less in zip(many, few)]
+        print('| %s | %.0f | %.0f | %.2f |' % (name, proved, plain, plain / proved))
 
 
 def most_asked(program, number, parts, shim, line):

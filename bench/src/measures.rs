@@ -302,7 +302,7 @@ pub fn find(number: u32) -> Result<(), Fault> {
             a_second(packets.into(), recording),
             "packets/s",
         );
-        for (name, back) in [("find", Some(TENTH)), ("find-short", None)] {
+        for (name, back) in [("find", None), ("find-tenth", Some(TENTH))] {
             let mut finding = Duration::ZERO;
             let found = timed(&mut finding, || {
                 find_all(&mut recorder, packets, step, back)
