@@ -6,7 +6,7 @@
     scripts/bench.py [MESSAGES] --memory           the memory that a replay takes too, by bench/count_malloc.c
 
 MESSAGES is 1,000,000 where no number is given. The proved program is crates/r10_bench/out/r10_bench, or that of --proved. The plain one is built by cargo
-where it is not there, without a registry; --plain names another. Both measure the processor time of their thread. A ratio is how fast the proved program
+where it is not there or older than its source, without a registry; --plain names another. Both measure the processor time of their thread. A ratio is how fast the proved program
 is, of the plain one: at 0.50 it takes twice as long. Status 1 where the file of one, its index or its replay has another size than that of the other.
 """
 import argparse
@@ -239,7 +239,7 @@ def main(words):
     words = parser.parse_args(words)
     if not words.proved.is_file():
         sys.exit('bench: there is no %s: rt run in crates/r10_bench makes it' % words.proved)
-    if words.plain == PLAIN and not PLAIN.is_file():
+    if words.plain == PLAIN:
         subprocess.run(['cargo', 'build', '--release', '--offline', '--quiet'], cwd=TOP / 'bench', check=True)
     before, proved, plain = os.getloadavg()[0], [], []
     for _ in range(words.runs):
