@@ -32,10 +32,8 @@ MEASURES = [
     ('channel', 'lane and builder, messages of 8 bytes', 'messages/s'),
     ('copy', 'plain copy of the same bytes', 'messages/s'),
     ('packets-20000', 'recording packets of one message each', 'packets/s'),
-    ('find-20000', 'find, packets of a channel 8 ms apart; the plain program reads one or two', 'ns'),
-    ('find-tenth-20000', 'the same; the plain program begins a tenth of a second before', 'ns'),
-    ('find-2000', 'find, packets of a channel 0.8 ms apart; the plain program reads one or two', 'ns'),
-    ('find-tenth-2000', 'the same; the plain program begins a tenth of a second before', 'ns'),
+    ('find-20000', 'find, packets of a channel 8 ms apart', 'ns'),
+    ('find-2000', 'find, packets of a channel 0.8 ms apart', 'ns'),
     ('close', 'index of a file of packets of one message each', 'bytes/s'),
 ] + [('judge-%d-%d-%s' % (channels, flags, size.replace(',', '')),
       'judging messages of %s bytes, %d channels, checksums of %d bits' % (size, channels, bits), 'bytes/s') for size, channels, flags, bits in FILES]
@@ -70,7 +68,7 @@ def proved_figures(text):
                 here = dict(zip(names, map(int, seen.groups())))
                 if 'step' in here:
                     step = here['step']
-                    here = {'packets-%d' % step: here['packets'], 'find-%d' % step: here['find'], 'find-tenth-%d' % step: here['find']}
+                    here = {'packets-%d' % step: here['packets'], 'find-%d' % step: here['find']}
                 elif 'judge' in here:
                     here = {'judge-%d-%d-%d' % (here['channels'], here['flags'], here['size']): here['judge']}
                 # Of a small number both replays have one instalment: the first one that is printed is that of the closed file.

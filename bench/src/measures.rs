@@ -5,7 +5,7 @@ use crate::fault::{Fault, Refusal};
 use crate::index::own_header;
 use crate::judge::{Verdict, check_file};
 use crate::medium::Memory;
-use crate::message::{Kind, LAST, Message, Spec, TENTH};
+use crate::message::{Kind, LAST, Message, Spec};
 use crate::packet::{HEADER, finish};
 use crate::recorder::{Channel, Cursor, Recorder};
 use std::hint::black_box;
@@ -274,17 +274,12 @@ fn fill(packets: u32, step: u64) -> Result<(InMemory, Duration), Fault> {
 
 /// Looks for messages here and there in a file, and answers how many were found.
 #[inline(never)]
-fn find_all(
-    recorder: &mut InMemory,
-    packets: u32,
-    step: u64,
-    back: Option<u64>,
-) -> Result<u32, Refusal> {
+fn find_all(recorder: &mut InMemory, packets: u32, step: u64) -> Result<u32, Refusal> {
     let mut found = 0;
     for search in 0..SEARCHES {
         let number = u64::from(search.wrapping_mul(7919) % packets);
         let count = number * step;
-        let there = recorder.find(channel_of(number), count, back)?;
+        let there = recorder.find(channel_of(number), count)?;
         if there.is_some_and(|it| it.entry.count == count && it.number as u64 == number / 4) {
             found += 1;
         }
@@ -302,20 +297,16 @@ pub fn find(number: u32) -> Result<(), Fault> {
             a_second(packets.into(), recording),
             "packets/s",
         );
-        for (name, back) in [("find", None), ("find-tenth", Some(TENTH))] {
-            let mut finding = Duration::ZERO;
-            let found = timed(&mut finding, || {
-                find_all(&mut recorder, packets, step, back)
-            })??;
-            if found != SEARCHES {
-                return Err(Fault::Lost);
-            }
-            say(
-                &format!("{name}-{step}"),
-                finding.as_nanos() / u128::from(SEARCHES),
-                "ns",
-            );
+        let mut finding = Duration::ZERO;
+        let found = timed(&mut finding, || find_all(&mut recorder, packets, step))??;
+        if found != SEARCHES {
+            return Err(Fault::Lost);
         }
+        say(
+            &format!("find-{step}"),
+            finding.as_nanos() / u128::from(SEARCHES),
+            "ns",
+        );
     }
     Ok(())
 }

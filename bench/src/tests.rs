@@ -3,7 +3,7 @@
 use crate::fault::Refusal;
 use crate::judge::{Verdict, check_file};
 use crate::medium::Memory;
-use crate::message::{Entry, Gap, Kind, LAST, Message, Spec, TENTH};
+use crate::message::{Entry, Gap, Kind, LAST, Message, Spec};
 use crate::packet::Flaw;
 use crate::recorder::Recorder;
 
@@ -117,11 +117,9 @@ fn what_was_recorded_is_found() {
         let own: Vec<&Entry> = all.iter().filter(|one| one.channel == channel).collect();
         for count in (0..9_000 * 41 * 20).step_by(4_500) {
             let wanted = own.iter().position(|one| one.count >= count);
-            for back in [Some(TENTH), None] {
-                let found = recorder.find(channel, count, back).unwrap();
-                assert_eq!(found.as_ref().map(|it| it.number), wanted);
-                assert_eq!(found.map(|it| it.entry).as_ref(), wanted.map(|at| own[at]));
-            }
+            let found = recorder.find(channel, count).unwrap();
+            assert_eq!(found.as_ref().map(|it| it.number), wanted);
+            assert_eq!(found.map(|it| it.entry).as_ref(), wanted.map(|at| own[at]));
         }
     }
 }
