@@ -3,11 +3,11 @@
 use r10_body::Refusal;
 use r10_images::StreamFault;
 use std::alloc::AllocError;
-use std::io;
+use std::{fmt, io};
 use thiserror::Error;
 
 /// Why a session, or a run over several, ends early.
-#[derive(Debug, Drop, Error)]
+#[derive(Drop, Error)]
 pub enum Fault {
     /// A growth was refused.
     #[error("out of memory")]
@@ -26,6 +26,12 @@ pub enum Fault {
     Refused(Refusal),
     #[error("settings that are out of their limits, or a medium of others")]
     Settings,
+}
+
+impl fmt::Debug for Fault {
+    fn fmt<W: fmt::Write>(&self, f: &mut fmt::Formatter<W>) -> fmt::Result {
+        fmt::Display::fmt(self, f)
+    }
 }
 
 /// The fault that a refusal is.

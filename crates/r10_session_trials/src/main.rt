@@ -25,9 +25,17 @@ use std::thread::Threads;
 fn run<R: Input + Print + AllocGlobal + Threads + Wait + Sync>(rt: &R) -> Result<(), Fault> {
     let alloc: Global = rt.alloc();
     let bytes = r10_images::read_whole(alloc, &mut rt.reader())?;
-    let Ok(text) = str::from_utf8(bytes.as_slice()) else {
-        return Err(Fault::NoTrial { place: 1 });
-    };
+    match str::from_utf8(bytes.as_slice()) {
+        Ok(text) => try_text(rt, alloc, text),
+        Err(_) => Err(Fault::NoTrial { place: 1 }),
+    }
+}
+
+fn try_text<R: Print + Threads + Wait + Sync>(
+    rt: &R,
+    alloc: Global,
+    text: &str,
+) -> Result<(), Fault> {
     let mut writer = BufWriter::new(alloc, io::writer(rt))?;
     trial::try_all(rt, alloc, text, &mut writer)?;
     writer.flush()?;

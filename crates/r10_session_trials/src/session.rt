@@ -38,15 +38,37 @@ fn cabinet_of<N: Rings>(
         Ok(made) => Ok(made),
         Err(recorder) => {
             notes.do_again("the lock was made again");
-            match Cabinet::<Memory, N>::new(alloc, recorder) {
-                Ok(made) => Ok(made),
-                Err(_) => Err(Fault::Memory(AllocError)),
-            }
+            cabinet_now(alloc, recorder)
         }
     }
 }
 
-/// Gives an order. A refusal for want of memory must leave the recorder as it was, and the order is given again.
+fn cabinet_now<N: Rings>(
+    alloc: Global,
+    recorder: Recorder<Memory, Outlet>,
+) -> Result<(Cabinet<Memory, N>, Pass), Fault>
+    requires { LanesAccounted memory_disk N.rings recorder }
+    ensures { IfOk result (λ made. made.1.cell ≡ made.0) }
+{
+    match Cabinet::<Memory, N>::new(alloc, recorder) {
+        Ok(made) => Ok(made),
+        Err(_) => Err(Fault::Memory(AllocError)),
+    }
+}
+
+/// Gives an order, whatever it answers when it is done.
+fn perform<N: Rings, R: Wait>(
+    rt: &R,
+    held: &mut Held<Memory, N>,
+    order: &Order,
+) -> Result<(), Refusal> {
+    match order.perform(rt, held) {
+        Ok(_) => Ok(()),
+        Err(refusal) => Err(refusal),
+    }
+}
+
+/// The same. A refusal for want of memory must leave the recorder as it was, and the order is given again.
 fn give<N: Rings, R: Wait>(
     rt: &R,
     held: &mut Held<Memory, N>,
@@ -54,18 +76,27 @@ fn give<N: Rings, R: Wait>(
     notes: &mut Notes,
 ) -> Result<(), Fault> {
     let standing = standing_of(held);
-    match order.perform(rt, held) {
-        Ok(_) => return Ok(()),
-        Err(Refusal::OutOfMemory) => {}
-        Err(refusal) => return Err(fault_of(refusal)),
+    match perform(rt, held, order) {
+        Ok(()) => Ok(()),
+        Err(Refusal::OutOfMemory) => give_again(rt, held, order, &standing, notes),
+        Err(refusal) => Err(fault_of(refusal)),
     }
+}
+
+fn give_again<N: Rings, R: Wait>(
+    rt: &R,
+    held: &mut Held<Memory, N>,
+    order: &Order,
+    standing: &Standing,
+    notes: &mut Notes,
+) -> Result<(), Fault> {
     notes.do_again("an order was given again");
     notes.want(
-        standing_of(held) == standing,
+        standing_of(held) == *standing,
         "an order that was refused changed the recorder",
     );
-    match order.perform(rt, held) {
-        Ok(_) => Ok(()),
+    match perform(rt, held, order) {
+        Ok(()) => Ok(()),
         Err(refusal) => Err(fault_of(refusal)),
     }
 }
@@ -99,19 +130,38 @@ fn cursor_of<N: Rings>(
 ) -> Result<Cursor, Fault> {
     let standing = standing_of(held);
     match open(alloc, held) {
-        Ok(cursor) => return Ok(cursor),
-        Err(Refusal::OutOfMemory) => {}
-        Err(refusal) => return Err(fault_of(refusal)),
+        Ok(cursor) => Ok(cursor),
+        Err(Refusal::OutOfMemory) => open_again(alloc, held, &standing, notes),
+        Err(refusal) => Err(fault_of(refusal)),
     }
+}
+
+fn open_again<N: Rings>(
+    alloc: Global,
+    held: &mut Held<Memory, N>,
+    standing: &Standing,
+    notes: &mut Notes,
+) -> Result<Cursor, Fault> {
     notes.do_again("a cursor was opened again");
     notes.want(
-        standing_of(held) == standing,
+        standing_of(held) == *standing,
         "a cursor that was refused changed the recorder",
     );
     match open(alloc, held) {
         Ok(cursor) => Ok(cursor),
         Err(refusal) => Err(fault_of(refusal)),
     }
+}
+
+/// Begins a file, and opens a cursor on it.
+fn begun<N: Rings, R: Wait>(
+    rt: &R,
+    alloc: Global,
+    cabinet: &Cabinet<Memory, N>,
+    notes: &mut Notes,
+) -> Result<Cursor, Fault> {
+    begin(rt, alloc, &mut cabinet.hold(rt), notes)?;
+    cursor_of(alloc, &mut cabinet.hold(rt), notes)
 }
 
 /// A player alone.
@@ -157,11 +207,25 @@ fn run_again<N: Rings + Send + Sync, R: Threads + Wait + Sync>(
         Ok(session) => Ok(session),
         Err((feeds, orders, players)) => {
             notes.do_again("the session was run again");
-            match run_session(rt, alloc, cabinet, &gate, feeds, orders, players) {
-                Ok(session) => Ok(session),
-                Err(_) => Err(Fault::Memory(AllocError)),
-            }
+            run_now(rt, alloc, cabinet, feeds, orders, players, gate)
         }
+    }
+}
+
+fn run_now<N: Rings + Send + Sync, R: Threads + Wait + Sync>(
+    rt: &R,
+    alloc: Global,
+    cabinet: &Cabinet<Memory, N>,
+    feeds: Vec<Feed<N>>,
+    orders: Vec<Order>,
+    players: Vec<Player>,
+    gate: First,
+) -> Result<Session<N>, Fault>
+    requires { All (λ player. player.pass.cell ≡ cabinet.now) players.items }
+{
+    match run_session(rt, alloc, cabinet, &gate, feeds, orders, players) {
+        Ok(session) => Ok(session),
+        Err(_) => Err(Fault::Memory(AllocError)),
     }
 }
 
@@ -174,21 +238,68 @@ fn end_again<N: Rings, R: Wait>(
     notes: &mut Notes,
 ) -> Result<(SessionReport<Memory>, Standing), Fault> {
     let standing = standing_of(&mut cabinet.hold(rt));
+    let report = ended(rt, alloc, cabinet, session, &standing, notes)?;
+    Ok((report, standing))
+}
+
+fn ended<N: Rings, R: Wait>(
+    rt: &R,
+    alloc: Global,
+    cabinet: Cabinet<Memory, N>,
+    session: Session<N>,
+    standing: &Standing,
+    notes: &mut Notes,
+) -> Result<SessionReport<Memory>, Fault> {
     match end_session(alloc, cabinet, session) {
-        Ok(report) => Ok((report, standing)),
+        Ok(report) => Ok(report),
         Err((cabinet, session, Refusal::OutOfMemory)) => {
             notes.do_again("the session was ended again");
             notes.want(
-                standing_of(&mut cabinet.hold(rt)) == standing,
+                standing_of(&mut cabinet.hold(rt)) == *standing,
                 "an end that was refused changed the recorder",
             );
-            match end_session(alloc, cabinet, session) {
-                Ok(report) => Ok((report, standing)),
-                Err((_, _, refusal)) => Err(fault_of(refusal)),
-            }
+            end_now(alloc, cabinet, session)
         }
         Err((_, _, refusal)) => Err(fault_of(refusal)),
     }
+}
+
+fn end_now<N: Rings>(
+    alloc: Global,
+    cabinet: Cabinet<Memory, N>,
+    session: Session<N>,
+) -> Result<SessionReport<Memory>, Fault> {
+    match end_session(alloc, cabinet, session) {
+        Ok(report) => Ok(report),
+        Err((_, _, refusal)) => Err(fault_of(refusal)),
+    }
+}
+
+/// Begins a file, and runs these feeds and a reader of both beside what control asks by the course.
+fn run_in<N: Rings + Send + Sync, R: Threads + Wait + Sync>(
+    rt: &R,
+    alloc: Global,
+    cabinet: &Cabinet<Memory, N>,
+    pass: Pass,
+    feeds: Vec<Feed<N>>,
+    course: Course,
+    notes: &mut Notes,
+) -> Result<Session<N>, Fault>
+    requires { pass.cell ≡ cabinet.now }
+{
+    let cursor = begun(rt, alloc, cabinet, notes)?;
+    let players = alone(alloc, Player::new(cursor, pass))?;
+    let orders = course.orders(alloc)?;
+    run_again(
+        rt,
+        alloc,
+        cabinet,
+        feeds,
+        orders,
+        players,
+        course.gate(),
+        notes,
+    )
 }
 
 /// Two feeds and a reader of both, while a file is recorded and control asks what the course says. What came of it, and how the recorder was
@@ -213,13 +324,8 @@ pub fn run_over<N: Rings + Send + Sync, R: Threads + Wait + Sync>(
         five,
         six,
     } = made;
-    let (cabinet, pass) = cabinet_of::<N>(alloc, recorder, notes)?;
-    begin(rt, alloc, &mut cabinet.hold(rt), notes)?;
-    let cursor = cursor_of(alloc, &mut cabinet.hold(rt), notes)?;
     let feeds = two_feeds(alloc, five, six, first, second)?;
-    let players = alone(alloc, Player::new(cursor, pass))?;
-    let orders = course.orders(alloc)?;
-    let gate = course.gate();
-    let session = run_again(rt, alloc, &cabinet, feeds, orders, players, gate, notes)?;
+    let (cabinet, pass) = cabinet_of::<N>(alloc, recorder, notes)?;
+    let session = run_in(rt, alloc, &cabinet, pass, feeds, course, notes)?;
     end_again(rt, alloc, cabinet, session, notes)
 }

@@ -41,6 +41,11 @@ fn is_rest(report: &FeedReport, from: u64) -> bool {
     true
 }
 
+/// How many messages of a feed the recorder took in.
+fn taken_of(report: &FeedReport) -> u64 {
+    report.erased.saturating_add(report.filed)
+}
+
 /// A feed's account: all messages were sent, and those that were erased, those that are found in the files and those that are left are
 /// the source's, each once and in order; and the numbers are those that the recorder had under its lock.
 fn settle_feed(
@@ -50,32 +55,45 @@ fn settle_feed(
     standing: &Standing,
     notes: &mut Notes,
 ) {
-    let (erased, filed) = (report.erased, report.filed);
-    let taken = erased.saturating_add(filed);
-    let rest = report.rest.len() as u64;
+    let place = place.min(1);
     notes.want(
-        report.channel == CHANNELS[place.min(1)],
+        report.channel == CHANNELS[place],
         "a report is of another channel",
     );
+    settle_numbers(report, notes);
     notes.want(
-        report.accepted == u64::from(MESSAGES) && report.refused == 0,
-        "not all messages of a feed were sent",
-    );
-    notes.want(
-        taken.saturating_add(rest) == report.accepted,
-        "the numbers of a feed don't add up",
-    );
-    notes.want(
-        Some(erased) == standing.erased[place.min(1)]
-            && Some(taken) == standing.taken[place.min(1)],
+        Some(report.erased) == standing.erased[place],
         "the end tells other numbers than the recorder had",
     );
     notes.want(
-        filed_from(found.entries.as_slice(), report.channel, erased) == Some(filed),
+        Some(taken_of(report)) == standing.taken[place],
+        "the end tells other numbers than the recorder had",
+    );
+    settle_messages(report, found, notes);
+}
+
+fn settle_numbers(report: &FeedReport, notes: &mut Notes) {
+    let all = u64::from(MESSAGES);
+    let accounted = taken_of(report).saturating_add(report.rest.len() as u64);
+    notes.want(
+        report.accepted == all,
+        "not all messages of a feed were sent",
+    );
+    notes.want(report.refused == 0, "not all messages of a feed were sent");
+    notes.want(
+        accounted == report.accepted,
+        "the numbers of a feed don't add up",
+    );
+}
+
+fn settle_messages(report: &FeedReport, found: &Found, notes: &mut Notes) {
+    let filed = filed_from(found.entries.as_slice(), report.channel, report.erased);
+    notes.want(
+        filed == Some(report.filed),
         "the files have other messages than the account says",
     );
     notes.want(
-        is_rest(report, taken),
+        is_rest(report, taken_of(report)),
         "other messages are left than the account says",
     );
 }
@@ -99,10 +117,16 @@ fn agrees(
     notes: &mut Notes,
 ) -> Result<bool, Fault> {
     match audit(alloc, report) {
-        Ok(yes) => return Ok(yes),
-        Err(Refusal::OutOfMemory) => notes.do_again("the audit was made again"),
-        Err(refusal) => return Err(fault_of(refusal)),
+        Ok(yes) => Ok(yes),
+        Err(Refusal::OutOfMemory) => {
+            notes.do_again("the audit was made again");
+            agrees_now(alloc, report)
+        }
+        Err(refusal) => Err(fault_of(refusal)),
     }
+}
+
+fn agrees_now(alloc: Global, report: &mut SessionReport<Memory>) -> Result<bool, Fault> {
     match audit(alloc, report) {
         Ok(yes) => Ok(yes),
         Err(refusal) => Err(fault_of(refusal)),
@@ -115,10 +139,16 @@ fn close<M: BlockMedium, L: LaneOut>(
     notes: &mut Notes,
 ) -> Result<(), Fault> {
     match recorder.stop_file() {
-        Ok(_) | Err(Refusal::NotRecording) => return Ok(()),
-        Err(Refusal::OutOfMemory) => notes.do_again("the file was closed again"),
-        Err(refusal) => return Err(fault_of(refusal)),
+        Ok(_) | Err(Refusal::NotRecording) => Ok(()),
+        Err(Refusal::OutOfMemory) => {
+            notes.do_again("the file was closed again");
+            close_now(recorder)
+        }
+        Err(refusal) => Err(fault_of(refusal)),
     }
+}
+
+fn close_now<M: BlockMedium, L: LaneOut>(recorder: &mut Recorder<M, L>) -> Result<(), Fault> {
     match recorder.stop_file() {
         Ok(_) => Ok(()),
         Err(refusal) => Err(fault_of(refusal)),
@@ -145,25 +175,35 @@ pub fn finish(
     notes: &mut Notes,
 ) -> Result<Ended, Fault> {
     let mut report = report;
-    let agreed = agrees(alloc, &mut report, notes)?;
-    notes.want(
-        agreed || course == Course::Erased,
-        "the reader wrote down what no file has",
-    );
-    let read = read_in(&report);
+    let read = audit_and_close(alloc, &mut report, course, notes)?;
     let SessionReport {
         recorder,
         feeds,
         ..
     } = report;
-    let mut recorder = recorder;
-    close(&mut recorder, notes)?;
+    let medium = recorder.into_medium();
     Ok(Ended {
-        medium: recorder.into_medium(),
+        medium,
         feeds,
         read,
         standing,
     })
+}
+
+/// The same in place. It answers how many messages the reader wrote down.
+fn audit_and_close(
+    alloc: Global,
+    report: &mut SessionReport<Memory>,
+    course: Course,
+    notes: &mut Notes,
+) -> Result<u64, Fault> {
+    let agreed = agrees(alloc, report, notes)?;
+    notes.want(
+        agreed || course == Course::Erased,
+        "the reader wrote down what no file has",
+    );
+    close(&mut report.recorder, notes)?;
+    Ok(read_in(report))
 }
 
 /// Compares the account of a session with the files that a new recorder finds on the medium.
@@ -173,20 +213,38 @@ pub fn settle(
     course: Course,
     notes: &mut Notes,
 ) -> Result<(), Fault> {
-    let image = ended.medium.image(alloc)?;
-    let found = found_on(alloc, image.as_slice())?;
+    let found = found_behind(alloc, ended)?;
     notes.want(found.strict, "a file is not strict");
     notes.want(ended.feeds.len() == 2, "there are not two reports");
+    let left = settle_feeds(ended, &found, notes);
+    settle_left(left, ended.read, course, notes);
+    Ok(())
+}
+
+fn found_behind(alloc: Global, ended: &Ended) -> Result<Found, Fault> {
+    let image = ended.medium.image(alloc)?;
+    found_on(alloc, image.as_slice())
+}
+
+/// Settles each feed, and answers how many messages are left.
+fn settle_feeds(ended: &Ended, found: &Found, notes: &mut Notes) -> u64 {
     let mut left = 0u64;
     for (place, feed) in ended.feeds.iter().enumerate() {
-        settle_feed(feed, &found, place, &ended.standing, notes);
+        settle_feed(feed, found, place, &ended.standing, notes);
         left = left.saturating_add(feed.rest.len() as u64);
     }
+    left
+}
+
+/// Whether a worker ended early, by how many messages are left, and how many were read.
+fn settle_left(left: u64, read: u64, course: Course, notes: &mut Notes) {
     let all = u64::from(MESSAGES).saturating_mul(2);
     if course == Course::Unwritten {
         notes.want(left == all, "something was written");
-    } else if left > 0 || (course == Course::Plain && ended.read < all) {
+        return;
+    }
+    let is_unread = course == Course::Plain && read < all;
+    if left > 0 || is_unread {
         notes.do_again("a worker ended early");
     }
-    Ok(())
 }

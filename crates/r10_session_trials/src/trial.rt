@@ -4,7 +4,7 @@ use crate::apparatus::formatted;
 use crate::asks::{BEHIND, ask};
 use crate::course::Course;
 use crate::fault::Fault;
-use crate::listed::source;
+use crate::listed::{Listed, source};
 use crate::notes::Notes;
 use crate::session::run_over;
 use crate::settled::{Ended, finish, settle};
@@ -20,6 +20,14 @@ fn task_of(line: &str) -> Option<(Course, u32)> {
     Some((Course::of(name)?, asks.parse().ok()?))
 }
 
+/// A source of all messages, in a box.
+fn boxed(alloc: Global) -> Result<Box<Listed>, Fault> {
+    match Box::new(alloc, source(alloc)?) {
+        Ok(source) => Ok(source),
+        Err(_) => Err(Fault::Memory(AllocError)),
+    }
+}
+
 /// Runs a session, and ends it.
 fn try_once<R: Threads + Wait + Sync>(
     rt: &R,
@@ -27,12 +35,8 @@ fn try_once<R: Threads + Wait + Sync>(
     course: Course,
     notes: &mut Notes,
 ) -> Result<Ended, Fault> {
-    let Ok(first) = Box::new(alloc, source(alloc)?) else {
-        return Err(Fault::Memory(AllocError));
-    };
-    let Ok(second) = Box::new(alloc, source(alloc)?) else {
-        return Err(Fault::Memory(AllocError));
-    };
+    let first = boxed(alloc)?;
+    let second = boxed(alloc)?;
     let made = formatted(alloc)?;
     let (report, standing) = run_over::<Brand, _>(rt, alloc, made, first, second, course, notes)?;
     finish(alloc, report, standing, course, notes)
@@ -54,25 +58,84 @@ fn try_again<R: Threads + Wait + Sync>(
     }
 }
 
-/// The line of what came, where memory was asked for before and behind it.
-fn line_of(
-    alloc: Global,
-    notes: Notes,
+/// How often memory was asked for before and behind a session before an ask that was refused, if one was.
+#[derive(Clone, Copy)]
+struct Asked {
     before: Option<u32>,
     behind: Option<u32>,
-) -> Result<String, AllocError> {
+}
+
+/// Adds what came of a session.
+fn push_came(notes: Notes, text: &mut String) -> Result<(), AllocError> {
     let (came, what) = match (notes.wrong, notes.again) {
         (Some(what), _) => ("not as wanted: ", what),
         (None, Some(what)) => ("as wanted, ", what),
         (None, None) => ("as wanted", ""),
     };
-    match (before, behind) {
-        (Some(asks), _) => format!(in alloc; "{came}{what}, refused behind {asks} asks before\n"),
-        (None, Some(asks)) => {
-            format!(in alloc; "{came}{what}, refused behind {asks} asks at the end\n")
-        }
-        (None, None) => format!(in alloc; "{came}{what}\n"),
+    text.push_str(came)?;
+    text.push_str(what)
+}
+
+/// Adds which ask was refused, if one was, and the end of the line.
+fn push_refused(alloc: Global, asked: Asked, text: &mut String) -> Result<(), AllocError> {
+    match (asked.before, asked.behind) {
+        (Some(asks), _) => push_asks(alloc, asks, "before", text),
+        (None, Some(asks)) => push_asks(alloc, asks, "at the end", text),
+        (None, None) => text.push_str("\n"),
     }
+}
+
+fn push_asks(alloc: Global, asks: u32, place: &str, text: &mut String) -> Result<(), AllocError> {
+    let line = format!(in alloc; ", refused behind {asks} asks {place}\n")?;
+    text.push_str(line.as_str())
+}
+
+/// Adds a line of the input, and that of what came.
+fn push_lines(
+    alloc: Global,
+    line: &str,
+    notes: Notes,
+    asked: Asked,
+    text: &mut String,
+) -> Result<(), AllocError> {
+    text.push_str(line)?;
+    text.push_str("\n")?;
+    push_came(notes, text)?;
+    push_refused(alloc, asked, text)
+}
+
+/// Runs a session behind so many asks for memory, and settles it.
+fn try_behind<R: Threads + Wait + Sync>(
+    rt: &R,
+    alloc: Global,
+    course: Course,
+    asks: u32,
+    notes: &mut Notes,
+) -> Result<Asked, Fault> {
+    let before = ask(alloc, asks);
+    let ended = try_again(rt, alloc, course, notes);
+    let behind = ask(alloc, BEHIND);
+    settle(alloc, &ended?, course, notes)?;
+    Ok(Asked { before, behind })
+}
+
+/// Runs the session of the line in this place, from 1, and writes the line and what came of it.
+fn try_line<R: Threads + Wait + Sync, W: Write>(
+    rt: &R,
+    alloc: Global,
+    place: usize,
+    line: &str,
+    writer: &mut W,
+) -> Result<(), Fault> {
+    let Some((course, asks)) = task_of(line) else {
+        return Err(Fault::NoTrial { place });
+    };
+    let mut notes = Notes::default();
+    let asked = try_behind(rt, alloc, course, asks, &mut notes)?;
+    let mut text = String::new(alloc);
+    push_lines(alloc, line, notes, asked, &mut text)?;
+    writer.write_all(text.as_bytes())?;
+    Ok(())
 }
 
 /// Runs the session of each line in turn, and writes the line and what came of it.
@@ -83,20 +146,7 @@ pub fn try_all<R: Threads + Wait + Sync, W: Write>(
     writer: &mut W,
 ) -> Result<(), Fault> {
     for (place, line) in text.lines().enumerate() {
-        let Some((course, asks)) = task_of(line) else {
-            return Err(Fault::NoTrial {
-                place: place.saturating_add(1),
-            });
-        };
-        let before = ask(alloc, asks);
-        let mut notes = Notes::default();
-        let ended = try_again(rt, alloc, course, &mut notes);
-        let behind = ask(alloc, BEHIND);
-        settle(alloc, &ended?, course, &mut notes)?;
-        let came = line_of(alloc, notes, before, behind)?;
-        writer.write_all(line.as_bytes())?;
-        writer.write_all(b"\n")?;
-        writer.write_all(came.as_bytes())?;
+        try_line(rt, alloc, place.saturating_add(1), line, writer)?;
     }
     Ok(())
 }

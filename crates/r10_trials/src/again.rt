@@ -1,9 +1,11 @@
 //! What is done again where memory was refused.
 
 use crate::course::{Course, one_of};
+use crate::each::is_reply;
 use crate::fault::TrialFault;
-use crate::scene::{image_behind, medium_of, tell, world_over};
+use crate::scene::{image_behind, medium_of, world_over};
 use crate::shown::shown_on;
+use crate::tally::push_number;
 use r10_body::Refusal;
 use r10_checker::{Verdict, check_file};
 use r10_machine::{Event, Reply};
@@ -12,7 +14,7 @@ use r10_world::{World, run};
 use std::alloc::{AllocError, Global};
 
 /// How a step went.
-#[derive(Clone, Copy, PartialEq, Eq)]
+#[derive(Clone, Copy)]
 enum Told {
     /// The reply that is wanted came at once.
     Once,
@@ -20,6 +22,14 @@ enum Told {
     Again,
     /// Another reply came, or a refusal changed something.
     Otherwise,
+}
+
+/// A recorder, how its making went, and how many of the asks before it came before one that was refused.
+#[derive(Drop)]
+struct Made {
+    world: World<Memory>,
+    told: Told,
+    before: Option<u32>,
 }
 
 /// How often memory is asked for behind what is done: more often than a number that is refused.
@@ -37,62 +47,93 @@ fn ask(alloc: Global, times: u32) -> Option<u32> {
     refused
 }
 
-/// The line of what came, where memory was asked for before and behind it.
-fn line_of(
+/// Asks for memory behind what was done, and adds the line of what came, where memory was asked for before it too.
+fn push_came(
     alloc: Global,
     came: &str,
     before: Option<u32>,
-    behind: Option<u32>,
-) -> Result<String, AllocError> {
+    text: &mut String,
+) -> Result<(), TrialFault> {
+    let behind = ask(alloc, BEHIND);
+    text.push_str(came)?;
     match (before, behind) {
-        (Some(asks), _) => format!(in alloc; "{came}, refused behind {asks} asks before\n"),
-        (None, Some(asks)) => format!(in alloc; "{came}, refused behind {asks} asks at the end\n"),
-        (None, None) => format!(in alloc; "{came}\n"),
+        (Some(asks), _) => push_asks(alloc, asks, " asks before", text)?,
+        (None, Some(asks)) => push_asks(alloc, asks, " asks at the end", text)?,
+        (None, None) => (),
     }
+    text.push_str("\n")?;
+    Ok(())
+}
+
+/// Adds which ask was refused.
+fn push_asks(alloc: Global, asks: u32, place: &str, text: &mut String) -> Result<(), AllocError> {
+    text.push_str(", refused behind ")?;
+    push_number(alloc, u64::from(asks), place, text)
 }
 
 /// Asks for memory so often, so that a refused allocation of a fixed number falls on another one behind these; then makes a recorder,
-/// once more where memory is refused. It answers what came of the asks too.
-fn made_behind(
-    alloc: Global,
-    course: &Course,
-    asks: u32,
-) -> Result<(World<Memory>, Told, Option<u32>), TrialFault> {
-    let (medium, second) = (
-        medium_of(alloc, course.image.as_slice())?,
-        medium_of(alloc, course.image.as_slice())?,
-    );
+/// once more where memory is refused.
+fn made_behind(alloc: Global, course: &Course, asks: u32) -> Result<Made, TrialFault> {
+    let medium = medium_of(alloc, course.image.as_slice())?;
+    let second = medium_of(alloc, course.image.as_slice())?;
     let before = ask(alloc, asks);
-    let (world, made) = match world_over(alloc, &course.settings, medium) {
-        Ok(world) => (world, Told::Once),
-        Err(_) => (world_over(alloc, &course.settings, second)?, Told::Again),
-    };
-    Ok((world, made, before))
+    if let Ok(world) = world_over(alloc, &course.settings, medium) {
+        let told = Told::Once;
+        return Ok(Made {
+            world,
+            told,
+            before,
+        });
+    }
+    let world = world_over(alloc, &course.settings, second)?;
+    let told = Told::Again;
+    Ok(Made {
+        world,
+        told,
+        before,
+    })
+}
+
+/// Whether a medium reads as these bytes; None where memory is refused.
+fn reads_now(alloc: Global, medium: &Memory, wanted: &[u8]) -> Option<bool> {
+    match medium.image(alloc) {
+        Ok(image) => Some(*image.as_slice() == *wanted),
+        Err(_) => None,
+    }
 }
 
 /// Whether the recorder's medium reads as these bytes; they are read once more where memory is refused.
 fn reads_as(alloc: Global, world: World<Memory>, wanted: &[u8]) -> bool {
     let medium = world.into_medium();
-    let image = match medium.image(alloc) {
-        Ok(image) => Ok(image),
-        Err(_) => medium.image(alloc),
-    };
-    match image {
-        Ok(image) => *image.as_slice() == *wanted,
-        Err(_) => false,
+    match reads_now(alloc, &medium, wanted) {
+        Some(reads) => reads,
+        None => reads_now(alloc, &medium, wanted) == Some(true),
     }
 }
 
-/// Does each step of the course behind so many asks for memory, again where it was refused for want of memory. It answers the line of what
+/// Does each step of the course behind so many asks for memory, again where it was refused for want of memory. It adds the line of what
 /// came: `as wanted` where each reply is that of a run without refusals, and the medium then reads as behind that run.
-pub fn tell_again(alloc: Global, course: &Course, asks: u32) -> Result<String, TrialFault> {
+pub fn tell_again(
+    alloc: Global,
+    course: &Course,
+    asks: u32,
+    text: &mut String,
+) -> Result<(), TrialFault> {
     let (image, events) = (course.image.as_slice(), course.events.as_slice());
     let end = image_behind(alloc, &course.settings, image, events)?;
-    let (mut world, made, before) = made_behind(alloc, course, asks)?;
-    let told = tell_each(alloc, course, &mut world);
-    let reads = reads_as(alloc, world, end.as_slice());
-    let behind = ask(alloc, BEHIND);
-    Ok(line_of(alloc, came_of(made, told, reads), before, behind)?)
+    let made = made_behind(alloc, course, asks)?;
+    let before = made.before;
+    let came = told_to_end(alloc, course, made, end.as_slice());
+    push_came(alloc, came, before, text)
+}
+
+/// What came of all steps, told to this recorder, where the medium should then read as these bytes.
+fn told_to_end(alloc: Global, course: &Course, made: Made, end: &[u8]) -> &'static str {
+    let Made { world, told, .. } = made;
+    let mut world = world;
+    let each = tell_each(alloc, course, &mut world);
+    let reads = reads_as(alloc, world, end);
+    came_of(told, each, reads)
 }
 
 /// What came of steps that were told, by a recorder that was made so.
@@ -116,39 +157,42 @@ fn came_at_once(made: Told) -> &'static str {
 }
 
 /// Runs the whole course in one call behind so many asks for memory, and goes on behind the number that it answered where it ended early.
-/// It answers the line of what came; replies are compared up to a step that was refused for want of memory.
-pub fn run_on(alloc: Global, course: &Course, asks: u32) -> Result<String, TrialFault> {
-    let (mut world, made, before) = made_behind(alloc, course, asks)?;
-    let events = course.events.as_slice();
+/// It adds the line of what came; replies are compared up to a step that was refused for want of memory.
+pub fn run_on(
+    alloc: Global,
+    course: &Course,
+    asks: u32,
+    text: &mut String,
+) -> Result<(), TrialFault> {
+    let mut made = made_behind(alloc, course, asks)?;
     let mut replies = Vec::new(alloc);
-    let done = match run(&mut world, events, &mut replies) {
+    let is_over = run_whole(&mut made.world, course.events.as_slice(), &mut replies);
+    let came = ran(
+        replies.as_slice(),
+        course.replies.as_slice(),
+        is_over,
+        made.told,
+    );
+    push_came(alloc, came, made.before, text)
+}
+
+/// Runs these steps, and goes on where the run ended early. It answers whether it was over at once.
+fn run_whole(world: &mut World<Memory>, events: &[Event], replies: &mut Vec<Reply>) -> bool {
+    let done = match run(world, events, replies) {
         Ok(done) => done,
         Err(_) => 0,
     };
     if done < events.len() {
-        let _ = run(&mut world, &events[done..], &mut replies);
+        let _ = run(world, &events[done..], replies);
+        return false;
     }
-    let behind = ask(alloc, BEHIND);
-    let is_over = done == events.len();
-    let came = ran(replies.as_slice(), course.replies.as_slice(), is_over, made);
-    Ok(line_of(alloc, came, before, behind)?)
+    true
 }
 
 /// What came of a run, which was over at once or went on.
 fn ran(came: &[Reply], wanted: &[Reply], is_over: bool, made: Told) -> &'static str {
-    let other = came
-        .iter()
-        .zip(wanted)
-        .position(|(reply, wanted)| *reply != *wanted);
-    if let Some(place) = other {
-        return if is_refused_at(came, place) {
-            "as wanted, up to a step that was refused"
-        } else {
-            "not as wanted"
-        };
-    }
-    if came.len() != wanted.len() {
-        return "not as wanted";
+    if *came != *wanted {
+        return ran_otherwise(came, wanted);
     }
     if is_over {
         came_at_once(made)
@@ -157,34 +201,52 @@ fn ran(came: &[Reply], wanted: &[Reply], is_over: bool, made: Told) -> &'static 
     }
 }
 
-/// Whether the reply in this place says that memory was refused.
-fn is_refused_at(replies: &[Reply], place: usize) -> bool {
-    match replies.get(place) {
-        Some(reply) => *reply == Reply::Refused(Refusal::OutOfMemory),
-        None => false,
+/// What came of a run with other replies: the first that differs may say that memory was refused.
+fn ran_otherwise(came: &[Reply], wanted: &[Reply]) -> &'static str {
+    for (place, reply) in came.iter().enumerate() {
+        if !is_reply(wanted.get(place), reply) {
+            return up_to(reply);
+        }
+    }
+    "not as wanted"
+}
+
+/// What came of a run up to a step that was answered otherwise.
+fn up_to(reply: &Reply) -> &'static str {
+    if says_refused(reply) {
+        "as wanted, up to a step that was refused"
+    } else {
+        "not as wanted"
     }
 }
 
 /// Judges the bytes of the files that the course finds as one file, behind so many asks for memory, and once more where memory is refused.
-/// It answers the line of what came.
-pub fn judge_again(alloc: Global, course: &Course, asks: u32) -> Result<String, TrialFault> {
+/// It adds the line of what came.
+pub fn judge_again(
+    alloc: Global,
+    course: &Course,
+    asks: u32,
+    text: &mut String,
+) -> Result<(), TrialFault> {
     let shown = shown_on(alloc, &course.settings, course.image.as_slice())?;
-    let bytes = shown.bytes.as_slice();
     let before = ask(alloc, asks);
-    let (verdict, told) = match check_file(alloc, bytes) {
-        Ok(verdict) => (verdict, Told::Once),
-        Err(_) => (check_file(alloc, bytes)?, Told::Again),
-    };
-    let behind = ask(alloc, BEHIND);
-    let came = judged(verdict == Verdict::Strict, told == Told::Again);
-    Ok(line_of(alloc, came, before, behind)?)
+    let came = judged(alloc, shown.bytes.as_slice())?;
+    push_came(alloc, came, before, text)
 }
 
-fn judged(is_strict: bool, is_again: bool) -> &'static str {
-    match (is_strict, is_again) {
-        (false, _) => "not as wanted",
-        (true, true) => "as wanted, judged again",
-        (true, false) => "as wanted",
+/// What came of judging these bytes.
+fn judged(alloc: Global, bytes: &[u8]) -> Result<&'static str, AllocError> {
+    if let Ok(verdict) = check_file(alloc, bytes) {
+        return Ok(came_of_verdict(verdict, "as wanted"));
+    }
+    let verdict = check_file(alloc, bytes)?;
+    Ok(came_of_verdict(verdict, "as wanted, judged again"))
+}
+
+fn came_of_verdict(verdict: Verdict, wanted: &'static str) -> &'static str {
+    match verdict {
+        Verdict::Strict => wanted,
+        _ => "not as wanted",
     }
 }
 
@@ -204,47 +266,67 @@ fn tell_each(alloc: Global, course: &Course, world: &mut World<Memory>) -> Told 
 /// Tells one step, and once more where memory is refused.
 fn tell_step(alloc: Global, world: &mut World<Memory>, event: &[Event], wanted: &Reply) -> Told {
     let before = status_of(alloc, world);
-    let first = reply_to(alloc, world, event);
-    if !is_refused(&first) {
-        return as_wanted(&first, wanted, Told::Once);
+    let first = replies_to(alloc, world, event);
+    if is_refused(first.as_slice()) {
+        tell_once_more(alloc, world, event, wanted, before.as_slice())
+    } else {
+        as_wanted(first.as_slice(), wanted, Told::Once)
     }
-    let behind = status_of(alloc, world);
-    if before != behind {
-        return Told::Otherwise;
-    }
-    as_wanted(&reply_to(alloc, world, event), wanted, Told::Again)
 }
 
-fn as_wanted(reply: &Option<Reply>, wanted: &Reply, told: Told) -> Told {
-    match reply {
+/// Tells a step again that was refused, which must have left the status as it was before.
+fn tell_once_more(
+    alloc: Global,
+    world: &mut World<Memory>,
+    event: &[Event],
+    wanted: &Reply,
+    before: &[Reply],
+) -> Told {
+    let behind = status_of(alloc, world);
+    if *behind.as_slice() != *before {
+        return Told::Otherwise;
+    }
+    let second = replies_to(alloc, world, event);
+    as_wanted(second.as_slice(), wanted, Told::Again)
+}
+
+/// How a step went whose reply is the first of these, if it came so.
+fn as_wanted(replies: &[Reply], wanted: &Reply, told: Told) -> Told {
+    match replies.first() {
         Some(reply) if *reply == *wanted => told,
         _ => Told::Otherwise,
     }
 }
 
-/// The reply to one step. None where the step can't be told for want of memory.
-fn reply_to(alloc: Global, world: &mut World<Memory>, event: &[Event]) -> Option<Reply> {
+/// The reply to one step, alone. None where the step can't be told for want of memory.
+fn replies_to(alloc: Global, world: &mut World<Memory>, event: &[Event]) -> Vec<Reply> {
     let mut replies = Vec::new(alloc);
-    if tell(world, event, &mut replies).is_err() {
-        return None;
-    }
-    replies.pop()
+    let _ = run(world, event, &mut replies);
+    replies
 }
 
-fn is_refused(reply: &Option<Reply>) -> bool {
-    match reply {
-        Some(reply) => *reply == Reply::Refused(Refusal::OutOfMemory),
+/// Whether memory was refused to a step of which these are the replies.
+fn is_refused(replies: &[Reply]) -> bool {
+    match replies.first() {
+        Some(reply) => says_refused(reply),
         None => true,
     }
 }
 
+fn says_refused(reply: &Reply) -> bool {
+    *reply == Reply::Refused(Refusal::OutOfMemory)
+}
+
 /// How the recorder is, asked again where memory is refused.
-fn status_of(alloc: Global, world: &mut World<Memory>) -> Option<Reply> {
-    let status = [Event::Status];
-    let first = reply_to(alloc, world, &status);
-    if is_refused(&first) {
-        reply_to(alloc, world, &status)
-    } else {
-        first
+fn status_of(alloc: Global, world: &mut World<Memory>) -> Vec<Reply> {
+    let first = status_now(alloc, world);
+    if is_refused(first.as_slice()) {
+        return status_now(alloc, world);
     }
+    first
+}
+
+fn status_now(alloc: Global, world: &mut World<Memory>) -> Vec<Reply> {
+    let status = [Event::Status];
+    replies_to(alloc, world, &status)
 }

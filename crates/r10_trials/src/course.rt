@@ -4,7 +4,7 @@ use crate::fault::TrialFault;
 use crate::scene::{formatted, image_behind, medium_of, told};
 use crate::title::{Act, Task};
 use r10_machine::{Event, Reply, Settings};
-use r10_medium::Crashing;
+use r10_medium::{Crashing, Faulty, Memory};
 use r10_script::Script;
 use std::alloc::{AllocError, Global};
 
@@ -16,26 +16,23 @@ pub struct Course {
     pub events: Vec<Event>,
     /// The replies over a medium that never fails.
     pub replies: Vec<Reply>,
+    /// The steps that a new recorder is to do behind these.
+    pub rest: Vec<Event>,
 }
 
-/// The course of a task, and the steps that a new recorder is to do behind it. A task that a new recorder ends has the first so many steps, on a
-/// formatted medium; another one has those behind them, on the medium that these leave, with a status at its end.
-pub fn course_of(
-    alloc: Global,
-    script: Script,
-    task: Task,
-) -> Result<(Course, Vec<Event>), TrialFault> {
+/// The course of a task. One that a new recorder ends has the first so many steps, on a formatted medium; another one has those behind
+/// them, on the medium that these leave, with a status at its end.
+pub fn course_of(alloc: Global, script: Script, task: &Task) -> Result<Course, TrialFault> {
     let Script { settings, events } = script;
-    let (front, mut rest) = parted(alloc, events, task.first)?;
-    let fresh = formatted(alloc, &settings)?;
-    if is_ended_by_another(task.act) {
-        let course = answered(alloc, settings, fresh, front)?;
-        return Ok((course, rest));
-    }
-    let image = image_behind(alloc, &settings, fresh.as_slice(), front.as_slice())?;
-    rest.push(Event::Status)?;
-    let course = answered(alloc, settings, image, rest)?;
-    Ok((course, Vec::new(alloc)))
+    let mut course = Course {
+        settings,
+        image: Vec::new(alloc),
+        events: Vec::new(alloc),
+        replies: Vec::new(alloc),
+        rest: Vec::new(alloc),
+    };
+    course.begin(alloc, events, task)?;
+    Ok(course)
 }
 
 /// Whether a new recorder does the steps behind the first.
@@ -43,50 +40,79 @@ fn is_ended_by_another(act: Act) -> bool {
     matches!(act, Act::Fails | Act::Stops | Act::Spoils)
 }
 
-/// The course of these steps, with the replies over a medium that never fails.
-fn answered(
-    alloc: Global,
-    settings: Settings,
-    image: Vec<u8>,
-    events: Vec<Event>,
-) -> Result<Course, TrialFault> {
-    let medium = medium_of(alloc, image.as_slice())?;
-    let (replies, _) = told(alloc, &settings, medium, events.as_slice())?;
-    Ok(Course {
-        settings,
-        image,
-        events,
-        replies,
-    })
+impl Course {
+    /// One event more, to the steps until there are so many, and then to the rest.
+    fn add(&mut self, event: Event, first: usize) -> Result<(), AllocError> {
+        if self.events.len() < first {
+            self.events.push(event)?;
+        } else {
+            self.rest.push(event)?;
+        }
+        Ok(())
+    }
+
+    /// The steps, the medium where they begin, and the replies to them.
+    fn begin(&mut self, alloc: Global, events: Vec<Event>, task: &Task) -> Result<(), TrialFault> {
+        for event in events {
+            self.add(event, task.first)?;
+        }
+        self.image = formatted(alloc, &self.settings)?;
+        if !is_ended_by_another(task.act) {
+            self.go_on(alloc)?;
+        }
+        let medium = self.medium(alloc)?;
+        let events = self.events.as_slice();
+        let _medium = told(alloc, &self.settings, medium, events, &mut self.replies)?;
+        Ok(())
+    }
+
+    /// Does the steps, and takes the rest in their place, with a status at the end.
+    fn go_on(&mut self, alloc: Global) -> Result<(), TrialFault> {
+        let (image, events) = (self.image.as_slice(), self.events.as_slice());
+        self.image = image_behind(alloc, &self.settings, image, events)?;
+        self.events = std::mem::replace(&mut self.rest, Vec::new(alloc));
+        self.events.push(Event::Status)?;
+        Ok(())
+    }
+
+    /// The medium where the steps begin.
+    fn medium(&self, alloc: Global) -> Result<Memory, TrialFault> {
+        medium_of(alloc, self.image.as_slice())
+    }
 }
 
-/// What a recorder answers whose medium stops after so many calls, and the medium.
+/// Does the steps over a medium that stops after so many calls, adds the replies, and answers the medium.
 pub fn stopped(
     alloc: Global,
     course: &Course,
     calls: u64,
-) -> Result<(Vec<Reply>, Crashing), TrialFault> {
-    let medium = medium_of(alloc, course.image.as_slice())?;
-    let medium = Crashing::new(alloc, medium, calls)?;
-    told(alloc, &course.settings, medium, course.events.as_slice())
+    replies: &mut Vec<Reply>,
+) -> Result<Crashing, TrialFault> {
+    let medium = Crashing::new(alloc, course.medium(alloc)?, calls)?;
+    told(
+        alloc,
+        &course.settings,
+        medium,
+        course.events.as_slice(),
+        replies,
+    )
 }
 
-/// The first so many events, and those behind them.
-fn parted(
+/// The same over a medium whose call of this number fails, from 1.
+pub fn failed(
     alloc: Global,
-    events: Vec<Event>,
-    first: usize,
-) -> Result<(Vec<Event>, Vec<Event>), AllocError> {
-    let mut front = Vec::new(alloc);
-    let mut rest = Vec::new(alloc);
-    for (i, event) in events.into_iter().enumerate() {
-        if i < first {
-            front.push(event)?;
-        } else {
-            rest.push(event)?;
-        }
-    }
-    Ok((front, rest))
+    course: &Course,
+    call: u64,
+    replies: &mut Vec<Reply>,
+) -> Result<Faulty<Memory>, TrialFault> {
+    let medium = Faulty::new(course.medium(alloc)?, call);
+    told(
+        alloc,
+        &course.settings,
+        medium,
+        course.events.as_slice(),
+        replies,
+    )
 }
 
 /// The one event in this place, or none.

@@ -1,13 +1,13 @@
 //! A stop after each call of the medium, and a failure of each.
 
-use crate::course::{Course, stopped};
+use crate::course::{Course, failed, stopped};
 use crate::fault::TrialFault;
-use crate::scene::{first_of, image_behind, image_left, medium_of, told};
+use crate::scene::{first_of, image_behind, image_left};
 use crate::shown::{Shown, judged_on, shown_on};
 use crate::tally::{Found, Named, Row, place_in, raise, word_of};
 use r10_body::Refusal;
 use r10_machine::{Event, Mode, Reply};
-use r10_medium::{BlockMedium, Choice, Crashing, Faulty};
+use r10_medium::{BlockMedium, Choice, Crashing};
 use std::alloc::Global;
 
 /// More calls of the medium than any run here makes.
@@ -28,34 +28,126 @@ struct Around {
     behind: Shown,
 }
 
-/// Stops the course after so many calls, and after each one more, and has each call behind the first so many fail. It answers a row for
+/// What is known when a call more is stopped.
+#[derive(Drop)]
+struct Walk {
+    /// Around the step that the call before met, and else around none.
+    around: Around,
+    /// What was read behind the calls before; nothing before the first.
+    image: Vec<u8>,
+    /// The place of the row of the last of these calls.
+    row: usize,
+}
+
+/// Stops the course after so many calls, and after each one more, and has each call behind the first so many fail. It adds a row for
 /// each word of a step that calls the medium.
-pub fn try_each(alloc: Global, course: &Course, from: u64) -> Result<Vec<Named>, TrialFault> {
-    let mut rows = Vec::new(alloc);
-    let mut around = around_step(alloc, course, 0)?;
-    let mut last_image = Vec::from_slice(alloc, course.image.as_slice())?;
-    let mut last_row = 0;
+pub fn try_each(
+    alloc: Global,
+    course: &Course,
+    from: u64,
+    rows: &mut Vec<Named>,
+) -> Result<(), TrialFault> {
+    let around = Around {
+        place: usize::MAX,
+        before: Shown::nothing(alloc),
+        behind: Shown::nothing(alloc),
+    };
+    let mut walk = Walk {
+        around,
+        image: Vec::new(alloc),
+        row: 0,
+    };
+    walk_on(alloc, course, from, &mut walk, rows)
+}
+
+fn walk_on(
+    alloc: Global,
+    course: &Course,
+    from: u64,
+    walk: &mut Walk,
+    rows: &mut Vec<Named>,
+) -> Result<(), TrialFault> {
     for calls in from..MOST {
-        let (replies, medium) = stopped(alloc, course, calls)?;
-        let image = image_left(alloc, &medium, Choice::Read)?;
-        let row = change(course, last_image.as_slice(), image.as_slice());
-        add_to(rows.as_mut_slice(), last_row, &row);
-        last_image = image;
-        let Some(place) = failed_at(replies.as_slice()) else {
-            return Ok(rows);
-        };
-        if around.place != place {
-            around = around_step(alloc, course, place)?;
+        if is_over_after(alloc, course, calls, walk, rows)? {
+            return Ok(());
         }
-        let mut row = Row::default();
-        raise(&mut row.calls);
-        note_replies(&mut row, course, replies.as_slice(), place);
-        note_images(alloc, &mut row, course, &around, &medium)?;
-        note_failure(alloc, &mut row, course, &around, calls.saturating_add(1))?;
-        last_row = place_in(&mut rows, word_at(course, place))?;
-        add_to(rows.as_mut_slice(), last_row, &row);
     }
     Err(TrialFault::Endless { most: MOST })
+}
+
+/// Stops the course after so many calls, and has the one behind them fail. It answers whether the course has no more.
+fn is_over_after(
+    alloc: Global,
+    course: &Course,
+    calls: u64,
+    walk: &mut Walk,
+    rows: &mut Vec<Named>,
+) -> Result<bool, TrialFault> {
+    let mut replies = Vec::new(alloc);
+    let medium = stopped(alloc, course, calls, &mut replies)?;
+    add_stop(
+        alloc,
+        course,
+        calls,
+        replies.as_slice(),
+        &medium,
+        walk,
+        rows,
+    )
+}
+
+/// Counts what the last call changed, and a stop behind it and a failure of the call that is next. It answers whether there is none.
+fn add_stop(
+    alloc: Global,
+    course: &Course,
+    calls: u64,
+    replies: &[Reply],
+    medium: &Crashing,
+    walk: &mut Walk,
+    rows: &mut Vec<Named>,
+) -> Result<bool, TrialFault> {
+    add_change(alloc, course, medium, walk, rows.as_mut_slice())?;
+    let Some(place) = failed_at(replies) else {
+        return Ok(true);
+    };
+    go_to(alloc, course, place, walk)?;
+    let mut row = Row::default();
+    raise(&mut row.calls);
+    note_replies(&mut row, course, replies, place);
+    note_images(alloc, &mut row, course, &walk.around, medium)?;
+    note_failure(
+        alloc,
+        &mut row,
+        course,
+        &walk.around,
+        calls.saturating_add(1),
+    )?;
+    walk.row = place_in(rows, word_at(course, place))?;
+    add_to(rows.as_mut_slice(), walk.row, &row);
+    Ok(false)
+}
+
+/// Counts what the last call changed in its row.
+fn add_change(
+    alloc: Global,
+    course: &Course,
+    medium: &Crashing,
+    walk: &mut Walk,
+    rows: &mut [Named],
+) -> Result<(), TrialFault> {
+    let image = image_left(alloc, medium, Choice::Read)?;
+    let row = change(course, walk.image.as_slice(), image.as_slice());
+    add_to(rows, walk.row, &row);
+    walk.image = image;
+    Ok(())
+}
+
+/// Sees what a new recorder finds around the step in this place, if it was another one.
+fn go_to(alloc: Global, course: &Course, place: usize, walk: &mut Walk) -> Result<(), TrialFault> {
+    if walk.around.place != place {
+        walk.around = around_step(alloc, course, place)?;
+    }
+    Ok(())
 }
 
 fn add_to(rows: &mut [Named], place: usize, row: &Row) {
@@ -90,9 +182,16 @@ fn shown_behind(alloc: Global, course: &Course, steps: usize) -> Result<Shown, T
 
 /// The place of the first reply that says Medium.
 fn failed_at(replies: &[Reply]) -> Option<usize> {
-    replies
-        .iter()
-        .position(|reply| *reply == Reply::Refused(Refusal::Medium))
+    for (place, reply) in replies.iter().enumerate() {
+        if says_medium(reply) {
+            return Some(place);
+        }
+    }
+    None
+}
+
+fn says_medium(reply: &Reply) -> bool {
+    *reply == Reply::Refused(Refusal::Medium)
 }
 
 /// What the last call changed.
@@ -116,20 +215,39 @@ pub fn changed_block(old: &[u8], new: &[u8]) -> Option<usize> {
 
 /// Counts a run with other replies than those of the step in this place that met a failure.
 fn note_replies(row: &mut Row, course: &Course, replies: &[Reply], place: usize) {
-    let mut right = replies.len() == course.events.len();
-    let steps = course.events.iter().zip(&course.replies);
-    for (i, ((event, wanted), reply)) in steps.zip(replies).enumerate() {
-        let is_right = if i < place {
-            *reply == *wanted
-        } else if i == place {
-            *reply == Reply::Refused(Refusal::Medium)
-        } else {
-            is_failed(event, reply)
-        };
-        right = right && is_right;
-    }
-    if !right {
+    if replies.len() != course.events.len() || !are_right(course, replies, place) {
         raise(&mut row.wrong);
+    }
+}
+
+fn are_right(course: &Course, replies: &[Reply], failed: usize) -> bool {
+    for (place, reply) in replies.iter().enumerate() {
+        if !is_right(course, place, reply, failed) {
+            return false;
+        }
+    }
+    true
+}
+
+/// Whether the step in this place may answer so where that in another place met a failure.
+fn is_right(course: &Course, place: usize, reply: &Reply, failed: usize) -> bool {
+    if place == failed {
+        return says_medium(reply);
+    }
+    if place < failed {
+        return is_reply(course.replies.get(place), reply);
+    }
+    match course.events.get(place) {
+        Some(event) => is_failed(event, reply),
+        None => false,
+    }
+}
+
+/// Whether a reply is the one that is wanted, if one is.
+pub fn is_reply(wanted: Option<&Reply>, reply: &Reply) -> bool {
+    match wanted {
+        Some(wanted) => *reply == *wanted,
+        None => false,
     }
 }
 
@@ -153,8 +271,8 @@ fn note_images(
     around: &Around,
     medium: &Crashing,
 ) -> Result<(), TrialFault> {
-    for choice in CHOICES {
-        let image = image_left(alloc, medium, choice)?;
+    for choice in &CHOICES {
+        let image = image_left(alloc, medium, *choice)?;
         note_image(alloc, row, course, around, image.as_slice())?;
     }
     Ok(())
@@ -193,13 +311,16 @@ fn found_on(
     image: &[u8],
 ) -> Result<Found, TrialFault> {
     let shown = shown_on(alloc, &course.settings, image)?;
-    let (old, new) = (shown == around.before, shown == around.behind);
-    Ok(match (old, new) {
+    Ok(found_as(shown == around.before, shown == around.behind))
+}
+
+fn found_as(old: bool, new: bool) -> Found {
+    match (old, new) {
         (true, true) => Found::Same,
         (true, false) => Found::Old,
         (false, true) => Found::New,
         (false, false) => Found::Neither,
-    })
+    }
 }
 
 /// Has the call of this number fail, from 1, and counts what is found on the medium then.
@@ -210,16 +331,26 @@ fn note_failure(
     around: &Around,
     call: u64,
 ) -> Result<(), TrialFault> {
-    let medium = Faulty::new(medium_of(alloc, course.image.as_slice())?, call);
-    let (replies, medium) = told(alloc, &course.settings, medium, course.events.as_slice())?;
+    let mut replies = Vec::new(alloc);
+    let medium = failed(alloc, course, call, &mut replies)?;
     note_replies(row, course, replies.as_slice(), around.place);
     if medium.failures() != 1 {
         raise(&mut row.wrong);
     }
     let image = medium.into_medium().image(alloc)?;
-    row.failed
-        .add(found_on(alloc, course, around, image.as_slice())?);
-    match judged_on(alloc, image.as_slice())? {
+    note_failed(alloc, row, course, around, image.as_slice())
+}
+
+/// Counts what is found on an image that a failure left, whose files are strict.
+fn note_failed(
+    alloc: Global,
+    row: &mut Row,
+    course: &Course,
+    around: &Around,
+    image: &[u8],
+) -> Result<(), TrialFault> {
+    row.failed.add(found_on(alloc, course, around, image)?);
+    match judged_on(alloc, image)? {
         Some(judged) if judged.files == judged.strict => (),
         _ => raise(&mut row.wrong),
     }

@@ -4,11 +4,11 @@ use r10_body::Refusal;
 use r10_images::StreamFault;
 use r10_lines::ScriptFault;
 use std::alloc::AllocError;
-use std::io;
+use std::{fmt, io};
 use thiserror::Error;
 
 /// Why a run over trials ends early.
-#[derive(Debug, Drop, Error)]
+#[derive(Drop, Error)]
 pub enum TrialFault {
     /// A growth was refused.
     #[error("out of memory")]
@@ -34,4 +34,10 @@ pub enum TrialFault {
     /// A run makes more calls of its medium than a trial counts.
     #[error("more than {most} calls of the medium")]
     Endless { most: u64 },
+}
+
+impl fmt::Debug for TrialFault {
+    fn fmt<W: fmt::Write>(&self, f: &mut fmt::Formatter<W>) -> fmt::Result {
+        fmt::Display::fmt(self, f)
+    }
 }

@@ -22,9 +22,13 @@ use std::process::ExitCode;
 fn run<R: Input + Print + AllocGlobal>(rt: &R) -> Result<(), TrialFault> {
     let alloc: Global = rt.alloc();
     let bytes = r10_images::read_whole(alloc, &mut rt.reader())?;
-    let Ok(text) = str::from_utf8(bytes.as_slice()) else {
-        return Err(TrialFault::NoTrial { place: 1 });
-    };
+    match str::from_utf8(bytes.as_slice()) {
+        Ok(text) => try_text(rt, alloc, text),
+        Err(_) => Err(TrialFault::NoTrial { place: 1 }),
+    }
+}
+
+fn try_text<R: Print>(rt: &R, alloc: Global, text: &str) -> Result<(), TrialFault> {
     let mut writer = BufWriter::new(alloc, io::writer(rt))?;
     trial::try_all(alloc, text, &mut writer)?;
     writer.flush()?;

@@ -26,10 +26,16 @@ fn copy_of(alloc: Global, settings: &Settings) -> Result<Settings, AllocError> {
 /// The bytes of a medium that was formatted for these settings.
 pub fn formatted(alloc: Global, settings: &Settings) -> Result<Vec<u8>, TrialFault> {
     let mut medium = Memory::new(alloc, settings.blocks())?;
-    match r10_volume::format(&mut medium, settings) {
-        Ok(()) => Ok(medium.image(alloc)?),
-        Err(Refusal::OutOfMemory) => Err(TrialFault::Memory(AllocError)),
-        Err(refusal) => Err(TrialFault::Format(refusal)),
+    if let Err(refusal) = r10_volume::format(&mut medium, settings) {
+        return Err(fault_of(refusal));
+    }
+    Ok(medium.image(alloc)?)
+}
+
+fn fault_of(refusal: Refusal) -> TrialFault {
+    match refusal {
+        Refusal::OutOfMemory => TrialFault::Memory(AllocError),
+        refusal => TrialFault::Format(refusal),
     }
 }
 
@@ -58,7 +64,7 @@ pub fn world_over<M: BlockMedium + Drop>(
 }
 
 /// Does events, and adds their replies.
-pub fn tell<M: BlockMedium>(
+fn tell<M: BlockMedium>(
     world: &mut World<M>,
     events: &[Event],
     replies: &mut Vec<Reply>,
@@ -70,17 +76,17 @@ pub fn tell<M: BlockMedium>(
     Ok(())
 }
 
-/// What a new recorder over this medium answers to events, and the medium behind them.
+/// Tells events to a new recorder over this medium, adds what it answers, and gives the medium behind them.
 pub fn told<M: BlockMedium + Drop>(
     alloc: Global,
     settings: &Settings,
     medium: M,
     events: &[Event],
-) -> Result<(Vec<Reply>, M), TrialFault> {
+    replies: &mut Vec<Reply>,
+) -> Result<M, TrialFault> {
     let mut world = world_over(alloc, settings, medium)?;
-    let mut replies = Vec::new(alloc);
-    tell(&mut world, events, &mut replies)?;
-    Ok((replies, world.into_medium()))
+    tell(&mut world, events, replies)?;
+    Ok(world.into_medium())
 }
 
 /// The bytes that a new recorder leaves behind events, on a medium of these bytes that never fails.
@@ -90,7 +96,9 @@ pub fn image_behind(
     image: &[u8],
     events: &[Event],
 ) -> Result<Vec<u8>, TrialFault> {
-    let (_, medium) = told(alloc, settings, medium_of(alloc, image)?, events)?;
+    let medium = medium_of(alloc, image)?;
+    let mut replies = Vec::new(alloc);
+    let medium = told(alloc, settings, medium, events, &mut replies)?;
     Ok(medium.image(alloc)?)
 }
 

@@ -3,7 +3,7 @@
 use crate::fault::TrialFault;
 use crate::scene::{medium_of, told};
 use r10_body::Refusal;
-use r10_checker::{Verdict, check_medium};
+use r10_checker::{FileVerdict, Verdict, check_medium};
 use r10_dirchain::{ChainError, Directory, Listed, read_chain};
 use r10_machine::{Event, Reply, Settings};
 use r10_medium::Memory;
@@ -26,13 +26,34 @@ pub struct Judged {
     pub strict: u64,
 }
 
+impl Shown {
+    /// Nothing.
+    pub fn nothing(alloc: Global) -> Shown {
+        Shown {
+            replies: Vec::new(alloc),
+            bytes: Vec::new(alloc),
+        }
+    }
+}
+
 /// What a new recorder finds on a medium of these bytes.
 pub fn shown_on(alloc: Global, settings: &Settings, image: &[u8]) -> Result<Shown, TrialFault> {
+    let mut shown = Shown::nothing(alloc);
+    show(alloc, settings, image, &mut shown)?;
+    Ok(shown)
+}
+
+fn show(
+    alloc: Global,
+    settings: &Settings,
+    image: &[u8],
+    shown: &mut Shown,
+) -> Result<(), TrialFault> {
     let mut medium = medium_of(alloc, image)?;
-    let bytes = bytes_of(alloc, &mut medium, image)?;
-    let events = Vec::from_array(alloc, [Event::Mount, Event::Files])?;
-    let (replies, _) = told(alloc, settings, medium, events.as_slice())?;
-    Ok(Shown { replies, bytes })
+    shown.bytes = bytes_of(alloc, &mut medium, image)?;
+    let events = [Event::Mount, Event::Files];
+    let _medium = told(alloc, settings, medium, &events, &mut shown.replies)?;
+    Ok(())
 }
 
 /// The bytes of the listed files, none where there is no directory.
@@ -66,19 +87,22 @@ fn file_bytes<'a>(file: &Listed, image: &'a [u8]) -> &'a [u8] {
 /// How many files there are on a medium of these bytes, and how many are strict. `None` where its directory is at fault.
 pub fn judged_on(alloc: Global, image: &[u8]) -> Result<Option<Judged>, TrialFault> {
     let mut medium = medium_of(alloc, image)?;
-    let files = match check_medium(alloc, &mut medium) {
-        Ok(files) => files,
-        Err(Refusal::OutOfMemory) => return Err(TrialFault::Memory(AllocError)),
-        Err(_) => return Ok(None),
-    };
-    let mut judged = Judged {
-        files: files.len() as u64,
-        strict: 0,
-    };
-    for file in &files {
+    match check_medium(alloc, &mut medium) {
+        Ok(files) => Ok(Some(judged_in(files.as_slice()))),
+        Err(Refusal::OutOfMemory) => Err(TrialFault::Memory(AllocError)),
+        Err(_) => Ok(None),
+    }
+}
+
+fn judged_in(files: &[FileVerdict]) -> Judged {
+    let mut strict = 0u64;
+    for file in files {
         if file.verdict == Verdict::Strict {
-            judged.strict = judged.strict.saturating_add(1);
+            strict = strict.saturating_add(1);
         }
     }
-    Ok(Some(judged))
+    Judged {
+        files: files.len() as u64,
+        strict,
+    }
 }

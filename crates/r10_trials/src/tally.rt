@@ -78,11 +78,6 @@ impl Finds {
             neither: self.neither.saturating_add(other.neither),
         }
     }
-
-    fn text(&self, alloc: Global) -> Result<String, AllocError> {
-        let (old, new, same, neither) = (self.old, self.new, self.same, self.neither);
-        format!(in alloc; "{old} old, {new} new, {same} same, {neither} neither")
-    }
 }
 
 impl Row {
@@ -101,28 +96,60 @@ impl Row {
         }
     }
 
-    /// The lines of a row under this word.
-    pub fn lines(&self, alloc: Global, word: &str) -> Result<String, AllocError> {
-        let (calls, directory, data) = (self.calls, self.directory, self.data);
-        let (images, files, strict, wrong) = (self.images, self.files, self.strict, self.wrong);
-        let stopped = self.stopped.text(alloc)?;
-        let failed = self.failed.text(alloc)?;
-        format!(in alloc;
-            "{word}: {calls} calls, {directory} change the directory, {data} a file; {wrong} wrong\n  stops: {images} images, {stopped}; {strict} of {files} files strict\n  failures: {failed}\n"
-        )
+    /// Adds the lines of a row under this word.
+    pub fn push(&self, alloc: Global, word: &str, text: &mut String) -> Result<(), AllocError> {
+        let (stopped, failed) = (&self.stopped, &self.failed);
+        let parts = [
+            (self.calls, " calls, "),
+            (self.directory, " change the directory, "),
+            (self.data, " a file; "),
+            (self.wrong, " wrong\n  stops: "),
+            (self.images, " images, "),
+            (stopped.old, " old, "),
+            (stopped.new, " new, "),
+            (stopped.same, " same, "),
+            (stopped.neither, " neither; "),
+            (self.strict, " of "),
+            (self.files, " files strict\n  failures: "),
+            (failed.old, " old, "),
+            (failed.new, " new, "),
+            (failed.same, " same, "),
+            (failed.neither, " neither\n"),
+        ];
+        text.push_str(word)?;
+        text.push_str(": ")?;
+        push_parts(alloc, &parts, text)
     }
+}
+
+/// Adds numbers, each with what stands behind it.
+fn push_parts(alloc: Global, parts: &[(u64, &str)], text: &mut String) -> Result<(), AllocError> {
+    for (number, behind) in parts {
+        push_number(alloc, *number, behind, text)?;
+    }
+    Ok(())
+}
+
+/// Adds a number, and what stands behind it.
+pub fn push_number(
+    alloc: Global,
+    number: u64,
+    behind: &str,
+    text: &mut String,
+) -> Result<(), AllocError> {
+    let part = format!(in alloc; "{number}{behind}")?;
+    text.push_str(part.as_str())
 }
 
 /// The place of a word's row, which is added where there is none.
 pub fn place_in(rows: &mut Vec<Named>, word: &'static str) -> Result<usize, AllocError> {
-    if let Some(place) = rows.iter().position(|named| named.word == word) {
-        return Ok(place);
+    for (place, named) in rows.iter().enumerate() {
+        if named.word == word {
+            return Ok(place);
+        }
     }
-    let place = rows.len();
-    rows.push(Named {
-        word,
-        row: Row::default(),
-    })?;
+    let (place, row) = (rows.len(), Row::default());
+    rows.push(Named { word, row })?;
     Ok(place)
 }
 

@@ -60,12 +60,10 @@ pub fn task_of(place: usize, title: &str) -> Result<Task, TrialFault> {
 }
 
 fn read_title(title: &str) -> Option<Task> {
-    let (words, first) = title.rsplit_once(' ')?;
-    let (words, number) = words.rsplit_once(' ')?;
-    let (first, number) = (number_of(first)?, number_of(number)?);
+    let (words, first) = last_number(title)?;
+    let (words, number) = last_number(words)?;
     let (words, place) = placed(words);
-    let (_, word) = words.rsplit_once(' ')?;
-    let act = act_of(word)?;
+    let act = act_in(words)?;
     Some(Task {
         act,
         number,
@@ -74,19 +72,29 @@ fn read_title(title: &str) -> Option<Task> {
     })
 }
 
-/// The number that stands last, and the words before it; 0 and all words where none does.
+/// The number that stands last, and the words before it.
+fn last_number(words: &str) -> Option<(&str, u32)> {
+    let (front, last) = words.rsplit_once(' ')?;
+    let number = number_of(last)?;
+    Some((front, number))
+}
+
+/// The same; 0 and all words where none does.
 fn placed(words: &str) -> (&str, u32) {
-    match words.rsplit_once(' ') {
-        Some((front, last)) => match number_of(last) {
-            Some(place) => (front, place),
-            None => (words, 0),
-        },
+    match last_number(words) {
+        Some((front, place)) => (front, place),
         None => (words, 0),
     }
 }
 
 fn number_of(word: &str) -> Option<u32> {
     word.parse().ok()
+}
+
+/// The act whose word stands last, behind others.
+fn act_in(words: &str) -> Option<Act> {
+    let (_, word) = words.rsplit_once(' ')?;
+    act_of(word)
 }
 
 fn act_of(word: &str) -> Option<Act> {
