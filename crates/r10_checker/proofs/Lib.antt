@@ -1,4 +1,3 @@
-pub mod Parts
 pub mod One
 pub mod Placing
 pub mod Saying

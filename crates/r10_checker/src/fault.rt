@@ -4,8 +4,8 @@ ghost use Rattle.std.specs.Prelude.{IfOk, MatchOption};
 ghost use Rattle.r10_body.specs.Faults.{IsAtFault};
 ghost use Rattle.r10_judge.specs.Judged.{SaysClosed};
 
-use r10_judge::Judge;
-use r10_strict::{Fault, ForeignTrack};
+use r10_judge::{Judgement, judge_bytes};
+use r10_strict::Fault;
 use std::alloc::{AllocError, Global};
 
 /// Where and how a file is at fault whose directory entry is closed or not: the first packet that is none
@@ -14,19 +14,8 @@ use std::alloc::{AllocError, Global};
 pub fn find_fault(alloc: Global, bytes: &[u8], closed: bool) -> Result<Option<Fault>, AllocError>
     ensures { IfOk result (λ found. MatchOption found (SaysClosed bytes.now closed) (λ at. IsAtFault bytes.now closed at.offset at.fault)) }
 {
-    let mut track = ForeignTrack::new();
-    let mut judge = Judge::new(alloc, closed);
-    let mut rest = bytes;
-    while !rest.is_empty() {
-        let packet = match track.take(rest) {
-            Ok(packet) => packet,
-            Err(at) => {
-                let answered = judge.is_answered(rest);
-                return Ok(Some(judge.fault_behind(at.fault, answered)));
-            }
-        };
-        judge.take(alloc, &rest[..packet.length])?;
-        rest = &rest[packet.length..];
+    match judge_bytes(alloc, bytes, closed)? {
+        Judgement::Strict(_) => Ok(None),
+        Judgement::Faulty(at) => Ok(Some(at)),
     }
-    Ok(judge.end())
 }
