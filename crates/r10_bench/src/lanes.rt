@@ -3,7 +3,7 @@
 use crate::fault::Fault;
 use crate::figures::{Handing, LaneFigures};
 use r10_body::{ChannelSpec, Kind, Message};
-use r10_count::{Count, Items};
+use r10_count::{Bytes, Count};
 use r10_lane::{LaneOut, RingLane};
 use r10_port::{Outlet, Port, lane};
 use std::alloc::Global;
@@ -53,7 +53,7 @@ fn offer<I: Inlet>(inlet: &mut I, alloc: Global, number: u32) -> bool {
     let message = Message::Uart {
         parity: false,
         sub: 0,
-        bytes: Items::of(Vec::new(alloc)),
+        bytes: Bytes::of(Vec::new(alloc)),
     };
     inlet.accepts(count, message)
 }

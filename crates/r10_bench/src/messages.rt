@@ -3,7 +3,7 @@
 ghost use Rattle.std.specs.Prelude.{◌≡◌, ◌-◌, length, IfOk};
 
 use r10_body::{Message, Timed};
-use r10_count::{Count, Items};
+use r10_count::{Bytes, Count};
 use std::alloc::{AllocError, Global};
 use std::ops::Range;
 
@@ -19,7 +19,7 @@ pub fn make(alloc: Global, numbers: Range<u32>, bytes: &[u8]) -> Result<Vec<Time
         let message = Message::Uart {
             parity: false,
             sub: 0,
-            bytes: Items::of(Vec::from_slice(alloc, bytes)?),
+            bytes: Bytes::copy_of(alloc, bytes)?,
         };
         messages.push(Timed { count, message })?;
     }

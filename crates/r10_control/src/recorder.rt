@@ -7,10 +7,11 @@ ghost use Rattle.r10_means.specs.Kept.{unmounted};
 ghost use Rattle.r10_control.specs.Work.{work_of};
 
 use crate::clock::ClockTick;
+use crate::parting::all_spent;
 use crate::work::Doing;
 use r10_count::Count;
 use r10_cursor::Reader;
-use r10_lane::LaneOut;
+use r10_lane::{LaneOut, Spent};
 use r10_machine::Settings;
 use r10_medium::BlockMedium;
 use std::alloc::{AllocError, Global};
@@ -21,7 +22,6 @@ use std::marker::Model;
 /// Of what each call refuses, the first that applies is answered, in the order in which the call's text names them; Medium is
 /// answered as soon as the medium fails, and the recorder is Failed from then on. Any other refused call leaves what
 /// is kept, and the medium's blocks, as they were.
-#[derive(Drop)]
 pub struct Recorder<M: BlockMedium, L: LaneOut> {
     pub(crate) alloc: Global,
     pub(crate) settings: Settings,
@@ -52,6 +52,25 @@ impl<M: BlockMedium, L: LaneOut> Model for Recorder<M, L> {
     ghost invariant = { λ r. Owns L.spec_of L.reached
         (record { config = r.settings; work = work_of r.work; tick = r.tick; last_event = r.last_event; generation = r.generation; taken = r.taken.items; erased = r.erased.items })
         (M.disk r.medium).blocks r.lanes.items r.reader.books };
+}
+
+/// Letting a recorder go is one call, whatever it does, so that a body that holds one has no exit for each mode.
+impl<M: BlockMedium + Drop, L: LaneOut + Drop> Drop for Recorder<M, L> {
+    fn drop(self) {
+        let Recorder {
+            alloc: _,
+            settings: _,
+            work: _,
+            tick: _,
+            last_event: _,
+            generation: _,
+            taken: _,
+            erased: _,
+            lanes: _,
+            reader: _,
+            medium: _,
+        } = self;
+    }
 }
 
 /// So many zeros.
@@ -103,8 +122,61 @@ impl<M: BlockMedium, L: LaneOut> Recorder<M, L> {
     pub fn into_parts(self) -> (M, Vec<L>)
         ensures { (result.0 ≡ self.medium) × (result.1.items ≡ self.lanes) }
     {
-        let Recorder { medium, lanes, .. } = self;
+        let Recorder {
+            alloc: _,
+            settings: _,
+            work: _,
+            tick: _,
+            last_event: _,
+            generation: _,
+            taken: _,
+            erased: _,
+            lanes,
+            reader: _,
+            medium,
+        } = self;
         (medium, lanes)
+    }
+
+    /// The recorder and its lanes, in the order of the settings. In the place of each lane the recorder has one that gives nothing, so that
+    /// it goes on as before, but for what its lanes held. Where memory is refused, the recorder comes back as it was.
+    pub fn apart(self) -> Result<(Recorder<M, Spent>, Vec<L>), Recorder<M, L>>
+        ensures kept { IfOk result (λ parts. parts.0.kept ≡ self.kept) }
+        ensures medium { IfOk result (λ parts. parts.0.medium ≡ self.medium) }
+        ensures spent { IfOk result (λ parts. parts.0.lanes ≡ self.kept.config.channels) }
+        ensures lanes { IfOk result (λ parts. parts.1.items ≡ self.lanes) }
+        ensures refused { IfErr result (λ back. back ≡ self) }
+    {
+        let Ok(spent) = all_spent(self.alloc, self.lanes.as_slice()) else {
+            return Err(self);
+        };
+        let Recorder {
+            alloc,
+            settings,
+            work,
+            tick,
+            last_event,
+            generation,
+            taken,
+            erased,
+            lanes,
+            reader,
+            medium,
+        } = self;
+        let parts = Recorder {
+            alloc,
+            settings,
+            work,
+            tick,
+            last_event,
+            generation,
+            taken,
+            erased,
+            lanes: spent,
+            reader,
+            medium,
+        };
+        Ok((parts, lanes))
     }
 }
 

@@ -6,6 +6,7 @@ ghost use Rattle.r10_count.specs.Form.{IsEntryBytes, IsSplit};
 use crate::entry::BodyEntry;
 
 /// The bytes of the first entry, and those behind it.
+#[inline(always)]
 pub fn first_entry<E: BodyEntry>(bytes: &[u8]) -> Option<(&[u8], &[u8])>
     ensures some { IfSome result (λ x. IsEntryBytes E.form.front E.form.told x.0.now × (bytes.now ≡ x.0.now ++ x.1.now)) }
     ensures none { IfNone result ((entry rest : List ℕ) → IsEntryBytes E.form.front E.form.told entry → bytes.now ≡ entry ++ rest → ⊥) }

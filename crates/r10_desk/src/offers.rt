@@ -8,7 +8,7 @@ ghost use Rattle.r10_body.specs.declared.message.Message.TheVariants as messages
 use crate::desk::{Desk, number_of};
 use crate::told::OUT_OF_MEMORY;
 use r10_body::Message;
-use r10_count::Items;
+use r10_count::{Bytes, Items};
 use r10_machine::Event;
 use r10_medium::BlockMedium;
 
@@ -35,10 +35,9 @@ impl<M: BlockMedium> Desk<M> {
     ) -> u32
         ensures { Does M.disk self.old.world (events.Offer channel count (messages.Uart parity sub bytes.now)) (λ reply. result ≡ number_of reply) self.new.world }
     {
-        let Ok(bytes) = Vec::from_slice(self.alloc, bytes) else {
+        let Ok(bytes) = Bytes::copy_of(self.alloc, bytes) else {
             return OUT_OF_MEMORY;
         };
-        let bytes = Items::of(bytes);
         self.offer(channel, count, Message::Uart { parity, sub, bytes })
     }
 
@@ -102,10 +101,9 @@ impl<M: BlockMedium> Desk<M> {
     ) -> u32
         ensures { Does M.disk self.old.world (events.Offer channel count (messages.Message data_error format sub bytes.now)) (λ reply. result ≡ number_of reply) self.new.world }
     {
-        let Ok(bytes) = Vec::from_slice(self.alloc, bytes) else {
+        let Ok(bytes) = Bytes::copy_of(self.alloc, bytes) else {
             return OUT_OF_MEMORY;
         };
-        let bytes = Items::of(bytes);
         let message = Message::Message {
             data_error,
             format,

@@ -1,6 +1,6 @@
 // Printed texts, lists and parts.
 
-use r10_count::{Civil, Count, Items, Parts, append_all};
+use r10_count::{Bytes, Civil, Count, Items, Parts, append_all};
 use std::test::Fail;
 
 #[test]
@@ -25,6 +25,8 @@ fn counts_and_times_are_printed(rt: HostRuntime) -> Result<(), Fail> {
 fn a_list_is_copied(rt: HostRuntime) -> Result<(), Fail> {
     let items = Items::of(vec![in rt.alloc(); 1u8, 2, 3]?);
     assert!(rt; items.copied(rt.alloc())? == items);
+    let long = Bytes::of(vec![in rt.alloc(); 7u8; 40]?);
+    assert!(rt; long.copied(rt.alloc())? == long);
     Ok(())
 }
 

@@ -5,7 +5,7 @@ ghost use Rattle.r10_count.specs.Bytes.{flag_at};
 ghost use Rattle.r10_count.specs.Append.{Appends};
 ghost use Rattle.r10_message.specs.Message.{FitsMessage, message_entry, message_of, message_word};
 
-use r10_count::{BodyEntry, Count, Items, append_text, split_u32, unpadded};
+use r10_count::{BodyEntry, Bytes, Count, append_text, split_u32, unpadded};
 use std::alloc::{AllocError, Global};
 
 /// A message with its time.
@@ -20,7 +20,7 @@ pub struct MessageEntry {
     /// The subchannel, below 16,384.
     pub sub: u16,
     /// At most 65,535 bytes.
-    pub bytes: Items<u8>,
+    pub bytes: Bytes,
 }
 
 impl MessageEntry {
@@ -144,7 +144,7 @@ impl BodyEntry for MessageEntry {
             data_error: header / 0x8000_0000 == 1,
             format: header / 0x4000_0000 % 2 == 1,
             sub: (header / 0x1_0000 % 0x4000) as u16,
-            bytes: Items::of(Vec::from_slice(alloc, text)?),
+            bytes: Bytes::copy_of(alloc, text)?,
         }))
     }
 }

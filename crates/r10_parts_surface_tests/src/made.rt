@@ -1,7 +1,7 @@
 //! What the tests hand in.
 
 use r10_body::{ChannelSpec, Entry, Gap, Kind, Message};
-use r10_count::{Count, Items, Parts};
+use r10_count::{Bytes, Count, Parts};
 use r10_indexbody::NodeEntry;
 use std::alloc::Global;
 
@@ -59,7 +59,7 @@ pub(crate) fn empty(alloc: Global) -> Message {
     Message::Uart {
         parity: false,
         sub: 0,
-        bytes: Items::of(Vec::new(alloc)),
+        bytes: Bytes::of(Vec::new(alloc)),
     }
 }
 

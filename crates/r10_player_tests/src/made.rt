@@ -8,7 +8,7 @@ ghost use Rattle.r10_medium.specs.MemoryDisk.{memory_disk};
 
 use r10_body::{ChannelSpec, Kind, Message};
 use r10_control::Recorder;
-use r10_count::{Count, Items, Parts};
+use r10_count::{Bytes, Count, Parts};
 use r10_gauge::Pass;
 use r10_held::{Cabinet, Rings, new_recorders_account_for_their_lanes};
 use r10_machine::Settings;
@@ -108,7 +108,7 @@ pub fn offer(alloc: Global, port: &mut Port, units: u64) -> Result<bool, Fail> {
     let message = Message::Uart {
         parity: false,
         sub: 0,
-        bytes: Items::of(Vec::from_slice(alloc, b"A")?),
+        bytes: Bytes::copy_of(alloc, b"A")?,
     };
     let count = Count::of(units).ok_or("no count")?;
     Ok(port.offer(count, message).is_ok())

@@ -6,7 +6,7 @@ ghost use Rattle.r10_medium.specs.MemoryDisk.{memory_disk};
 
 use r10_body::{ChannelSpec, Kind, Message, Refusal};
 use r10_control::{Recorder, Settings};
-use r10_count::{Items, Parts};
+use r10_count::{Bytes, Items, Parts};
 use r10_lane::RingLane;
 use r10_medium::Memory;
 use r10_volume::format;
@@ -58,7 +58,7 @@ pub(crate) fn uart(alloc: Global, bytes: &[u8]) -> Result<Message, AllocError> {
     Ok(Message::Uart {
         parity: false,
         sub: 0,
-        bytes: text(alloc, bytes)?,
+        bytes: Bytes::copy_of(alloc, bytes)?,
     })
 }
 

@@ -1,7 +1,7 @@
 // Events that are told to a world, and its replies.
 
 use r10_body::{ChannelSpec, Entry, Gap, Kind, Message, Refusal};
-use r10_count::{Count, Items, Parts};
+use r10_count::{Bytes, Count, Items, Parts};
 use r10_machine::{Event, Found, Reply, Settings, Stopped};
 use r10_medium::{BlockMedium, Memory};
 use r10_volume::format;
@@ -115,7 +115,7 @@ fn uart(alloc: Global, bytes: &[u8]) -> Result<Message, AllocError> {
     Ok(Message::Uart {
         parity: false,
         sub: 0,
-        bytes: text(alloc, bytes)?,
+        bytes: Bytes::copy_of(alloc, bytes)?,
     })
 }
 

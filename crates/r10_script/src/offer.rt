@@ -11,7 +11,7 @@ ghost use Rattle.r10_script.specs.Offers.{IsOffered, AreValues, offered_word};
 use crate::settings::kind_of;
 use crate::table::Fields;
 use r10_body::{ChannelSpec, Kind, Message};
-use r10_count::Items;
+use r10_count::{Bytes, Items};
 use r10_lines::{ScriptFault, Wrong};
 
 /// The message that a step offers to this channel: of the kind that the step names, or else of the channel's.
@@ -101,7 +101,7 @@ fn uart_of(fields: Fields<'_>) -> Result<Message, ScriptFault>
 {
     let parity = fields.truth_or_false("parity")?;
     let sub = fields.short_or_zero("sub")?;
-    let bytes = Items::of(fields.bytes_or_none("bytes")?);
+    let bytes = Bytes::of(fields.bytes_or_none("bytes")?);
     Ok(Message::Uart { parity, sub, bytes })
 }
 
@@ -142,7 +142,7 @@ fn bytes_of(fields: Fields<'_>) -> Result<Message, ScriptFault>
     let data_error = fields.truth_or_false("data")?;
     let format = fields.truth_or_false("format")?;
     let sub = fields.short_or_zero("sub")?;
-    let bytes = Items::of(fields.bytes_or_none("bytes")?);
+    let bytes = Bytes::of(fields.bytes_or_none("bytes")?);
     Ok(Message::Message {
         data_error,
         format,

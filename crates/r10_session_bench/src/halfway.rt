@@ -1,7 +1,7 @@
 //! Sources that say when half of their messages were asked for, and a gate that lets the one who gives orders wait for it.
 
 use r10_body::{Message, Timed};
-use r10_count::{Count, Items};
+use r10_count::{Bytes, Count};
 use r10_shared::Gate;
 use r10_source::{ChannelSource, Given};
 use std::alloc::{AllocError, Global};
@@ -44,7 +44,7 @@ fn message(alloc: Global, number: u32, bytes: &[u8]) -> Result<Timed, AllocError
     let message = Message::Uart {
         parity: false,
         sub: 0,
-        bytes: Items::of(Vec::from_slice(alloc, bytes)?),
+        bytes: Bytes::copy_of(alloc, bytes)?,
     };
     Ok(Timed { count, message })
 }

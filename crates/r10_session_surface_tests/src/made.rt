@@ -9,7 +9,7 @@ ghost use Rattle.r10_medium.specs.MemoryDisk.{memory_disk};
 
 use r10_body::{ChannelSpec, Kind, Message, Timed};
 use r10_control::{Recorder, Settings};
-use r10_count::{Count, Items, Parts};
+use r10_count::{Bytes, Count, Items, Parts};
 use r10_held::new_recorders_account_for_their_lanes;
 use r10_medium::Memory;
 use r10_port::{Outlet, Port, lane};
@@ -66,7 +66,7 @@ fn empty(alloc: Global) -> Message {
     Message::Uart {
         parity: false,
         sub: 0,
-        bytes: Items::of(Vec::new(alloc)),
+        bytes: Bytes::of(Vec::new(alloc)),
     }
 }
 

@@ -1,7 +1,7 @@
 // A source that gives what it was made of.
 
 use r10_body::{Message, Timed};
-use r10_count::{Count, Items};
+use r10_count::{Bytes, Count};
 use r10_source::{ChannelSource, Given};
 use std::alloc::Global;
 use std::collections::VecDeque;
@@ -33,7 +33,7 @@ impl Listed {
             let message = Message::Uart {
                 parity: false,
                 sub: 0,
-                bytes: Items::of(Vec::new(alloc)),
+                bytes: Bytes::of(Vec::new(alloc)),
             };
             left.push_back(Timed { count, message })?;
         }

@@ -1,7 +1,7 @@
 //! A source that gives what it was made of, and what its messages are.
 
 use r10_body::{Gap, Message, Timed};
-use r10_count::{Count, Items};
+use r10_count::{Bytes, Count};
 use r10_source::{ChannelSource, Given};
 use std::alloc::{AllocError, Global};
 use std::collections::VecDeque;
@@ -42,7 +42,7 @@ fn message(alloc: Global, number: u8) -> Result<Timed, AllocError> {
     let message = Message::Uart {
         parity: false,
         sub: 0,
-        bytes: Items::of(Vec::from_slice(alloc, &[number])?),
+        bytes: Bytes::copy_of(alloc, &[number])?,
     };
     Ok(Timed { count, message })
 }

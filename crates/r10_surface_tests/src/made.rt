@@ -1,7 +1,7 @@
 //! What the tests hand in.
 
 use r10_body::{ChannelSpec, Entry, Gap, Kind, Message};
-use r10_count::{Civil, Count, Items, Parts};
+use r10_count::{Bytes, Civil, Count, Parts};
 use r10_indexbody::NodeEntry;
 use std::alloc::{AllocError, Global};
 use std::test::Fail;
@@ -69,7 +69,7 @@ pub(crate) fn uart(alloc: Global, bytes: &[u8]) -> Result<Message, AllocError> {
     Ok(Message::Uart {
         parity: false,
         sub: 0,
-        bytes: Items::of(Vec::from_slice(alloc, bytes)?),
+        bytes: Bytes::copy_of(alloc, bytes)?,
     })
 }
 

@@ -5,7 +5,7 @@ use r10_body::{
     ChannelSpec, FileFault, Gap, Glance, Kind, Message, Refusal, Timed, cost, decode, encode,
     is_opaque,
 };
-use r10_count::{Items, Reading};
+use r10_count::{Bytes, Items, Reading};
 use r10_packet::Header;
 use std::alloc::Global;
 use std::test::Fail;
@@ -23,7 +23,7 @@ fn one_of_each(alloc: Global) -> Result<[(Kind, Message, u64); 5], Fail> {
         data_error: false,
         format: false,
         sub: 1,
-        bytes: Items::of(b"A".to_vec(alloc)?),
+        bytes: Bytes::copy_of(alloc, b"A")?,
     };
     Ok([
         (Kind::Uart, uart, 15),
@@ -109,7 +109,7 @@ fn a_channel_checks_messages(rt: HostRuntime) -> Result<(), Fail> {
     let bad = Message::Uart {
         parity: false,
         sub: 16_384,
-        bytes: Items::of(Vec::new(alloc)),
+        bytes: Bytes::of(Vec::new(alloc)),
     };
     let long = uart(alloc, &[0; 65_536])?;
     for (message, answer) in [

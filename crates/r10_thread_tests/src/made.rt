@@ -1,7 +1,7 @@
 // What the tests send.
 
 use r10_body::{ChannelSpec, Kind, Message};
-use r10_count::{Count, Items};
+use r10_count::{Bytes, Count};
 use std::alloc::Global;
 
 /// A UART channel that has room for two.
@@ -20,7 +20,7 @@ pub fn empty(alloc: Global) -> Message {
     Message::Uart {
         parity: false,
         sub: 0,
-        bytes: Items::of(Vec::new(alloc)),
+        bytes: Bytes::of(Vec::new(alloc)),
     }
 }
 
