@@ -1,7 +1,7 @@
 // Messages and refusals.
 
 use r10_body::{Entry, FileFault, Gap, Glance, Message, Refusal, Sample};
-use r10_count::{Civil, Count, Items, Parts};
+use r10_count::{Bytes, Civil, Count, Items, Parts};
 use std::alloc::{AllocError, Global};
 use std::test::Fail;
 
@@ -24,7 +24,7 @@ fn one_of_each(alloc: Global) -> Result<[Message; 7], Fail> {
         Message::Uart {
             parity: false,
             sub: 7,
-            bytes: Items::of(b"ABC".to_vec(alloc)?),
+            bytes: Bytes::copy_of(alloc, b"ABC")?,
         },
         Message::Bus1553 {
             status: 0x2000,
@@ -43,7 +43,7 @@ fn one_of_each(alloc: Global) -> Result<[Message; 7], Fail> {
             data_error: true,
             format: false,
             sub: 1,
-            bytes: Items::of(b"A".to_vec(alloc)?),
+            bytes: Bytes::copy_of(alloc, b"A")?,
         },
         Message::Time { civil },
         Message::Event {

@@ -48,7 +48,7 @@ fn a_packet_tells_its_facts(rt: HostRuntime) -> Result<(), Fail> {
             rise: true,
         }),
     };
-    let read = read_strict(rt.alloc(), &UART)?;
+    let read = read_strict(&UART);
     assert!(rt; read == StrictReading::Strict(facts));
     Ok(())
 }
@@ -83,7 +83,7 @@ fn a_time_tells_its_facts(rt: HostRuntime) -> Result<(), Fail> {
             rise: true,
         }),
     };
-    let read = read_strict(rt.alloc(), &TIME)?;
+    let read = read_strict(&TIME);
     assert!(rt; read == StrictReading::Strict(facts));
     Ok(())
 }
@@ -107,7 +107,7 @@ fn a_report_tells_its_facts(rt: HostRuntime) -> Result<(), Fail> {
         cost: 0,
         counts: None,
     };
-    let read = read_strict(rt.alloc(), &REPORT)?;
+    let read = read_strict(&REPORT);
     assert!(rt; read == StrictReading::Strict(facts));
     Ok(())
 }

@@ -49,7 +49,7 @@ impl Judge {
     }
 
     /// Takes the next packet, whoever wrote it. Where memory is refused, it isn't taken.
-    pub fn take(&mut self, alloc: Global, packet: &[u8]) -> Result<(), AllocError>
+    pub fn take(&mut self, packet: &[u8]) -> Result<(), AllocError>
         ensures taken { (before : List ℕ) → TracksJudged self.old before → IsForeignPacket packet.now → length (before ++ packet.now) < 2 ^ 63 → OnOk result (TracksJudged self.new (before ++ packet.now)) }
         ensures kept { (before : List ℕ) → TracksJudged self.old before → OnErr result (TracksJudged self.new before) }
         ensures closed { self.new.closed ≡ self.old.closed }
@@ -57,10 +57,8 @@ impl Judge {
         if self.is_broken() {
             return Ok(());
         }
-        match read_checked(alloc, packet) {
-            Ok(reading) => self.take_read(&reading, packet),
-            Err(error) => Err(error),
-        }
+        let reading = read_checked(packet);
+        self.take_read(&reading, packet)
     }
 
     /// Takes the next packet, whoever wrote it, of which this is what its strict reading finds. Where memory is refused, it
@@ -91,7 +89,6 @@ impl Judge {
     /// read once. A packet at fault isn't taken.
     pub(crate) fn take_first(
         &mut self,
-        alloc: Global,
         bytes: &[u8],
     ) -> Result<Result<ForeignPacket, FileFault>, AllocError>
         ensures found { IfOk result (λ r. IfOk r (IsFirst bytes.now)) }
@@ -104,10 +101,9 @@ impl Judge {
         if self.is_broken() {
             return Ok(read_foreign(bytes));
         }
-        match read_any(alloc, bytes) {
-            Ok(Ok(any)) => self.take_any(&any, bytes),
-            Ok(Err(fault)) => Ok(Err(fault)),
-            Err(error) => Err(error),
+        match read_any(bytes) {
+            Ok(any) => self.take_any(&any, bytes),
+            Err(fault) => Ok(Err(fault)),
         }
     }
 

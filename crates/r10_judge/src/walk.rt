@@ -42,7 +42,7 @@ impl Walk {
     }
 
     /// Takes the packets that stand in bytes, up to the first that is at fault.
-    pub(crate) fn take(&mut self, alloc: Global, bytes: &[u8]) -> Result<Taken, AllocError>
+    pub(crate) fn take(&mut self, bytes: &[u8]) -> Result<Taken, AllocError>
         requires { (before : List ℕ) × TracksWalked self.old before × (length before + length bytes.now < 2 ^ 63) }
         ensures stands { IfOk result (λ taken. (before : List ℕ) → TracksWalked self.old before → TracksWalked self.new (before ++ take taken.length bytes.now)) }
         ensures inside { IfOk result (λ taken. taken.length ≤ length bytes.now) }
@@ -53,7 +53,7 @@ impl Walk {
         let mut done = 0;
         while done < bytes.len() {
             let rest = &bytes[done..];
-            let packet = match self.judge.take_first(alloc, rest)? {
+            let packet = match self.judge.take_first(rest)? {
                 Ok(packet) => packet,
                 Err(fault) => {
                     let fault = Some(fault);

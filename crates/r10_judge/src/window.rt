@@ -34,7 +34,7 @@ pub fn walk_bytes(alloc: Global, bytes: &[u8], closed: bool) -> Result<Walked, A
     ensures closed { IfOk result (λ walked. walked.walk.judge.closed ≡ closed) }
 {
     let mut walk = Walk::new(alloc, closed);
-    let taken = walk.take(alloc, bytes)?;
+    let taken = walk.take(bytes)?;
     Ok(Walked {
         walk,
         fault: taken.fault,
@@ -62,7 +62,7 @@ pub fn walk_file<M: BlockMedium>(
     let mut at = 0;
     let mut window = WINDOW;
     while at < extent.size {
-        let taken = match take_window(alloc, medium, extent, at, window, &mut walk, buffer) {
+        let taken = match take_window(medium, extent, at, window, &mut walk, buffer) {
             Ok(taken) => taken,
             Err(fault) => return Err(fault),
         };
@@ -97,7 +97,6 @@ fn next_window(window: usize, taken: usize) -> usize
 /// Reads a window of a file from an offset on, and takes its packets. What the window's end cuts off is
 /// no fault.
 fn take_window<M: BlockMedium>(
-    alloc: Global,
     medium: &mut M,
     extent: Extent,
     at: usize,
@@ -124,7 +123,7 @@ fn take_window<M: BlockMedium>(
         Ok(bytes) => bytes,
         Err(fault) => return Err(fault),
     };
-    let Ok(taken) = walk.take(alloc, bytes) else {
+    let Ok(taken) = walk.take(bytes) else {
         return Err(ReadFault::OutOfMemory);
     };
     Ok(Taken {

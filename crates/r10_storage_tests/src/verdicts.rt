@@ -124,9 +124,8 @@ fn an_unclosed_file_has_no_index(rt: HostRuntime) -> Result<(), Fail> {
 
 #[test]
 fn a_setup_alone_lacks_a_time(rt: HostRuntime) -> Result<(), Fail> {
-    let alloc = rt.alloc();
-    let mut judge = Judge::new(alloc, false);
-    judge.take(alloc, &FIRST[..32])?;
+    let mut judge = Judge::new(rt.alloc(), false);
+    judge.take(&FIRST[..32])?;
     let offset = 32;
     let fault = FileFault::Rule(4);
     assert!(rt; judge.end() == Some(Fault { offset, fault }));

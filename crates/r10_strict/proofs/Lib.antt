@@ -4,11 +4,14 @@ pub mod Parts
 pub mod Findings
 pub mod Tallies
 pub mod Retelling
-pub mod Telling
 pub mod Scanned
+pub mod IndexEntries
 pub mod Texts
 pub mod Once
 pub mod Glances
+pub mod Buses
+pub mod FixedEntries
+pub mod Contents
 pub mod Fronts
 pub mod Faults
 pub mod Words

@@ -1,12 +1,9 @@
 -- What entries come to, one by one.
-use Rattle.std.specs.Prelude.{ℕ, ◌+◌, Bool, true, ◌&&◌, nat_le, max, List, [], ◌∷◌, Option, Some, None, ◌==◌, if◌then◌else◌}
+use Rattle.std.specs.Prelude.{ℕ, ◌+◌, true, ◌&&◌, nat_le, max, List, Option, Some, None}
 use Rattle.std.specs.List.{fold}
 use Rattle.r10_body.specs.declared.entry.Timed.{Timed}
 use Rattle.r10_body.specs.Cost.{each_entry, message_cost}
-use Rattle.r10_body.specs.declared.message.Message.TheVariants as messages
 use Rattle.r10_strict.specs.declared.facts.Spread.{Spread}
-use Rattle.r10_strict.specs.declared.facts.PacketKind.{PacketKind}
-use Rattle.r10_strict.specs.declared.facts.PacketKind.TheVariants.{Setup, Time, Event, Data, Node, Root}
 use Rattle.r10_strict.specs.declared.tally.Tally.{Tally}
 
 -- what an entry of a message costs
@@ -31,8 +28,3 @@ empty_tally = record { entries = 0; cost = 0; counts = None }
 -- what messages come to
 abbrev pub tally_of : List Timed → Tally
 tally_of messages = fold with_message empty_tally messages
-
--- what a packet with these messages is that is no loss report, where one without messages is told by its data type and by its word
-abbrev pub told_kind : ℕ → Bool → List Timed → PacketKind
-told_kind type node [] = if type == 1 then Setup else if node then Node else Root
-told_kind type node (t ∷ ts) = elim t.message [ messages.Time civil ↦ Time civil | messages.Event number occurrence ↦ Event number occurrence | _ ↦ Data ]

@@ -4,18 +4,23 @@
 
 mod any;
 mod body;
+mod bus;
+mod channels;
 mod entries;
 mod facts;
 mod file;
 mod filler;
+mod fixed;
 mod foreign_body;
 mod glance;
+mod index;
 mod laws;
 mod packet;
 mod scan;
 mod strict;
 mod tally;
 mod text;
+mod told;
 
 pub use any::{AnyPacket, read_any};
 pub use facts::{Facts, PacketKind, Spread};
@@ -26,3 +31,4 @@ pub use laws::{
 };
 pub use packet::{ForeignPacket, read_foreign};
 pub use strict::{StrictReading, read_checked, read_strict};
+pub use text::{TextEntry, split_text};

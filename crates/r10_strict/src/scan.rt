@@ -1,9 +1,9 @@
 //! Entries read where they stand.
 
-ghost use Rattle.std.specs.Prelude.{◌≡◌, ◌++◌, ◌≤◌, ◌&&◌, ℕ, List, map, max, nat_le, IfSome, IfNone, length};
-ghost use Rattle.r10_count.specs.Form.{IsSpelled};
+ghost use Rattle.std.specs.Prelude.{◌≡◌, ◌++◌, ◌≤◌, ◌&&◌, ℕ, List, map, max, nat_le, true, IfSome, IfNone, length};
+ghost use Rattle.r10_count.specs.Form.{IsBody};
 ghost use Rattle.r10_body.specs.declared.entry.Timed.{Timed as TimedValue};
-ghost use Rattle.r10_strict.specs.Glance.{IsGlimpse, IsPlain};
+ghost use Rattle.r10_strict.specs.Glance.{AreEntries, IsGlimpse};
 ghost use Rattle.r10_strict.specs.Tally.{tally_of};
 
 use crate::facts::Spread;
@@ -23,11 +23,15 @@ pub(crate) trait Glance: BodyEntry {
     /// The message of an entry, with its count.
     ghost said: { Self → TimedValue };
 
+    /// Whether an entry at this count may come first in a packet of this counter.
+    fn may_open(counter: u64, count: Count) -> bool
+        ensures { (e : Self) → Self.form.count e ≡ count → result ≡ Self.form.opens counter e };
+
     /// What the entry comes to that stands first, and the bytes behind it, if the writer spells one so behind
-    /// an entry at a count.
-    fn glance(before: u64, bytes: &[u8]) -> Option<(Glimpse, &[u8])>
-        ensures found { IfSome result (λ x. (e : Self) × IsGlimpse Self.form said before (Self.form.spelled before e) x.0 e × (bytes.now ≡ Self.form.spelled before e ++ x.1.now)) }
-        ensures none { IfNone result ((e : Self) (rest : List ℕ) → Self.form.Fits before e → bytes.now ≡ Self.form.spelled before e ++ rest → ⊥) };
+    /// an entry at a count, on a channel of this setting.
+    fn glance(setting: u32, before: u64, bytes: &[u8]) -> Option<(Glimpse, &[u8])>
+        ensures found { IfSome result (λ x. (e : Self) × IsGlimpse Self.form said setting before (Self.form.spelled before e) x.0 e × (bytes.now ≡ Self.form.spelled before e ++ x.1.now)) }
+        ensures none { IfNone result ((e : Self) (rest : List ℕ) → Self.form.Fits before e → Self.form.suits setting e ≡ true → bytes.now ≡ Self.form.spelled before e ++ rest → ⊥) };
 }
 
 /// The greater of two counts.
@@ -46,26 +50,27 @@ fn goes_on(rise: bool, greatest: Count, count: Count) -> bool
     rise && greatest <= count
 }
 
-/// What the entries come to that the writer spells with these bytes behind one at a count, if there
-/// are such.
-fn scan<E: Glance>(before: u64, bytes: &[u8]) -> Option<Tally>
+/// What the entries come to that the writer makes these bytes of, on a channel of this setting and in a packet of this
+/// counter, if there are such. It is a function of its own in the program too, so that what each turn carries stays in registers.
+#[inline(never)]
+fn scan<E: Glance>(setting: u32, counter: u64, bytes: &[u8]) -> Option<Tally>
     requires { length bytes.now ≤ 524_288 }
-    ensures found { IfSome result (λ t. (entries : List E) × IsSpelled E.form before entries bytes.now × (t ≡ tally_of (map E.said entries))) }
-    ensures none { IfNone result ((entries : List E) → IsSpelled E.form before entries bytes.now → ⊥) }
+    ensures found { IfSome result (λ t. (entries : List E) × AreEntries E.form setting counter entries bytes.now × (t ≡ tally_of (map E.said entries))) }
+    ensures none { IfNone result ((entries : List E) → AreEntries E.form setting counter entries bytes.now → ⊥) }
 {
-    if bytes.is_empty() {
-        return Some(Tally::new());
-    }
-    let Some((first, behind)) = E::glance(before, bytes) else {
+    let Some((first, behind)) = E::glance(setting, counter, bytes) else {
         return None;
     };
+    if !E::may_open(counter, first.count) {
+        return None;
+    }
     let mut rest = behind;
     let mut entries = 1;
     let mut cost = first.cost;
     let mut last = first.count;
     let mut greatest = first.count;
     let mut rise = true;
-    while let Some((glimpse, after)) = E::glance(last.get(), rest) {
+    while let Some((glimpse, after)) = E::glance(setting, last.get(), rest) {
         last = glimpse.count;
         rise = goes_on(rise, greatest, last);
         greatest = higher(greatest, last);
@@ -88,20 +93,21 @@ fn scan<E: Glance>(before: u64, bytes: &[u8]) -> Option<Tally>
     })
 }
 
-/// What the entries of a body come to, if the writer makes the body of some.
-pub(crate) fn scan_body<E: Glance>(body: &[u8]) -> Option<Tally>
+/// What the entries of a body come to, if the writer makes the body of some on a channel of this setting, in a packet of
+/// this counter.
+pub(crate) fn scan_body<E: Glance>(setting: u32, counter: u64, body: &[u8]) -> Option<Tally>
     requires { length body.now ≤ 524_288 }
-    ensures found { IfSome result (λ t. (entries : List E) × IsPlain E.form entries body.now × (t ≡ tally_of (map E.said entries))) }
-    ensures none { IfNone result ((entries : List E) → IsPlain E.form entries body.now → ⊥) }
+    ensures found { IfSome result (λ t. (entries : List E) × IsBody E.form setting counter entries body.now × (t ≡ tally_of (map E.said entries))) }
+    ensures none { IfNone result ((entries : List E) → IsBody E.form setting counter entries body.now → ⊥) }
 {
     let Some((word, rest)) = split_u32(body) else {
         return None;
     };
-    let Some(tally) = scan::<E>(0, rest) else {
+    let Some(tally) = scan::<E>(setting, counter, rest) else {
         return None;
     };
     let number = tally.entries;
-    if number == 0 || word != E::word(0, number) || !E::agrees(word, number) {
+    if word != E::word(setting, number) || !E::agrees(word, number) {
         return None;
     }
     Some(tally)

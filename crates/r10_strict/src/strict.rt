@@ -1,6 +1,6 @@
 //! Strict packets.
 
-ghost use Rattle.std.specs.Prelude.{◌≡◌, ◌↔◌, ◌≤◌, true, length, IsTrue, IsSomeAnd, IfSome, IfOk, None};
+ghost use Rattle.std.specs.Prelude.{◌≡◌, ◌↔◌, ◌≤◌, true, length, IsTrue, IsSomeAnd, IfSome, None};
 ghost use Rattle.r10_packet.specs.Framing.{framing_fault, has_data_checksum, header_at, body_at, data_sum_of};
 ghost use Rattle.r10_body.specs.Faults.{KeepsFiller, first_packet};
 ghost use Rattle.r10_body.specs.Foreign.{IsForeignPacket};
@@ -12,7 +12,6 @@ use crate::facts::Facts;
 use crate::filler::is_least;
 use r10_body::is_opaque;
 use r10_packet::{DataSum, Header, Packet, PacketView, decode_header};
-use std::alloc::{AllocError, Global};
 
 /// What the strict reading of the packet that stands first finds.
 #[derive(Clone, Copy, Debug, PartialEq, Eq)]
@@ -82,58 +81,52 @@ fn parts(bytes: &[u8]) -> Option<(Header, &[u8])>
 
 /// What the strict reading finds of the packet that stands first and has this header and this body. It is told whether the
 /// data checksum is right, and stands behind the least filler.
-pub(crate) fn find(
-    alloc: Global,
-    header: &Header,
-    body: &[u8],
-    filled: bool,
-    bytes: &[u8],
-) -> Result<StrictReading, AllocError>
+pub(crate) fn find(header: &Header, body: &[u8], filled: bool, bytes: &[u8]) -> StrictReading
     requires short { length body.now ≤ header.now.packet_len }
     ensures { header.now ≡ header_at bytes.now → body.now ≡ body_at bytes.now → framing_fault bytes.now ≡ None
-        → (IsTrue filled ↔ ((has_data_checksum bytes.now ≡ true) × KeepsFiller bytes.now)) → IfOk result (FindsPacket bytes.now) }
+        → (IsTrue filled ↔ ((has_data_checksum bytes.now ≡ true) × KeepsFiller bytes.now)) → FindsPacket bytes.now result }
 {
     if !is_own(header) {
-        return Ok(StrictReading::Breaks(1));
+        return StrictReading::Breaks(1);
     }
     if !filled {
         let rule = if is_opaque(header, body) { 3 } else { 2 };
-        return Ok(StrictReading::Breaks(rule));
+        return StrictReading::Breaks(rule);
     }
     if !keeps_checksum(header) {
-        return Ok(StrictReading::Breaks(3));
+        return StrictReading::Breaks(3);
     }
-    match read_body(alloc, header, body)? {
-        Some(facts) => Ok(StrictReading::Strict(facts)),
-        None => Ok(StrictReading::Breaks(3)),
+    match read_body(header, body) {
+        Some(facts) => StrictReading::Strict(facts),
+        None => StrictReading::Breaks(3),
     }
 }
 
 /// Reads the packet that stands first in bytes: what it says to the rules of a file, if it is as this
 /// recorder writes it, else the least of the first three rules that it breaks. Where the bytes begin
-/// with no packet of any recorder's, the number says nothing.
-pub fn read_strict(alloc: Global, bytes: &[u8]) -> Result<StrictReading, AllocError>
-    ensures { IfOk result (FindsPacket bytes.now) }
+/// with no packet of any recorder's, the number says nothing. It takes no memory.
+pub fn read_strict(bytes: &[u8]) -> StrictReading
+    ensures { FindsPacket bytes.now result }
 {
     match Packet::read(bytes) {
         Ok((view, _)) => {
             let filled = is_filled(&view, bytes);
-            find(alloc, &view.header, view.body, filled, bytes)
+            find(&view.header, view.body, filled, bytes)
         }
-        Err(_) => Ok(StrictReading::Breaks(3)),
+        Err(_) => StrictReading::Breaks(3),
     }
 }
 
 /// Reads the packet that stands first in bytes and that any recorder may have written, as `read_strict` does. Where it
 /// isn't opaque its data checksum is known to be right, and isn't computed again.
-pub fn read_checked(alloc: Global, bytes: &[u8]) -> Result<StrictReading, AllocError>
-    ensures { IsForeignPacket (first_packet bytes.now) → IfOk result (FindsPacket bytes.now) }
+pub fn read_checked(bytes: &[u8]) -> StrictReading
+    ensures { IsForeignPacket (first_packet bytes.now) → FindsPacket bytes.now result }
 {
     let Some((header, body)) = parts(bytes) else {
-        return read_strict(alloc, bytes);
+        return read_strict(bytes);
     };
     if is_opaque(&header, body) {
-        return read_strict(alloc, bytes);
+        return read_strict(bytes);
     }
-    find(alloc, &header, body, is_least(&header, bytes), bytes)
+    find(&header, body, is_least(&header, bytes), bytes)
 }

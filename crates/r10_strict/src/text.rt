@@ -8,18 +8,18 @@ ghost use Rattle.r10_count.specs.Padding.{padded};
 
 use r10_count::{Count, split_u32};
 
-/// What stands behind so many bytes and their padding.
+/// So many bytes, and what stands behind them and their padding.
 #[inline(always)]
-fn behind_bytes(bytes: &[u8], size: usize) -> Option<&[u8]>
-    ensures found { IfSome result (λ rest. (text : List ℕ) × (length text ≡ size) × (bytes.now ≡ padded text ++ rest.now)) }
+fn split_bytes(bytes: &[u8], size: usize) -> Option<(&[u8], &[u8])>
+    ensures found { IfSome result (λ x. (length x.0.now ≡ size) × (bytes.now ≡ padded x.0.now ++ x.1.now)) }
     ensures none { IfNone result ((text rest : List ℕ) → length text ≡ size → bytes.now ≡ padded text ++ rest → ⊥) }
 {
     if bytes.len() < size {
         return None;
     }
-    let (_, behind) = bytes.split_at(size);
+    let (text, behind) = bytes.split_at(size);
     if size % 2 == 0 {
-        return Some(behind);
+        return Some((text, behind));
     }
     let Some((padding, rest)) = behind.split_first() else {
         return None;
@@ -27,22 +27,25 @@ fn behind_bytes(bytes: &[u8], size: usize) -> Option<&[u8]>
     if *padding != 0 {
         return None;
     }
-    Some(rest)
+    Some((text, rest))
 }
 
-/// What stands in front of the bytes of an entry, and behind it.
+/// An entry of bytes that stands first.
 #[derive(Clone, Copy, Debug)]
-pub(crate) struct Front<'a> {
-    pub(crate) count: Count,
-    pub(crate) header: u32,
+pub struct TextEntry<'a> {
+    pub count: Count,
+    /// Flags and subchannel, and in the low half the number of its bytes.
+    pub header: u32,
+    /// Its bytes, without their padding.
+    pub text: &'a [u8],
     /// What stands behind the entry.
-    pub(crate) rest: &'a [u8],
+    pub rest: &'a [u8],
 }
 
-/// The stamp and the header of the entry that stands first, and what stands behind it.
+/// The stamp, the header and the bytes of the entry that stands first, and what stands behind it; `None` where no such entry does.
 #[inline(always)]
-pub(crate) fn split_text(bytes: &[u8]) -> Option<Front<'_>>
-    ensures found { IfSome result (λ f. (text : List ℕ) × (length text ≡ f.header % 65536) × (bytes.now ≡ stamp f.count ++ le_bytes 4 f.header ++ padded text ++ f.rest.now)) }
+pub fn split_text(bytes: &[u8]) -> Option<TextEntry<'_>>
+    ensures found { IfSome result (λ f. (length f.text.now ≡ f.header % 65536) × (bytes.now ≡ stamp f.count ++ le_bytes 4 f.header ++ padded f.text.now ++ f.rest.now)) }
     ensures none { IfNone result ((count header : ℕ) (text rest : List ℕ) → IsCount count → header < 2 ^ 32 → length text ≡ header % 65536
         → bytes.now ≡ stamp count ++ le_bytes 4 header ++ padded text ++ rest → ⊥) }
 {
@@ -55,12 +58,13 @@ pub(crate) fn split_text(bytes: &[u8]) -> Option<Front<'_>>
     let Some((header, rest)) = split_u32(rest) else {
         return None;
     };
-    let Some(rest) = behind_bytes(rest, (header % 0x1_0000) as usize) else {
+    let Some((text, rest)) = split_bytes(rest, (header % 0x1_0000) as usize) else {
         return None;
     };
-    Some(Front {
+    Some(TextEntry {
         count,
         header,
+        text,
         rest,
     })
 }

@@ -36,7 +36,7 @@ returns-in-Some-clause-found c =
     let same = same_opaque c.args.bytes.now header body c.is_opaque-opaque.result read.header read.body c.is_opaque-opaque.ensures in
     let right : c.in-Ok.read.0.data_sum ≡ Right = search rules in
     let own = alone c.args.bytes.now body header c.in-Ok.read.1 read.sound read.header read.body read.size.0 in
-    let foreign = rw c.in-Some.is at c.in_ok-reading-2.ensures.foreign in
+    let foreign = c.in-Some.ensures.foreign in
     first_is c.args.bytes.now _ read.sound read.size.0 same
     (λ clear. (read.right.0 right, body_here c.args.bytes.now header body read.header read.body (foreign own.header own.body_is own.sound (own.sum ∙ read.right.0 right))))
 
@@ -45,7 +45,7 @@ returns-in-Some-clause-reading c =
     let read = c.in-Ok.ensures in
     let right : c.in-Ok.read.0.data_sum ≡ Right = search rules in
     let own = alone c.args.bytes.now c.in-Ok.read.0.body.now c.in-Ok.read.0.header c.in-Ok.read.1 read.sound read.header read.body read.size.0 in
-    let finds = rw c.in-Some.is at c.in_ok-reading-2.ensures.found in
+    let finds = c.in-Some.ensures.found in
     finds own.header own.body_is own.sound (own.sum ∙ read.right.0 right)
 
 pub returns-in-None-clause-fault : goal.returns-in-None-clause-fault
@@ -55,5 +55,5 @@ returns-in-None-clause-fault c =
     let body = c.in-Ok.read.0.body.now in
     let same = same_opaque c.args.bytes.now header body c.is_opaque-opaque.result read.header read.body c.is_opaque-opaque.ensures in
     let right : c.in-Ok.read.0.data_sum ≡ Right = search rules in
-    let none = rw c.in-None.is at c.in_ok-reading-2.ensures.none in
+    let none = c.in-None.ensures.none in
     (read.sound, sym same ∙ c.if-opaque.false, read.right.0 right, λ is. none (body_there c.args.bytes.now header body read.header read.body is))

@@ -28,12 +28,12 @@ read_body-requires c =
 pub returns-in-Some : goal.returns-in-Some
 returns-in-Some c = λ header body framed filled.
     let own = is_own c.args.bytes.now c.args.header.now c.is_own.result header c.is_own.ensures (search rules) in
-    let found = rw c.in-Some.is at c.in_ok-facts.ensures.found in
+    let found = c.in-Some.ensures.found in
     found_strict c.args.bytes.now c.args.header.now c.args.body.now c.in-Some.facts found.0 (λ i. let fits = c.type_inv.bytes i in search rules)
     framed header body own (filled.0 (search rules)) (c.keeps_checksum.ensures.0 (search rules)) found.1 found.2
 
 pub returns-in-None : goal.returns-in-None
 returns-in-None c = λ header body framed filled.
     let own = is_own c.args.bytes.now c.args.header.now c.is_own.result header c.is_own.ensures (search rules) in
-    let none = rw c.in-None.is at c.in_ok-facts.ensures.none in
+    let none = c.in-None.ensures.none in
     found_nothing c.args.bytes.now c.args.header.now c.args.body.now header body own (filled.0 (search rules)) none

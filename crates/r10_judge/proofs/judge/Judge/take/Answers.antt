@@ -7,6 +7,6 @@ pub returns-then-is_broken-clause-taken : goal.returns-then-is_broken-clause-tak
 returns-then-is_broken-clause-taken c = λ before stands foreign short.
     still_broken c.args.self.now.broken c.args.self.now.closed c.args.self.now.tracks before c.args.packet.now (sym c.is_broken.ensures ∙ c.if-is_broken.true) stands
 
-pub returns-in-Ok-clause-taken : goal.returns-in-Ok-clause-taken
-returns-in-Ok-clause-taken c = λ before stands foreign short.
-    c.take_read.ensures.taken before stands foreign (c.in-Ok.ensures (subst IsForeignPacket (sym (whole_first c.args.packet.now foreign)) foreign)) short
+pub returns-clause-taken : goal.returns-clause-taken
+returns-clause-taken c = λ before stands foreign short.
+    c.take_read.ensures.taken before stands foreign (c.read_checked-reading.ensures (subst IsForeignPacket (sym (whole_first c.args.packet.now foreign)) foreign)) short
