@@ -23,3 +23,6 @@ mod Stepping
 mod FirstPackets
 mod Lower
 mod Moving
+mod Adding
+mod FirstEntries
+mod KindBodies

@@ -9,3 +9,4 @@ pub mod Searches
 pub mod Standing
 pub mod Read
 pub mod Steps
+pub mod Telling

@@ -5,12 +5,15 @@
 mod books;
 mod count;
 mod cursor;
+mod entries;
 mod fault;
 mod kept;
+mod kinds;
 mod laws;
 mod listing;
 mod looked;
 mod packet;
+mod range;
 mod reader;
 mod refusal;
 mod replay;
