@@ -23,7 +23,18 @@ PLAIN = TOP / 'bench' / 'target' / 'release' / 'r10_plain'
 PROVED = TOP / 'crates' / 'r10_bench' / 'out' / 'r10_bench'
 
 # Each measure: its name, what it is, and its unit.
-FILES = (('1,024', 4, 3, 32), ('1,024', 4, 2, 16), ('1,024', 256, 3, 32), ('1,024', 256, 2, 16), ('64', 4, 3, 32), ('8', 4, 3, 32))
+KINDS = {
+    'UART messages': 'uart',
+    'message channel messages': 'message',
+    'MIL-STD-1553 messages': 'bus',
+    'ARINC 429 words': 'arinc',
+    'discrete states': 'discrete',
+}
+FILES = (
+    ('UART messages', 1024, 4, 3), ('UART messages', 1024, 4, 2), ('UART messages', 1024, 256, 3), ('UART messages', 1024, 256, 2), ('UART messages', 64, 4, 3),
+    ('UART messages', 8, 4, 3), ('message channel messages', 64, 4, 3), ('MIL-STD-1553 messages', 4, 4, 3), ('MIL-STD-1553 messages', 64, 4, 3), ('ARINC 429 words', 4, 4, 3),
+    ('discrete states', 4, 4, 3),
+)
 MEASURES = [
     ('recorder', 'whole recorder, messages of 32 bytes: offer, pump, commit and stop', 'messages/s'),
     ('replay', 'replay of the closed file in one instalment', 'entries/s'),
@@ -35,8 +46,8 @@ MEASURES = [
     ('find-20000', 'find, packets of a channel 8 ms apart', 'ns'),
     ('find-2000', 'find, packets of a channel 0.8 ms apart', 'ns'),
     ('close', 'index of a file of packets of one message each', 'bytes/s'),
-] + [('judge-%d-%d-%s' % (channels, flags, size.replace(',', '')),
-      'judging messages of %s bytes, %d channels, checksums of %d bits' % (size, channels, bits), 'bytes/s') for size, channels, flags, bits in FILES]
+] + [('judge-%s-%d-%d-%d' % (KINDS[kind], channels, flags, size),
+      'judging %s of %s bytes, %d channels, checksums of %d bits' % (kind, format(size, ','), channels, {2: 16, 3: 32}[flags]), 'bytes/s') for kind, size, channels, flags in FILES]
 
 # What both must agree on.
 SAME = (('recorder-file', 'bytes of the file'), ('replay-entries', 'entries of the replay'), ('close-index', 'bytes of the index'))
@@ -50,7 +61,7 @@ LINES = (
     (r'replay: .* us +(\d+) entries/s; the file is checked in \d+ us', ('replay-behind',)),
     (r'find: \d+ packets .*, (\d+) counts apart, recorded at (\d+) packets/s: (\d+) ns each', ('step', 'packets', 'find')),
     (r'close: .*: (\d+) bytes of index in \d+ us +(\d+) bytes/s', ('close-index', 'close')),
-    (r'judging \d+ bytes, +(\d+) channels, checksum (\d), messages of +(\d+) bytes: +\d+ ms +(\d+) bytes/s', ('channels', 'flags', 'size', 'judge')),
+    (r'judging \d+ bytes, +(\d+) channels, checksum (\d), (.+) of +(\d+) bytes: +\d+ ms +(\d+) bytes/s', ('channels', 'flags', 'kind', 'size', 'judge')),
 )
 
 
@@ -65,12 +76,12 @@ def proved_figures(text):
         for form, names in LINES:
             seen = re.match(form, line)
             if seen:
-                here = dict(zip(names, map(int, seen.groups())))
+                here = {name: value if name == 'kind' else int(value) for name, value in zip(names, seen.groups())}
                 if 'step' in here:
                     step = here['step']
                     here = {'packets-%d' % step: here['packets'], 'find-%d' % step: here['find']}
                 elif 'judge' in here:
-                    here = {'judge-%d-%d-%d' % (here['channels'], here['flags'], here['size']): here['judge']}
+                    here = {'judge-%s-%d-%d-%d' % (KINDS[here['kind']], here['channels'], here['flags'], here['size']): here['judge']}
                 # Of a small number both replays have one instalment: the first one that is printed is that of the closed file.
                 if 'replay' in found and 'replay' in here:
                     here = {'replay-behind': here['replay']}

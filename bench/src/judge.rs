@@ -1,7 +1,7 @@
 //! The verdict on a file: whether it is as this recorder writes it.
 
 use crate::index::{Book, Named, node, root};
-use crate::message::{TENTH, read_body, split_text, split_u32};
+use crate::message::{TENTH, agrees, split_bus, split_states, split_text, split_u32, split_word};
 use crate::packet::{Flaw, HEADER, MOST, View};
 use std::collections::HashMap;
 
@@ -229,21 +229,22 @@ impl Judge {
                 Ok((tally.filter(|_| right), number))
             }
             data_type => {
-                let (mut first, mut last, mut number, mut rise) = (None, 0, 0, true);
-                let read = read_body(data_type, header.counter, view.body, |count, _| {
-                    first = first.or(Some(count));
-                    rise &= last <= count;
-                    (last, number) = (count, number + 1);
-                });
-                let first = first.unwrap_or(0);
-                Ok((
-                    read.filter(|_| rise).map(|number| Tally {
-                        number,
-                        first,
-                        last,
+                let read = match data_type {
+                    0x19 => scan(rest, header.counter, |_, bytes| {
+                        split_bus(bytes).map(|(count, .., rest)| (count, 0, rest))
                     }),
-                    number,
-                ))
+                    0x29 => scan(rest, header.counter, |_, bytes| split_states(bytes)),
+                    0x38 => scan(rest, header.counter, |before, bytes| {
+                        split_word(before, bytes).map(|(count, _, _, rest)| (count, 0, rest))
+                    }),
+                    _ => None,
+                };
+                let right = |(tally, states): &(Tally, u32)| {
+                    tally.number > 0 && agrees(data_type, word, tally.number, *states)
+                };
+                let tally = read.filter(right).map(|(tally, _)| tally);
+                let number = tally.as_ref().map_or(0, |tally| tally.number);
+                Ok((tally, number))
             }
         }
     }
@@ -291,6 +292,35 @@ impl Judge {
         let begun = self.book.named().len() >= 2;
         (self.strict && whole && begun && self.report.is_none()).then_some(self.book)
     }
+}
+
+/// What entries come to that are split off the front one by one, each behind the count before, and the states that are set in any of them;
+/// `None` where they aren't this recorder's.
+fn scan(
+    bytes: &[u8],
+    counter: u64,
+    split: impl Fn(u64, &[u8]) -> Option<(u64, u32, &[u8])>,
+) -> Option<(Tally, u32)> {
+    let mut tally = Tally {
+        number: 0,
+        first: 0,
+        last: 0,
+    };
+    let (mut rest, mut before, mut states) = (bytes, counter, 0);
+    while !rest.is_empty() {
+        let (count, set, behind) = split(before, rest)?;
+        if count < tally.last {
+            return None;
+        }
+        if tally.number == 0 {
+            tally.first = count;
+        }
+        tally.last = count;
+        tally.number += 1;
+        states |= set;
+        (rest, before) = (behind, count);
+    }
+    Some((tally, states))
 }
 
 /// What the entries of a UART or message channel come to; `None` where they aren't this recorder's, and a flaw where they are

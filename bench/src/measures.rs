@@ -327,14 +327,21 @@ pub fn close(number: u32) -> Result<(), Fault> {
     Ok(())
 }
 
-/// The files that are judged: channels, packet flags of the checksum, bytes of a message.
-const SHAPES: [(u16, u8, usize); 6] = [
-    (4, 3, 1024),
-    (4, 2, 1024),
-    (256, 3, 1024),
-    (256, 2, 1024),
-    (4, 3, 64),
-    (4, 3, 8),
+/// A file that is judged: the kind of its messages and its name, channels, packet flags of the checksum, and bytes of a message.
+struct Shape(Kind, &'static str, u16, u8, usize);
+
+const SHAPES: [Shape; 11] = [
+    Shape(Kind::Uart, "uart", 4, 3, 1024),
+    Shape(Kind::Uart, "uart", 4, 2, 1024),
+    Shape(Kind::Uart, "uart", 256, 3, 1024),
+    Shape(Kind::Uart, "uart", 256, 2, 1024),
+    Shape(Kind::Uart, "uart", 4, 3, 64),
+    Shape(Kind::Uart, "uart", 4, 3, 8),
+    Shape(Kind::Message, "message", 4, 3, 64),
+    Shape(Kind::Bus1553, "bus", 4, 3, 4),
+    Shape(Kind::Bus1553, "bus", 4, 3, 64),
+    Shape(Kind::Arinc, "arinc", 4, 3, 4),
+    Shape(Kind::Discrete, "discrete", 4, 3, 4),
 ];
 
 /// How many bytes a file has at most, and how many for each message that is asked for.
@@ -344,8 +351,42 @@ const SHARE: usize = 64;
 /// How many bytes the messages of a packet have with their headers, at most.
 const PACKET: usize = 65_536;
 
-/// A file of messages of so many bytes, on so many channels.
-fn make_file(channels: u16, flags: u8, text: usize, bytes: usize) -> Vec<u8> {
+/// A message of a kind and of so many bytes.
+fn shaped(kind: Kind, size: usize) -> Message {
+    let (sub, bytes) = (0, vec![0x55; size]);
+    match kind {
+        Kind::Uart => Message::Uart {
+            parity: false,
+            sub,
+            bytes,
+        },
+        Kind::Message => Message::Message {
+            data_error: false,
+            format: false,
+            sub,
+            bytes,
+        },
+        Kind::Bus1553 => Message::Bus1553 {
+            status: 0,
+            gap: 0,
+            words: vec![0x5555; size / 2],
+        },
+        Kind::Arinc => Message::Arinc {
+            bus: 0,
+            format: false,
+            parity: false,
+            high: false,
+            word: 0x5555_5555,
+        },
+        Kind::Discrete => Message::Discrete {
+            states: 0x5555_5555,
+        },
+    }
+}
+
+/// A file of messages of a kind and of so many bytes, on so many channels.
+fn make_file(shape: &Shape, bytes: usize) -> Vec<u8> {
+    let Shape(kind, _, channels, flags, size) = *shape;
     let mut file = Vec::with_capacity(bytes + PACKET);
     let mut packet = Vec::new();
     let mut put = |header, body: &[u8]| {
@@ -360,19 +401,16 @@ fn make_file(channels: u16, flags: u8, text: usize, bytes: usize) -> Vec<u8> {
         own_header(1, 0x11, 0, 0),
         &[1, 2, 0, 0, 0, 0, 0, 0, 0x23, 0x11, 0x26, 0x20],
     );
-    let mut body = 0x8000_0000u32.to_le_bytes().to_vec();
-    let message = Message::Uart {
-        parity: false,
-        sub: 0,
-        bytes: vec![0x55; text],
-    };
-    for _ in 0..PACKET / (text + 14) {
+    let message = shaped(kind, size);
+    let number = PACKET / (message.len() + 2);
+    let mut body = kind.word(number, 31).to_le_bytes().to_vec();
+    for _ in 0..number {
         message.write(0, 0, &mut body);
     }
     for number in 0..bytes / (body.len() + 28) {
         let channel = (number % usize::from(channels)) as u16 + 2;
         let sequence = (number / usize::from(channels)) as u8;
-        let header = own_header(channel, 0x50, sequence, 0);
+        let header = own_header(channel, kind.data_type(), sequence, 0);
         put(crate::packet::Header { flags, ..header }, &body);
     }
     file
@@ -380,16 +418,17 @@ fn make_file(channels: u16, flags: u8, text: usize, bytes: usize) -> Vec<u8> {
 
 /// Files are judged.
 pub fn judge(number: u32) -> Result<(), Fault> {
-    for (channels, flags, text) in SHAPES {
+    for shape in &SHAPES {
         let bytes = (number as usize).min(MOST / SHARE) * SHARE;
-        let file = make_file(channels, flags, text, bytes);
+        let file = make_file(shape, bytes);
         let start = thread_time()?;
         let verdict = check_file(black_box(&file));
         let judging = thread_time()?.saturating_sub(start);
         if verdict != Verdict::Strict {
             return Err(Fault::Lost);
         }
-        let name = format!("judge-{channels}-{flags}-{text}");
+        let Shape(_, kind, channels, flags, size) = shape;
+        let name = format!("judge-{kind}-{channels}-{flags}-{size}");
         say(&name, a_second(file.len() as u64, judging), "bytes/s");
     }
     Ok(())
