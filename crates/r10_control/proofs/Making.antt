@@ -24,9 +24,9 @@ use Rattle.r10_openfile.specs.Keeping.{Becomes, StopKeepsFiles, Keeps}
 use Rattle.r10_openfile.specs.Starting.{begun_file}
 use Rattle.r10_seal.specs.Leftover.{IsEither, IsLeftOpen, SealsLast, StaysOpen, shown_cost}
 use Rattle.r10_seal.specs.Sealing.{sealed}
-use Rattle.r10_stops.specs.Left.{Makes}
-use Rattle.r10_stops.specs.Left.{IsEither as MachineEither}
-use Rattle.r10_stops.specs.Safe.{IsSafe}
+use Rattle.r10_means.specs.Left.{Makes}
+use Rattle.r10_means.specs.Left.{IsEither as MachineEither}
+use Rattle.r10_means.specs.Safe.{IsSafe}
 use Rattle.r10_volume.specs.Holding.{HoldsFiles, Open}
 use Rattle.r10_volume.specs.Listing.{is_last_closed}
 use Rattle.r10_volume.specs.Settling.{IsSettled}

@@ -23,11 +23,11 @@ use Rattle.r10_control.proofs.Bytes.{holds_of}
 use Rattle.r10_control.proofs.Recordings.{Last, last_held}
 use Rattle.r10_machine.specs.Says.{MediumSays}
 use Rattle.r10_volume.specs.Settling.{IsSettled, SaysAs}
-use Rattle.r10_stops.proofs.Behind.{refused_safely, shown_safely}
-use Rattle.r10_stops.proofs.Keeping.{safe_says}
-use Rattle.r10_stops.specs.Left.{IsEither, Makes, StaysSafe}
-use Rattle.r10_stops.specs.Quiet.{IsNoFailure, may_make}
-use Rattle.r10_stops.specs.Safe.{IsSafe, SaysLast}
+use Rattle.r10_means.proofs.Behind.{refused_safely, shown_safely}
+use Rattle.r10_means.proofs.Keeping.{safe_says}
+use Rattle.r10_means.specs.Left.{IsEither, Makes, StaysSafe}
+use Rattle.r10_means.specs.Quiet.{IsNoFailure, may_make}
+use Rattle.r10_means.specs.Safe.{IsSafe, SaysLast}
 
 -- ---- by the files that a call makes
 

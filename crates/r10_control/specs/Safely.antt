@@ -16,8 +16,8 @@ use Rattle.r10_medium.specs.Disk.{Disk, Image}
 use Rattle.r10_medium.specs.Stop.{Leaves}
 use Rattle.r10_pump.specs.Machines.{HasWaiting}
 use Rattle.r10_pump.specs.Stopping.{Part, TellsWaiting, TookAll}
-use Rattle.r10_stops.specs.Left.{Makes, StaysSafe}
-use Rattle.r10_stops.specs.Safe.{IsSafe}
+use Rattle.r10_means.specs.Left.{Makes, StaysSafe}
+use Rattle.r10_means.specs.Safe.{IsSafe}
 use Rattle.r10_control.specs.Standing.{StandFor, lanes_with, unknown, with_lanes}
 
 -- in the machine's lanes waits what waits in these, as far as they are quiet

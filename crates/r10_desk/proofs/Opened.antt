@@ -6,7 +6,7 @@ use Rattle.r10_machine.specs.Machine.{File, fresh}
 use Rattle.r10_machine.specs.Says.{MediumHas, MediumSays}
 use Rattle.r10_medium.specs.Disk.{Disk, Image}
 use Rattle.r10_medium.specs.Stop.{Settled}
-use Rattle.r10_stops.specs.Safe.{IsSafe}
+use Rattle.r10_means.specs.Safe.{IsSafe}
 use Rattle.r10_world.specs.State.{WorldState}
 use Rattle.r10_world.specs.Stopping.{Recovers}
 use Rattle.r10_world.specs.Telling.{WorldStandsFor}

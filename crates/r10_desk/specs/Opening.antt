@@ -9,7 +9,7 @@ use Rattle.r10_medium.specs.Disk.{Disk, IsSynced}
 use Rattle.r10_medium.specs.Stop.{Settled}
 use Rattle.r10_script.specs.Keys.{HasOnly}
 use Rattle.r10_script.specs.Script.{AreScriptSettings, script_keys}
-use Rattle.r10_stops.specs.Safe.{IsSafe}
+use Rattle.r10_means.specs.Safe.{IsSafe}
 use Rattle.r10_world.specs.State.{WorldState}
 use Rattle.r10_world.specs.Stopping.{Recovers}
 use Rattle.r10_world.specs.Telling.{WorldStandsFor}

@@ -1,18 +1,26 @@
 //! What a lock keeps of a recorder that threads share, and the lock: whoever gets it knows that each channel's lane has received what
-//! erases took, and then what the recorder's own files have of the channel.
+//! erases took, and then what the recorder's own files have of the channel. Beside it stand readers, which never read less than they have
+//! seen published, and what they wrote down, with its audit.
 #![tactic(auto)]
 
+mod auditing;
 mod cabinet;
 mod directory;
 mod held;
 mod parting;
+mod player;
 mod publishing;
 mod reading;
 mod recording;
 mod rings;
+mod same;
 mod taking;
 mod telling;
+mod transcript;
 
+pub use auditing::{audit, audit_all};
 pub use cabinet::Cabinet;
 pub use held::{Held, new_recorders_account_for_their_lanes};
+pub use player::Player;
 pub use rings::Rings;
+pub use transcript::{Instalment, Transcript};

@@ -5,7 +5,7 @@ ghost use Rattle.r10_control.specs.Checks.{recorder_refusal};
 ghost use Rattle.r10_control.specs.Effects.{PumpEffect, StopEffect};
 ghost use Rattle.r10_control.specs.Leading.{MachinesKeepShown};
 ghost use Rattle.r10_control.specs.Refused.{nothing_lacks};
-ghost use Rattle.r10_stops.specs.Left.{AnswersSafely};
+ghost use Rattle.r10_means.specs.Left.{AnswersSafely};
 ghost use Rattle.r10_machine.specs.declared.event.Event.TheVariants as events;
 ghost use Rattle.r10_machine.specs.declared.reply.Reply.TheVariants as replies;
 ghost use Rattle.r10_machine.specs.Machine.{rising as in_rising_order};

@@ -3,3 +3,8 @@ pub mod Lasting
 pub mod Growing
 mod Taking
 mod Told
+pub mod Finding
+pub mod Showing
+pub mod Leaving
+pub mod Keeping
+pub mod Behind

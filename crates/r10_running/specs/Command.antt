@@ -5,8 +5,8 @@ use Rattle.toml.specs.Data.{Members}
 use Rattle.toml.specs.Parse.{parse_document}
 use Rattle.r10_body.specs.declared.refusal.Refusal.{Refusal}
 use Rattle.r10_command.specs.Command.{DoesCommand}
-use Rattle.r10_ended.specs.Text.{session_text}
-use Rattle.r10_ended.specs.declared.ended.Ended.{Ended}
+use Rattle.r10_session.specs.Text.{session_text}
+use Rattle.r10_session.specs.declared.ended.Ended.{Ended}
 use Rattle.r10_images.specs.declared.listing.Outcome.{Outcome}
 use Rattle.r10_images.specs.declared.listing.Outcome.TheVariants as outcomes
 use Rattle.r10_script.specs.Keys.{items_at, HasOnly}
@@ -14,8 +14,7 @@ use Rattle.r10_script.specs.Script.{AreScriptSettings, EachAsks}
 use Rattle.r10_script.specs.Session.{AreOrders, IsFeed, IsReader, session_keys}
 use Rattle.r10_script.specs.declared.session.SessionScript.{SessionScript}
 use Rattle.r10_session.specs.Came.{CameOf}
-use Rattle.r10_shared.specs.Orders.{order_of}
-use Rattle.r10_shared.specs.declared.order.Order.{Order}
+use Rattle.r10_session.specs.Passed.{order_of, Order}
 use Rattle.r10_words.specs.Words.{AsksRun}
 
 -- a text spells a session script

@@ -9,10 +9,9 @@ ghost use Rattle.r10_script.specs.Session.{AreApart};
 
 use r10_body::Refusal;
 use r10_command::{Fault, report};
-use r10_ended::session_text;
 use r10_images::{Outcome, read_whole};
 use r10_script::{SessionScript, read_session};
-use r10_session::{SessionFault, run_script};
+use r10_session::{SessionFault, run_script, session_text};
 use r10_words::asks_run;
 use std::alloc::Global;
 use std::io;

@@ -5,7 +5,7 @@ use Rattle.std.proofs.lemmas.Bool.{eq-eqb, eqb-true}
 use Rattle.std.proofs.lemmas.List.{append-nil}
 use Rattle.std.proofs.lemmas.List.Sums.{sum_by-cons}
 use Rattle.r10_body.specs.declared.spec.ChannelSpec.{ChannelSpec}
-use Rattle.r10_feeding.specs.declared.lanes.Sender.{Sender}
+use Rattle.r10_session.specs.declared.ends.Sender.{Sender}
 use Rattle.r10_session.specs.Lanes.{HasSender, IsFresh}
 use Rattle.r10_script.specs.Session.{AreApart}
 use Rattle.r10_script.specs.declared.session.FeedTable.{FeedTable}

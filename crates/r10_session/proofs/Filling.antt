@@ -2,8 +2,8 @@
 use Rattle.std.proofs.Common.{◌≡◌, ℕ, ◌+◌, ◌<◌, ◌≤◌, List, [], ◌∷◌, ◌++◌, length, drop, get_or, append_assoc, refl, sym, ap, ◌∙◌, Option, None, Some, arith}
 use Rattle.std.proofs.lemmas.List.{append-nil, drop-drop, drop_all, drop_more, get_or-drop}
 use Rattle.r10_body.specs.declared.refusal.Refusal.{Refusal}
-use Rattle.r10_ended.specs.declared.ended.ReaderEnd.{ReaderEnd}
-use Rattle.r10_ended.specs.declared.ended.ReaderEnd.TheVariants as ends
+use Rattle.r10_session.specs.declared.ended.ReaderEnd.{ReaderEnd}
+use Rattle.r10_session.specs.declared.ended.ReaderEnd.TheVariants as ends
 use Rattle.r10_session.specs.Readers.{fill}
 
 -- a reader that has a number

@@ -6,8 +6,8 @@ use Rattle.std.proofs.lemmas.Bool.{eq-eqb}
 use Rattle.std.proofs.lemmas.List.Elements.{All-from_recursion}
 use Rattle.std.proofs.lemmas.Map.Keys.{IsDistinct-head, IsDistinct-tail}
 use Rattle.r10_body.specs.declared.spec.ChannelSpec.{ChannelSpec}
-use Rattle.r10_feeding.specs.Lanes.{ArePaired}
-use Rattle.r10_feeding.specs.declared.lanes.Sender.{Sender}
+use Rattle.r10_session.specs.Ends.{ArePaired}
+use Rattle.r10_session.specs.declared.ends.Sender.{Sender}
 use Rattle.r10_held.specs.LockFact.{outlet_received, outlet_spec}
 use Rattle.r10_held.specs.Naming.{AreNamed, ChannelRing, ring_for}
 use Rattle.r10_machine.specs.Limits.{channel_ids}

@@ -11,3 +11,7 @@ mod Coming
 mod Reading
 mod Summing
 mod Putting
+mod Pairing
+mod Taking
+mod Numbered
+mod Refusing

@@ -6,9 +6,9 @@ use Rattle.r10_body.specs.declared.refusal.Refusal.{Refusal}
 use Rattle.r10_body.specs.declared.spec.ChannelSpec.{ChannelSpec}
 use Rattle.r10_control.specs.Own.{AreOwn}
 use Rattle.r10_cursor.specs.declared.cursor.Cursor.{Cursor}
-use Rattle.r10_ended.specs.declared.ended.Ended.{Ended}
-use Rattle.r10_ended.specs.declared.ended.FeedEnd.{FeedEnd}
-use Rattle.r10_ended.specs.declared.ended.ReaderEnd.{ReaderEnd}
+use Rattle.r10_session.specs.declared.ended.Ended.{Ended}
+use Rattle.r10_session.specs.declared.ended.FeedEnd.{FeedEnd}
+use Rattle.r10_session.specs.declared.ended.ReaderEnd.{ReaderEnd}
 use Rattle.r10_machine.specs.declared.reply.Reply.{Reply}
 use Rattle.r10_means.specs.Kept.{Work}
 use Rattle.r10_medium.specs.Disk.{Image}
@@ -22,8 +22,8 @@ use Rattle.r10_session.specs.Feeds.{FeedCame, feed_end}
 use Rattle.r10_session.specs.Readers.{AreRead, Begins, IsReadOf, fill}
 use Rattle.r10_shared.specs.declared.order.Order.{Order}
 use Rattle.r10_shared.specs.declared.report.FeedReport.{FeedReport}
-use Rattle.r10_transcript.specs.Transcripts.{AllAgree}
-use Rattle.r10_transcript.specs.declared.transcript.Transcript.{Transcript}
+use Rattle.r10_held.specs.Transcripts.{AllAgree}
+use Rattle.r10_held.specs.declared.transcript.Transcript.{Transcript}
 
 pub put_together : {X : Type 0} (r : Result Ended X) (specs : List ChannelSpec) (steps : List Order) (tables : List FeedTable) (readers : List ReaderTable) (work : Work) (image : Image) (own : List Entry) (replies : List Reply) (refused : List (Option Refusal))
     (cursors : List Cursor) (reports : List FeedReport) (transcripts : List Transcript) → Begins memory_disk steps readers replies refused cursors → AreOwn work image own → AllZip (FeedCame specs own) tables (map feed_end reports)

@@ -6,15 +6,15 @@ use Rattle.r10_cursor.specs.Standing.{fresh_slot}
 use Rattle.r10_cursor.specs.declared.cursor.Cursor.{Cursor}
 use Rattle.r10_held.specs.State.{HeldState}
 use Rattle.r10_medium.specs.Disk.{Disk}
-use Rattle.r10_player.specs.declared.player.Player.{Player}
+use Rattle.r10_held.specs.declared.player.Player.{Player}
 use Rattle.r10_session.specs.Counting.{entries_in}
 use Rattle.r10_session.specs.Readers.{AreOpened, AreRead, IsReadBy, IsReadOf, Opens, cursors_in, fill, refusal_of}
 use Rattle.r10_script.specs.declared.session.ReaderTable.{ReaderTable}
 use Rattle.r10_shared.specs.Readings.{GoesOn, HasRead}
 use Rattle.r10_shared.specs.Settling.{IsWrittenDown}
 use Rattle.r10_shared.specs.declared.reading.Reading.{Reading}
-use Rattle.r10_transcript.specs.declared.transcript.Instalment.{Instalment}
-use Rattle.r10_transcript.specs.declared.transcript.Transcript.{Transcript}
+use Rattle.r10_held.specs.declared.transcript.Instalment.{Instalment}
+use Rattle.r10_held.specs.declared.transcript.Transcript.{Transcript}
 
 -- ---- from places to pairs
 

@@ -2,7 +2,7 @@
 use Rattle.std.proofs.Common.{◌≡◌, ℕ, ◌+◌, ◌-◌, ◌<◌, ◌^◌, min, List, [], ◌∷◌, ◌++◌, length, take, get_or, ap, ◌∙◌, arith}
 use Rattle.std.proofs.lemmas.List.{take_more}
 use Rattle.r10_session.specs.Counting.{entries_in, entries_of}
-use Rattle.r10_transcript.specs.declared.transcript.Instalment.{Instalment}
+use Rattle.r10_held.specs.declared.transcript.Instalment.{Instalment}
 
 -- one instalment more
 entries_more : (instalments : List Instalment) (i : Instalment) → entries_of (instalments ++ i ∷ []) ≡ entries_of instalments + length i.entries

@@ -5,9 +5,9 @@ use Rattle.std.proofs.lemmas.Bool.{eqb-true}
 use Rattle.std.proofs.lemmas.List.Elements.{All-append, All-drop, All-get_or, All-take}
 use Rattle.std.proofs.lemmas.List.Quantifiers.{position-Some}
 use Rattle.r10_body.specs.declared.spec.ChannelSpec.{ChannelSpec}
-use Rattle.r10_feeding.specs.Lanes.{TakesOne, place_of}
-use Rattle.r10_feeding.specs.declared.lanes.Sender.{Sender}
-use Rattle.r10_feeding.proofs.Taking.{still_there}
+use Rattle.r10_session.specs.Ends.{TakesOne, place_of}
+use Rattle.r10_session.specs.declared.ends.Sender.{Sender}
+use Rattle.r10_session.proofs.Taking.{still_there}
 use Rattle.r10_held.specs.Naming.{ChannelRing, ring_for}
 use Rattle.r10_port.specs.Ends.{Sending}
 use Rattle.r10_session.specs.Lanes.{HasSender, IsFresh, IsNamed, IsUnused}

@@ -6,7 +6,7 @@ use Rattle.r10_body.specs.declared.refusal.Refusal.{Refusal}
 use Rattle.r10_body.specs.declared.spec.ChannelSpec.{ChannelSpec}
 use Rattle.r10_control.specs.Own.{AreOwn}
 use Rattle.r10_cursor.specs.declared.cursor.Cursor.{Cursor}
-use Rattle.r10_ended.specs.declared.ended.Ended.{Ended}
+use Rattle.r10_session.specs.declared.ended.Ended.{Ended}
 use Rattle.r10_means.specs.Kept.{Work}
 use Rattle.r10_medium.specs.Disk.{Image}
 use Rattle.r10_medium.specs.MemoryDisk.{memory_disk}
@@ -15,8 +15,8 @@ use Rattle.r10_script.specs.declared.session.ReaderTable.{ReaderTable}
 use Rattle.r10_session.specs.Feeds.{FeedCame}
 use Rattle.r10_session.specs.Readers.{AreRead, Begins}
 use Rattle.r10_shared.specs.declared.order.Order.{Order}
-use Rattle.r10_transcript.specs.Transcripts.{AllAgree}
-use Rattle.r10_transcript.specs.declared.transcript.Transcript.{Transcript}
+use Rattle.r10_held.specs.Transcripts.{AllAgree}
+use Rattle.r10_held.specs.declared.transcript.Transcript.{Transcript}
 
 -- The steps were asked of a recorder under a lock, and it answered so; the readers' cursors were opened or refused behind them. At the end, by the own files of
 -- a recorder over a medium, this became of each feed's items, and this was read by each reader; and what the audit says of it, if it is not refused.

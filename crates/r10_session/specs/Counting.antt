@@ -1,6 +1,6 @@
 -- How many entries were read.
 use Rattle.std.specs.Prelude.{ℕ, ◌+◌, ◌-◌, ◌^◌, min, List, [], ◌∷◌, length}
-use Rattle.r10_transcript.specs.declared.transcript.Instalment.{Instalment}
+use Rattle.r10_held.specs.declared.transcript.Instalment.{Instalment}
 
 -- how many entries instalments have
 abbrev pub entries_of : List Instalment → ℕ

@@ -6,7 +6,7 @@ use Rattle.r10_body.specs.declared.entry.Entry.{Entry}
 use Rattle.r10_body.specs.declared.entry.Sample.{Sample}
 use Rattle.r10_body.specs.declared.entry.Timed.{Timed}
 use Rattle.r10_body.specs.declared.spec.ChannelSpec.{ChannelSpec}
-use Rattle.r10_ended.specs.declared.ended.FeedEnd.{FeedEnd}
+use Rattle.r10_session.specs.declared.ended.FeedEnd.{FeedEnd}
 use Rattle.r10_machine.specs.Machine.{saturated}
 use Rattle.r10_port.specs.Ends.{Sending}
 use Rattle.r10_pump.specs.Pumping.{entries_on}

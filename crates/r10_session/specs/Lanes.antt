@@ -2,7 +2,7 @@
 use Rattle.std.specs.Prelude.{◌≡◌, ◌==◌, ℕ, true, List, map, Some, IsSome}
 use Rattle.std.specs.List.{AllByRecursion, find, list_any}
 use Rattle.r10_body.specs.declared.spec.ChannelSpec.{ChannelSpec}
-use Rattle.r10_feeding.specs.declared.lanes.Sender.{Sender}
+use Rattle.r10_session.specs.declared.ends.Sender.{Sender}
 use Rattle.r10_held.specs.Naming.{ChannelRing, ring_for}
 use Rattle.r10_machine.specs.Machine.{fresh_lane}
 use Rattle.r10_port.specs.Ends.{Receiving, Sending}

@@ -2,5 +2,9 @@ pub mod Answered
 pub mod Counting
 pub mod Readers
 pub mod Lanes
+pub mod Ends
+pub mod Text
+pub mod Vectors
+pub mod Passed
 pub mod Feeds
 pub mod Came

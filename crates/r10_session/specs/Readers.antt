@@ -6,8 +6,8 @@ use Rattle.r10_control.specs.Reading.{IsReadFileRefusal}
 use Rattle.r10_control.specs.Refused.{RefusesCall}
 use Rattle.r10_cursor.specs.Standing.{fresh_slot}
 use Rattle.r10_cursor.specs.declared.cursor.Cursor.{Cursor}
-use Rattle.r10_ended.specs.declared.ended.ReaderEnd.{ReaderEnd}
-use Rattle.r10_ended.specs.declared.ended.ReaderEnd.TheVariants as ends
+use Rattle.r10_session.specs.declared.ended.ReaderEnd.{ReaderEnd}
+use Rattle.r10_session.specs.declared.ended.ReaderEnd.TheVariants as ends
 use Rattle.r10_held.specs.State.{HeldState}
 use Rattle.r10_machine.specs.declared.event.Event.TheVariants as events
 use Rattle.r10_machine.specs.declared.reply.Reply.{Reply}
@@ -17,7 +17,7 @@ use Rattle.r10_session.specs.Counting.{entries_in}
 use Rattle.r10_script.specs.declared.session.ReaderTable.{ReaderTable}
 use Rattle.r10_shared.specs.Readings.{GoesOn}
 use Rattle.r10_shared.specs.declared.order.Order.{Order}
-use Rattle.r10_transcript.specs.declared.transcript.Transcript.{Transcript}
+use Rattle.r10_held.specs.declared.transcript.Transcript.{Transcript}
 
 -- ---- cursors
 

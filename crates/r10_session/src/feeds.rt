@@ -11,12 +11,12 @@ ghost use Rattle.r10_session.specs.Lanes.{HasSender, IsFresh, IsNamed, IsUnused}
 ghost use Rattle.r10_session.specs.Readers.{IsReadOf};
 ghost use Rattle.r10_script.specs.Session.{AreApart};
 
+use crate::ends::{Sender, take_port};
 use crate::fault::SessionFault;
+use crate::listed::Listed;
 use crate::session::run_to_end;
-use r10_feeding::{Listed, Sender, take_port};
-use r10_held::{Cabinet, Rings};
+use r10_held::{Cabinet, Player, Rings};
 use r10_medium::Memory;
-use r10_player::Player;
 use r10_script::FeedTable;
 use r10_shared::{Feed, Order, SessionReport};
 use r10_source::ChannelSource;

@@ -1,13 +1,19 @@
-//! A session script on a recorder between threads, over a fresh medium in memory, to what came of it.
+//! A session script on a recorder between threads, over a fresh medium in memory, to what came of it and the lines that tell it.
 #![tactic(auto)]
 
 mod beginning;
+mod ended;
+mod ends;
 mod fault;
 mod feeds;
+mod listed;
 mod readers;
 mod reports;
 mod running;
 mod session;
+mod text;
 
+pub use ended::{Ended, FeedEnd, ReaderEnd};
 pub use fault::SessionFault;
 pub use running::run_script;
+pub use text::session_text;

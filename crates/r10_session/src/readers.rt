@@ -5,14 +5,13 @@ ghost use Rattle.r10_body.specs.declared.refusal.Refusal.{Refusal as RefusalValu
 ghost use Rattle.r10_session.specs.Readers.{AreOpened, Begins, Opens, cursors_in, fill, refusal_of};
 
 use crate::beginning::ask_all;
+use crate::ended::ReaderEnd;
 use r10_body::Refusal;
 use r10_cursor::Cursor;
-use r10_ended::ReaderEnd;
 use r10_gauge::Pass;
-use r10_held::{Cabinet, Held, Rings};
+use r10_held::{Cabinet, Held, Player, Rings};
 use r10_machine::Reply;
 use r10_medium::BlockMedium;
-use r10_player::Player;
 use r10_script::ReaderTable;
 use r10_shared::Order;
 use std::alloc::{AllocError, Global};

@@ -13,13 +13,13 @@ ghost use Rattle.r10_shared.specs.Orders.{order_of};
 ghost use Rattle.r10_shared.specs.declared.order.Order.{Order as OrderValue};
 
 use crate::beginning::orders_of;
+use crate::ended::Ended;
+use crate::ends::{Sender, lanes_of};
 use crate::fault::SessionFault;
 use crate::feeds::run_tables;
 use crate::readers::{Begun, begin, players_of};
 use crate::reports::settle;
 use r10_control::Recorder;
-use r10_ended::Ended;
-use r10_feeding::{Sender, lanes_of};
 use r10_held::{Cabinet, Rings, new_recorders_account_for_their_lanes};
 use r10_machine::Settings;
 use r10_medium::Memory;

@@ -11,9 +11,8 @@ ghost use Rattle.r10_session.specs.Readers.{IsReadOf};
 ghost use Rattle.r10_shared.specs.Settling.{AreWrittenDown, Settles};
 
 use crate::fault::SessionFault;
-use r10_held::{Cabinet, Rings};
+use r10_held::{Cabinet, Player, Rings};
 use r10_medium::Memory;
-use r10_player::Player;
 use r10_shared::{Feed, Open, Order, Session, SessionReport, end_session, run_session};
 use std::alloc::{AllocError, Global};
 use std::sync::Wait;

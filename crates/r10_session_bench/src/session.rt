@@ -13,9 +13,8 @@ use crate::halfway::{Halfway, Listed, source_of};
 use r10_body::Refusal;
 use r10_count::{Items, Parts};
 use r10_gauge::Pass;
-use r10_held::{Cabinet, Held, Rings, new_recorders_account_for_their_lanes};
+use r10_held::{Cabinet, Held, Player, Rings, new_recorders_account_for_their_lanes};
 use r10_medium::Memory;
-use r10_player::Player;
 use r10_shared::{
     AnySource, Feed, FeedReport, Order, Session, SessionReport, audit, end_session, run_session,
 };

@@ -8,7 +8,7 @@ use Rattle.r10_shared.proofs.Matching.{DoneTo}
 use Rattle.r10_shared.specs.Settling.{AreBegun, AreWrittenDown, Drains, lane_of}
 use Rattle.r10_shared.specs.declared.reading.Reading.{Reading}
 use Rattle.r10_shared.specs.declared.report.FeedReport.{FeedReport}
-use Rattle.r10_transcript.specs.declared.transcript.Transcript.{Transcript}
+use Rattle.r10_held.specs.declared.transcript.Transcript.{Transcript}
 
 module _ (channel : ℕ) (lanes : List Receiving) (at : ℕ) (old : Receiving) (place : position (λ (lane : Receiving). lane.spec.id == channel) lanes ≡ Some at) (here : old ≡ get_or lanes at old) where
   found : lane_of channel lanes ≡ Some old

@@ -8,11 +8,11 @@ use Rattle.r10_body.specs.declared.entry.Entry.{Entry}
 use Rattle.r10_cursor.specs.Replays.{Reading as CursorReading}
 use Rattle.r10_cursor.specs.declared.cursor.Cursor.{Cursor}
 use Rattle.r10_machine.specs.Replay.{Ordered, wanted}
-use Rattle.r10_player.specs.Advancing.{TakesInstalment}
-use Rattle.r10_player.specs.declared.player.Player.{Player}
+use Rattle.r10_held.specs.Advancing.{TakesInstalment}
+use Rattle.r10_held.specs.declared.player.Player.{Player}
 use Rattle.r10_shared.specs.Readings.{GoesOn, HasRead, IsAlike, IsTaken, ReadsFrom, ReadsOn}
 use Rattle.r10_shared.specs.declared.reading.Reading.{Reading}
-use Rattle.r10_transcript.specs.declared.transcript.Instalment.{Instalment}
+use Rattle.r10_held.specs.declared.transcript.Instalment.{Instalment}
 
 goes_join : (a b c : ℕ) (xs ys : List Instalment) → GoesOn a xs b → GoesOn b ys c → GoesOn a (xs ++ ys) c
 goes_join a b c [] ys first second = subst (λ (n : ℕ). GoesOn n ys c) first second

@@ -4,9 +4,9 @@ use Rattle.std.specs.List.{AllByRecursion}
 use Rattle.r10_body.specs.Packets.{Packet, file_entries}
 use Rattle.r10_cursor.specs.declared.cursor.Cursor.{Cursor}
 use Rattle.r10_machine.specs.Replay.{Ordered, wanted}
-use Rattle.r10_player.specs.declared.player.Player.{Player}
+use Rattle.r10_held.specs.declared.player.Player.{Player}
 use Rattle.r10_shared.specs.declared.reading.Reading.{Reading}
-use Rattle.r10_transcript.specs.declared.transcript.Instalment.{Instalment}
+use Rattle.r10_held.specs.declared.transcript.Instalment.{Instalment}
 
 -- a cursor on the same file, with the same wishes
 pub record IsAlike (old new : Cursor) : Type 0 where

@@ -17,7 +17,7 @@ use Rattle.r10_shared.specs.Naming.{SendingLine}
 use Rattle.r10_shared.specs.declared.reading.Reading.{Reading}
 use Rattle.r10_shared.specs.declared.report.FeedReport.{FeedReport}
 use Rattle.r10_shared.specs.declared.source.Tally.{Tally}
-use Rattle.r10_transcript.specs.declared.transcript.Transcript.{Transcript}
+use Rattle.r10_held.specs.declared.transcript.Transcript.{Transcript}
 
 -- ---- what a report says
 

@@ -3,14 +3,14 @@
 ghost use Rattle.std.specs.Prelude.{◌≡◌, ◌↔◌, IfErr, IfOk, IsTrue, None, OnOk};
 ghost use Rattle.r10_control.specs.Reading.{OnlyReads};
 ghost use Rattle.r10_control.specs.Refused.{RefusesCall};
-ghost use Rattle.r10_transcript.specs.Auditing.{IsFirstRefused, audit_refusal};
-ghost use Rattle.r10_transcript.specs.Transcripts.{AllAgree};
+ghost use Rattle.r10_held.specs.Auditing.{IsFirstRefused, audit_refusal};
+ghost use Rattle.r10_held.specs.Transcripts.{AllAgree};
 
 use r10_body::{Refusal, Sample};
 use r10_control::Recorder;
+use r10_held::{Transcript, audit_all};
 use r10_lane::Spent;
 use r10_medium::BlockMedium;
-use r10_transcript::{Transcript, audit_all};
 use std::alloc::Global;
 
 /// What became of the messages of a feed, each number up to `u64::MAX`.

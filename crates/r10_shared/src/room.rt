@@ -8,11 +8,10 @@ use crate::feed::Feed;
 use crate::line::Line;
 use crate::reading::Reading;
 use crate::report::FeedReport;
-use r10_held::{Held, Rings};
+use r10_held::{Held, Rings, Transcript};
 use r10_lane::LaneOut;
 use r10_medium::BlockMedium;
 use r10_port::Outlet;
-use r10_transcript::Transcript;
 use std::alloc::Global;
 use std::mem;
 

@@ -14,7 +14,7 @@ use Rattle.r10_control.specs.Lanes.{unerased}
 use Rattle.r10_world.specs.Standing.{PartsStandFor}
 use Rattle.r10_machine.specs.Says.{MediumHas, MediumSays}
 use Rattle.r10_medium.specs.Stop.{Settled}
-use Rattle.r10_stops.specs.Safe.{IsSafe}
+use Rattle.r10_means.specs.Safe.{IsSafe}
 
 -- lanes of which nothing has come are of these channels, and of them nothing was erased
 pub specs_of_fresh : (specs : List ChannelSpec) → map (λ (lane : Lane). lane.spec) (map fresh_lane specs) ≡ specs

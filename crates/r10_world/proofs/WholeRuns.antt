@@ -16,7 +16,7 @@ use Rattle.r10_machine.specs.declared.event.Event.{Event as EventValue}
 use Rattle.r10_machine.specs.declared.reply.Reply.{Reply as ReplyValue}
 use Rattle.r10_medium.specs.Disk.{Disk, Image}
 use Rattle.r10_medium.specs.Stop.{Leaves}
-use Rattle.r10_stops.specs.Left.{IsLeft}
+use Rattle.r10_means.specs.Left.{IsLeft}
 use Rattle.r10_world.specs.State.{WorldState}
 use Rattle.r10_world.specs.Stopping.{Records, Recovers, RunsSafely}
 use Rattle.r10_world.specs.Telling.{WorldRuns}

@@ -17,9 +17,9 @@ use Rattle.r10_machine.specs.declared.reply.Reply.{Reply as ReplyValue}
 use Rattle.r10_means.specs.Kept.{Kept, failed}
 use Rattle.r10_medium.specs.Disk.{Disk, Image, Unchanged}
 use Rattle.r10_medium.specs.Stop.{Leaves, Settled}
-use Rattle.r10_stops.specs.Again.{AreAgain, FindsAgain}
-use Rattle.r10_stops.specs.Left.{IsLeft, StaysSafe}
-use Rattle.r10_stops.specs.Safe.{IsSafe, IsSafeOrFailed}
+use Rattle.r10_means.specs.Again.{AreAgain, FindsAgain}
+use Rattle.r10_means.specs.Left.{IsLeft, StaysSafe}
+use Rattle.r10_means.specs.Safe.{IsSafe, IsSafeOrFailed}
 use Rattle.r10_world.specs.Standing.{PartsRunTo}
 use Rattle.r10_world.specs.State.{WorldState}
 use Rattle.r10_world.specs.Telling.{WorldStandsFor}

@@ -4,7 +4,7 @@ ghost use Rattle.std.specs.Prelude.{◌≡◌, List, length, map, IfErr, IfOk};
 ghost use Rattle.r10_machine.specs.Machine.{File, fresh, fresh_lane};
 ghost use Rattle.r10_world.specs.Copies.{IsCopy};
 ghost use Rattle.r10_medium.specs.Stop.{Settled};
-ghost use Rattle.r10_stops.specs.Safe.{IsSafe};
+ghost use Rattle.r10_means.specs.Safe.{IsSafe};
 ghost use Rattle.r10_world.specs.Stopping.{Recovers, Survives};
 ghost use Rattle.r10_world.specs.Telling.{WorldStandsFor, RecorderStepsTo};
 ghost use Rattle.r10_machine.specs.Says.{MediumHas, MediumSays};
@@ -26,7 +26,6 @@ use std::alloc::{AllocError, Global};
 use std::marker::Model;
 
 /// A recorder with lanes of one thread, the cursors of its readers, and where their memory comes from.
-#[derive(Drop)]
 pub struct World<M: BlockMedium> {
     alloc: Global,
     recorder: Recorder<M, RingLane>,
@@ -39,6 +38,17 @@ impl<M: BlockMedium> Model for World<M> {
     ghost Value = { WorldState M };
 
     ghost view = { λ w. record { recorder = w.recorder; slots = w.cursors.slots } };
+}
+
+/// Letting a world go is one call, so that a body that holds one has no exit for each of its modes.
+impl<M: BlockMedium + Drop> Drop for World<M> {
+    fn drop(self) {
+        let World {
+            alloc: _,
+            recorder: _,
+            cursors: _,
+        } = self;
+    }
 }
 
 /// A lane for each channel, of which nothing has come yet.
@@ -87,7 +97,11 @@ impl<M: BlockMedium> World<M> {
     pub fn into_medium(self) -> M
         ensures { result ≡ self.recorder.medium }
     {
-        let World { recorder, .. } = self;
+        let World {
+            alloc: _,
+            recorder,
+            cursors: _,
+        } = self;
         let (medium, _) = recorder.into_parts();
         medium
     }

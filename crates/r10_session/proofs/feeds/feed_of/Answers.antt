@@ -1,6 +1,6 @@
 use Rattle.std.proofs.Common.{◌==◌}
-use Rattle.r10_feeding.proofs.Taking.{has_place}
-use Rattle.r10_feeding.specs.declared.lanes.Sender.{Sender}
+use Rattle.r10_session.proofs.Taking.{has_place}
+use Rattle.r10_session.specs.declared.ends.Sender.{Sender}
 use Rattle.r10_session.proofs.Taken.{fresh_left, named, names_left, others_left, unused}
 use Rattle.r10_session.proofs.feeds.feed_of.Goals as goal
 

@@ -1,5 +1,5 @@
 use Rattle.std.proofs.Common.{ap, refl}
-use Rattle.r10_stops.specs.Quiet.{may_make}
+use Rattle.r10_means.specs.Quiet.{may_make}
 use Rattle.r10_world.proofs.Stopping.{survives_same}
 use Rattle.r10_world.proofs.world.answer.Goals as goal
 

@@ -21,8 +21,8 @@ use Rattle.r10_dirchain.specs.Steps.{with_shutdown}
 use Rattle.r10_medium.proofs.Stops.{unchanged, whole_reads}
 use Rattle.r10_dirchain.specs.Chain.{IsDirectory}
 use Rattle.r10_dirchain.specs.declared.chain.ChainBlock.{ChainBlock}
-use Rattle.r10_stops.proofs.Behind.{failed_safely, refused_safely, synced_safely}
-use Rattle.r10_stops.specs.Left.{StaysSafe, whichever}
+use Rattle.r10_means.proofs.Behind.{failed_safely, refused_safely, synced_safely}
+use Rattle.r10_means.specs.Left.{StaysSafe, whichever}
 use Rattle.r10_control.proofs.StopPoints.{idle_leaves, makes_none}
 use Rattle.r10_control.proofs.recorder.Recorder.dismount.Goals as goal
 

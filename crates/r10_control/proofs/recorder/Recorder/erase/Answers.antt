@@ -21,8 +21,8 @@ use Rattle.r10_control.specs.Effects.{EraseEffect}
 use Rattle.r10_control.specs.Own.{OwnStay}
 use Rattle.r10_control.proofs.Owning.{none_among, stay_failed, stay_same}
 use Rattle.r10_dirchain.specs.Chain.{listed_files}
-use Rattle.r10_stops.proofs.Behind.{failed_safely, refused_safely, synced_safely}
-use Rattle.r10_stops.specs.Left.{StaysSafe, whichever}
+use Rattle.r10_means.proofs.Behind.{failed_safely, refused_safely, synced_safely}
+use Rattle.r10_means.specs.Left.{StaysSafe, whichever}
 use Rattle.r10_control.proofs.StopPoints.{made_of}
 use Rattle.r10_control.proofs.Making.{erase_left}
 use Rattle.r10_medium.proofs.Stops.{unchanged}

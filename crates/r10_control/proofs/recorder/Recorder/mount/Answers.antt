@@ -23,8 +23,8 @@ use Rattle.r10_control.proofs.Owning.{mounted_own, stay_by, stay_failed, stay_sa
 use Rattle.r10_dirchain.specs.Steps.{with_shutdown}
 use Rattle.r10_medium.proofs.Stops.{unchanged, whole_reads}
 use Rattle.r10_medium.specs.Disk.{Image}
-use Rattle.r10_stops.proofs.Behind.{failed_safely, refused_safely, synced_safely}
-use Rattle.r10_stops.specs.Left.{StaysSafe, whichever}
+use Rattle.r10_means.proofs.Behind.{failed_safely, refused_safely, synced_safely}
+use Rattle.r10_means.specs.Left.{StaysSafe, whichever}
 use Rattle.r10_control.proofs.StopPoints.{makes_none, unmounted_leaves}
 use Rattle.r10_control.proofs.recorder.Recorder.mount.Goals as goal
 

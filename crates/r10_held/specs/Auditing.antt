@@ -1,0 +1,61 @@
+-- When an audit is refused, and how it goes through instalments.
+use Rattle.std.specs.Prelude.{◌≡◌, ℕ, ◌≤◌, Bool, List, [], ◌∷◌, ◌++◌, Option, None}
+use Rattle.r10_body.specs.Packets.{Packet}
+use Rattle.r10_body.specs.declared.refusal.Refusal.{Refusal}
+use Rattle.r10_body.specs.declared.refusal.Refusal.TheVariants.{Failed, NotMounted, NoSuchFile, BadFile}
+use Rattle.r10_control.specs.Reading.{IsReadFileRefusal}
+use Rattle.r10_count.specs.Checks.{first_broken}
+use Rattle.r10_cursor.specs.declared.cursor.Cursor.{Cursor}
+use Rattle.r10_machine.specs.Checks.{is_working, mounted_checks}
+use Rattle.r10_means.specs.Kept.{Kept, Work, mode_of}
+use Rattle.r10_medium.specs.Disk.{Image}
+use Rattle.r10_held.specs.Transcripts.{AllAgree, IsPart}
+use Rattle.r10_held.specs.declared.transcript.Instalment.{Instalment}
+use Rattle.r10_held.specs.declared.transcript.Transcript.{Transcript}
+
+-- ---- what is refused
+
+-- a recorder that failed is not audited
+abbrev pub audit_refusal : Kept → Option Refusal
+audit_refusal k = first_broken ((is_working (mode_of k.work), Failed) ∷ [])
+
+-- the file ended, and is at fault, first so
+abbrev pub IsAuditRefusal : Work → Image → ℕ → Refusal → Type 0
+IsAuditRefusal work image file (BadFile offset fault) = IsReadFileRefusal work image file (BadFile offset fault)
+IsAuditRefusal work image file r = ⊥
+
+-- of several transcripts, the first that doesn't agree is of such a file
+pub record IsFirstRefused (work : Work) (image : Image) (transcripts : List Transcript) (r : Refusal) : Type 0 where
+  pub front : List Transcript
+  pub transcript : Transcript
+  pub rest : List Transcript
+  pub split : transcripts ≡ front ++ transcript ∷ rest
+  pub agree : AllAgree work image front
+  pub refused : IsAuditRefusal work image transcript.file r
+
+-- the refusals of a file that isn't there
+abbrev pub is_absence : Refusal → Bool
+is_absence r = elim r [ NotMounted ↦ Bool.true | NoSuchFile ↦ Bool.true | _ ↦ Bool.false ]
+
+-- ---- instalment by instalment
+
+-- a cursor may be read on: a medium is mounted, it is of this generation, and it has nothing left to give
+pub record MayGoOn (k : Kept) (c : Cursor) : Type 0 where
+  pub mounted : first_broken (mounted_checks (mode_of k.work)) ≡ None
+  pub generation : c.generation ≡ k.generation
+  pub left : c.reading.queue ≡ []
+
+-- the same cursor where it has covered so many packets
+abbrev pub at_place : ℕ → Cursor → Cursor
+at_place n c = record c { reading = record c.reading { covered = n } }
+
+-- an instalment goes on from a place, and is a part
+pub record IsNext (packets : List Packet) (channels : List ℕ) (first last at : ℕ) (i : Instalment) : Type 0 where
+  pub begins : i.from ≡ at
+  pub forward : i.from ≤ i.to
+  pub part : IsPart packets channels first last i
+
+-- and so do all, one behind the other
+abbrev pub GoOn : List Packet → List ℕ → ℕ → ℕ → ℕ → List Instalment → Type 0
+GoOn packets channels first last at [] = Unit {0}
+GoOn packets channels first last at (i ∷ instalments) = IsNext packets channels first last at i × GoOn packets channels first last i.to instalments

@@ -1,0 +1,51 @@
+-- The lines of what came of a session.
+use Rattle.std.specs.Prelude.{ℕ, ◌+◌, Bool, true, false, List, [], ◌∷◌, ◌++◌, codes, Result, Ok, Err}
+use Rattle.std.specs.Fmt.{decimal}
+use Rattle.std.specs.List.{flat_map}
+use Rattle.r10_body.specs.declared.refusal.Refusal.{Refusal}
+use Rattle.r10_lines.specs.Refusals.{refusal_text}
+use Rattle.r10_lines.specs.Replies.{reply_lines}
+use Rattle.r10_lines.specs.Words.{line_of, spaced}
+use Rattle.r10_machine.specs.declared.reply.Reply.{Reply}
+use Rattle.r10_session.specs.declared.ended.Ended.{Ended}
+use Rattle.r10_session.specs.declared.ended.FeedEnd.{FeedEnd}
+use Rattle.r10_session.specs.declared.ended.ReaderEnd.{ReaderEnd}
+use Rattle.r10_session.specs.declared.ended.ReaderEnd.TheVariants as ends
+
+-- the lines of the replies to the steps behind the first `done` ones, each numbered from 1
+abbrev pub step_lines : ℕ → List Reply → List ℕ
+step_lines done [] = []
+step_lines done (reply ∷ replies) = reply_lines (done + 1) reply ++ step_lines (done + 1) replies
+
+abbrev pub refusal_line : Refusal → List ℕ
+refusal_line r = refusal_text r ++ codes "\n"
+
+-- a feed's channel, and how many of its messages were accepted and refused
+abbrev pub offered_text : FeedEnd → List ℕ
+offered_text end = spaced (codes "feed" ∷ decimal end.channel ∷ codes "accepted" ∷ decimal end.accepted ∷ codes "refused" ∷ decimal end.refused ∷ [])
+
+-- and how many of the accepted ones were erased, are filed, and are left
+abbrev pub kept_text : FeedEnd → List ℕ
+kept_text end = spaced (codes "erased" ∷ decimal end.erased ∷ codes "filed" ∷ decimal end.filed ∷ codes "rest" ∷ decimal end.rest ∷ [])
+
+abbrev pub feed_line : FeedEnd → List ℕ
+feed_line end = line_of (offered_text end ∷ kept_text end ∷ [])
+
+-- a reader's number, and how many entries it read; or the refusal of its cursor
+abbrev pub reader_line : ℕ → ReaderEnd → List ℕ
+reader_line number (ends.Refused r) = refusal_line r
+reader_line number (ends.Read entries) = line_of (codes "reader" ∷ decimal number ∷ codes "entries" ∷ decimal entries ∷ [])
+
+-- of the readers from this number on
+abbrev pub reader_lines : ℕ → List ReaderEnd → List ℕ
+reader_lines number [] = []
+reader_lines number (end ∷ readers) = reader_line number end ++ reader_lines (number + 1) readers
+
+abbrev pub audit_line : Result Bool Refusal → List ℕ
+audit_line (Ok true) = codes "audit yes\n"
+audit_line (Ok false) = codes "audit no\n"
+audit_line (Err r) = refusal_line r
+
+-- the replies to the steps, numbered from 1; the feeds; the readers, numbered from 0; and the audit
+abbrev pub session_text : Ended → List ℕ
+session_text ended = ((step_lines 0 ended.replies.items ++ flat_map feed_line ended.feeds.items) ++ reader_lines 0 ended.readers.items) ++ audit_line ended.audit

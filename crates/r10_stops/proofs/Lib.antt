@@ -1,5 +1,0 @@
-pub mod Finding
-pub mod Showing
-pub mod Leaving
-pub mod Keeping
-pub mod Behind

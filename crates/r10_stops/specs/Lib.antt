@@ -1,4 +1,0 @@
-pub mod Again
-pub mod Left
-pub mod Quiet
-pub mod Safe

@@ -1,4 +1,0 @@
-mod Refusing
-mod Agreeing
-mod Comparing
-mod Several
