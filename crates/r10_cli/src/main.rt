@@ -31,7 +31,7 @@ fn main(rt: HostRuntime) -> ExitCode {
     let Ok(mut writer) = BufWriter::new(alloc, io::writer(&rt)) else {
         return ExitCode::from(r10_command::report(&mut faults, &Fault::Memory(AllocError)));
     };
-    ExitCode::from(r10_running::run(
+    ExitCode::from(r10_session::run(
         &rt,
         alloc,
         words.as_slice(),

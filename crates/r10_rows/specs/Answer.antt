@@ -6,7 +6,7 @@ use Rattle.hex.specs.Hex.{encode_lower}
 use Rattle.r10_images.specs.declared.listing.Outcome.{Outcome}
 use Rattle.r10_playback.specs.Checked.{Judges}
 use Rattle.r10_command.specs.Status.{outcome_status, EndsWithStatus}
-use Rattle.r10_running.specs.Command.{DoesAny}
+use Rattle.r10_session.specs.Command.{DoesAny}
 use Rattle.r10_rows.specs.Case.{case_length, head_text, spelled, IsCase, IsInput}
 use Rattle.r10_rows.specs.declared.answer.Answer.{Answer}
 use Rattle.r10_rows.specs.declared.case.Case.{Case}

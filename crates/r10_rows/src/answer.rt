@@ -67,7 +67,7 @@ fn answer_command<T: Threads + Wait + Sync>(
     let mut reader = input;
     let mut lines = BufWriter::new(alloc, Vec::new(alloc))?;
     let mut said = Vec::new(alloc);
-    let status = r10_running::run(rt, alloc, words, &mut reader, &mut lines, &mut said);
+    let status = r10_session::run(rt, alloc, words, &mut reader, &mut lines, &mut said);
     match lines.into_inner() {
         Ok(lines) => Ok(Answer {
             status,

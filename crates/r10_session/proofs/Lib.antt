@@ -15,3 +15,5 @@ mod Pairing
 mod Taking
 mod Numbered
 mod Refusing
+mod Scripts
+mod Told

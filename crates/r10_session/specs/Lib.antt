@@ -5,6 +5,6 @@ pub mod Lanes
 pub mod Ends
 pub mod Text
 pub mod Vectors
-pub mod Passed
+pub mod Command
 pub mod Feeds
 pub mod Came

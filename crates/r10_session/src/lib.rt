@@ -1,7 +1,9 @@
-//! A session script on a recorder between threads, over a fresh medium in memory, to what came of it and the lines that tell it.
+//! The command `run`: a session script on a recorder between threads, over a fresh medium in memory, to what came of it and the lines that
+//! tell it; and with it all commands of the program.
 #![tactic(auto)]
 
 mod beginning;
+mod command;
 mod ended;
 mod ends;
 mod fault;
@@ -13,6 +15,7 @@ mod running;
 mod session;
 mod text;
 
+pub use command::run;
 pub use ended::{Ended, FeedEnd, ReaderEnd};
 pub use fault::SessionFault;
 pub use running::run_script;

@@ -11,7 +11,7 @@ use Rattle.r10_session.specs.Lanes.{HaveChannels}
 use Rattle.r10_script.specs.Script.{EachAsks}
 use Rattle.r10_script.specs.Session.{IsFeed, IsOrder, is_order}
 use Rattle.r10_script.specs.declared.session.FeedTable.{FeedTable}
-use Rattle.r10_session.specs.Passed.{order_of}
+use Rattle.r10_shared.specs.Orders.{order_of}
 
 is_one : (event : Event) → is_order event ≡ true → IsSome (order_of event)
 is_one events.Mount fits = refl

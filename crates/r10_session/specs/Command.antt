@@ -14,7 +14,8 @@ use Rattle.r10_script.specs.Script.{AreScriptSettings, EachAsks}
 use Rattle.r10_script.specs.Session.{AreOrders, IsFeed, IsReader, session_keys}
 use Rattle.r10_script.specs.declared.session.SessionScript.{SessionScript}
 use Rattle.r10_session.specs.Came.{CameOf}
-use Rattle.r10_session.specs.Passed.{order_of, Order}
+use Rattle.r10_shared.specs.Orders.{order_of}
+use Rattle.r10_shared.specs.declared.order.Order.{Order}
 use Rattle.r10_words.specs.Words.{AsksRun}
 
 -- a text spells a session script

@@ -1,7 +1,7 @@
 use Rattle.std.proofs.Common.{◌∙◌}
-use Rattle.r10_running.proofs.Scripts.{all_channels, all_orders}
-use Rattle.r10_running.proofs.Told.{told}
-use Rattle.r10_running.proofs.command.session.Goals as goal
+use Rattle.r10_session.proofs.Scripts.{all_channels, all_orders}
+use Rattle.r10_session.proofs.Told.{told}
+use Rattle.r10_session.proofs.command.session.Goals as goal
 
 pub run_script-requires-clause-steps : goal.run_script-requires-clause-steps
 run_script-requires-clause-steps g c κs within = let spelled = c.in_ok-script.ensures.spelled in all_orders c.in_ok-script.script.settings.channels _ _ spelled.steps

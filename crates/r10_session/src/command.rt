@@ -4,14 +4,16 @@ ghost use Rattle.std.specs.Prelude.{◌≡◌, [], IfOk, IfSome, OnOk, map, stri
 ghost use Rattle.std.specs.Io.Buffered.{writer_buffer, writer_contents};
 ghost use Rattle.std.specs.Io.KnownBytes.{Appends};
 ghost use Rattle.r10_command.specs.Status.{EndsWithStatus};
-ghost use Rattle.r10_running.specs.Command.{DoesAny, IsSession, Sessions, outcome_of};
+ghost use Rattle.r10_session.specs.Command.{DoesAny, IsSession, Sessions, outcome_of};
 ghost use Rattle.r10_script.specs.Session.{AreApart};
 
+use crate::fault::SessionFault;
+use crate::running::run_script;
+use crate::text::session_text;
 use r10_body::Refusal;
 use r10_command::{Fault, report};
 use r10_images::{Outcome, read_whole};
 use r10_script::{SessionScript, read_session};
-use r10_session::{SessionFault, run_script, session_text};
 use r10_words::asks_run;
 use std::alloc::Global;
 use std::io;
