@@ -1,12 +1,21 @@
-//! Sessions: feeds, a writer, orders and readers at the same time, and what became of each message.
+//! Sessions: feeds, a writer, orders and readers at the same time, and what became of each message; and the lock and
+//! its readers, called once each.
 #![tactic(auto)]
 
+#[cfg(test)]
+mod asks;
+#[cfg(test)]
+mod beside;
+#[cfg(test)]
+mod lock;
 #[cfg(test)]
 mod losing;
 #[cfg(test)]
 mod made;
 #[cfg(test)]
 mod meeting;
+#[cfg(test)]
+mod readers;
 #[cfg(test)]
 mod run;
 #[cfg(test)]

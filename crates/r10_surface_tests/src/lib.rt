@@ -1,5 +1,5 @@
-//! The public calls of the recorder's lower crates, lowest first, as a caller writes them: each type, variant, field and call by its
-//! name at its crate, each call once.
+//! The public calls of the recorder's lower crates and of its parts, lowest first, as a caller writes them: each type, variant, field and
+//! call by its name at its crate, each call once.
 #![tactic(auto)]
 
 #[cfg(test)]
@@ -7,7 +7,13 @@ mod bodies;
 #[cfg(test)]
 mod builders;
 #[cfg(test)]
+mod directories;
+#[cfg(test)]
 mod files;
+#[cfg(test)]
+mod lanes;
+#[cfg(test)]
+mod machines;
 #[cfg(test)]
 mod made;
 #[cfg(test)]
@@ -16,3 +22,7 @@ mod media;
 mod messages;
 #[cfg(test)]
 mod packets;
+#[cfg(test)]
+mod parts;
+#[cfg(test)]
+mod readers;

@@ -1,9 +1,0 @@
-use Rattle.r10_held.proofs.Keeps.{stays_accounted}
-use Rattle.r10_held.proofs.Leavings.{mount_left}
-use Rattle.r10_lock_tests.specs.Tapes.{tape_gave, tape_spec}
-use Rattle.r10_lock_tests.proofs.accounted.AccountedRecorder.mount.Goals as goal
-
-pub invariant_of-self : goal.invariant_of-self
-invariant_of-self g c =
-    stays_accounted _ tape_spec tape_gave c.self.inside.recorder c.mount.new.self (mount_left _ _ _ _ _ _ c.mount.result c.mount.ensures.passed c.mount.ensures.effect c.mount.ensures.refused).numbers
-    c.mount.ensures.owned c.mount.ensures.lanes c.mount.ensures.config c.self.invariant

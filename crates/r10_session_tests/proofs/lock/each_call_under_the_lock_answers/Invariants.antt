@@ -1,0 +1,9 @@
+use Rattle.std.proofs.Common.{[], ◌∷◌}
+use Rattle.r10_session_tests.proofs.lock.each_call_under_the_lock_answers.Given as goal
+
+-- the one ring is named for the channel
+abbrev pub ghosts-record : goal.ghosts-record
+ghosts-record g a = record { rings = record { channel = 5; ring = a.port.ring } ∷ [] }
+
+abbrev pub ghosts-close : goal.ghosts-close
+ghosts-close g a = record { rings = record { channel = 5; ring = a.port.ring } ∷ [] }

@@ -1,0 +1,7 @@
+use Rattle.r10_held.proofs.Keeps.{erases_account}
+use Rattle.r10_thread_tests.specs.Tapes.{tape_gave, tape_spec}
+use Rattle.r10_thread_tests.proofs.accounted.AccountedRecorder.erase.Goals as goal
+
+pub invariant_of-self : goal.invariant_of-self
+invariant_of-self g c =
+    erases_account _ tape_spec tape_gave c.self.inside.recorder c.erase.new.self _ c.erase.result c.erase.ensures.passed c.erase.ensures.effect c.erase.ensures.refused c.erase.ensures.owned c.erase.ensures.lanes c.erase.ensures.config c.self.invariant
