@@ -17,7 +17,7 @@ use Rattle.r10_means.specs.Kept.{Kept, Work, unmounted, idle, recording, failed}
 use Rattle.r10_medium.specs.Disk.{Disk, Image, block_at}
 use Rattle.r10_control.specs.Closing.{IsListedClosed}
 use Rattle.r10_body.specs.declared.entry.Entry.{Entry}
-use Rattle.r10_openfile.specs.Carrying.{IsShown}
+use Rattle.r10_openfile.specs.Carrying.{EndsIndexed, IsShown}
 use Rattle.r10_packetout.specs.Carries.{time_entry_at}
 use Rattle.r10_mux.specs.Writes.{next_event}
 use Rattle.r10_control.specs.Effects.{CommitEffect, DismountEffect, Effect, EraseEffect, EventEffect, HasDirectory, MountEffect, PumpEffect, StartEffect, StartEffectAt, StopEffect, StopEffectAt, TickEffect, WhereIdle, WhereRecording}
@@ -114,8 +114,9 @@ commit_effect k old new chain made o p at is front published shows = rw at (reco
 })
 
 pub stop_effect : (k : Kept) (old new : Disk) (chain made : List ChainBlock) (o : Open) (tick : Tick) (taken : List ℕ) → k.work ≡ recording chain o → k.tick ≡ Some tick → IsListedClosed tick.civil chain made new
-    → KeepsFront k.config.directory (first_of o.recording.out.blocks) old.blocks new.blocks → StopEffect k old (record k { work = idle made; taken = taken }) new
-stop_effect k old new chain made o tick taken at ticked is front =
+    → KeepsFront k.config.directory (first_of o.recording.out.blocks) old.blocks new.blocks → EndsIndexed k.config.nodes (first_of o.recording.out.blocks) new.blocks made
+    → StopEffect k old (record k { work = idle made; taken = taken }) new
+stop_effect k old new chain made o tick taken at ticked is front indexed =
     let does : Tick → Type 0 = λ t. StopEffectAt t.civil chain o k old (record k { work = idle made; taken = taken }) new in
     let done : does tick = record {
       size = is.size;
@@ -124,6 +125,7 @@ stop_effect k old new chain made o tick taken at ticked is front =
         front = front;
         directory = subst (λ (l : List ChainBlock). IsPublished l new) is.made_is is.published;
       };
+      indexed = subst (λ (l : List ChainBlock). EndsIndexed k.config.nodes (first_of o.recording.out.blocks) new.blocks l) is.made_is indexed;
     } in
     let later : Kept = record k { work = idle made; taken = taken } in
     subst (λ (w : Work). WhereRecording w (λ c p. IsSomeAnd k.tick (λ (t : Tick). StopEffectAt t.civil c p k old later new))) (sym at)

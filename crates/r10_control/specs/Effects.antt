@@ -8,7 +8,7 @@ use Rattle.r10_dirchain.specs.Chain.{IsDirectory, listed_files}
 use Rattle.r10_dirchain.specs.OnMedium.{IsPublished}
 use Rattle.r10_dirchain.specs.Steps.{added, emptied, last_listed, updated, with_shutdown}
 use Rattle.r10_dirchain.specs.declared.chain.ChainBlock.{ChainBlock}
-use Rattle.r10_openfile.specs.Carrying.{IsShown}
+use Rattle.r10_openfile.specs.Carrying.{EndsIndexed, IsShown}
 use Rattle.r10_packetout.specs.Carries.{time_entry_at}
 use Rattle.r10_body.specs.declared.entry.Entry.{Entry}
 use Rattle.r10_volume.specs.Holding.{Open}
@@ -84,10 +84,12 @@ CommitEffect k old later new = WhereRecording k.work (λ chain o. WhereRecording
 abbrev pub closed_listing : Parts → ℕ → List ChainBlock → List ChainBlock
 closed_listing civil size chain = updated (record (sized size (last_listed chain)) { close_time = time_text civil }) chain
 
--- a stop: the last file is listed with its bytes, closed at the last tick's civil time; of the channels' numbers those of what was taken in rise
+-- a stop: the last file is listed with its bytes, closed at the last tick's civil time, and ends with its index, in groups of the settings' node packets;
+-- of the channels' numbers those of what was taken in rise
 pub record StopEffectAt (civil : Parts) (chain : List ChainBlock) (o : Open) (k : Kept) (old : Disk) (later : Kept) (new : Disk) : Type 0 where
   pub size : ℕ
   pub effect : Effect (first_of o.recording.out.blocks) (record k { work = idle (closed_listing civil size chain); taken = later.taken }) (IsPublished (closed_listing civil size chain)) old.blocks later new
+  pub indexed : EndsIndexed k.config.nodes (first_of o.recording.out.blocks) new.blocks (closed_listing civil size chain)
 
 abbrev pub StopEffect : Kept → Disk → Kept → Disk → Type 0
 StopEffect k old later new = WhereRecording k.work (λ chain o. IsSomeAnd k.tick (λ (tick : Tick). StopEffectAt tick.civil chain o k old later new))
