@@ -23,7 +23,7 @@ use Rattle.r10_machine.proofs.Growing.{lane_sound, lanes_distinct, time_apart}
 use Rattle.r10_machine.proofs.Grown.{last_is_own, taping, work_of}
 use Rattle.r10_machine.proofs.Taking.{lane_has}
 use Rattle.r10_account.specs.Accepted.{Exchange, lost_since, entries_behind, entry_with, accepted_entries}
-use Rattle.r10_account.specs.Account.{GoesOver, IsAccount, StandsFirst, StandsLast, waiting_in, waiting_of, missed_in, missed_of, erased_in, erased_of, shown_own}
+use Rattle.r10_account.specs.Account.{GoesOver, IsAccount, StandsInFront, StandsLast, waiting_in, waiting_of, missed_in, missed_of, erased_in, erased_of, shown_own}
 use Rattle.r10_account.proofs.Accounting.{StepAccounts, IsApart, missed_behind, missed_on}
 use Rattle.r10_account.proofs.Doing.{Known}
 use Rattle.r10_account.proofs.Exchanges.{lost_next}
@@ -83,18 +83,18 @@ known_of s channel m config sound is works =
 record Stands (P : Type 0) (channel start : ℕ) (m : Machine) (taken gone : List Entry) : Type 0 where
   each : is_working m.mode ≡ true → gone ++ own_entries channel m.files ++ waiting_of channel m.lanes ≡ taken
   behind : P → is_working m.mode ≡ true → AllBehind m.files
-  shown : P → StandsFirst (gone ++ shown_own channel m.files) taken
+  shown : P → StandsInFront (gone ++ shown_own channel m.files) taken
   waits : StandsLast (waiting_of channel m.lanes) taken
   erased : P → erased_of channel m.lanes ≡ saturated (start + length gone)
 
-first_more : (front taken more : List Entry) → StandsFirst front taken → StandsFirst front (taken ++ more)
+first_more : (front taken more : List Entry) → StandsInFront front taken → StandsInFront front (taken ++ more)
 first_more front taken more (rest, is) = (rest ++ more, sym (append_assoc front rest more) ∙ ap (λ (l : List Entry). l ++ more) is)
 
 last_more : (back taken more : List Entry) → StandsLast back taken → StandsLast (back ++ more) (taken ++ more)
 last_more back taken more (front, is) = (front, sym (append_assoc front back more) ∙ ap (λ (l : List Entry). l ++ more) is)
 
 -- what is known of each gives what stands first
-front_of : (channel : ℕ) (files : List File) (gone waiting taken : List Entry) → AllBehind files → gone ++ own_entries channel files ++ waiting ≡ taken → StandsFirst (gone ++ shown_own channel files) taken
+front_of : (channel : ℕ) (files : List File) (gone waiting taken : List Entry) → AllBehind files → gone ++ own_entries channel files ++ waiting ≡ taken → StandsInFront (gone ++ shown_own channel files) taken
 front_of channel files gone waiting taken behind is =
     let front = shown_front channel files behind in (
       front.0 ++ waiting,
@@ -185,7 +185,7 @@ stays_on P channel start old x new taken gone b f =
       stands = subst (λ (g : List Entry). Stands P channel start new (taken ++ entry) g) (sym (append-nil gone)) (record {
         each = λ works. absurd (true≢false (sym works ∙ f.failed));
         behind = λ p works. absurd (true≢false (sym works ∙ f.failed));
-        shown = λ p. first_more (gone ++ shown_own channel new.files) taken entry (subst (λ (fs : List File). StandsFirst (gone ++ shown_own channel fs) taken) (sym f.waits.files_stay) (b.shown p));
+        shown = λ p. first_more (gone ++ shown_own channel new.files) taken entry (subst (λ (fs : List File). StandsInFront (gone ++ shown_own channel fs) taken) (sym f.waits.files_stay) (b.shown p));
         waits = subst (λ (l : List Entry). StandsLast l (taken ++ entry)) (sym f.waits.waits) (last_more (waiting_of channel old.lanes) taken entry b.waits);
         erased = λ p. f.waits.erased ∙ b.erased p;
       });

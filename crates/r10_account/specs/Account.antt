@@ -40,8 +40,8 @@ shown_own channel files = on_channel channel (flat_map shown_entries (own_files 
 
 -- ---- accounts
 
-abbrev pub StandsFirst : List Entry → List Entry → Type 0
-StandsFirst front entries = (rest : List Entry) × (front ++ rest ≡ entries)
+abbrev pub StandsInFront : List Entry → List Entry → Type 0
+StandsInFront front entries = (rest : List Entry) × (front ++ rest ≡ entries)
 
 abbrev pub StandsLast : List Entry → List Entry → Type 0
 StandsLast back entries = (front : List Entry) × (front ++ back ≡ entries)
@@ -51,7 +51,7 @@ StandsLast back entries = (front : List Entry) × (front ++ back ≡ entries)
 pub record IsAccount (channel : ℕ) (m : Machine) (entries : List Entry) : Type 0 where
   pub gone : List Entry
   pub each : is_working m.mode ≡ true → gone ++ own_entries channel m.files ++ waiting_of channel m.lanes ≡ entries
-  pub shown : StandsFirst (gone ++ shown_own channel m.files) entries
+  pub shown : StandsInFront (gone ++ shown_own channel m.files) entries
   pub waits : StandsLast (waiting_of channel m.lanes) entries
   pub erased : erased_of channel m.lanes ≡ saturated (length gone)
 

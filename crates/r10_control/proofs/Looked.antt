@@ -30,7 +30,7 @@ use Rattle.r10_control.specs.Checks.{files_of}
 use Rattle.r10_control.specs.Lanes.{WaitQuietly}
 use Rattle.r10_control.specs.Leading.{KeptStepsTaking, none_taken}
 use Rattle.r10_control.specs.Owns.{IsRecorded, Owns, OwnsWork, tick_count}
-use Rattle.r10_control.specs.Told.{TellsLane, TellsLanes, TellsRecorder, erased_in, free_in, held_of, without_lost}
+use Rattle.r10_control.specs.Told.{TellsLane, TellsLanes, TellsRecorder, erased_told, free_in, held_of, without_lost}
 use Rattle.r10_control.specs.declared.status.LaneStatus.{LaneStatus}
 use Rattle.r10_control.specs.declared.status.RecorderStatus.{RecorderStatus}
 use Rattle.r10_control.proofs.Leading.{memory_leads, none_left}
@@ -172,12 +172,12 @@ owns_looked took spec_of reached k image books lanes now keeps rises all owns = 
 -- erases took alike of each
 abbrev ErasedAlike : Mode → List ℕ → List Lane → Type 0
 ErasedAlike mode [] [] = Unit {0}
-ErasedAlike mode (e ∷ erased) (l ∷ machines) = (erased_in mode e ≡ erased_in mode l.erased) × ErasedAlike mode erased machines
+ErasedAlike mode (e ∷ erased) (l ∷ machines) = (erased_told mode e ≡ erased_told mode l.erased) × ErasedAlike mode erased machines
 ErasedAlike mode erased machines = ⊥
 
 counted_alike : (mode : Mode) (files : List File) (specs : List ChannelSpec) (taken erased : List ℕ) (machines : List Lane) → LanesAreCounted files specs taken erased machines → ErasedAlike mode erased machines
 counted_alike mode files [] [] [] [] are = tt
-counted_alike mode files (x ∷ specs) (t ∷ taken) (e ∷ erased) (l ∷ machines) are = (ap (erased_in mode) (sym are.0.erased_is), counted_alike mode files specs taken erased machines are.1)
+counted_alike mode files (x ∷ specs) (t ∷ taken) (e ∷ erased) (l ∷ machines) are = (ap (erased_told mode) (sym are.0.erased_is), counted_alike mode files specs taken erased machines are.1)
 counted_alike mode files [] [] [] (l ∷ machines) are = absurd are
 counted_alike mode files [] [] (e ∷ erased) machines are = absurd are
 counted_alike mode files [] (t ∷ taken) erased machines are = absurd are
@@ -213,7 +213,7 @@ lanes_alike quiet spec_of mode (a ∷ lanes) (l ∷ machines) (e ∷ erased) (t 
     let same : spec_of a ≡ l.spec = cc (specs) in
     let others : map spec_of lanes ≡ map (λ (x : Lane). x.spec) machines = cc (specs) in
     let held : t.held ≡ length l.waiting = subst (λ (q : Option (List Sample)). IfSome q (λ w. t.held ≡ length w)) waits.0 tells.0.1 in
-    ap (λ (x : LaneStatus). x ∷ told) (one_lane t l.spec.id (length l.waiting) (erased_in mode l.erased) (tells.0.0 ∙ ap (λ (s : ChannelSpec). s.id) same) held (tells.0.2 ∙ erases.0))
+    ap (λ (x : LaneStatus). x ∷ told) (one_lane t l.spec.id (length l.waiting) (erased_told mode l.erased) (tells.0.0 ∙ ap (λ (s : ChannelSpec). s.id) same) held (tells.0.2 ∙ erases.0))
     ∙ ap (λ (rest : List LaneStatus). held_of (channel_status mode l) ∷ rest) (lanes_alike quiet spec_of mode lanes machines erased told others erases.1 waits.1 tells.1)
 
 made : (s : RecorderStatus) (mode : Mode) (tick : Option ℕ) (files free : ℕ) (channels : List LaneStatus) → s.mode ≡ mode → s.tick ≡ tick → s.files ≡ files → s.free ≡ free → s.channels ≡ channels

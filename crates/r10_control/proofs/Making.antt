@@ -22,7 +22,7 @@ use Rattle.r10_medium.specs.Disk.{Disk, Image}
 use Rattle.r10_medium.specs.Stop.{Leaves, Settled}
 use Rattle.r10_openfile.specs.Keeping.{Becomes, StopKeepsFiles, Keeps}
 use Rattle.r10_openfile.specs.Starting.{begun_file}
-use Rattle.r10_seal.specs.Leftover.{IsEither, IsLeftOpen, SealsLast, StaysOpen, shown_cost}
+use Rattle.r10_seal.specs.Leftover.{IsOpenOrClosed, IsLeftOpen, SealsLast, StaysOpen, shown_cost}
 use Rattle.r10_seal.specs.Sealing.{sealed}
 use Rattle.r10_means.specs.Left.{Makes}
 use Rattle.r10_means.specs.Left.{IsEither as MachineEither}
@@ -133,7 +133,7 @@ seal_left known k old new chain made nodes result at fine unsealed nodes_are sea
     by (inl still) = weakened (λ image. MediumSays k.config image (l.files ++ l.f ∷ [])) (MachineEither k.config m Seal) old new (λ image says. inl (was image says)) (still.left settled)
     by (inr room) =
         let seals = sealing l.files l.f l.left in
-        weakened (IsEither nodes k.config l.files l.f seals.packets) (MachineEither k.config m Seal) old new
+        weakened (IsOpenOrClosed nodes k.config l.files l.f seals.packets) (MachineEither k.config m Seal) old new
         (λ image. ⊎_elim (λ says. inl (was image says)) (λ says. inr (seal_makes k old.blocks old.failures m chain nodes l (sealed nodes seals.packets l.f).size image (seal_check k old.blocks old.failures m means ∙ fine)
         (omega (arith, costs l.files l.f l.left.held l.own, room)) says)))
         (seals.moments settled)

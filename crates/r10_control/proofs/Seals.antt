@@ -30,7 +30,7 @@ use Rattle.r10_control.specs.Checks.{files_of}
 use Rattle.r10_control.specs.Leading.{KeptStepsTaking, none_taken}
 use Rattle.r10_control.proofs.Dismounts.{held}
 use Rattle.r10_control.proofs.Leading.{failed_leads, memory_leads, none_left, refused_leads, still_there}
-use Rattle.r10_seal.specs.Leftover.{IsEither, IsLeftOpen, shown_cost}
+use Rattle.r10_seal.specs.Leftover.{IsOpenOrClosed, IsLeftOpen, shown_cost}
 use Rattle.r10_seal.specs.Sealing.{sealed}
 use Rattle.r10_machine.specs.ControlCalls.{Seals, closed_in}
 use Rattle.r10_machine.specs.EventChecks.{refusal}
@@ -210,14 +210,14 @@ fails_after law k old new before now m chain nodes l size limits means fine more
     }
 
 pub seal_fails : StepsStaySound → (k : Kept) (old new : Image) (before now : ℕ) (m : Machine) (chain : List ChainBlock) (nodes : ℕ) (l : Left k old chain nodes m) (packets : List Packet) → IsConfig k.config → KeptStandsFor k old before m → checked k ≡ None
-    → before ≤ now → Rose before now → shown_cost l.f ≡ cost_of l.f → l.f.size ≤ (sealed nodes packets l.f).size → MediumSays k.config new (l.files ++ l.f ∷ []) ⊎ (shown_cost l.f ≤ area k.config l.f) → IsEither nodes k.config l.files l.f packets new
+    → before ≤ now → Rose before now → shown_cost l.f ≡ cost_of l.f → l.f.size ≤ (sealed nodes packets l.f).size → MediumSays k.config new (l.files ++ l.f ∷ []) ⊎ (shown_cost l.f ≤ area k.config l.f) → IsOpenOrClosed nodes k.config l.files l.f packets new
     → KeptStepsTaking none_taken k m Seal (replies.Refused Medium) (record k { work = failed }) new now
 seal_fails law k old new before now m chain nodes l packets limits means fine more rose costs grows either reads = by either reads
   where
     open_still : MediumSays k.config new (l.files ++ l.f ∷ []) → KeptStepsTaking none_taken k m Seal (replies.Refused Medium) (record k { work = failed }) new now
     open_still says = failed_leads law k old new before now m Seal limits means more rose (same_check k old before m means ∙ fine) refl refl (subst (λ (fs : List File). MediumSays k.config new fs) (sym l.all) says)
 
-    by : MediumSays k.config new (l.files ++ l.f ∷ []) ⊎ (shown_cost l.f ≤ area k.config l.f) → IsEither nodes k.config l.files l.f packets new → KeptStepsTaking none_taken k m Seal (replies.Refused Medium) (record k { work = failed }) new now
+    by : MediumSays k.config new (l.files ++ l.f ∷ []) ⊎ (shown_cost l.f ≤ area k.config l.f) → IsOpenOrClosed nodes k.config l.files l.f packets new → KeptStepsTaking none_taken k m Seal (replies.Refused Medium) (record k { work = failed }) new now
     by (inl says) also = open_still says
     by (inr room) (inl says) = open_still says
     by (inr room) (inr says) = fails_after law k old new before now m chain nodes l (sealed nodes packets l.f).size limits means fine more rose (omega (arith, costs, room)) grows says

@@ -166,8 +166,8 @@ abbrev pub UnlessFull : Result ℕ PumpFault → Type 0 → Type 0
 UnlessFull result P = IfErr result (λ fault. elim fault [ pump_faults.Full full ↦ Unit {0} | _ ↦ P ]) × IfOk result (λ n. P)
 
 -- this, where the first has no room
-abbrev pub WhereFull : Result ℕ PumpFault → Type 0 → Type 0
-WhereFull result P = IfErr result (λ fault. elim fault [ pump_faults.Full full ↦ P | _ ↦ Unit {0} ])
+abbrev pub WherePumpFull : Result ℕ PumpFault → Type 0 → Type 0
+WherePumpFull result P = IfErr result (λ fault. elim fault [ pump_faults.Full full ↦ P | _ ↦ Unit {0} ])
 
 -- a lane shows this sample, the first of what waits, and of a lane that isn't quiet all that is told
 pub record ShowsFirst (shows : Sample → Type 0) (single : Sample → List Sample → Type 0) (rest : List Sample) : Type 0 where
@@ -186,5 +186,5 @@ pub record PumpedLane {M : Type 0} (took : List Sample → Type 0) (left : List 
   pub within : length samples ≤ most
   pub few : length samples ≤ capacity
   pub alone : UnlessFull result (bare rest)
-  pub shown : WhereFull result (showing rest)
+  pub shown : WherePumpFull result (showing rest)
   pub moved : MatchResult result (MovedSamples ends ends' channel most area samples rest old (disk medium).blocks new (disk medium').blocks) (MovedNone disk ends ends' channel most area samples rest old medium new medium')

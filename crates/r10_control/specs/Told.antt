@@ -52,12 +52,12 @@ status_in k lanes = record {
 -- ---- whatever the lanes
 
 -- what is told of so many entries that erases took: none of a recorder that failed
-abbrev pub erased_in : Mode → ℕ → ℕ
-erased_in mode erased = elim mode [ modes.Failed ↦ 0 | _ ↦ erased ]
+abbrev pub erased_told : Mode → ℕ → ℕ
+erased_told mode erased = elim mode [ modes.Failed ↦ 0 | _ ↦ erased ]
 
 -- this is told of a lane: its channel; how many it holds, all that waits where it is quiet; and what erases took
 abbrev pub TellsLane : {L : Type 0} → (L → Option (List Sample)) → (L → ChannelSpec) → Mode → L → ℕ → LaneStatus → Type 0
-TellsLane quiet spec_of mode lane erased told = (told.channel ≡ (spec_of lane).id) × IfSome (quiet lane) (λ waiting. told.held ≡ length waiting) × (told.erased ≡ erased_in mode erased)
+TellsLane quiet spec_of mode lane erased told = (told.channel ≡ (spec_of lane).id) × IfSome (quiet lane) (λ waiting. told.held ≡ length waiting) × (told.erased ≡ erased_told mode erased)
 
 abbrev pub TellsLanes : {L : Type 0} → (L → Option (List Sample)) → (L → ChannelSpec) → Mode → List L → List ℕ → List LaneStatus → Type 0
 TellsLanes quiet spec_of mode [] [] [] = Unit {0}

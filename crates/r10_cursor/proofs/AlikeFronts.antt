@@ -11,7 +11,7 @@ use Rattle.r10_body.specs.Rules.{EachFollows, is_data, is_index}
 use Rattle.r10_body.proofs.Indexes.{counted_first, counted_yes}
 use Rattle.r10_body.proofs.Injective.{one_beginning, one_file}
 use Rattle.r10_packetout.proofs.Closing.{named_length}
-use Rattle.r10_cursor.specs.Shown.{IsShown}
+use Rattle.r10_cursor.specs.Shown.{ShowsPackets}
 use Rattle.r10_cursor.specs.Files.{HasDataPackets}
 
 -- the first bytes of a file are those of packets, and so is the whole
@@ -34,16 +34,16 @@ no_more ps qs more is long =
     let none : more ≡ [] = nil_from_length more (omega (arith, long, length-append ps more, ap (λ (l : List Packet). length l) is)) in
     sym (is ∙ ap (λ (l : List Packet). ps ++ l) none ∙ append-nil ps)
 
-named_long : (image : Image) (first : ℕ) (named : List NodeEntry) (ps : List Packet) → IsShown image first named ps → length ps ≡ length named
+named_long : (image : Image) (first : ℕ) (named : List NodeEntry) (ps : List Packet) → ShowsPackets image first named ps → length ps ≡ length named
 named_long image first named ps shown = omega (arith, named_length 0 ps, ap (λ (l : List NodeEntry). length l) shown.named_as)
 
-one_of : (image : Image) (first : ℕ) (named : List NodeEntry) (ps qs : List Packet) → IsShown image first named ps → IsShown image first named qs → length (file_bytes ps) ≤ length (file_bytes qs) → ps ≡ qs
+one_of : (image : Image) (first : ℕ) (named : List NodeEntry) (ps qs : List Packet) → ShowsPackets image first named ps → ShowsPackets image first named qs → length (file_bytes ps) ≤ length (file_bytes qs) → ps ≡ qs
 one_of image first named ps qs p q shorter =
     let more = shown_front image first (length (file_bytes ps)) (length (file_bytes qs)) ps qs shorter p.shows q.shows p.each q.each in
     no_more ps qs more.0 more.1 (named_long image first named qs q ∙ sym (named_long image first named ps p))
 
 -- of the file that is written too
-pub one_shown : (image : Image) (first : ℕ) (named : List NodeEntry) (ps qs : List Packet) → IsShown image first named ps → IsShown image first named qs → ps ≡ qs
+pub one_shown : (image : Image) (first : ℕ) (named : List NodeEntry) (ps qs : List Packet) → ShowsPackets image first named ps → ShowsPackets image first named qs → ps ≡ qs
 one_shown image first named ps qs p q = by (nat_le (length (file_bytes ps)) (length (file_bytes qs))) refl
   where
     by : (b : Bool) → nat_le (length (file_bytes ps)) (length (file_bytes qs)) ≡ b → ps ≡ qs

@@ -15,10 +15,10 @@ use Rattle.r10_volume.specs.Holding.{IsWritten, Open}
 use Rattle.r10_volume.proofs.Carried.{carried_of}
 use Rattle.r10_machine.specs.Config.{Config}
 use Rattle.r10_machine.specs.Machine.{File, Cursor as MachineCursor, cursor_at, shown_entries}
-use Rattle.r10_cursor.specs.Shown.{IsShown}
+use Rattle.r10_cursor.specs.Shown.{ShowsPackets}
 use Rattle.r10_machine.specs.Says.{MediumSays}
 use Rattle.r10_cursor.specs.Files.{HasDataPackets, ShowsFile, in_writing, in_directory, bytes_in, finished_file}
-use Rattle.r10_cursor.specs.Held.{IsCovered, IsHeld, IsToldOf}
+use Rattle.r10_cursor.specs.Held.{IsCovered, IsHeldFile, IsToldOf}
 use Rattle.r10_cursor.specs.declared.cursor.Cursor.{Cursor}
 use Rattle.r10_cursor.specs.declared.written.Written.{Written}
 use Rattle.r10_cursor.proofs.Said.{listed_by, says_each, same_bytes, found_entry}
@@ -163,7 +163,7 @@ covered_so image f count n packets has read =
     (has, subst (λ (l : List Packet). IsCovered l f count n) (one_had (bytes_shown image f) read.packets packets read.has has) read.covered)
 
 pub listed : (s : Config) (image : Image) (machine : List File) (chain : List ChainBlock) (written : Option Written) (file : ℕ) (f : File) (count n : ℕ) → MediumSays s image machine → IsDirectory image chain
-    → IfSome written (λ w. file < w.file) → slice_get machine file ≡ Some f → (held : IsHeld image chain written file f) → IsReadTo image f count n
+    → IfSome written (λ w. file < w.file) → slice_get machine file ≡ Some f → (held : IsHeldFile image chain written file f) → IsReadTo image f count n
     → HasDataPackets (bytes_shown image f) held.packets × IsCovered held.packets f count n
 listed s image machine chain written file f count n says directory before at held read = covered_so image f count n held.packets (by held.shows) read
   where
@@ -177,7 +177,7 @@ listed s image machine chain written file f count n says directory before at hel
         let here : e ≡ entry.0 = one e entry.0 found (found_entry written chain file entry.0 before entry.1) in
         subst (λ (l : List ℕ). HasDataPackets l held.packets) (ap (bytes_in image) here ∙ sym (same_bytes image entry.0 f entry.2.lists)) has
 
-pub written : (s : Config) (image : Image) (chain : List ChainBlock) (o : Open) (f : File) (w : Written) (count n : ℕ) → IsWritten s image o f → IsToldOf o w → (held : IsHeld image chain (Some w) w.file f)
+pub written : (s : Config) (image : Image) (chain : List ChainBlock) (o : Open) (f : File) (w : Written) (count n : ℕ) → IsWritten s image o f → IsToldOf o w → (held : IsHeldFile image chain (Some w) w.file f)
     → IsReadTo image f count n → HasDataPackets (bytes_shown image f) held.packets × IsCovered held.packets f count n
 written s image chain o f w count n is told held read = covered_so image f count n held.packets (by held.shows) read
   where
@@ -196,7 +196,7 @@ written s image chain o f w count n is told held read = covered_so image f count
     by : ShowsFile image chain (Some w) w.file held.packets → HasDataPackets (bytes_shown image f) held.packets
     by (in_writing v same number shows) =
         let here : v ≡ w = cc (same) in
-        let known : IsShown image w.first w.named.now held.packets = subst (λ (x : Written). IsShown image x.first x.named.now held.packets) here shows.shown in
+        let known : ShowsPackets image w.first w.named.now held.packets = subst (λ (x : Written). ShowsPackets image x.first x.named.now held.packets) here shows.shown in
         subst (HasDataPackets (bytes_shown image f)) (one_shown image w.first w.named.now (take o.shown is.carries.packets) held.packets (shown image o f.setup f.entries w (carried_of s image o f is) told).shown known) had
     by (in_directory e found has) = absurd (beyond w.file (listed_files chain) e found)
       where

@@ -8,7 +8,7 @@ use Rattle.r10_indexbody.specs.declared.entry.NodeEntry.{NodeEntry}
 use Rattle.r10_body.specs.Packets.{Packet, file_bytes}
 use Rattle.r10_body.specs.Rules.{EachFollows, is_data, node_entries}
 use Rattle.r10_body.proofs.Injective.{one_file}
-use Rattle.r10_cursor.specs.Shown.{IsShown}
+use Rattle.r10_cursor.specs.Shown.{ShowsPackets}
 use Rattle.r10_cursor.specs.Files.{HasDataPackets, bytes_in}
 use Rattle.r10_cursor.proofs.BeforeIndex.{data_first, follows_front, shows_front, bytes_front}
 
@@ -19,7 +19,7 @@ one_reading bytes packets all is each has =
 
 -- of a file that was judged, the medium shows the packets of data, and its book names them
 pub book_shown : (image : Image) (e : DirectoryEntry) (all : List Packet) (named : List NodeEntry) → bytes_in image e ≡ file_bytes all → EachFollows [] all → named ≡ node_entries 0 (filter is_data all)
-    → IsShown image e.first_block named (filter is_data all)
+    → ShowsPackets image e.first_block named (filter is_data all)
 book_shown image e all named is each names =
     let front = filter is_data all in
     let split = data_first all each in

@@ -27,7 +27,7 @@ use Rattle.r10_machine.specs.Finding.{ticks_of}
 use Rattle.r10_machine.specs.Says.{IsFound, Lists, MediumSays, SaysEach, SaysFile}
 use Rattle.r10_machine.specs.Sound.{IsEntry}
 use Rattle.r10_cursor.specs.Files.{IsShownWith, in_writing, in_directory, bytes_in, finished_file}
-use Rattle.r10_cursor.specs.Held.{IsHeld}
+use Rattle.r10_cursor.specs.Held.{IsHeldFile}
 use Rattle.r10_cursor.specs.declared.written.Written.{Written}
 use Rattle.r10_cursor.proofs.Clipping.{among_first}
 use Rattle.r10_cursor.proofs.Times.{same_ticks}
@@ -109,7 +109,7 @@ found_entry (Some w) chain file e before at = among_first (listed_files chain) w
 
 -- a file that is said is held, where its packets have its times
 held_by : (image : Image) (chain : List ChainBlock) (written : Option Written) (file : ℕ) (e : DirectoryEntry) (f : File) → finished_file written chain file ≡ Some e → (is : IsSaid image e f) → f.shown ≤ length f.entries
-    → ticks_of (file_entries is.says.says.0) ≡ ticks_of (shown_entries f) → IsHeld image chain written file f
+    → ticks_of (file_entries is.says.says.0) ≡ ticks_of (shown_entries f) → IsHeldFile image chain written file f
 held_by image chain written file e f found is inside ticks =
     let packets = is.says.says.0 in
     let say = is.says.says.2 in
@@ -123,7 +123,7 @@ held_by image chain written file e f found is inside ticks =
     }
 
 pub found_held : (s : Config) (image : Image) (fs : List File) (chain : List ChainBlock) (written : Option Written) (file : ℕ) (f : File) → MediumSays s image fs → IsDirectory image chain
-    → IfSome written (λ w. file < w.file) → slice_get fs file ≡ Some f → IsFound image f → IsHeld image chain written file f
+    → IfSome written (λ w. file < w.file) → slice_get fs file ≡ Some f → IsFound image f → IsHeldFile image chain written file f
 found_held s image fs chain written file f says directory before at is =
     let listed = listed_by image (listed_files chain) fs file f (says_each s image fs chain says directory) at in
     let e = listed.0 in
@@ -134,7 +134,7 @@ found_held s image fs chain written file f says directory before at is =
     held_by image chain written file e f (found_entry written chain file e before listed.1) said (omega (arith, is.shown)) (ap ticks_of (sym (whole ∙ is.entries_are ∙ ap file_entries one)))
 
 pub own_held : (s : Config) (image : Image) (fs : List File) (chain : List ChainBlock) (written : Option Written) (file : ℕ) (f : File) → MediumSays s image fs → IsDirectory image chain
-    → IfSome written (λ w. file < w.file) → slice_get fs file ≡ Some f → f.shown ≤ length f.entries → AllByRecursion (IsEntry s) f.entries → IsHeld image chain written file f
+    → IfSome written (λ w. file < w.file) → slice_get fs file ≡ Some f → f.shown ≤ length f.entries → AllByRecursion (IsEntry s) f.entries → IsHeldFile image chain written file f
 own_held s image fs chain written file f says directory before at inside entries =
     let listed = listed_by image (listed_files chain) fs file f (says_each s image fs chain says directory) at in
     let e = listed.0 in
@@ -142,7 +142,7 @@ own_held s image fs chain written file f says directory before at inside entries
     held_by image chain written file e f (found_entry written chain file e before listed.1) said inside (same_ticks s (file_entries said.says.says.0) f.shown f.entries (record { on = said.says.says.2.entries_are }) entries)
 
 pub written_held : (s : Config) (image : Image) (chain : List ChainBlock) (w : Written) (packets : List Packet) (f : File) → IsShownWith image w.first w.named.now w.book.now packets → Agree (file_entries packets) (shown_entries f)
-    → f.shown ≤ length f.entries → AllByRecursion (IsEntry s) f.entries → IsHeld image chain (Some w) w.file f
+    → f.shown ≤ length f.entries → AllByRecursion (IsEntry s) f.entries → IsHeldFile image chain (Some w) w.file f
 written_held s image chain w packets f shown agree inside entries = record {
   packets = packets;
   shows = in_writing w refl refl shown;

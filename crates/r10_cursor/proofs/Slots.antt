@@ -8,7 +8,7 @@ use Rattle.slab.specs.Slab.{Slab, Updates, get}
 use Rattle.r10_medium.specs.Disk.{Image}
 use Rattle.r10_body.specs.Rules.{is_data}
 use Rattle.r10_body.specs.declared.entry.Entry.{Entry}
-use Rattle.r10_machine.specs.Calls.{Advances, Gives, Opens, fresh_cursor}
+use Rattle.r10_machine.specs.Calls.{Advances, GivesQueued, Opens, fresh_cursor}
 use Rattle.r10_machine.specs.Config.{Config}
 use Rattle.r10_machine.specs.Machine.{Cursor as MachineCursor, File, Machine, Sets, SetsCursor, cursor_at, cursor_of, shown_entries}
 use Rattle.r10_machine.specs.Replay.{wanted, Ordered}
@@ -125,12 +125,12 @@ opens s image m slots later id file generation channels from to stand same less 
     (λ new set. (none_at slots m.cursors id stand free, set))
 
 pub gives : (image : Image) (m : Machine) (slots later : List (Option Cursor)) (id : ℕ) (c : Cursor) (given : Option Entry) → SlotsStandFor slots m.cursors → slot_at slots id ≡ Some c → given ≡ slice_get c.reading.queue 0
-    → PutsSlot slots later id (Some (with_queue (drop 1 c.reading.queue) c)) → StepsTo (Gives m id given) m image slots later
+    → PutsSlot slots later id (Some (with_queue (drop 1 c.reading.queue) c)) → StepsTo (GivesQueued m id given) m image slots later
 gives image m slots later id c given stand is first puts =
     let pair = pair_at slots m.cursors id c stand is in
     let r = pair.reader in
     let stands = pair.stands in
-    leads (Gives m id given) m image slots later id (Some (with_queue (drop 1 c.reading.queue) c)) (Some (record r { queue = drop 1 r.queue })) stand puts
+    leads (GivesQueued m id given) m image slots later id (Some (with_queue (drop 1 c.reading.queue) c)) (Some (record r { queue = drop 1 r.queue })) stand puts
     (record { file = stands.file; generation = stands.generation; channels = stands.channels; first = stands.first; last = stands.last; queue = ap (drop 1) stands.queue })
     (λ before. let here : HasRead image m.files m.generation (Some c) (Some r) = rw (is, pair.is) at (before.each id) in here)
     (λ new set. rw pair.is (first ∙ ap (λ (q : List Entry). slice_get q 0) (sym stands.queue), set))
@@ -161,7 +161,7 @@ opened s image m old new id file generation channels from to cursor is free upda
     (subst (λ (x : Cursor). PutsSlot old.slots new.slots id (Some x)) is (slab_puts old new id (Some cursor) updates))
 
 pub given : (image : Image) (m : Machine) (slots : List (Option Cursor)) (id : ℕ) (c new : Cursor) (first : Option Entry) → SlotsStandFor slots m.cursors → slot_at slots id ≡ Some c → first ≡ slice_get c.reading.queue 0
-    → new ≡ with_queue (drop 1 c.reading.queue) c → StepsTo (Gives m id first) m image slots (set slots id (Some new))
+    → new ≡ with_queue (drop 1 c.reading.queue) c → StepsTo (GivesQueued m id first) m image slots (set slots id (Some new))
 given image m slots id c new first stand is told left =
     gives image m slots (set slots id (Some new)) id c first stand is told (subst (λ (x : Cursor). PutsSlot slots (set slots id (Some new)) id (Some x)) left (set_puts slots id c new is))
 

@@ -19,7 +19,7 @@ use Rattle.r10_machine.specs.Machine.{File, shown_entries}
 use Rattle.r10_machine.specs.Sound.{IsEntry}
 use Rattle.r10_index.specs.Counted.{IsBookOf, CountsEntriesUpTo}
 use Rattle.r10_cursor.specs.Files.{IsShownWith}
-use Rattle.r10_cursor.specs.Held.{IsHeld, IsToldOf}
+use Rattle.r10_cursor.specs.Held.{IsHeldFile, IsToldOf}
 use Rattle.r10_cursor.specs.Knowing.{IsWriting}
 use Rattle.r10_cursor.specs.declared.written.Written.{Written}
 use Rattle.r10_cursor.proofs.BeforeIndex.{follows_front}
@@ -50,7 +50,7 @@ is_shown image o text entries w is told whole few =
     let front = take o.shown is.carries.packets in
     (front, shown image o text entries w is told, omega (arith, shown_length image (first_of o.recording.out.blocks) (file_bytes front) whole is.stands, few))
 
-pub is_held : (s : Config) (image : Image) (chain : List ChainBlock) (o : Open) (f : File) (w : Written) → IsWritten s image o f → IsToldOf o w → AllByRecursion (IsEntry s) f.entries → IsHeld image chain (Some w) w.file f
+pub is_held : (s : Config) (image : Image) (chain : List ChainBlock) (o : Open) (f : File) (w : Written) → IsWritten s image o f → IsToldOf o w → AllByRecursion (IsEntry s) f.entries → IsHeldFile image chain (Some w) w.file f
 is_held s image chain o f w is told entries =
     let packets = is.carries.packets in
     let agree : Agree (file_entries (take o.shown packets)) (shown_entries f) = subst (λ (n : ℕ). Agree (file_entries (take n packets)) (shown_entries f)) is.shown is.cut.agree in

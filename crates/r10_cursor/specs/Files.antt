@@ -10,7 +10,7 @@ use Rattle.r10_body.specs.Packets.{Packet, file_bytes}
 use Rattle.r10_body.specs.Rules.{EachFollows, is_data}
 use Rattle.r10_index.specs.Book.{Book}
 use Rattle.r10_index.specs.Counted.{BeginsWith}
-use Rattle.r10_cursor.specs.Shown.{IsShown}
+use Rattle.r10_cursor.specs.Shown.{ShowsPackets}
 use Rattle.r10_cursor.specs.declared.written.Written.{Written}
 
 -- a file's bytes, by its directory entry
@@ -35,7 +35,7 @@ pub record HasDataPackets (bytes : List ℕ) (packets : List Packet) : Type 0 wh
 
 -- the medium shows these packets of a file, whose first block this is, and a book has them first
 pub record IsShownWith (image : Image) (first : ℕ) (named : List NodeEntry) (book : Book) (packets : List Packet) : Type 0 where
-  pub shown : IsShown image first named packets
+  pub shown : ShowsPackets image first named packets
   pub begins : BeginsWith book packets
 
 -- the medium shows these packets of a file

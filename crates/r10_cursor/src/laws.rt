@@ -22,7 +22,7 @@ ghost use Rattle.r10_machine.specs.Machine.{File, shown_entries};
 ghost use Rattle.r10_machine.specs.Says.{IsFound, MediumSays};
 ghost use Rattle.r10_machine.specs.Sound.{IsEntry};
 ghost use Rattle.r10_cursor.specs.Files.{IsShownWith, bytes_in, finished};
-ghost use Rattle.r10_cursor.specs.Held.{IsCovered, IsHeld, IsToldOf};
+ghost use Rattle.r10_cursor.specs.Held.{IsCovered, IsHeldFile, IsToldOf};
 ghost use Rattle.r10_cursor.specs.Knowing.{IsWriting, Knows};
 ghost use Rattle.r10_cursor.specs.Staying.{KeepListed, Stay};
 ghost use Rattle.r10_cursor.specs.declared.books.Books.{Books};
@@ -49,7 +49,7 @@ pub fn listed_files_keep_their_bytes()
 /// where they are a machine's, they are its.
 pub fn what_is_written_is_shown()
     ensures writing { (image : Image) (o : Open) (text : List ℕ) (entries : List Entry) (w : Written) → IsCarried image o text entries → IsToldOf o w → IsWhole image → length image ≤ 2 ^ 53 → IsWriting image (Some w) }
-    ensures held { (s : Config) (image : Image) (chain : List ChainBlock) (o : Open) (f : File) (w : Written) → IsWritten s image o f → IsToldOf o w → AllByRecursion (IsEntry s) f.entries → IsHeld image chain (Some w) w.file f }
+    ensures held { (s : Config) (image : Image) (chain : List ChainBlock) (o : Open) (f : File) (w : Written) → IsWritten s image o f → IsToldOf o w → AllByRecursion (IsEntry s) f.entries → IsHeldFile image chain (Some w) w.file f }
 {}
 
 /// A cursor that has covered nothing has covered no packet and no entry; and what it has covered, it still has where packets and entries
@@ -67,9 +67,9 @@ pub fn files_that_are_said()
     ensures sound { (s : Config) (image : Image) (machine : List File) (chain : List ChainBlock) (file : ℕ) (e : DirectoryEntry) (offset : ℕ) (fault : FileFault) → MediumSays s image machine → IsDirectory image chain
         → slice_get (listed_files chain) file ≡ Some e → IsAtFault (bytes_in image e) (is_closed e) offset fault → ⊥ }
     ensures found { (s : Config) (image : Image) (machine : List File) (chain : List ChainBlock) (written : Option Written) (file : ℕ) (f : File) → MediumSays s image machine → IsDirectory image chain
-        → IfSome written (λ w. file < w.file) → slice_get machine file ≡ Some f → IsFound image f → IsHeld image chain written file f }
+        → IfSome written (λ w. file < w.file) → slice_get machine file ≡ Some f → IsFound image f → IsHeldFile image chain written file f }
     ensures own { (s : Config) (image : Image) (machine : List File) (chain : List ChainBlock) (written : Option Written) (file : ℕ) (f : File) → MediumSays s image machine → IsDirectory image chain
-        → IfSome written (λ w. file < w.file) → slice_get machine file ≡ Some f → f.shown ≤ length f.entries → AllByRecursion (IsEntry s) f.entries → IsHeld image chain written file f }
+        → IfSome written (λ w. file < w.file) → slice_get machine file ≡ Some f → f.shown ≤ length f.entries → AllByRecursion (IsEntry s) f.entries → IsHeldFile image chain written file f }
     ensures written { (s : Config) (image : Image) (chain : List ChainBlock) (w : Written) (packets : List Packet) (f : File) → IsShownWith image w.first w.named.now w.book.now packets → Agree (file_entries packets) (shown_entries f)
-        → f.shown ≤ length f.entries → AllByRecursion (IsEntry s) f.entries → IsHeld image chain (Some w) w.file f }
+        → f.shown ≤ length f.entries → AllByRecursion (IsEntry s) f.entries → IsHeldFile image chain (Some w) w.file f }
 {}

@@ -4,7 +4,7 @@ ghost use Rattle.std.specs.Prelude.{◌≡◌, ◌<◌, [], length, drop, slice_
 ghost use Rattle.slab.specs.Slab.{Updates, get};
 ghost use Rattle.r10_count.specs.Checks.{first_broken};
 ghost use Rattle.r10_medium.specs.Disk.{Image};
-ghost use Rattle.r10_machine.specs.Calls.{Gives, Opens};
+ghost use Rattle.r10_machine.specs.Calls.{GivesQueued, Opens};
 ghost use Rattle.r10_machine.specs.Checks.{advance_checks, open_checks};
 ghost use Rattle.r10_machine.specs.Config.{Config};
 ghost use Rattle.r10_machine.specs.Machine.{Machine, SetsCursor, cursor_of};
@@ -48,7 +48,7 @@ pub fn next_entry(cursors: &mut Slab<Cursor>, id: usize) -> Result<Option<Entry>
     ensures given { IfOk result (λ given. IsSomeAnd (get cursors.old id) (λ c. (given ≡ slice_get c.reading.queue 0) × Updates cursors.old cursors.new id (Some (with_queue (drop 1 c.reading.queue) c)))) }
     ensures refused { IfErr result (λ r. (get cursors.old id ≡ None) × (r ≡ Refusal.NoCursor)) }
     ensures kept { OnErr result (cursors.new.slots ≡ cursors.old.slots) }
-    ensures gives { (image : Image) (m : Machine) → SlotsStandFor cursors.old.slots m.cursors → IfOk result (λ given. StepsTo (Gives m id given) m image cursors.old.slots cursors.new.slots) }
+    ensures gives { (image : Image) (m : Machine) → SlotsStandFor cursors.old.slots m.cursors → IfOk result (λ given. StepsTo (GivesQueued m id given) m image cursors.old.slots cursors.new.slots) }
     ensures passed { (m : Machine) → SlotsStandFor cursors.old.slots m.cursors → MatchResult result (λ given. first_broken (open_checks (cursor_of id m)) ≡ None) (λ r. first_broken (open_checks (cursor_of id m)) ≡ Some r) }
 {
     match cursors.get_mut(id) {

@@ -15,7 +15,7 @@ ghost use Rattle.r10_machine.specs.Step.{Step};
 ghost use Rattle.r10_machine.specs.declared.event.Event.{Event as EventValue};
 ghost use Rattle.r10_machine.specs.declared.reply.Reply.{Reply as ReplyValue};
 ghost use Rattle.r10_cursor.specs.Files.{HasDataPackets};
-ghost use Rattle.r10_cursor.specs.Held.{IsCovered, IsHeld, IsToldOf};
+ghost use Rattle.r10_cursor.specs.Held.{IsCovered, IsHeldFile, IsToldOf};
 ghost use Rattle.r10_cursor.specs.declared.cursor.Cursor.{Cursor};
 ghost use Rattle.r10_cursor.specs.declared.written.Written.{Written};
 ghost use Rattle.r10_cursor.specs.Read.{GrowsShown, HaveRead, IsReadTo, KeepsBytes, ShowMore, TakesNext, bytes_shown};
@@ -57,10 +57,10 @@ pub fn cursors_stay_over_steps()
 /// written.
 pub fn what_is_held_was_read()
     ensures listed { (s : Config) (image : Image) (machine : List File) (chain : List ChainBlock) (written : Option Written) (file : ℕ) (f : File) (count : ℕ) (n : ℕ) → MediumSays s image machine
-        → IsDirectory image chain → IfSome written (λ w. file < w.file) → slice_get machine file ≡ Some f → (held : IsHeld image chain written file f) → IsReadTo image f count n
+        → IsDirectory image chain → IfSome written (λ w. file < w.file) → slice_get machine file ≡ Some f → (held : IsHeldFile image chain written file f) → IsReadTo image f count n
         → HasDataPackets (bytes_shown image f) held.packets × IsCovered held.packets f count n }
     ensures written { (s : Config) (image : Image) (chain : List ChainBlock) (o : Open) (f : File) (w : Written) (count : ℕ) (n : ℕ) → IsWritten s image o f → IsToldOf o w
-        → (held : IsHeld image chain (Some w) w.file f) → IsReadTo image f count n → HasDataPackets (bytes_shown image f) held.packets × IsCovered held.packets f count n }
+        → (held : IsHeldFile image chain (Some w) w.file f) → IsReadTo image f count n → HasDataPackets (bytes_shown image f) held.packets × IsCovered held.packets f count n }
 {}
 
 /// A cursor that took its next instalment is the machine's that advanced.

@@ -1,6 +1,6 @@
 -- What is known of a new world, by its own settings.
 use Rattle.std.proofs.Common.{◌≡◌, ℕ, List, sym, subst}
-use Rattle.r10_desk.specs.Opening.{IsSettings, Opens}
+use Rattle.r10_desk.specs.Opening.{IsSettings, OpensRecorder}
 use Rattle.r10_machine.specs.Config.{Config}
 use Rattle.r10_machine.specs.Machine.{File, fresh}
 use Rattle.r10_machine.specs.Says.{MediumHas, MediumSays}
@@ -16,7 +16,7 @@ pub opened : {M : Type 0} (disk : M → Disk) (text : List ℕ) (medium : M) (w 
     → ((files : List File) → MediumHas s (disk medium).blocks files → WorldStandsFor disk w (fresh s.channels files (disk medium).failures))
     → ((files : List File) → MediumSays s (disk medium).blocks files → Recovers disk s (disk medium) files w)
     → ((files : List File) → Settled (λ (image : Image). MediumSays s image files) (disk medium) → IsSafe w.recorder.kept.config w.recorder.kept.work files (disk w.recorder.medium))
-    → Opens disk text medium w
+    → OpensRecorder disk text medium w
 opened disk text medium w s e settings holds stands recovers safe = record {
   settings = subst (IsSettings text) (sym e) settings;
   holds = holds;

@@ -2,7 +2,7 @@
 use Rattle.std.proofs.Common.{◌≡◌, inr, refl, ℕ, ◌+◌, ◌<◌, ◌≤◌, List, [], ◌∷◌, ◌++◌, length, take, drop, ap, ◌∙◌, subst, arith}
 use Rattle.std.proofs.lemmas.List.{length-append, nil_from_length}
 use Rattle.r10_body.specs.declared.refusal.Refusal.TheVariants.{OutOfMemory}
-use Rattle.r10_desk.specs.Told.{Does}
+use Rattle.r10_desk.specs.Told.{DoesEvent}
 use Rattle.r10_machine.specs.declared.event.Event.{Event as EventValue}
 use Rattle.r10_machine.specs.declared.reply.Reply.{Reply as ReplyValue}
 use Rattle.r10_machine.specs.declared.reply.Reply.TheVariants.{Refused}
@@ -20,5 +20,5 @@ one_reply {R = R} P event n k items rest reply le lt zero size is p =
     (subst (λ (j : ℕ). P (event ∷ []) (drop j items)) zero (subst (λ (m : ℕ). P (take m (event ∷ [])) (drop k items)) one p))
 
 -- where memory was refused before the event was told
-pub refused : {M : Type 0} (disk : M → Disk) (old : WorldState M) (event : EventValue) (tells : ReplyValue → Type 0) → tells (Refused OutOfMemory) → Does disk old event tells old
+pub refused : {M : Type 0} (disk : M → Disk) (old : WorldState M) (event : EventValue) (tells : ReplyValue → Type 0) → tells (Refused OutOfMemory) → DoesEvent disk old event tells old
 refused disk old event tells says = record { reply = Refused OutOfMemory; told = inr (refl, refl); says = says; config = refl }

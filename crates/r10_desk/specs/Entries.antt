@@ -36,27 +36,27 @@ front e kind = record {
 }
 
 -- and what its message has
-abbrev pub with_message : Entry → MessageValue → EntryOut
-with_message e (Uart parity sub bytes) = record (front e 1) { parity = parity; sub = sub; length = length bytes }
-with_message e (Bus1553 status gap words) = record (front e 2) { status = status; gap_times = gap; length = length words }
-with_message e (Arinc bus format parity high word) = record (front e 3) { bus = bus; format = format; parity = parity; high = high; word = word }
-with_message e (Discrete states) = record (front e 4) { word = states }
-with_message e (Message data_error format sub bytes) = record (front e 5) { data_error = data_error; format = format; sub = sub; length = length bytes }
-with_message e (Time civil) =
+abbrev pub with_message_out : Entry → MessageValue → EntryOut
+with_message_out e (Uart parity sub bytes) = record (front e 1) { parity = parity; sub = sub; length = length bytes }
+with_message_out e (Bus1553 status gap words) = record (front e 2) { status = status; gap_times = gap; length = length words }
+with_message_out e (Arinc bus format parity high word) = record (front e 3) { bus = bus; format = format; parity = parity; high = high; word = word }
+with_message_out e (Discrete states) = record (front e 4) { word = states }
+with_message_out e (Message data_error format sub bytes) = record (front e 5) { data_error = data_error; format = format; sub = sub; length = length bytes }
+with_message_out e (Time civil) =
     record (front e 6) { year = civil.year; month = civil.month; day = civil.day; hour = civil.hour; minute = civil.minute; second = civil.second; centi = civil.centi }
-with_message e (Event number count) = record (front e 7) { number = number; occurrence = count }
+with_message_out e (Event number count) = record (front e 7) { number = number; occurrence = count }
 
 abbrev pub fields_of : Entry → EntryOut
-fields_of e = with_message e e.message
+fields_of e = with_message_out e e.message
 
-abbrev pub message_bytes : MessageValue → List ℕ
-message_bytes (Uart parity sub bytes) = bytes
-message_bytes (Bus1553 status gap words) = []
-message_bytes (Arinc bus format parity high word) = []
-message_bytes (Discrete states) = []
-message_bytes (Message data_error format sub bytes) = bytes
-message_bytes (Time civil) = []
-message_bytes (Event number count) = []
+abbrev pub message_out_bytes : MessageValue → List ℕ
+message_out_bytes (Uart parity sub bytes) = bytes
+message_out_bytes (Bus1553 status gap words) = []
+message_out_bytes (Arinc bus format parity high word) = []
+message_out_bytes (Discrete states) = []
+message_out_bytes (Message data_error format sub bytes) = bytes
+message_out_bytes (Time civil) = []
+message_out_bytes (Event number count) = []
 
 abbrev pub message_words : MessageValue → List ℕ
 message_words (Uart parity sub bytes) = []
@@ -67,8 +67,8 @@ message_words (Message data_error format sub bytes) = []
 message_words (Time civil) = []
 message_words (Event number count) = []
 
-abbrev pub bytes_of : Entry → List ℕ
-bytes_of e = message_bytes e.message
+abbrev pub out_bytes : Entry → List ℕ
+out_bytes e = message_out_bytes e.message
 
 abbrev pub words_of : Entry → List ℕ
 words_of e = message_words e.message

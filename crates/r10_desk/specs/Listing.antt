@@ -81,17 +81,17 @@ abbrev pub name_in : ReplyValue → ℕ → List ℕ → List ℕ
 name_in reply n old = elim (told_file reply n) [ None ↦ old | Some f ↦ copied f.name old ]
 
 -- 43 where files were told, and none of this number
-abbrev pub place_of : ReplyValue → ℕ → ℕ
-place_of reply n = elim (files_told reply) [ None ↦ number_of reply | Some fs ↦ elim (slice_get fs n) [ None ↦ 43 | Some f ↦ 0 ] ]
+abbrev pub file_place : ReplyValue → ℕ → ℕ
+file_place reply n = elim (files_told reply) [ None ↦ number_of reply | Some fs ↦ elim (slice_get fs n) [ None ↦ 43 | Some f ↦ 0 ] ]
 
-abbrev pub status_in : ReplyValue → StatusOut → StatusOut
-status_in reply old = elim (status_told reply) [ None ↦ old | Some s ↦ status_out s ]
+abbrev pub status_given : ReplyValue → StatusOut → StatusOut
+status_given reply old = elim (status_told reply) [ None ↦ old | Some s ↦ status_out s ]
 
 abbrev pub told_lane : ReplyValue → ℕ → Option ChannelStatus
 told_lane reply n = elim (status_told reply) [ None ↦ None | Some s ↦ slice_get s.channels n ]
 
-abbrev pub lane_in : ReplyValue → ℕ → ChannelOut → ChannelOut
-lane_in reply n old = elim (told_lane reply n) [ None ↦ old | Some c ↦ channel_out c ]
+abbrev pub channel_given : ReplyValue → ℕ → ChannelOut → ChannelOut
+channel_given reply n old = elim (told_lane reply n) [ None ↦ old | Some c ↦ channel_out c ]
 
 abbrev pub lane_place : ReplyValue → ℕ → ℕ
 lane_place reply n = elim (status_told reply) [ None ↦ number_of reply | Some s ↦ elim (slice_get s.channels n) [ None ↦ 43 | Some c ↦ 0 ] ]

@@ -23,12 +23,12 @@ abbrev pub HasOtherBlocks : List ℕ → ℕ → Type 0
 HasOtherBlocks text blocks = (s : Config) × IsSettings text s × (blocks ≢ s.blocks)
 
 -- a new recorder of the script's settings finds no files on it, and this is sure
-abbrev pub Formats : List ℕ → Disk → Type 0
-Formats text disk = (s : Config) × IsSettings text s × MediumHas s disk.blocks [] × IsSynced disk
+abbrev pub FormatsByScript : List ℕ → Disk → Type 0
+FormatsByScript text disk = (s : Config) × IsSettings text s × MediumHas s disk.blocks [] × IsSynced disk
 
 -- A recorder of the script's settings over the medium, and no readers. Over a medium that has files it stands for a machine that has them; over
 -- what a stop left of one that said files it finds these again, and they are safe.
-pub record Opens {M : Type 0} (disk : M → Disk) (text : List ℕ) (medium : M) (w : WorldState M) : Type 0 where
+pub record OpensRecorder {M : Type 0} (disk : M → Disk) (text : List ℕ) (medium : M) (w : WorldState M) : Type 0 where
   pub settings : IsSettings text w.recorder.kept.config
   pub holds : w.recorder.medium ≡ medium
   pub stands : (files : List File) → MediumHas w.recorder.kept.config (disk medium).blocks files → WorldStandsFor disk w (fresh w.recorder.kept.config.channels files (disk medium).failures)

@@ -16,31 +16,31 @@ moved_in (Found f) old = old
 moved_in (CountAt c) old = old
 moved_in (Refused r) old = old
 
-abbrev pub taken_in : ReplyValue → ℕ → ℕ
-taken_in Done old = old
-taken_in (Moved n) old = old
-taken_in (Stopped s) old = s.taken
-taken_in (Files fs) old = old
-taken_in (Status s) old = old
-taken_in (Cursor id) old = old
-taken_in (Advanced n) old = old
-taken_in (Next e) old = old
-taken_in (Found f) old = old
-taken_in (CountAt c) old = old
-taken_in (Refused r) old = old
+abbrev pub taken_out : ReplyValue → ℕ → ℕ
+taken_out Done old = old
+taken_out (Moved n) old = old
+taken_out (Stopped s) old = s.taken
+taken_out (Files fs) old = old
+taken_out (Status s) old = old
+taken_out (Cursor id) old = old
+taken_out (Advanced n) old = old
+taken_out (Next e) old = old
+taken_out (Found f) old = old
+taken_out (CountAt c) old = old
+taken_out (Refused r) old = old
 
-abbrev pub left_in : ReplyValue → ℕ → ℕ
-left_in Done old = old
-left_in (Moved n) old = old
-left_in (Stopped s) old = s.left
-left_in (Files fs) old = old
-left_in (Status s) old = old
-left_in (Cursor id) old = old
-left_in (Advanced n) old = old
-left_in (Next e) old = old
-left_in (Found f) old = old
-left_in (CountAt c) old = old
-left_in (Refused r) old = old
+abbrev pub left_out : ReplyValue → ℕ → ℕ
+left_out Done old = old
+left_out (Moved n) old = old
+left_out (Stopped s) old = s.left
+left_out (Files fs) old = old
+left_out (Status s) old = old
+left_out (Cursor id) old = old
+left_out (Advanced n) old = old
+left_out (Next e) old = old
+left_out (Found f) old = old
+left_out (CountAt c) old = old
+left_out (Refused r) old = old
 
 abbrev pub cursor_in : ReplyValue → ℕ → ℕ
 cursor_in Done old = old

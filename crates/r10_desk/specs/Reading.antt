@@ -5,7 +5,7 @@ use Rattle.r10_machine.specs.declared.reply.Found.{Found as FoundValue}
 use Rattle.r10_machine.specs.declared.reply.Reply.{Reply as ReplyValue}
 use Rattle.r10_machine.specs.declared.reply.Reply.TheVariants.{Done, Moved, Stopped, Files, Status, Cursor, Advanced, Next, Found, CountAt, Refused}
 use Rattle.r10_desk.specs.Copies.{copied}
-use Rattle.r10_desk.specs.Entries.{fields_of, bytes_of, words_of}
+use Rattle.r10_desk.specs.Entries.{fields_of, out_bytes, words_of}
 use Rattle.r10_desk.specs.declared.told.EntryOut.{EntryOut}
 
 -- the memory that is lent for an entry
@@ -20,7 +20,7 @@ lent there fields bytes words = record { there = there; fields = fields; bytes =
 
 -- what is there with an entry in it
 abbrev pub with_entry : Lent → Entry → Lent
-with_entry l e = record { there = true; fields = fields_of e; bytes = copied (bytes_of e) l.bytes; words = copied (words_of e) l.words }
+with_entry l e = record { there = true; fields = fields_of e; bytes = copied (out_bytes e) l.bytes; words = copied (words_of e) l.words }
 
 -- and with none
 abbrev pub with_none : Lent → Lent
@@ -48,18 +48,18 @@ count_told (Some n) old = n
 
 -- ---- by the reply: what it tells, or what was there
 
-abbrev pub next_in : ReplyValue → Lent → Lent
-next_in Done old = old
-next_in (Moved n) old = old
-next_in (Stopped s) old = old
-next_in (Files fs) old = old
-next_in (Status s) old = old
-next_in (Cursor id) old = old
-next_in (Advanced n) old = old
-next_in (Next e) old = with_next old e
-next_in (Found f) old = old
-next_in (CountAt c) old = old
-next_in (Refused r) old = old
+abbrev pub next_out : ReplyValue → Lent → Lent
+next_out Done old = old
+next_out (Moved n) old = old
+next_out (Stopped s) old = old
+next_out (Files fs) old = old
+next_out (Status s) old = old
+next_out (Cursor id) old = old
+next_out (Advanced n) old = old
+next_out (Next e) old = with_next old e
+next_out (Found f) old = old
+next_out (CountAt c) old = old
+next_out (Refused r) old = old
 
 abbrev pub found_in : ReplyValue → Lent → Lent
 found_in Done old = old

@@ -14,16 +14,16 @@ use Rattle.r10_world.specs.Telling.{WorldRuns}
 
 -- From each machine for which the world stands, the event and its reply are a step to one for which it stands then; and where the
 -- machine's files were safe, a stop at any moment of it left the files from before it or those that it makes of them.
-pub record StepsTo {M : Type 0} (disk : M → Disk) (old : WorldState M) (event : EventValue) (reply : ReplyValue) (new : WorldState M) : Type 0 where
+pub record StepsToReply {M : Type 0} (disk : M → Disk) (old : WorldState M) (event : EventValue) (reply : ReplyValue) (new : WorldState M) : Type 0 where
   pub runs : WorldRuns disk old (event ∷ []) (reply ∷ []) new
   pub safely : RunsSafely disk old (event ∷ []) (reply ∷ []) new
 
 -- Where memory was refused before it was done, nothing changed.
 abbrev pub Told : {M : Type 0} → (M → Disk) → WorldState M → EventValue → ReplyValue → WorldState M → Type 0
-Told disk old event reply new = StepsTo disk old event reply new ⊎ ((reply ≡ Refused refusals.OutOfMemory) × (new ≡ old))
+Told disk old event reply new = StepsToReply disk old event reply new ⊎ ((reply ≡ Refused refusals.OutOfMemory) × (new ≡ old))
 
 -- an event was told, and of its reply this is so
-pub record Does {M : Type 0} (disk : M → Disk) (old : WorldState M) (event : EventValue) (tells : ReplyValue → Type 0) (new : WorldState M) : Type 0 where
+pub record DoesEvent {M : Type 0} (disk : M → Disk) (old : WorldState M) (event : EventValue) (tells : ReplyValue → Type 0) (new : WorldState M) : Type 0 where
   pub reply : ReplyValue
   pub told : Told disk old event reply new
   pub says : tells reply

@@ -2,8 +2,8 @@
 
 ghost use Rattle.std.specs.Prelude.{◌≡◌};
 ghost use Rattle.r10_desk.specs.Copies.{copied};
-ghost use Rattle.r10_desk.specs.Listing.{file_out, status_out, channel_out, mode_number, tick_number, files_in, file_in, name_in, place_of, status_in, lane_in, lane_place};
-ghost use Rattle.r10_desk.specs.Told.{Does, number_of};
+ghost use Rattle.r10_desk.specs.Listing.{file_out, status_out, channel_out, mode_number, tick_number, files_in, file_in, name_in, file_place, status_given, channel_given, lane_place};
+ghost use Rattle.r10_desk.specs.Told.{DoesEvent, number_of};
 ghost use Rattle.r10_machine.specs.declared.event.Event.TheVariants as events;
 
 use crate::copies::copy_front;
@@ -118,7 +118,7 @@ fn files_in(reply: &Reply, old: usize) -> usize
 
 /// Puts the file of this number, and answers the call's number.
 fn put_file(reply: &Reply, number: usize, out: &mut FileOut, name: &mut [u8]) -> u32
-    ensures number { result ≡ place_of reply.now number }
+    ensures number { result ≡ file_place reply.now number }
     ensures file { out.new ≡ file_in reply.now number out.old }
     ensures name { name.new ≡ name_in reply.now number name.old }
 {
@@ -137,7 +137,7 @@ fn put_file(reply: &Reply, number: usize, out: &mut FileOut, name: &mut [u8]) ->
 
 /// How the recorder was told to be.
 fn status_in(reply: &Reply, old: StatusOut) -> StatusOut
-    ensures { result ≡ status_in reply.now old }
+    ensures { result ≡ status_given reply.now old }
 {
     match reply {
         Reply::Status(status) => status_of(status),
@@ -148,7 +148,7 @@ fn status_in(reply: &Reply, old: StatusOut) -> StatusOut
 /// Puts the channel at this place, and answers the call's number.
 fn put_channel(reply: &Reply, place: usize, out: &mut ChannelOut) -> u32
     ensures number { result ≡ lane_place reply.now place }
-    ensures channel { out.new ≡ lane_in reply.now place out.old }
+    ensures channel { out.new ≡ channel_given reply.now place out.old }
 {
     let Reply::Status(status) = reply else {
         return number_of(reply);
@@ -165,7 +165,7 @@ fn put_channel(reply: &Reply, place: usize, out: &mut ChannelOut) -> u32
 impl<M: BlockMedium> Desk<M> {
     /// How many files the medium has: 0, or 1, 2, 30.
     pub fn files(&mut self, count: &mut usize) -> u32
-        ensures { Does M.disk self.old.world events.Files (λ reply. (result ≡ number_of reply) × (count.new ≡ files_in reply count.old)) self.new.world }
+        ensures { DoesEvent M.disk self.old.world events.Files (λ reply. (result ≡ number_of reply) × (count.new ≡ files_in reply count.old)) self.new.world }
     {
         let reply = self.tell(Event::Files);
         *count = files_in(&reply, *count);
@@ -174,7 +174,7 @@ impl<M: BlockMedium> Desk<M> {
 
     /// The file of this number, from 0: 0, or 1, 2, 30, or 43 where there are fewer. Of its name, what fits.
     pub fn file(&mut self, number: usize, out: &mut FileOut, name: &mut [u8]) -> u32
-        ensures { Does M.disk self.old.world events.Files (λ reply. (result ≡ place_of reply number) × (out.new ≡ file_in reply number out.old) × (name.new ≡ name_in reply number name.old)) self.new.world }
+        ensures { DoesEvent M.disk self.old.world events.Files (λ reply. (result ≡ file_place reply number) × (out.new ≡ file_in reply number out.old) × (name.new ≡ name_in reply number name.old)) self.new.world }
     {
         let reply = self.tell(Event::Files);
         put_file(&reply, number, out, name)
@@ -182,7 +182,7 @@ impl<M: BlockMedium> Desk<M> {
 
     /// How the recorder is: 0, or 30.
     pub fn status(&mut self, out: &mut StatusOut) -> u32
-        ensures { Does M.disk self.old.world events.Status (λ reply. (result ≡ number_of reply) × (out.new ≡ status_in reply out.old)) self.new.world }
+        ensures { DoesEvent M.disk self.old.world events.Status (λ reply. (result ≡ number_of reply) × (out.new ≡ status_given reply out.old)) self.new.world }
     {
         let reply = self.tell(Event::Status);
         *out = status_in(&reply, *out);
@@ -191,7 +191,7 @@ impl<M: BlockMedium> Desk<M> {
 
     /// How the channel at this place of the settings is, from 0: 0, or 30, or 43 where there are fewer.
     pub fn channel(&mut self, place: usize, out: &mut ChannelOut) -> u32
-        ensures { Does M.disk self.old.world events.Status (λ reply. (result ≡ lane_place reply place) × (out.new ≡ lane_in reply place out.old)) self.new.world }
+        ensures { DoesEvent M.disk self.old.world events.Status (λ reply. (result ≡ lane_place reply place) × (out.new ≡ channel_given reply place out.old)) self.new.world }
     {
         let reply = self.tell(Event::Status);
         put_channel(&reply, place, out)

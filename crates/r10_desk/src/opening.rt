@@ -2,7 +2,7 @@
 
 ghost use Rattle.std.specs.Prelude.{◌≡◌, ◌⊎◌, IfErr, IfOk, length};
 ghost use Rattle.r10_medium.specs.Disk.{Rose};
-ghost use Rattle.r10_desk.specs.Opening.{Formats, HasOtherBlocks, IsSettings, Opens};
+ghost use Rattle.r10_desk.specs.Opening.{FormatsByScript, HasOtherBlocks, IsSettings, OpensRecorder};
 
 use crate::desk::Desk;
 use crate::told::{BLOCKS, MEDIUM, OUT_OF_MEMORY, SCRIPT};
@@ -35,7 +35,7 @@ fn settings_of(alloc: Global, script: &[u8], blocks: usize) -> Result<Settings, 
 /// Writes the directory of a medium without files, as the settings of this script say: 0, or 28 where the medium failed, 30, 40 where the script
 /// can't be taken, or 41 where the medium has another number of blocks.
 pub fn format<M: BlockMedium>(alloc: Global, medium: &mut M, script: &[u8]) -> u32
-    ensures formats { result ≡ 0 → Formats script.now (M.disk medium.new) }
+    ensures formats { result ≡ 0 → FormatsByScript script.now (M.disk medium.new) }
     ensures untouched { (result ≡ 30) ⊎ (result ≡ 40) ⊎ (result ≡ 41) → medium.new ≡ medium.old }
     ensures failed { result ≡ 28 → Rose (M.disk medium.old).failures (M.disk medium.new).failures }
     ensures other { result ≡ 41 → HasOtherBlocks script.now (length (M.disk medium.old).blocks) }
@@ -53,7 +53,7 @@ pub fn format<M: BlockMedium>(alloc: Global, medium: &mut M, script: &[u8]) -> u
 /// A recorder with the settings of this script over the medium, not mounted, and without readers. Its number is 30, 40 where the script can't be
 /// taken, or 41 where the medium has another number of blocks.
 pub fn open<M: BlockMedium + Drop>(alloc: Global, medium: M, script: &[u8]) -> Result<Desk<M>, u32>
-    ensures opens { IfOk result (λ d. Opens M.disk script.now medium d.world) }
+    ensures opens { IfOk result (λ d. OpensRecorder M.disk script.now medium d.world) }
     ensures refused { IfErr result (λ n. (n ≡ 30) ⊎ (n ≡ 40) ⊎ (n ≡ 41)) }
     ensures other { IfErr result (λ n. n ≡ 41 → HasOtherBlocks script.now (length (M.disk medium).blocks)) }
 {

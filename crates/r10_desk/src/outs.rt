@@ -1,8 +1,8 @@
 //! What a call leaves in the memory that was lent to it, by its reply: what the reply tells, or what was there.
 
 ghost use Rattle.std.specs.Prelude.{◌≡◌};
-ghost use Rattle.r10_desk.specs.Outs.{cursor_in, left_in, moved_in, queued_in, taken_in};
-ghost use Rattle.r10_desk.specs.Reading.{count_in, found_in, is_count_in, lent, next_in, place_in};
+ghost use Rattle.r10_desk.specs.Outs.{cursor_in, left_out, moved_in, queued_in, taken_out};
+ghost use Rattle.r10_desk.specs.Reading.{count_in, found_in, is_count_in, lent, next_out, place_in};
 
 use crate::told::{EntryOut, put_entry};
 use r10_machine::Reply;
@@ -19,7 +19,7 @@ pub(crate) fn moved_in(reply: &Reply, old: usize) -> usize
 
 /// How many messages a stop took.
 pub(crate) fn taken_in(reply: &Reply, old: usize) -> usize
-    ensures { result ≡ taken_in reply.now old }
+    ensures { result ≡ taken_out reply.now old }
 {
     match reply {
         Reply::Stopped(stopped) => stopped.taken,
@@ -29,7 +29,7 @@ pub(crate) fn taken_in(reply: &Reply, old: usize) -> usize
 
 /// How many messages a stop left.
 pub(crate) fn left_in(reply: &Reply, old: usize) -> usize
-    ensures { result ≡ left_in reply.now old }
+    ensures { result ≡ left_out reply.now old }
 {
     match reply {
         Reply::Stopped(stopped) => stopped.left,
@@ -96,7 +96,7 @@ pub(crate) fn put_next(
     bytes: &mut [u8],
     words: &mut [u16],
 )
-    ensures { lent there.new out.new bytes.new words.new ≡ next_in reply.now (lent there.old out.old bytes.old words.old) }
+    ensures { lent there.new out.new bytes.new words.new ≡ next_out reply.now (lent there.old out.old bytes.old words.old) }
 {
     match reply {
         Reply::Next(Some(entry)) => {

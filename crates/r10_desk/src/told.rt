@@ -3,7 +3,7 @@
 ghost use Rattle.std.specs.Prelude.{◌≡◌};
 ghost use Rattle.r10_body.specs.Gaps.{told_lost};
 ghost use Rattle.r10_desk.specs.Copies.{copied};
-ghost use Rattle.r10_desk.specs.Entries.{front, fields_of, bytes_of, words_of};
+ghost use Rattle.r10_desk.specs.Entries.{front, fields_of, out_bytes, words_of};
 
 use crate::copies::copy_front;
 use r10_body::{Entry, Gap, Message};
@@ -188,7 +188,7 @@ fn fields(entry: &Entry) -> EntryOut
 /// Puts an entry where the caller wants it. Of its bytes or words, what fits.
 pub(crate) fn put_entry(entry: &Entry, out: &mut EntryOut, bytes: &mut [u8], words: &mut [u16])
     ensures fields { out.new ≡ fields_of entry.now }
-    ensures bytes { bytes.new ≡ copied (bytes_of entry.now) bytes.old }
+    ensures bytes { bytes.new ≡ copied (out_bytes entry.now) bytes.old }
     ensures words { words.new ≡ copied (words_of entry.now) words.old }
 {
     *out = fields(entry);

@@ -3,7 +3,7 @@ use Rattle.std.specs.Prelude.{◌≡◌, ℕ, List, [], Option, None, Some}
 use Rattle.rtrb.specs.Ring.{IsPair}
 use Rattle.r10_medium.specs.Disk.{Image}
 use Rattle.r10_world.specs.State.{WorldState}
-use Rattle.r10_desk.specs.Opening.{Formats, Opens}
+use Rattle.r10_desk.specs.Opening.{FormatsByScript, OpensRecorder}
 use Rattle.r10_region.specs.RegionDisk.{region_disk, lent_to, asked}
 use Rattle.r10_region.specs.declared.region.Region.{Region}
 use Rattle.r10_ffi.specs.declared.held.Held.{Held}
@@ -14,9 +14,9 @@ abbrev pub Calls : Option Held → Option Held → (WorldState Region → WorldS
 Calls before behind is = Between before behind (λ old new. is old.desk.world new.desk.world × (new.orders ≡ old.orders))
 
 -- a region's medium is formatted by the script
-pub record IsFormatted (text : List ℕ) : Type 0 where
+pub record IsFormattedRegion (text : List ℕ) : Type 0 where
   pub medium : Region
-  pub formats : Formats text (region_disk medium)
+  pub formats : FormatsByScript text (region_disk medium)
 
 -- A recorder by the script over memory that held this, of whose disk nothing was asked yet, and beside it the other end of its disk's queue.
 pub record OpensOver (text : List ℕ) (image : Image) (h : Held) : Type 0 where
@@ -24,7 +24,7 @@ pub record OpensOver (text : List ℕ) (image : Image) (h : Held) : Type 0 where
   pub lent : lent_to medium ≡ image
   pub none_yet : asked medium ≡ []
   pub queue : IsPair medium.device h.orders.device
-  pub opens : Opens region_disk text medium h.desk.world
+  pub opens : OpensRecorder region_disk text medium h.desk.world
 
 abbrev pub IsOpened : List ℕ → Image → Option Held → Type 0
 IsOpened text image None = ⊥

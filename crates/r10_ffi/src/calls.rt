@@ -3,14 +3,14 @@
 ghost use Rattle.std.specs.Prelude.{◌≡◌, ◌⊎◌, ◌≤◌, ◌<◌, length};
 ghost use Rattle.r10_body.specs.declared.message.Message.TheVariants as messages;
 ghost use Rattle.r10_machine.specs.declared.event.Event.TheVariants as events;
-ghost use Rattle.r10_desk.specs.Listing.{file_in, files_in, lane_in, lane_place, name_in, place_of, status_in};
+ghost use Rattle.r10_desk.specs.Listing.{file_in, files_in, channel_given, lane_place, name_in, file_place, status_given};
 ghost use Rattle.r10_desk.specs.Opening.{HasOtherBlocks};
-ghost use Rattle.r10_desk.specs.Outs.{cursor_in, left_in, moved_in, queued_in, taken_in};
-ghost use Rattle.r10_desk.specs.Reading.{count_in, found_in, is_count_in, lent, next_in, place_in};
-ghost use Rattle.r10_desk.specs.Told.{Does, number_of};
-ghost use Rattle.r10_region.specs.Orders.{HandsOut};
+ghost use Rattle.r10_desk.specs.Outs.{cursor_in, left_out, moved_in, queued_in, taken_out};
+ghost use Rattle.r10_desk.specs.Reading.{count_in, found_in, is_count_in, lent, next_out, place_in};
+ghost use Rattle.r10_desk.specs.Told.{DoesEvent, number_of};
+ghost use Rattle.r10_region.specs.Orders.{HandsOrderOut};
 ghost use Rattle.r10_region.specs.RegionDisk.{region_disk};
-ghost use Rattle.r10_ffi.specs.Calls.{Calls, IsFormatted, IsOpened};
+ghost use Rattle.r10_ffi.specs.Calls.{Calls, IsFormattedRegion, IsOpened};
 ghost use Rattle.r10_ffi.specs.Civil.{parts_of};
 ghost use Rattle.r10_ffi.specs.Owning.{Between, IsThere};
 
@@ -28,7 +28,7 @@ const ROOM: u32 = 42;
 /// Writes the directory of a medium without files into its memory: 0, or 28, 30, 40, 41. `room` is how many operations that may be.
 #[unsafe(no_mangle)]
 pub extern "C" fn r10_format(alloc: Global, region: Strip, room: usize, script: &[u8]) -> u32
-    ensures formats { result ≡ 0 → IsFormatted script.now }
+    ensures formats { result ≡ 0 → IsFormattedRegion script.now }
     ensures other { result ≡ 41 → HasOtherBlocks script.now (length region.held) }
     ensures numbers { (result ≡ 0) ⊎ (result ≡ 28) ⊎ (result ≡ 30) ⊎ (result ≡ 40) ⊎ (result ≡ 41) }
 {
@@ -77,7 +77,7 @@ pub extern "C" fn r10_order(
     bytes: &mut [u8],
 ) -> u32
     requires { IsThere recorder.old.held }
-    ensures hands { 512 ≤ length bytes.old → Between recorder.old.held recorder.new.held (λ old new. (result ≡ 0) × (new.desk ≡ old.desk) × HandsOut old.orders new.orders out.new bytes.old bytes.new) }
+    ensures hands { 512 ≤ length bytes.old → Between recorder.old.held recorder.new.held (λ old new. (result ≡ 0) × (new.desk ≡ old.desk) × HandsOrderOut old.orders new.orders out.new bytes.old bytes.new) }
     ensures room { length bytes.old < 512 → (result ≡ 42) × (recorder.new ≡ recorder.old) × (out.new ≡ out.old) × (bytes.new ≡ bytes.old) }
 {
     if bytes.len() < 512 {
@@ -101,7 +101,7 @@ pub extern "C" fn r10_close(alloc: Global, recorder: &mut Handle)
 #[unsafe(no_mangle)]
 pub extern "C" fn r10_mount(alloc: Global, recorder: &mut Handle) -> u32
     requires { IsThere recorder.old.held }
-    ensures { Calls recorder.old.held recorder.new.held (λ old new. Does region_disk old events.Mount (λ reply. result ≡ number_of reply) new) }
+    ensures { Calls recorder.old.held recorder.new.held (λ old new. DoesEvent region_disk old events.Mount (λ reply. result ≡ number_of reply) new) }
 {
     let mut held = recorder.take(alloc);
     let answer = held.desk.mount();
@@ -113,7 +113,7 @@ pub extern "C" fn r10_mount(alloc: Global, recorder: &mut Handle) -> u32
 #[unsafe(no_mangle)]
 pub extern "C" fn r10_dismount(alloc: Global, recorder: &mut Handle) -> u32
     requires { IsThere recorder.old.held }
-    ensures { Calls recorder.old.held recorder.new.held (λ old new. Does region_disk old events.Dismount (λ reply. result ≡ number_of reply) new) }
+    ensures { Calls recorder.old.held recorder.new.held (λ old new. DoesEvent region_disk old events.Dismount (λ reply. result ≡ number_of reply) new) }
 {
     let mut held = recorder.take(alloc);
     let answer = held.desk.dismount();
@@ -125,7 +125,7 @@ pub extern "C" fn r10_dismount(alloc: Global, recorder: &mut Handle) -> u32
 #[unsafe(no_mangle)]
 pub extern "C" fn r10_tick(alloc: Global, recorder: &mut Handle, count: u64, civil: &Civil) -> u32
     requires { IsThere recorder.old.held }
-    ensures { Calls recorder.old.held recorder.new.held (λ old new. Does region_disk old (events.Tick count (parts_of civil.now)) (λ reply. result ≡ number_of reply) new) }
+    ensures { Calls recorder.old.held recorder.new.held (λ old new. DoesEvent region_disk old (events.Tick count (parts_of civil.now)) (λ reply. result ≡ number_of reply) new) }
 {
     let mut held = recorder.take(alloc);
     let answer = held.desk.tick(count, parts_of(civil));
@@ -137,7 +137,7 @@ pub extern "C" fn r10_tick(alloc: Global, recorder: &mut Handle, count: u64, civ
 #[unsafe(no_mangle)]
 pub extern "C" fn r10_start(alloc: Global, recorder: &mut Handle, name: &[u8], setup: &[u8]) -> u32
     requires { IsThere recorder.old.held }
-    ensures { Calls recorder.old.held recorder.new.held (λ old new. Does region_disk old (events.Start name.now setup.now) (λ reply. result ≡ number_of reply) new) }
+    ensures { Calls recorder.old.held recorder.new.held (λ old new. DoesEvent region_disk old (events.Start name.now setup.now) (λ reply. result ≡ number_of reply) new) }
 {
     let mut held = recorder.take(alloc);
     let answer = held.desk.start(name, setup);
@@ -157,7 +157,7 @@ pub extern "C" fn r10_offer_uart(
     bytes: &[u8],
 ) -> u32
     requires { IsThere recorder.old.held }
-    ensures { Calls recorder.old.held recorder.new.held (λ old new. Does region_disk old (events.Offer channel count (messages.Uart parity sub bytes.now)) (λ reply. result ≡ number_of reply) new) }
+    ensures { Calls recorder.old.held recorder.new.held (λ old new. DoesEvent region_disk old (events.Offer channel count (messages.Uart parity sub bytes.now)) (λ reply. result ≡ number_of reply) new) }
 {
     let mut held = recorder.take(alloc);
     let answer = held.desk.offer_uart(channel, count, parity, sub, bytes);
@@ -177,7 +177,7 @@ pub extern "C" fn r10_offer_1553(
     words: &[u16],
 ) -> u32
     requires { IsThere recorder.old.held }
-    ensures { Calls recorder.old.held recorder.new.held (λ old new. Does region_disk old (events.Offer channel count (messages.Bus1553 status gap words.now)) (λ reply. result ≡ number_of reply) new) }
+    ensures { Calls recorder.old.held recorder.new.held (λ old new. DoesEvent region_disk old (events.Offer channel count (messages.Bus1553 status gap words.now)) (λ reply. result ≡ number_of reply) new) }
 {
     let mut held = recorder.take(alloc);
     let answer = held.desk.offer_1553(channel, count, status, gap, words);
@@ -199,7 +199,7 @@ pub extern "C" fn r10_offer_arinc(
     word: u32,
 ) -> u32
     requires { IsThere recorder.old.held }
-    ensures { Calls recorder.old.held recorder.new.held (λ old new. Does region_disk old (events.Offer channel count (messages.Arinc bus format parity high word)) (λ reply. result ≡ number_of reply) new) }
+    ensures { Calls recorder.old.held recorder.new.held (λ old new. DoesEvent region_disk old (events.Offer channel count (messages.Arinc bus format parity high word)) (λ reply. result ≡ number_of reply) new) }
 {
     let mut held = recorder.take(alloc);
     let answer = held
@@ -219,7 +219,7 @@ pub extern "C" fn r10_offer_discrete(
     states: u32,
 ) -> u32
     requires { IsThere recorder.old.held }
-    ensures { Calls recorder.old.held recorder.new.held (λ old new. Does region_disk old (events.Offer channel count (messages.Discrete states)) (λ reply. result ≡ number_of reply) new) }
+    ensures { Calls recorder.old.held recorder.new.held (λ old new. DoesEvent region_disk old (events.Offer channel count (messages.Discrete states)) (λ reply. result ≡ number_of reply) new) }
 {
     let mut held = recorder.take(alloc);
     let answer = held.desk.offer_discrete(channel, count, states);
@@ -240,7 +240,7 @@ pub extern "C" fn r10_offer_message(
     bytes: &[u8],
 ) -> u32
     requires { IsThere recorder.old.held }
-    ensures { Calls recorder.old.held recorder.new.held (λ old new. Does region_disk old (events.Offer channel count (messages.Message data_error format sub bytes.now)) (λ reply. result ≡ number_of reply) new) }
+    ensures { Calls recorder.old.held recorder.new.held (λ old new. DoesEvent region_disk old (events.Offer channel count (messages.Message data_error format sub bytes.now)) (λ reply. result ≡ number_of reply) new) }
 {
     let mut held = recorder.take(alloc);
     let answer = held
@@ -260,7 +260,7 @@ pub extern "C" fn r10_pump(
     moved: &mut usize,
 ) -> u32
     requires { IsThere recorder.old.held }
-    ensures { Calls recorder.old.held recorder.new.held (λ old new. Does region_disk old (events.Pump channel most) (λ reply. (result ≡ number_of reply) × (moved.new ≡ moved_in reply moved.old)) new) }
+    ensures { Calls recorder.old.held recorder.new.held (λ old new. DoesEvent region_disk old (events.Pump channel most) (λ reply. (result ≡ number_of reply) × (moved.new ≡ moved_in reply moved.old)) new) }
 {
     let mut held = recorder.take(alloc);
     let answer = held.desk.pump(channel, most, moved);
@@ -272,7 +272,7 @@ pub extern "C" fn r10_pump(
 #[unsafe(no_mangle)]
 pub extern "C" fn r10_event(alloc: Global, recorder: &mut Handle, number: u16, count: u64) -> u32
     requires { IsThere recorder.old.held }
-    ensures { Calls recorder.old.held recorder.new.held (λ old new. Does region_disk old (events.Event number count) (λ reply. result ≡ number_of reply) new) }
+    ensures { Calls recorder.old.held recorder.new.held (λ old new. DoesEvent region_disk old (events.Event number count) (λ reply. result ≡ number_of reply) new) }
 {
     let mut held = recorder.take(alloc);
     let answer = held.desk.event(number, count);
@@ -284,7 +284,7 @@ pub extern "C" fn r10_event(alloc: Global, recorder: &mut Handle, number: u16, c
 #[unsafe(no_mangle)]
 pub extern "C" fn r10_commit(alloc: Global, recorder: &mut Handle) -> u32
     requires { IsThere recorder.old.held }
-    ensures { Calls recorder.old.held recorder.new.held (λ old new. Does region_disk old events.Commit (λ reply. result ≡ number_of reply) new) }
+    ensures { Calls recorder.old.held recorder.new.held (λ old new. DoesEvent region_disk old events.Commit (λ reply. result ≡ number_of reply) new) }
 {
     let mut held = recorder.take(alloc);
     let answer = held.desk.commit();
@@ -301,7 +301,7 @@ pub extern "C" fn r10_stop(
     left: &mut usize,
 ) -> u32
     requires { IsThere recorder.old.held }
-    ensures { Calls recorder.old.held recorder.new.held (λ old new. Does region_disk old events.Stop (λ reply. (result ≡ number_of reply) × (taken.new ≡ taken_in reply taken.old) × (left.new ≡ left_in reply left.old)) new) }
+    ensures { Calls recorder.old.held recorder.new.held (λ old new. DoesEvent region_disk old events.Stop (λ reply. (result ≡ number_of reply) × (taken.new ≡ taken_out reply taken.old) × (left.new ≡ left_out reply left.old)) new) }
 {
     let mut held = recorder.take(alloc);
     let answer = held.desk.stop(taken, left);
@@ -313,7 +313,7 @@ pub extern "C" fn r10_stop(
 #[unsafe(no_mangle)]
 pub extern "C" fn r10_seal(alloc: Global, recorder: &mut Handle) -> u32
     requires { IsThere recorder.old.held }
-    ensures { Calls recorder.old.held recorder.new.held (λ old new. Does region_disk old events.Seal (λ reply. result ≡ number_of reply) new) }
+    ensures { Calls recorder.old.held recorder.new.held (λ old new. DoesEvent region_disk old events.Seal (λ reply. result ≡ number_of reply) new) }
 {
     let mut held = recorder.take(alloc);
     let answer = held.desk.seal();
@@ -325,7 +325,7 @@ pub extern "C" fn r10_seal(alloc: Global, recorder: &mut Handle) -> u32
 #[unsafe(no_mangle)]
 pub extern "C" fn r10_erase(alloc: Global, recorder: &mut Handle) -> u32
     requires { IsThere recorder.old.held }
-    ensures { Calls recorder.old.held recorder.new.held (λ old new. Does region_disk old events.Erase (λ reply. result ≡ number_of reply) new) }
+    ensures { Calls recorder.old.held recorder.new.held (λ old new. DoesEvent region_disk old events.Erase (λ reply. result ≡ number_of reply) new) }
 {
     let mut held = recorder.take(alloc);
     let answer = held.desk.erase();
@@ -337,7 +337,7 @@ pub extern "C" fn r10_erase(alloc: Global, recorder: &mut Handle) -> u32
 #[unsafe(no_mangle)]
 pub extern "C" fn r10_files(alloc: Global, recorder: &mut Handle, count: &mut usize) -> u32
     requires { IsThere recorder.old.held }
-    ensures { Calls recorder.old.held recorder.new.held (λ old new. Does region_disk old events.Files (λ reply. (result ≡ number_of reply) × (count.new ≡ files_in reply count.old)) new) }
+    ensures { Calls recorder.old.held recorder.new.held (λ old new. DoesEvent region_disk old events.Files (λ reply. (result ≡ number_of reply) × (count.new ≡ files_in reply count.old)) new) }
 {
     let mut held = recorder.take(alloc);
     let answer = held.desk.files(count);
@@ -355,7 +355,7 @@ pub extern "C" fn r10_file(
     name: &mut [u8],
 ) -> u32
     requires { IsThere recorder.old.held }
-    ensures { Calls recorder.old.held recorder.new.held (λ old new. Does region_disk old events.Files (λ reply. (result ≡ place_of reply number) × (out.new ≡ file_in reply number out.old) × (name.new ≡ name_in reply number name.old)) new) }
+    ensures { Calls recorder.old.held recorder.new.held (λ old new. DoesEvent region_disk old events.Files (λ reply. (result ≡ file_place reply number) × (out.new ≡ file_in reply number out.old) × (name.new ≡ name_in reply number name.old)) new) }
 {
     let mut held = recorder.take(alloc);
     let answer = held.desk.file(number, out, name);
@@ -367,7 +367,7 @@ pub extern "C" fn r10_file(
 #[unsafe(no_mangle)]
 pub extern "C" fn r10_status(alloc: Global, recorder: &mut Handle, out: &mut StatusOut) -> u32
     requires { IsThere recorder.old.held }
-    ensures { Calls recorder.old.held recorder.new.held (λ old new. Does region_disk old events.Status (λ reply. (result ≡ number_of reply) × (out.new ≡ status_in reply out.old)) new) }
+    ensures { Calls recorder.old.held recorder.new.held (λ old new. DoesEvent region_disk old events.Status (λ reply. (result ≡ number_of reply) × (out.new ≡ status_given reply out.old)) new) }
 {
     let mut held = recorder.take(alloc);
     let answer = held.desk.status(out);
@@ -384,7 +384,7 @@ pub extern "C" fn r10_channel(
     out: &mut ChannelOut,
 ) -> u32
     requires { IsThere recorder.old.held }
-    ensures { Calls recorder.old.held recorder.new.held (λ old new. Does region_disk old events.Status (λ reply. (result ≡ lane_place reply place) × (out.new ≡ lane_in reply place out.old)) new) }
+    ensures { Calls recorder.old.held recorder.new.held (λ old new. DoesEvent region_disk old events.Status (λ reply. (result ≡ lane_place reply place) × (out.new ≡ channel_given reply place out.old)) new) }
 {
     let mut held = recorder.take(alloc);
     let answer = held.desk.channel(place, out);
@@ -404,7 +404,7 @@ pub extern "C" fn r10_cursor(
     id: &mut usize,
 ) -> u32
     requires { IsThere recorder.old.held }
-    ensures { Calls recorder.old.held recorder.new.held (λ old new. Does region_disk old (events.Cursor file channels.now from to) (λ reply. (result ≡ number_of reply) × (id.new ≡ cursor_in reply id.old)) new) }
+    ensures { Calls recorder.old.held recorder.new.held (λ old new. DoesEvent region_disk old (events.Cursor file channels.now from to) (λ reply. (result ≡ number_of reply) × (id.new ≡ cursor_in reply id.old)) new) }
 {
     let mut held = recorder.take(alloc);
     let answer = held.desk.cursor(file, channels, from, to, id);
@@ -421,7 +421,7 @@ pub extern "C" fn r10_advance(
     queued: &mut usize,
 ) -> u32
     requires { IsThere recorder.old.held }
-    ensures { Calls recorder.old.held recorder.new.held (λ old new. Does region_disk old (events.Advance id) (λ reply. (result ≡ number_of reply) × (queued.new ≡ queued_in reply queued.old)) new) }
+    ensures { Calls recorder.old.held recorder.new.held (λ old new. DoesEvent region_disk old (events.Advance id) (λ reply. (result ≡ number_of reply) × (queued.new ≡ queued_in reply queued.old)) new) }
 {
     let mut held = recorder.take(alloc);
     let answer = held.desk.advance(id, queued);
@@ -441,7 +441,7 @@ pub extern "C" fn r10_next(
     words: &mut [u16],
 ) -> u32
     requires { IsThere recorder.old.held }
-    ensures does { 65_535 ≤ length bytes.old → 36 ≤ length words.old → Calls recorder.old.held recorder.new.held (λ old new. Does region_disk old (events.Next id) (λ reply. (result ≡ number_of reply) × (lent there.new out.new bytes.new words.new ≡ next_in reply (lent there.old out.old bytes.old words.old))) new) }
+    ensures does { 65_535 ≤ length bytes.old → 36 ≤ length words.old → Calls recorder.old.held recorder.new.held (λ old new. DoesEvent region_disk old (events.Next id) (λ reply. (result ≡ number_of reply) × (lent there.new out.new bytes.new words.new ≡ next_out reply (lent there.old out.old bytes.old words.old))) new) }
     ensures room { (length bytes.old < 65_535) ⊎ (length words.old < 36) → Between recorder.old.held recorder.new.held (λ old new. (result ≡ 42) × (new.desk ≡ old.desk) × (new.orders ≡ old.orders)
         × (lent there.new out.new bytes.new words.new ≡ lent there.old out.old bytes.old words.old)) }
 {
@@ -455,7 +455,7 @@ pub extern "C" fn r10_next(
 #[unsafe(no_mangle)]
 pub extern "C" fn r10_close_cursor(alloc: Global, recorder: &mut Handle, id: usize) -> u32
     requires { IsThere recorder.old.held }
-    ensures { Calls recorder.old.held recorder.new.held (λ old new. Does region_disk old (events.Close id) (λ reply. result ≡ number_of reply) new) }
+    ensures { Calls recorder.old.held recorder.new.held (λ old new. DoesEvent region_disk old (events.Close id) (λ reply. result ≡ number_of reply) new) }
 {
     let mut held = recorder.take(alloc);
     let answer = held.desk.close_cursor(id);
@@ -478,7 +478,7 @@ pub extern "C" fn r10_find(
     words: &mut [u16],
 ) -> u32
     requires { IsThere recorder.old.held }
-    ensures does { 65_535 ≤ length bytes.old → 36 ≤ length words.old → Calls recorder.old.held recorder.new.held (λ old new. Does region_disk old (events.Find file channel count) (λ reply. (result ≡ number_of reply) × (number.new ≡ place_in reply number.old) × (lent there.new out.new bytes.new words.new ≡ found_in reply (lent there.old out.old bytes.old words.old))) new) }
+    ensures does { 65_535 ≤ length bytes.old → 36 ≤ length words.old → Calls recorder.old.held recorder.new.held (λ old new. DoesEvent region_disk old (events.Find file channel count) (λ reply. (result ≡ number_of reply) × (number.new ≡ place_in reply number.old) × (lent there.new out.new bytes.new words.new ≡ found_in reply (lent there.old out.old bytes.old words.old))) new) }
     ensures room { (length bytes.old < 65_535) ⊎ (length words.old < 36) → Between recorder.old.held recorder.new.held (λ old new. (result ≡ 42) × (new.desk ≡ old.desk) × (new.orders ≡ old.orders)
         × (number.new ≡ number.old) × (lent there.new out.new bytes.new words.new ≡ lent there.old out.old bytes.old words.old)) }
 {
@@ -501,7 +501,7 @@ pub extern "C" fn r10_count_at(
     count: &mut u64,
 ) -> u32
     requires { IsThere recorder.old.held }
-    ensures { Calls recorder.old.held recorder.new.held (λ old new. Does region_disk old (events.CountAt file (parts_of civil.now)) (λ reply. (result ≡ number_of reply) × (there.new ≡ is_count_in reply there.old) × (count.new ≡ count_in reply count.old)) new) }
+    ensures { Calls recorder.old.held recorder.new.held (λ old new. DoesEvent region_disk old (events.CountAt file (parts_of civil.now)) (λ reply. (result ≡ number_of reply) × (there.new ≡ is_count_in reply there.old) × (count.new ≡ count_in reply count.old)) new) }
 {
     let mut held = recorder.take(alloc);
     let answer = held.desk.count_at(file, parts_of(civil), there, count);

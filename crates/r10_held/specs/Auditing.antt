@@ -40,7 +40,7 @@ is_absence r = elim r [ NotMounted ↦ Bool.true | NoSuchFile ↦ Bool.true | _ 
 -- ---- instalment by instalment
 
 -- a cursor may be read on: a medium is mounted, it is of this generation, and it has nothing left to give
-pub record MayGoOn (k : Kept) (c : Cursor) : Type 0 where
+pub record MayReadOn (k : Kept) (c : Cursor) : Type 0 where
   pub mounted : first_broken (mounted_checks (mode_of k.work)) ≡ None
   pub generation : c.generation ≡ k.generation
   pub left : c.reading.queue ≡ []

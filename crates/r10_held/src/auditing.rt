@@ -8,7 +8,7 @@ ghost use Rattle.r10_control.specs.Refused.{RefusesCall};
 ghost use Rattle.r10_count.specs.Count.{IsCount};
 ghost use Rattle.r10_cursor.specs.Standing.{fresh_slot};
 ghost use Rattle.r10_machine.specs.declared.event.Event.TheVariants as events;
-ghost use Rattle.r10_held.specs.Auditing.{GoOn, IsAuditRefusal, IsFirstRefused, IsNext, MayGoOn, at_place, audit_refusal, is_absence as told_absence};
+ghost use Rattle.r10_held.specs.Auditing.{GoOn, IsAuditRefusal, IsFirstRefused, IsNext, MayReadOn, at_place, audit_refusal, is_absence as told_absence};
 ghost use Rattle.r10_held.specs.Transcripts.{Agrees, AllAgree, beginning};
 
 use crate::same::are_same;
@@ -128,7 +128,7 @@ fn open_again<M: BlockMedium, L: LaneOut>(
 ) -> Result<Cursor, Refusal>
     ensures passed { OnOk result (recorder_refusal recorder.old.kept (events.Cursor transcript.now.file transcript.now.channels transcript.now.first transcript.now.last) ≡ None) }
     ensures opened { IfOk result (λ c. c ≡ fresh_slot recorder.old.kept.generation transcript.now.channels transcript.now.file transcript.now.first transcript.now.last) }
-    ensures ready { IfOk result (MayGoOn recorder.new.kept) }
+    ensures ready { IfOk result (MayReadOn recorder.new.kept) }
     ensures there { OnOk result (IsReadAt recorder.old.kept.work (M.disk recorder.old.medium).blocks transcript.now.file) }
     ensures refused { IfErr result (RefusesCall M.disk (recorder_refusal recorder.old.kept (events.Cursor transcript.now.file transcript.now.channels transcript.now.first transcript.now.last)) (IsReadFileRefusal recorder.old.kept.work (M.disk recorder.old.medium).blocks transcript.now.file) recorder.old.kept recorder.new.kept recorder.old.medium recorder.new.medium) }
     ensures counts { IsCount transcript.now.first × IsCount transcript.now.last }
@@ -173,9 +173,9 @@ fn pass_over<M: BlockMedium, L: LaneOut>(
     cursor: &mut Cursor,
     place: usize,
 ) -> Result<(), Refusal>
-    requires { MayGoOn recorder.old.kept cursor.old }
+    requires { MayReadOn recorder.old.kept cursor.old }
     ensures covers { (packets : List StrictPacket) → ShowsAt recorder.old.kept.work (M.disk recorder.old.medium).blocks cursor.old.file packets → OnOk result (cursor.new ≡ at_place (length (take (max place cursor.old.reading.covered) packets)) cursor.old) }
-    ensures ready { OnOk result (MayGoOn recorder.new.kept cursor.new) }
+    ensures ready { OnOk result (MayReadOn recorder.new.kept cursor.new) }
     ensures file { cursor.new.file ≡ cursor.old.file }
     ensures refused { IfErr result (RefusesCall M.disk None (IsReadFileRefusal recorder.old.kept.work (M.disk recorder.old.medium).blocks cursor.old.file) recorder.old.kept recorder.new.kept recorder.old.medium recorder.new.medium) }
     ensures reads { OnlyReads M.disk recorder.old recorder.new result }
@@ -197,7 +197,7 @@ fn read_instalments<M: BlockMedium, L: LaneOut>(
     cursor: &mut Cursor,
     instalments: &[Instalment],
 ) -> Result<bool, Refusal>
-    requires { MayGoOn recorder.old.kept cursor.old }
+    requires { MayReadOn recorder.old.kept cursor.old }
     ensures same { (packets : List StrictPacket) → ShowsAt recorder.old.kept.work (M.disk recorder.old.medium).blocks cursor.old.file packets → cursor.old.reading.covered ≤ length packets
         → IfOk result (λ yes. IsTrue yes ↔ GoOn packets cursor.old.reading.channels cursor.old.reading.from cursor.old.reading.to cursor.old.reading.covered instalments.now) }
     ensures refused { IfErr result (RefusesCall M.disk None (IsReadFileRefusal recorder.old.kept.work (M.disk recorder.old.medium).blocks cursor.old.file) recorder.old.kept recorder.new.kept recorder.old.medium recorder.new.medium) }
@@ -220,12 +220,12 @@ fn read_instalment<M: BlockMedium, L: LaneOut>(
     cursor: &mut Cursor,
     instalment: &Instalment,
 ) -> Result<bool, Refusal>
-    requires { MayGoOn recorder.old.kept cursor.old }
+    requires { MayReadOn recorder.old.kept cursor.old }
     ensures same { (packets : List StrictPacket) → ShowsAt recorder.old.kept.work (M.disk recorder.old.medium).blocks cursor.old.file packets → cursor.old.reading.covered ≤ length packets
         → IfOk result (λ yes. IsTrue yes ↔ IsNext packets cursor.old.reading.channels cursor.old.reading.from cursor.old.reading.to cursor.old.reading.covered instalment.now) }
     ensures covers { (packets : List StrictPacket) → ShowsAt recorder.old.kept.work (M.disk recorder.old.medium).blocks cursor.old.file packets → cursor.old.reading.covered ≤ length packets
         → IfOk result (λ yes. IsTrue yes → cursor.new ≡ at_place instalment.now.to cursor.old) }
-    ensures ready { OnOk result (MayGoOn recorder.new.kept cursor.new) }
+    ensures ready { OnOk result (MayReadOn recorder.new.kept cursor.new) }
     ensures file { cursor.new.file ≡ cursor.old.file }
     ensures refused { IfErr result (RefusesCall M.disk None (IsReadFileRefusal recorder.old.kept.work (M.disk recorder.old.medium).blocks cursor.old.file) recorder.old.kept recorder.new.kept recorder.old.medium recorder.new.medium) }
     ensures reads { OnlyReads M.disk recorder.old recorder.new result }

@@ -5,6 +5,7 @@ use Rattle.std.proofs.Common.{arith, ap, ◌∙◌}
 use Rattle.std.proofs.lemmas.List.{length-take, length-drop}
 use Rattle.std.proofs.lemmas.List.FromFn.{length-map-range_with_len, get_or-map-range_with_len}
 use Rattle.r10_medium.specs.Disk.{Disk, block_at, IsWhole, PicksEach}
+use Rattle.r10_medium.specs.Crashing.{stays_in_range}
 use Rattle.r10_medium.specs.Memory.{reads_as}
 use Rattle.r10_images.specs.Image.{cut, image_blocks}
 use Rattle.r10_images.specs.declared.held.Image.{Image}
@@ -25,9 +26,6 @@ whole_image bytes n lt =
 
 pub image_fits : (v : Vec ℕ Global) → length (image_blocks v.items) < 2 ^ 64
 image_fits v = omega (arith, length-image_blocks v.items, v.ok.0, v.ok.1, v.small)
-
-pub stays_in_range : (n : ℕ) → min n (2 ^ 64 - 1) ≤ 2 ^ 64 - 1
-stays_in_range n = omega arith
 
 abbrev pub image_disk : Image → Disk
 image_disk m = record {

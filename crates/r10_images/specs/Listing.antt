@@ -1,8 +1,8 @@
 -- The lines of an image's files.
-use Rattle.std.specs.Prelude.{◌≡◌, ℕ, ◌+◌, Bool, true, false, List, [], ◌∷◌, ◌++◌, Option, codes, map, if◌then◌else◌}
+use Rattle.std.specs.Prelude.{◌≡◌, ℕ, ◌+◌, List, [], ◌∷◌, ◌++◌, Option, codes, map}
 use Rattle.std.specs.Fmt.{decimal}
 use Rattle.std.specs.Io.KnownBytes.{Appends}
-use Rattle.r10_count.specs.Names.{is_name_byte}
+use Rattle.r10_count.specs.Printed.{flag_text, shown_byte}
 use Rattle.r10_medium.specs.Disk.{Image}
 use Rattle.r10_dirblock.specs.Block.{is_closed}
 use Rattle.r10_dirblock.specs.Texts.{stripped}
@@ -13,18 +13,9 @@ use Rattle.r10_dirchain.specs.declared.chain.ChainBlock.{ChainBlock}
 use Rattle.r10_images.specs.declared.listing.Outcome.{Outcome}
 use Rattle.r10_images.specs.declared.listing.Outcome.TheVariants.{Done, Refused}
 
--- `?` in place of a byte that no name has
-abbrev pub shown_byte : ℕ → ℕ
-shown_byte b = if is_name_byte b then b else 0x3F
-
 -- a name as it is printed, without the zero bytes and spaces behind it
 abbrev pub shown_name : Entry → List ℕ
 shown_name e = map shown_byte (stripped e.name)
-
--- a truth value
-abbrev pub flag_text : Bool → List ℕ
-flag_text true = codes "1"
-flag_text false = codes "0"
 
 -- `file`, the file's number, its name, its size in bytes, its blocks, and whether it is closed
 abbrev pub listed_file_line : ℕ → Entry → List ℕ

@@ -5,7 +5,8 @@ ghost use Rattle.std.specs.Io.KnownBytes.{Appends};
 ghost use Rattle.std.specs.Io.Buffered.{writer_buffer, writer_contents};
 ghost use Rattle.r10_images.specs.Faults.{IsFailedRead, IsLineFault, IsListFault, IsMediumFault};
 ghost use Rattle.r10_images.specs.Image.{image_blocks};
-ghost use Rattle.r10_images.specs.Listing.{shown_byte, shown_name, listed_file_line, listed_file_lines, refusal_line, ListsFiles};
+ghost use Rattle.r10_count.specs.Printed.{shown_byte};
+ghost use Rattle.r10_images.specs.Listing.{shown_name, listed_file_line, listed_file_lines, refusal_line, ListsFiles};
 
 use crate::fault::StreamFault;
 use crate::held::Image;

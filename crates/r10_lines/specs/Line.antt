@@ -10,7 +10,8 @@ use Rattle.r10_body.specs.declared.gap.Gap.TheVariants.{Whole, Lost, Unknown}
 use Rattle.r10_body.specs.declared.message.Message.{Message}
 use Rattle.r10_body.specs.declared.message.Message.TheVariants as messages
 use Rattle.r10_lines.specs.Civil.{civil_text}
-use Rattle.r10_lines.specs.Words.{spaced, flag_text}
+use Rattle.r10_count.specs.Printed.{flag_text}
+use Rattle.r10_lines.specs.Words.{spaced}
 
 -- bytes in pairs of hex digits of lower case, a dash where there are none
 abbrev pub bytes_text : List ℕ → List ℕ

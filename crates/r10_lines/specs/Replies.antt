@@ -2,7 +2,7 @@
 use Rattle.std.specs.Prelude.{ℕ, ◌+◌, List, [], ◌∷◌, ◌++◌, map, length, Option, Some, None, codes, if◌then◌else◌}
 use Rattle.std.specs.Fmt.{decimal}
 use Rattle.std.specs.List.{flat_map}
-use Rattle.r10_count.specs.Names.{is_name_byte}
+use Rattle.r10_count.specs.Printed.{flag_text, shown_byte}
 use Rattle.r10_machine.specs.declared.mode.Mode.{Mode}
 use Rattle.r10_machine.specs.declared.mode.Mode.TheVariants as modes
 use Rattle.r10_machine.specs.declared.reply.ChannelStatus.{ChannelStatus}
@@ -13,13 +13,9 @@ use Rattle.r10_machine.specs.declared.reply.Reply.TheVariants as replies
 use Rattle.r10_machine.specs.declared.reply.Status.{Status}
 use Rattle.r10_lines.specs.Line.{entry_text}
 use Rattle.r10_lines.specs.Refusals.{refusal_text}
-use Rattle.r10_lines.specs.Words.{spaced, line_of, flag_text}
+use Rattle.r10_lines.specs.Words.{spaced, line_of}
 
 -- ---- files
-
--- `?` in place of a byte that no name has
-abbrev pub shown_byte : ℕ → ℕ
-shown_byte b = if is_name_byte b then b else 0x3F
 
 -- a file's number, its name, its size in bytes, its blocks, and whether it is closed
 abbrev pub file_line : ℕ → FileInfo → List ℕ

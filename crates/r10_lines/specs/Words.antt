@@ -1,5 +1,5 @@
 -- Words of a line.
-use Rattle.std.specs.Prelude.{ℕ, Bool, true, false, List, [], ◌∷◌, ◌++◌, codes}
+use Rattle.std.specs.Prelude.{ℕ, List, [], ◌∷◌, ◌++◌, codes}
 
 -- words with a space between each and the next
 abbrev pub spaced : List (List ℕ) → List ℕ
@@ -12,8 +12,3 @@ abbrev pub line_of : List (List ℕ) → List ℕ
 line_of [] = codes "\n"
 line_of (word ∷ []) = word ++ codes "\n"
 line_of (word ∷ next ∷ words) = word ++ (32 ∷ line_of (next ∷ words))
-
--- a truth value
-abbrev pub flag_text : Bool → List ℕ
-flag_text true = codes "1"
-flag_text false = codes "0"

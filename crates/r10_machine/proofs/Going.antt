@@ -14,7 +14,7 @@ use Rattle.r10_machine.specs.Config.{Config}
 use Rattle.r10_machine.specs.Machine.{Machine, Lane, File, Cursor, Sets, SetsCursor, cursor_at, cursor_of, lane_of, lane_in, is_channel, with_lane}
 use Rattle.r10_machine.specs.Replay.{Ordered}
 use Rattle.r10_machine.specs.Checks.{message_checks, taking_checks, count_checks, room_checks, is_not_before, is_full, offer_checks}
-use Rattle.r10_machine.specs.Calls.{Opens, Advances, Gives, fresh_cursor, wanted_since, accepted, overflowed}
+use Rattle.r10_machine.specs.Calls.{Opens, Advances, GivesQueued, fresh_cursor, wanted_since, accepted, overflowed}
 use Rattle.r10_machine.specs.SoundParts.{IsSoundLane, IsSoundCursor, LaneClimbs, Climbs, counts_on, count_or_0}
 use Rattle.r10_machine.proofs.Climbing.{climbs_push, map-joined}
 use Rattle.r10_machine.proofs.Steady.{checks_pass, parts_pass, changed_all, same_specs}
@@ -75,7 +75,7 @@ advances_sound s old id n new sound moves = by (cursor_of id old) moves (sound.c
         at (Some f) is (queue, ordered, long, sets) =
             sound_sets s old new id (Some (record c { covered = f.shown; queue = queue })) sound sets (before.0, λ same. subst (λ (o : Option File). IsSomeAnd o (λ g. f.shown ≤ g.shown)) (sym is) (omega arith))
 
-pub gives_sound : (s : Config) (old : Machine) (id : ℕ) (given : Option Entry) (new : Machine) → IsSound s old → Gives old id given new → IsSound s new
+pub gives_sound : (s : Config) (old : Machine) (id : ℕ) (given : Option Entry) (new : Machine) → IsSound s old → GivesQueued old id given new → IsSound s new
 gives_sound s old id given new sound moves = by (cursor_of id old) moves (sound.cursors id)
   where
     by : (o : Option Cursor) → IsSomeAnd o (λ c. (given ≡ slice_get c.queue 0) × SetsCursor old new id (Some (record c { queue = drop 1 c.queue })))

@@ -140,6 +140,6 @@ Advances old id n new =
     (queue : List Entry) × Ordered (wanted_since f c) queue × (n ≡ length queue) × SetsCursor old new id (Some (record c { covered = f.shown; queue = queue }))))
 
 -- the first of the queue, or nothing
-abbrev pub Gives : Machine → ℕ → Option Entry → Machine → Type 0
-Gives old id given new =
+abbrev pub GivesQueued : Machine → ℕ → Option Entry → Machine → Type 0
+GivesQueued old id given new =
     IsSomeAnd (cursor_of id old) (λ c. (given ≡ slice_get c.queue 0) × SetsCursor old new id (Some (record c { queue = drop 1 c.queue })))

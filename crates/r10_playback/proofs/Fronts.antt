@@ -8,11 +8,11 @@ use Rattle.r10_body.specs.Content.{Content, setup, time, event, uart, bus, arinc
 use Rattle.r10_body.specs.declared.entry.Entry.{Entry}
 use Rattle.r10_body.specs.Packets.{Packet, packet_entries, file_bytes, file_entries}
 use Rattle.r10_body.specs.Rules.{EachFollows, is_data, is_index, node_entries}
-use Rattle.r10_cursor.specs.Shown.{IsShown}
+use Rattle.r10_cursor.specs.Shown.{ShowsPackets}
 use Rattle.r10_cursor.proofs.BeforeIndex.{bytes_front, data_first, follows_front, shows_front, unlike}
 
 pub shown : (image : Image) (first size : ℕ) (all : List Packet) (named : List NodeEntry) → bytes_from image first size ≡ file_bytes all → EachFollows [] all → named ≡ node_entries 0 (filter is_data all)
-    → IsShown image first named (filter is_data all)
+    → ShowsPackets image first named (filter is_data all)
 shown image first size all named is each names =
     let front = filter is_data all in
     let split = data_first all each in

@@ -12,7 +12,7 @@ use Rattle.r10_judge.specs.Judged.{TracksStrictFile}
 use Rattle.r10_machine.specs.Replay.{wanted, Ordered}
 use Rattle.r10_checker.specs.Place.{bytes_on}
 use Rattle.r10_cursor.specs.Replays.{AdvancesReading, Reading, begun_reading}
-use Rattle.r10_cursor.specs.Shown.{IsShown}
+use Rattle.r10_cursor.specs.Shown.{ShowsPackets}
 use Rattle.r10_tracks.specs.Tracks.{IsTracked}
 use Rattle.r10_tracks.specs.declared.tracks.Tracks.{Tracks}
 use Rattle.r10_playback.specs.Played.{channels_of, HasCounts, IsListedInside, IsInstalment}
@@ -20,7 +20,7 @@ use Rattle.r10_playback.specs.declared.selection.Selection.{Selection}
 use Rattle.r10_playback.proofs.Fronts.{same_entries, shown}
 
 pub kept_shown : (image : Image) (f : Listed) (tracks : Tracks) (kept : TracksStrictFile (is_closed f.entry) tracks (bytes_on image f.entry)) (named book : List NodeEntry)
-    → named ≡ book → ((packets : List Packet) → IsTracked tracks packets → book ≡ node_entries 0 (filter is_data packets)) → IsShown image f.entry.first_block named (filter is_data kept.packets)
+    → named ≡ book → ((packets : List Packet) → IsTracked tracks packets → book ≡ node_entries 0 (filter is_data packets)) → ShowsPackets image f.entry.first_block named (filter is_data kept.packets)
 kept_shown image f tracks kept named book same names =
     shown image f.entry.first_block f.entry.size kept.packets named kept.bytes_are kept.say.file.each (same ∙ names kept.packets kept.tracked)
 

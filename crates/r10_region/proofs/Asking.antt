@@ -3,16 +3,16 @@ use Rattle.std.proofs.Common.{◌≡◌, ◌⊎◌, ℕ, ◌+◌, ◌^◌, ◌<�
 use Rattle.std.proofs.lemmas.Bool.{cases_lt}
 use Rattle.std.proofs.lemmas.List.{take_all, take-append-le, length_push, length-set, get_or_append_left, get_or_push}
 use Rattle.r10_medium.specs.Disk.{Image, Block, block_at, MayPut, PicksEach}
-use Rattle.r10_region.specs.Device.{Device, device_of, at_rest, does, does_more, MayHold, IsLeft, IsStoppedSince, AreWhole, size_of, told_if, put_if}
+use Rattle.r10_region.specs.Device.{Device, device_of, at_rest, does, does_more, MayHold, IsLeftOfDevice, IsStoppedSince, AreWhole, written_size, told_if, put_if}
 use Rattle.r10_region.specs.RegionDisk.{read_stands}
 use Rattle.r10_region.specs.declared.operation.Operation.{Operation as OperationValue}
 use Rattle.r10_region.specs.declared.operation.Operation.TheVariants.{Write, Sync}
 
-pub still_whole : (b : Bool) (op : OperationValue) (ops : List OperationValue) → size_of op ≡ 512 → AreWhole ops → AreWhole (told_if b op ops)
+pub still_whole : (b : Bool) (op : OperationValue) (ops : List OperationValue) → written_size op ≡ 512 → AreWhole ops → AreWhole (told_if b op ops)
 still_whole false op ops is are i lt = are i lt
 still_whole true op ops is are i lt = elim (cases_lt i (length ops)) [
-  | inl less ↦ ap size_of (get_or_append_left ops (op ∷ []) Sync i less) ∙ are i less
-  | inr more ↦ ap size_of (get_or_push ops op Sync i (omega (arith, lt, more, length_push ops op))) ∙ is
+  | inl less ↦ ap written_size (get_or_append_left ops (op ∷ []) Sync i less) ∙ are i less
+  | inr more ↦ ap written_size (get_or_push ops op Sync i (omega (arith, lt, more, length_push ops op))) ∙ is
 ]
 
 pub no_fewer : (b : Bool) (op : OperationValue) (ops : List OperationValue) → length ops ≤ length (told_if b op ops)
@@ -50,14 +50,14 @@ module _ (start : Image) (ops : List OperationValue) (blocks : Image) (reads : (
 
   -- what a stop left behind one of the operations before, or behind all
   left_before : (op : OperationValue) (t : ℕ) (image : Image) → IsStoppedSince start (ops ++ op ∷ []) t image
-      → IsStoppedSince start ops t image ⊎ IsLeft (device_of start (ops ++ op ∷ [])) image
+      → IsStoppedSince start ops t image ⊎ IsLeftOfDevice (device_of start (ops ++ op ∷ [])) image
   left_before op t image s = elim (cases_lt (length ops) s.done) [
-    | inl less ↦ inr (subst (λ (l : List OperationValue). IsLeft (device_of start l) image) (take_all s.done (ops ++ op ∷ []) (omega (arith, less, length_push ops op))) s.left)
+    | inl less ↦ inr (subst (λ (l : List OperationValue). IsLeftOfDevice (device_of start l) image) (take_all s.done (ops ++ op ∷ []) (omega (arith, less, length_push ops op))) s.left)
     | inr more ↦ inl (record {
       done = s.done;
       later = s.later;
       within = more;
-      left = subst (λ (l : List OperationValue). IsLeft (device_of start l) image) (take-append-le s.done ops (op ∷ []) more) s.left;
+      left = subst (λ (l : List OperationValue). IsLeftOfDevice (device_of start l) image) (take-append-le s.done ops (op ∷ []) more) s.left;
     })
   ]
 
@@ -69,7 +69,7 @@ module _ (start : Image) (ops : List OperationValue) (blocks : Image) (reads : (
       done = length ops;
       later = le;
       within = omega arith;
-      left = subst (λ (l : List OperationValue). IsLeft (device_of start l) image) (sym (take_all (length ops) ops (omega arith))) (record {
+      left = subst (λ (l : List OperationValue). IsLeftOfDevice (device_of start l) image) (sym (take_all (length ops) ops (omega arith))) (record {
         size = left.size ∙ ap length (synced_reads true ∙ sym reads);
         each = λ n lt. held_before true n (block_at image n) (left.each n (omega (arith, lt, ap length (synced_reads true ∙ sym reads))));
       });

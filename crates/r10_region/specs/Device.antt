@@ -38,24 +38,24 @@ abbrev pub MayHold : Device → ℕ → Block → Type 0
 MayHold d n c = (c ≡ block_at d.synced n) ⊎ WasWritten d.unsure n c
 
 -- what a stop leaves, in each block by itself
-abbrev pub IsLeft : Device → Image → Type 0
-IsLeft d image = PicksEach d.reads (MayHold d) image
+abbrev pub IsLeftOfDevice : Device → Image → Type 0
+IsLeftOfDevice d image = PicksEach d.reads (MayHold d) image
 
 -- What a stop leaves of a disk that held `start`, behind one of these operations, of which it has done t or more.
 pub record IsStoppedSince (start : Image) (ops : List OperationValue) (t : ℕ) (image : Image) : Type 0 where
   pub done : ℕ
   pub later : t ≤ done
   pub within : done ≤ length ops
-  pub left : IsLeft (device_of start (take done ops)) image
+  pub left : IsLeftOfDevice (device_of start (take done ops)) image
 
 -- how many bytes are written
-abbrev pub size_of : OperationValue → ℕ
-size_of (Write n bytes) = length bytes
-size_of Sync = 512
+abbrev pub written_size : OperationValue → ℕ
+written_size (Write n bytes) = length bytes
+written_size Sync = 512
 
 -- whole blocks are written
 abbrev pub AreWhole : List OperationValue → Type 0
-AreWhole ops = (i : ℕ) → i < length ops → size_of (get_or ops i Sync) ≡ 512
+AreWhole ops = (i : ℕ) → i < length ops → written_size (get_or ops i Sync) ≡ 512
 
 -- one operation more where it was told, and where it was done
 abbrev pub told_if : Bool → OperationValue → List OperationValue → List OperationValue
@@ -73,11 +73,11 @@ does_more d [] op = refl
 does_more d (o ∷ ops) op = does_more (does d o) ops op
 
 -- what is read is among what a stop may leave, and nothing is torn
-pub record IsSound (d : Device) : Type 0 where
+pub record IsSoundDevice (d : Device) : Type 0 where
   pub size : length d.synced ≡ length d.reads
   pub stands : (n : ℕ) → MayHold d n (block_at d.reads n)
 
-pub rest_is_sound : (image : Image) → IsSound (at_rest image)
+pub rest_is_sound : (image : Image) → IsSoundDevice (at_rest image)
 rest_is_sound image = record { size = refl; stands = λ n. inl refl }
 
 -- what a stop might leave it may leave behind one more write
@@ -94,11 +94,11 @@ stands_written d n k bytes holds = elim (cases_eq n k) [
   | inr other ↦ still_held d n k bytes _ (subst (MayHold d n) (sym (get_or-set_other d.reads k n bytes [] other)) holds)
 ]
 
-pub one_more_sound : (d : Device) (op : OperationValue) → IsSound d → IsSound (does d op)
+pub one_more_sound : (d : Device) (op : OperationValue) → IsSoundDevice d → IsSoundDevice (does d op)
 one_more_sound d (Write k bytes) s = record { size = s.size ∙ sym (length-set d.reads k bytes); stands = λ n. stands_written d n k bytes (s.stands n) }
 one_more_sound d Sync s = record { size = refl; stands = λ n. inl refl }
 
-pub all_sound : (d : Device) (ops : List OperationValue) → IsSound d → IsSound (does_all d ops)
+pub all_sound : (d : Device) (ops : List OperationValue) → IsSoundDevice d → IsSoundDevice (does_all d ops)
 all_sound d [] s = s
 all_sound d (op ∷ ops) s = all_sound (does d op) ops (one_more_sound d op s)
 
@@ -106,14 +106,14 @@ all_sound d (op ∷ ops) s = all_sound (does d op) ops (one_more_sound d op s)
 abbrev pub HoldsWhole : Device → Type 0
 HoldsWhole d = (n : ℕ) (c : Block) → n < length d.reads → MayHold d n c → length c ≡ 512
 
-pub one_more_whole : (d : Device) (op : OperationValue) → IsSound d → size_of op ≡ 512 → HoldsWhole d → HoldsWhole (does d op)
+pub one_more_whole : (d : Device) (op : OperationValue) → IsSoundDevice d → written_size op ≡ 512 → HoldsWhole d → HoldsWhole (does d op)
 one_more_whole d (Write k bytes) s is holds n c lt (inl e) = holds n c (omega (arith, lt, length-set d.reads k bytes)) (inl e)
 one_more_whole d (Write k bytes) s is holds n c lt (inr (inl w)) = ap length w.1 ∙ is
 one_more_whole d (Write k bytes) s is holds n c lt (inr (inr w)) = holds n c (omega (arith, lt, length-set d.reads k bytes)) (inr w)
 one_more_whole d Sync s is holds n c lt (inl e) = holds n c lt (subst (MayHold d n) (sym e) (s.stands n))
 one_more_whole d Sync s is holds n c lt (inr w) = absurd w
 
-pub all_whole : (d : Device) (ops : List OperationValue) → IsSound d → AreWhole ops → HoldsWhole d → HoldsWhole (does_all d ops)
+pub all_whole : (d : Device) (ops : List OperationValue) → IsSoundDevice d → AreWhole ops → HoldsWhole d → HoldsWhole (does_all d ops)
 all_whole d [] s are holds = holds
 all_whole d (op ∷ ops) s are holds = all_whole (does d op) ops (one_more_sound d op s) (λ i lt. are (suc i) (omega (arith, lt))) (one_more_whole d op s (are 0 (omega arith)) holds)
 

@@ -3,8 +3,9 @@ use Rattle.std.specs.Prelude.{◌≡◌, ℕ, ◌-◌, ◌^◌, ◌≤◌, ◌<�
 use Rattle.std.proofs.Common.{arith, sym, ap, subst}
 use Rattle.std.proofs.lemmas.List.{take_all}
 use Rattle.rtrb.specs.Ring.{sent}
+use Rattle.r10_medium.specs.Crashing.{stays_in_range}
 use Rattle.r10_medium.specs.Disk.{Disk, Image, Block, IsWhole, PicksEach, block_at}
-use Rattle.r10_region.specs.Device.{Device, device_of, at_rest, MayHold, IsLeft, IsStoppedSince, AreWhole, all_sound, all_whole, rest_is_sound, rest_is_whole}
+use Rattle.r10_region.specs.Device.{Device, device_of, at_rest, MayHold, IsLeftOfDevice, IsStoppedSince, AreWhole, all_sound, all_whole, rest_is_sound, rest_is_whole}
 use Rattle.r10_region.specs.declared.operation.Operation.{Operation as OperationValue}
 use Rattle.r10_region.specs.declared.region.Region.{Region}
 
@@ -15,9 +16,6 @@ lent_to r = r.was.value.held
 -- what the disk was told to do, in order
 abbrev pub asked : Region → List OperationValue
 asked r = sent r.device
-
-pub stays_in_range : (n : ℕ) → min n (2 ^ 64 - 1) ≤ 2 ^ 64 - 1
-stays_in_range n = omega arith
 
 module _ (start : Image) (ops : List OperationValue) (blocks : Image) (reads : (device_of start ops).reads ≡ blocks) where
   pub read_stands : (n : ℕ) → MayHold (device_of start ops) n (block_at blocks n)
@@ -31,13 +29,13 @@ module _ (start : Image) (ops : List OperationValue) (blocks : Image) (reads : (
     done = length ops;
     later = le;
     within = omega arith;
-    left = subst (λ (l : List OperationValue). IsLeft (device_of start l) image) (sym (take_all (length ops) ops (omega arith)))
+    left = subst (λ (l : List OperationValue). IsLeftOfDevice (device_of start l) image) (sym (take_all (length ops) ops (omega arith)))
         (subst (λ (l : Image). PicksEach l (MayHold (device_of start ops)) image) (sym reads) picks);
   }
 
   pub now_left : (image : Image) → IsStoppedSince start ops (length ops) image → PicksEach blocks (MayHold (device_of start ops)) image
   now_left image s = subst (λ (l : Image). PicksEach l (MayHold (device_of start ops)) image) reads
-      (subst (λ (l : List OperationValue). IsLeft (device_of start l) image) (take_all s.done ops s.later) s.left)
+      (subst (λ (l : List OperationValue). IsLeftOfDevice (device_of start l) image) (take_all s.done ops s.later) s.left)
 
 abbrev pub region_disk : Region → Disk
 region_disk r = record {

@@ -23,12 +23,12 @@ pub struct Orders {
 }
 
 impl Orders {
-    ghost use Rattle.r10_region.specs.Orders.{HandsOut};
+    ghost use Rattle.r10_region.specs.Orders.{HandsOrderOut};
 
     /// Hands out the next operation, and the bytes of a write, if there is one.
     pub fn hand_out(&mut self, out: &mut OrderOut, bytes: &mut [u8])
         requires { 512 ≤ length bytes.old }
-        ensures { HandsOut self.old self.new out.new bytes.old bytes.new }
+        ensures { HandsOrderOut self.old self.new out.new bytes.old bytes.new }
     {
         let next = match self.device.pop() {
             Ok(operation) => Some(operation),

@@ -42,7 +42,7 @@ use Rattle.r10_volume.specs.Settling.{IsSettled, SaysAs}
 use Rattle.r10_volume.proofs.Turning.{keep_both}
 use Rattle.r10_seal.specs.Judging.{IsSealable}
 use Rattle.r10_seal.specs.declared.judging.Sealable.{Sealable}
-use Rattle.r10_seal.specs.Leftover.{IsEither, IsLeftOpen, SealsLast, StaysOpen, shown_cost}
+use Rattle.r10_seal.specs.Leftover.{IsOpenOrClosed, IsLeftOpen, SealsLast, StaysOpen, shown_cost}
 use Rattle.r10_seal.specs.Sealing.{ListsSealed, IsPartlySealed, IsSealing, IsUnsealed, SealsFile, sealed, sealed_bytes, sealed_entry}
 use Rattle.r10_seal.proofs.Left.{area_is, cost, its_packets, lists, long, packets, put_below, put_bytes, put_says, put_whole, said, say, unsealed, usable}
 use Rattle.r10_seal.proofs.Placing.{directory_stays, last_place}
@@ -261,7 +261,7 @@ module _ {T E : Type 0} (s : Config) (old new : Disk) (chain made : List ChainBl
             (λ put. inl (partly_says s old.blocks chain nodes files f left whole e last old.blocks new.blocks whole left.held.says refl put))
             (λ closed. inr (closed_says s old.blocks chain nodes files f left whole e last closed.0 new.blocks closed.1))
             reads;
-        moments = λ settled. weakened (IsSealing nodes e all chain old) (IsEither nodes s files f all) old new
+        moments = λ settled. weakened (IsSealing nodes e all chain old) (IsOpenOrClosed nodes s files f all) old new
             (λ image. ⊎_elim
             (λ from. inl (
             let was = settled from.0 from.1 in

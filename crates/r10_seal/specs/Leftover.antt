@@ -35,8 +35,8 @@ IsLeftFault s f Medium = Unit {0}
 IsLeftFault s f OutOfMemory = Unit {0}
 
 -- the files with the last of them left open, or closed with the index of these packets, in groups of so many nodes
-abbrev pub IsEither : ℕ → Config → List File → File → List Packet → Image → Type 0
-IsEither nodes s files f packets image = MediumSays s image (files ++ f ∷ []) ⊎ MediumSays s image (files ++ sealed nodes packets f ∷ [])
+abbrev pub IsOpenOrClosed : ℕ → Config → List File → File → List Packet → Image → Type 0
+IsOpenOrClosed nodes s files f packets image = MediumSays s image (files ++ f ∷ []) ⊎ MediumSays s image (files ++ sealed nodes packets f ∷ [])
 
 -- Nothing is closed: the medium says the file as it was left, and where a stop left that before, it leaves it at every moment.
 pub record StaysOpen (s : Config) (files : List File) (f : File) (old new : Disk) : Type 0 where
@@ -50,8 +50,8 @@ pub record SealsLast {T E : Type 0} (nodes : ℕ) (s : Config) (files : List Fil
   pub grows : f.size ≤ (sealed nodes packets f).size
   pub holds : OnOk result (HoldsFiles s new.blocks made None (files ++ sealed nodes packets f ∷ []))
   pub bytes : KeepBytes old.blocks new.blocks (files ++ f ∷ [])
-  pub reads : IsEither nodes s files f packets new.blocks
-  pub moments : IsSettled s (files ++ f ∷ []) old → Leaves (IsEither nodes s files f packets) old new
+  pub reads : IsOpenOrClosed nodes s files f packets new.blocks
+  pub moments : IsSettled s (files ++ f ∷ []) old → Leaves (IsOpenOrClosed nodes s files f packets) old new
   pub settled : OnOk result (IsSettled s (files ++ sealed nodes packets f ∷ []) new)
 
 -- Of files that a recorder with so many nodes holds, the last of them left open, that one is closed with the entries that it shows. Where it may be closed, and after an Ok, it has room. A fault says why it wasn't.

@@ -12,7 +12,7 @@ use Rattle.r10_held.specs.LockFact.{outlet_received, outlet_spec}
 use Rattle.r10_held.specs.Naming.{AreNamed, ChannelRing, ring_for}
 use Rattle.r10_machine.specs.Limits.{channel_ids}
 use Rattle.r10_port.specs.Ends.{Receiving, Ring}
-use Rattle.r10_session.specs.Lanes.{HasSender, HaveChannels, IsFresh, IsNamed, rings_of}
+use Rattle.r10_session.specs.Lanes.{HasSender, HaveChannels, IsFresh, IsRingNamed, rings_of}
 use Rattle.r10_script.specs.declared.session.FeedTable.{FeedTable}
 
 -- the receiving ends are of the channels, and received nothing
@@ -62,7 +62,7 @@ lanes_named specs senders outlets time event paired distinct =
     all_named outlets (subst (λ ids. IsDistinct (λ a b. a == b) ids) (ap (λ ss. channel_ids ss) (sym (specs_are specs senders outlets paired)) ∙ ids_are outlets) apart)
 
 -- and that of each sending end
-by_senders : (rings : List ChannelRing) (specs : List ChannelSpec) (senders : List Sender) (outlets : List Receiving) → ArePaired specs senders outlets → AreNamed rings outlets → AllByRecursion (IsNamed rings) senders
+by_senders : (rings : List ChannelRing) (specs : List ChannelSpec) (senders : List Sender) (outlets : List Receiving) → ArePaired specs senders outlets → AreNamed rings outlets → AllByRecursion (IsRingNamed rings) senders
 by_senders rings [] [] [] paired named = tt
 by_senders rings (a ∷ specs) (s ∷ senders) (o ∷ outlets) paired named = (
   ap (λ (id : ℕ). ring_for id rings) (paired.0.channel_is ∙ ap (λ (c : ChannelSpec). c.id) (sym paired.0.spec_is)) ∙ named.0 ∙ ap (λ (r : Ring). Some r) paired.0.ring_is,
@@ -75,9 +75,9 @@ by_senders rings (a ∷ specs) [] [] paired named = absurd paired
 by_senders rings (a ∷ specs) [] (c ∷ outlets) paired named = absurd paired
 by_senders rings (a ∷ specs) (b ∷ senders) [] paired named = absurd paired
 
-pub senders_named : (specs : List ChannelSpec) (senders : List Sender) (outlets : List Receiving) (time event : ℕ) → ArePaired specs senders outlets → IsDistinct (λ a b. a == b) (time ∷ event ∷ channel_ids specs) → All (IsNamed (rings_of outlets)) senders
+pub senders_named : (specs : List ChannelSpec) (senders : List Sender) (outlets : List Receiving) (time event : ℕ) → ArePaired specs senders outlets → IsDistinct (λ a b. a == b) (time ∷ event ∷ channel_ids specs) → All (IsRingNamed (rings_of outlets)) senders
 senders_named specs senders outlets time event paired distinct =
-    All-from_recursion (IsNamed (rings_of outlets)) senders (by_senders (rings_of outlets) specs senders outlets paired (lanes_named specs senders outlets time event paired distinct))
+    All-from_recursion (IsRingNamed (rings_of outlets)) senders (by_senders (rings_of outlets) specs senders outlets paired (lanes_named specs senders outlets time event paired distinct))
 
 -- ---- what the channels are set to
 

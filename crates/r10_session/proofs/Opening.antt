@@ -5,7 +5,7 @@ use Rattle.r10_body.specs.declared.refusal.Refusal.{Refusal}
 use Rattle.r10_cursor.specs.declared.cursor.Cursor.{Cursor}
 use Rattle.r10_held.specs.State.{HeldState}
 use Rattle.r10_medium.specs.Disk.{Disk}
-use Rattle.r10_session.specs.Readers.{AreOpened, Opens, cursors_in, refusal_of}
+use Rattle.r10_session.specs.Readers.{AreOpened, OpensCursor, cursors_in, refusal_of}
 use Rattle.r10_script.specs.declared.session.ReaderTable.{ReaderTable}
 
 -- whatever comes of the tables from a place on, behind these it is what comes of all
@@ -15,7 +15,7 @@ OpenedTo {M} disk first tables place refused cursors now =
 
 module _ {M : Type 0} (disk : M → Disk) (first : HeldState M) (tables : List ReaderTable) where
   pub one_opened : (place : ℕ) (refused : List (Option Refusal)) (cursors : List Cursor) (now next : HeldState M) (table : ReaderTable) (opened : Result Cursor Refusal) → OpenedTo disk first tables place refused cursors now
-      → place < length tables → table ≡ get_or tables place table → Opens disk now table opened next → OpenedTo disk first tables (place + 1) (refused ++ refusal_of opened ∷ []) (cursors ++ cursors_in opened) next
+      → place < length tables → table ≡ get_or tables place table → OpensCursor disk now table opened next → OpenedTo disk first tables (place + 1) (refused ++ refusal_of opened ∷ []) (cursors ++ cursors_in opened) next
   one_opened place refused cursors now next table opened so within here opens rs cs end rest =
       let split : drop place tables ≡ table ∷ drop (place + 1) tables = drop_more tables place table within ∙ ap (λ (t : ReaderTable). t ∷ drop (place + 1) tables) (sym here) in
       let all : AreOpened disk first tables (refused ++ (refusal_of opened ∷ rs)) (cursors ++ (cursors_in opened ++ cs)) end =

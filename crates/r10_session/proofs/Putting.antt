@@ -19,21 +19,21 @@ use Rattle.r10_session.proofs.Reading.{all_read}
 use Rattle.r10_session.specs.Came.{CameOf}
 use Rattle.r10_session.specs.Counting.{entries_in}
 use Rattle.r10_session.specs.Feeds.{FeedCame, feed_end}
-use Rattle.r10_session.specs.Readers.{AreRead, Begins, IsReadOf, fill}
+use Rattle.r10_session.specs.Readers.{AreRead, BeginsReading, IsReadOf, fill}
 use Rattle.r10_shared.specs.declared.order.Order.{Order}
 use Rattle.r10_shared.specs.declared.report.FeedReport.{FeedReport}
 use Rattle.r10_held.specs.Transcripts.{AllAgree}
 use Rattle.r10_held.specs.declared.transcript.Transcript.{Transcript}
 
 pub put_together : {X : Type 0} (r : Result Ended X) (specs : List ChannelSpec) (steps : List Order) (tables : List FeedTable) (readers : List ReaderTable) (work : Work) (image : Image) (own : List Entry) (replies : List Reply) (refused : List (Option Refusal))
-    (cursors : List Cursor) (reports : List FeedReport) (transcripts : List Transcript) → Begins memory_disk steps readers replies refused cursors → AreOwn work image own → AllZip (FeedCame specs own) tables (map feed_end reports)
+    (cursors : List Cursor) (reports : List FeedReport) (transcripts : List Transcript) → BeginsReading memory_disk steps readers replies refused cursors → AreOwn work image own → AllZip (FeedCame specs own) tables (map feed_end reports)
     → AllZip IsReadOf cursors transcripts → IfOk r (λ e. e.replies.items ≡ replies) → IfOk r (λ e. e.feeds.items ≡ map feed_end reports) → IfOk r (λ e. e.readers.items ≡ fill refused (map (λ t. entries_in t.instalments.items) transcripts))
     → IfOk r (λ e. IfOk e.audit (λ yes. IsTrue yes ↔ AllAgree work image transcripts)) → IfOk r (λ e. CameOf specs steps tables readers e)
 put_together (Err x) specs steps tables readers work image own replies refused cursors reports transcripts begun is_own came read a b c d = tt
 put_together (Ok e) specs steps tables readers work image own replies refused cursors reports transcripts begun is_own came read a b c d = record {
   refused = refused;
   cursors = cursors;
-  begun = subst (λ (l : List Reply). Begins memory_disk steps readers l refused cursors) (sym a) begun;
+  begun = subst (λ (l : List Reply). BeginsReading memory_disk steps readers l refused cursors) (sym a) begun;
   work = work;
   image = image;
   own = own;

@@ -8,9 +8,9 @@ use Rattle.r10_held.specs.State.{HeldState}
 use Rattle.r10_medium.specs.Disk.{Disk}
 use Rattle.r10_held.specs.declared.player.Player.{Player}
 use Rattle.r10_session.specs.Counting.{entries_in}
-use Rattle.r10_session.specs.Readers.{AreOpened, AreRead, IsReadBy, IsReadOf, Opens, cursors_in, fill, refusal_of}
+use Rattle.r10_session.specs.Readers.{AreOpened, AreRead, IsReadBy, IsReadOf, OpensCursor, cursors_in, fill, refusal_of}
 use Rattle.r10_script.specs.declared.session.ReaderTable.{ReaderTable}
-use Rattle.r10_shared.specs.Readings.{GoesOn, HasRead}
+use Rattle.r10_shared.specs.Readings.{EachGoesOn, HasReadAll}
 use Rattle.r10_shared.specs.Settling.{IsWrittenDown}
 use Rattle.r10_shared.specs.declared.reading.Reading.{Reading}
 use Rattle.r10_held.specs.declared.transcript.Instalment.{Instalment}
@@ -18,18 +18,18 @@ use Rattle.r10_held.specs.declared.transcript.Transcript.{Transcript}
 
 -- ---- from places to pairs
 
-one_read : (player : Player) (reading : Reading) (t : Transcript) → HasRead player reading → IsWrittenDown reading t → IsReadOf player.cursor t
+one_read : (player : Player) (reading : Reading) (t : Transcript) → HasReadAll player reading → IsWrittenDown reading t → IsReadOf player.cursor t
 one_read player reading t read down = record {
   file = down.0.file ∙ read.alike.file;
   channels = down.0.channels ∙ read.alike.channels;
   first = down.0.first ∙ read.alike.first;
   last = down.0.last ∙ read.alike.last;
   covered = reading.player.cursor.reading.covered;
-  goes_on = subst (λ (l : List Instalment). GoesOn player.cursor.reading.covered l reading.player.cursor.reading.covered) (sym (down.1 ∙ read.written)) read.goes_on;
+  goes_on = subst (λ (l : List Instalment). EachGoesOn player.cursor.reading.covered l reading.player.cursor.reading.covered) (sym (down.1 ∙ read.written)) read.goes_on;
 }
 
 pub read_each : (players : List Player) (readings : List Reading) (transcripts : List Transcript) → length readings ≡ length players
-    → ((i : ℕ) (d : Player) (e : Reading) → i < length players → HasRead (get_or players i d) (get_or readings i e)) → length transcripts ≡ length readings
+    → ((i : ℕ) (d : Player) (e : Reading) → i < length players → HasReadAll (get_or players i d) (get_or readings i e)) → length transcripts ≡ length readings
     → ((i : ℕ) (a : Reading) (b : Transcript) → i < length readings → IsWrittenDown (get_or readings i a) (get_or transcripts i b)) → AllZip (λ (player : Player) (t : Transcript). IsReadOf player.cursor t) players transcripts
 read_each [] [] [] same read many down = tt
 read_each (p ∷ players) (r ∷ readings) (t ∷ transcripts) same read many down = (
@@ -63,14 +63,14 @@ by_table table generation c t is read = record {
   first = read.first ∙ ap (λ (d : Cursor). d.reading.from) is;
   last = read.last ∙ ap (λ (d : Cursor). d.reading.to) is;
   covered = read.covered;
-  goes_on = subst (λ (n : ℕ). GoesOn n t.instalments.items read.covered) (ap (λ (d : Cursor). d.reading.covered) is) read.goes_on;
+  goes_on = subst (λ (n : ℕ). EachGoesOn n t.instalments.items read.covered) (ap (λ (d : Cursor). d.reading.covered) is) read.goes_on;
   number = refl;
 }
 
 module _ {M : Type 0} (disk : M → Disk) where
   -- one that was opened, or refused
   one_more : (table : ReaderTable) (tables : List ReaderTable) (old next : HeldState M) (r : Option Refusal) (refused : List (Option Refusal)) (cursors rest : List Cursor) (opened : Result Cursor Refusal) (transcripts : List Transcript)
-      → Opens disk old table opened next → r ≡ refusal_of opened → cursors ≡ cursors_in opened ++ rest → AllZip IsReadOf cursors transcripts
+      → OpensCursor disk old table opened next → r ≡ refusal_of opened → cursors ≡ cursors_in opened ++ rest → AllZip IsReadOf cursors transcripts
       → ((ts : List Transcript) → AllZip IsReadOf rest ts → AreRead tables (fill refused (numbers ts)) ts) → AreRead (table ∷ tables) (fill (r ∷ refused) (numbers transcripts)) transcripts
   one_more table tables old next r refused cursors rest (Err x) transcripts opens is are read others =
       subst (λ (o : Option Refusal). AreRead (table ∷ tables) (fill (o ∷ refused) (numbers transcripts)) transcripts) (sym is) (others transcripts (subst (λ (l : List Cursor). AllZip IsReadOf l transcripts) are read))

@@ -3,11 +3,11 @@ use Rattle.std.proofs.Common.{◌≡◌, ℕ, List, [], ◌∷◌, ◌++◌, cod
 use Rattle.std.specs.Fmt.{decimal}
 use Rattle.std.proofs.lemmas.Fmt.{decimal_digit}
 use Rattle.r10_body.specs.declared.refusal.Refusal.{Refusal}
-use Rattle.r10_session.specs.Text.{refusal_line}
+use Rattle.r10_session.specs.Text.{refused_line}
 use Rattle.r10_lines.specs.Refusals.{refusal_text}
 use Rattle.r10_lines.specs.Replies.{reply_lines}
 use Rattle.r10_lines.specs.Words.{line_of}
 use Rattle.r10_machine.specs.declared.reply.Reply.TheVariants as replies
 
-pub numbered : (r : Refusal) → reply_lines 0 (replies.Refused r) ≡ codes "0 " ++ refusal_line r
-numbered r = append-nil (line_of (decimal 0 ∷ refusal_text r ∷ [])) ∙ ap (λ (d : List ℕ). d ++ (32 ∷ refusal_line r)) (decimal_digit 0 (omega arith))
+pub numbered : (r : Refusal) → reply_lines 0 (replies.Refused r) ≡ codes "0 " ++ refused_line r
+numbered r = append-nil (line_of (decimal 0 ∷ refusal_text r ∷ [])) ∙ ap (λ (d : List ℕ). d ++ (32 ∷ refused_line r)) (decimal_digit 0 (omega arith))

@@ -13,7 +13,7 @@ use Rattle.r10_medium.specs.MemoryDisk.{memory_disk}
 use Rattle.r10_script.specs.declared.session.FeedTable.{FeedTable}
 use Rattle.r10_script.specs.declared.session.ReaderTable.{ReaderTable}
 use Rattle.r10_session.specs.Feeds.{FeedCame}
-use Rattle.r10_session.specs.Readers.{AreRead, Begins}
+use Rattle.r10_session.specs.Readers.{AreRead, BeginsReading}
 use Rattle.r10_shared.specs.declared.order.Order.{Order}
 use Rattle.r10_held.specs.Transcripts.{AllAgree}
 use Rattle.r10_held.specs.declared.transcript.Transcript.{Transcript}
@@ -23,7 +23,7 @@ use Rattle.r10_held.specs.declared.transcript.Transcript.{Transcript}
 pub record CameOf (specs : List ChannelSpec) (steps : List Order) (feeds : List FeedTable) (readers : List ReaderTable) (ended : Ended) : Type 0 where
   pub refused : List (Option Refusal)
   pub cursors : List Cursor
-  pub begun : Begins memory_disk steps readers ended.replies.items refused cursors
+  pub begun : BeginsReading memory_disk steps readers ended.replies.items refused cursors
   pub work : Work
   pub image : Image
   pub own : List Entry

@@ -3,10 +3,10 @@ use Rattle.std.specs.Prelude.{ℕ, ◌+◌, ◌-◌, ◌^◌, min, List, [], ◌
 use Rattle.r10_held.specs.declared.transcript.Instalment.{Instalment}
 
 -- how many entries instalments have
-abbrev pub entries_of : List Instalment → ℕ
-entries_of [] = 0
-entries_of (i ∷ instalments) = length i.entries + entries_of instalments
+abbrev pub instalments_length : List Instalment → ℕ
+instalments_length [] = 0
+instalments_length (i ∷ instalments) = length i.entries + instalments_length instalments
 
 -- up to the greatest number of 64 bits
 abbrev pub entries_in : List Instalment → ℕ
-entries_in instalments = min (entries_of instalments) (2 ^ 64 - 1)
+entries_in instalments = min (instalments_length instalments) (2 ^ 64 - 1)

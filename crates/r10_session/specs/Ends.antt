@@ -21,17 +21,17 @@ ArePaired (spec ∷ specs) (sender ∷ senders) (outlet ∷ outlets) = IsLane sp
 ArePaired specs senders outlets = ⊥
 
 -- the place of the first that is a channel's
-abbrev pub place_of : ℕ → List Sender → Option ℕ
-place_of channel senders = position (λ (sender : Sender). sender.channel == channel) senders
+abbrev pub sender_place : ℕ → List Sender → Option ℕ
+sender_place channel senders = position (λ (sender : Sender). sender.channel == channel) senders
 
 -- the first that is the channel's was taken from among these, which left the others
 pub record TakesOne (old : List Sender) (channel : ℕ) (port : Sending) (new : List Sender) : Type 0 where
   pub place : ℕ
-  pub found : place_of channel old ≡ Some place
+  pub found : sender_place channel old ≡ Some place
   pub port_is : (d : Sender) → (slice_index_or old place d).port ≡ port
   pub left : new ≡ remove old place
 
 -- or there was none, and all are left
 abbrev pub Takes : List Sender → ℕ → Option Sending → List Sender → Type 0
 Takes old channel (Some port) new = TakesOne old channel port new
-Takes old channel None new = (place_of channel old ≡ None) × (new ≡ old)
+Takes old channel None new = (sender_place channel old ≡ None) × (new ≡ old)

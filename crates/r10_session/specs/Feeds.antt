@@ -14,7 +14,7 @@ use Rattle.r10_session.specs.Lanes.{IsUnused}
 use Rattle.r10_script.specs.declared.session.FeedTable.{FeedTable}
 use Rattle.r10_shared.specs.Feeding.{FedLine}
 use Rattle.r10_shared.specs.Naming.{SendingLine}
-use Rattle.r10_shared.specs.Settling.{IsSettled}
+use Rattle.r10_shared.specs.Settling.{IsSettledReport}
 use Rattle.r10_shared.specs.declared.report.FeedReport.{FeedReport}
 use Rattle.r10_shared.specs.declared.source.Tally.{Tally}
 use Rattle.r10_source.specs.Pumps.{OffersAll, Tried, accepted_of, is_refused}
@@ -24,7 +24,7 @@ abbrev pub Zipped : {A B : Type 0} → List A → List B → (A → B → Type 0
 Zipped xs ys R = AllZip R xs ys
 
 -- the line of a feed that waits: the sending end of a new lane of the table's channel
-pub record Waits (specs : List ChannelSpec) (table : FeedTable) (line : SendingLine) : Type 0 where
+pub record WaitsAsLine (specs : List ChannelSpec) (table : FeedTable) (line : SendingLine) : Type 0 where
   pub channel_is : line.channel ≡ table.channel
   pub unused : IsUnused specs table.channel line.port
 
@@ -33,7 +33,7 @@ pub record Comes (own : List Entry) (items : List Timed) (line : SendingLine) (r
   pub later : SendingLine
   pub told : Tally
   pub fed : FedLine items line later told
-  pub settled : IsSettled own later told report
+  pub settled : IsSettledReport own later told report
 
 abbrev pub feed_end : FeedReport → FeedEnd
 feed_end r = record { channel = r.channel; accepted = r.accepted; refused = r.refused; erased = r.erased; filed = r.filed; rest = length r.rest.items }

@@ -13,8 +13,8 @@ abbrev pub rings_of : List Receiving → List ChannelRing
 rings_of outlets = map (λ (outlet : Receiving). record { channel = outlet.spec.id; ring = outlet.ring }) outlets
 
 -- the ring of a sending end is the one that is named for its channel
-abbrev pub IsNamed : List ChannelRing → Sender → Type 0
-IsNamed rings sender = ring_for sender.channel rings ≡ Some sender.port.ring
+abbrev pub IsRingNamed : List ChannelRing → Sender → Type 0
+IsRingNamed rings sender = ring_for sender.channel rings ≡ Some sender.port.ring
 
 -- one of them is the channel's
 abbrev pub HasSender : List Sender → ℕ → Type 0

@@ -15,16 +15,16 @@ use Rattle.r10_medium.specs.Disk.{Disk}
 use Rattle.r10_session.specs.Answered.{Answered}
 use Rattle.r10_session.specs.Counting.{entries_in}
 use Rattle.r10_script.specs.declared.session.ReaderTable.{ReaderTable}
-use Rattle.r10_shared.specs.Readings.{GoesOn}
+use Rattle.r10_shared.specs.Readings.{EachGoesOn}
 use Rattle.r10_shared.specs.declared.order.Order.{Order}
 use Rattle.r10_held.specs.declared.transcript.Transcript.{Transcript}
 
 -- ---- cursors
 
 -- a cursor that has covered nothing and wants what the table says; or the recorder refused it
-abbrev pub Opens : {M : Type 0} → (M → Disk) → HeldState M → ReaderTable → Result Cursor Refusal → HeldState M → Type 0
-Opens disk old table (Ok cursor) new = (cursor ≡ fresh_slot old.recorder.kept.generation table.channels table.file table.from table.to) × (new.recorder.kept ≡ old.recorder.kept)
-Opens disk old table (Err r) new =
+abbrev pub OpensCursor : {M : Type 0} → (M → Disk) → HeldState M → ReaderTable → Result Cursor Refusal → HeldState M → Type 0
+OpensCursor disk old table (Ok cursor) new = (cursor ≡ fresh_slot old.recorder.kept.generation table.channels table.file table.from table.to) × (new.recorder.kept ≡ old.recorder.kept)
+OpensCursor disk old table (Err r) new =
     RefusesCall disk (recorder_refusal old.recorder.kept (events.Cursor table.file table.channels table.from table.to)) (IsReadFileRefusal old.recorder.kept.work (disk old.recorder.medium).blocks table.file)
     old.recorder.kept new.recorder.kept old.recorder.medium new.recorder.medium r
 
@@ -40,13 +40,13 @@ cursors_in (Err r) = []
 abbrev pub AreOpened : {M : Type 0} → (M → Disk) → HeldState M → List ReaderTable → List (Option Refusal) → List Cursor → HeldState M → Type 0
 AreOpened disk old [] [] cursors new = (cursors ≡ []) × (new ≡ old)
 AreOpened {M} disk old (table ∷ tables) (refused ∷ others) cursors new =
-    (next : HeldState M) × (opened : Result Cursor Refusal) × (rest : List Cursor) × Opens disk old table opened next × (refused ≡ refusal_of opened) × (cursors ≡ cursors_in opened ++ rest)
+    (next : HeldState M) × (opened : Result Cursor Refusal) × (rest : List Cursor) × OpensCursor disk old table opened next × (refused ≡ refusal_of opened) × (cursors ≡ cursors_in opened ++ rest)
     × AreOpened disk next tables others rest new
 AreOpened disk old tables refused cursors new = ⊥
 
 -- from some recorder that a lock keeps, the steps were asked, and then the cursors were opened
-abbrev pub Begins : {M : Type 0} → (M → Disk) → List Order → List ReaderTable → List Reply → List (Option Refusal) → List Cursor → Type 0
-Begins {M} disk steps tables replies refused cursors =
+abbrev pub BeginsReading : {M : Type 0} → (M → Disk) → List Order → List ReaderTable → List Reply → List (Option Refusal) → List Cursor → Type 0
+BeginsReading {M} disk steps tables replies refused cursors =
     (first : HeldState M) × (stepped : HeldState M) × (opened : HeldState M) × Answered disk first steps replies stepped × AreOpened disk stepped tables refused cursors opened
 
 -- ---- what was read
@@ -58,7 +58,7 @@ pub record IsReadOf (c : Cursor) (t : Transcript) : Type 0 where
   pub first : t.first ≡ c.reading.from
   pub last : t.last ≡ c.reading.to
   pub covered : ℕ
-  pub goes_on : GoesOn c.reading.covered t.instalments.items covered
+  pub goes_on : EachGoesOn c.reading.covered t.instalments.items covered
 
 -- the ends of readers: the refusals, and between them these numbers in order
 abbrev pub fill : List (Option Refusal) → List ℕ → List ReaderEnd
@@ -73,7 +73,7 @@ pub record IsReadBy (table : ReaderTable) (t : Transcript) (entries : ℕ) : Typ
   pub first : t.first ≡ table.from
   pub last : t.last ≡ table.to
   pub covered : ℕ
-  pub goes_on : GoesOn 0 t.instalments.items covered
+  pub goes_on : EachGoesOn 0 t.instalments.items covered
   pub number : entries ≡ entries_in t.instalments.items
 
 -- each reader was refused its cursor, or has a transcript, in order

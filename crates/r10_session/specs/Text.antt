@@ -17,8 +17,8 @@ abbrev pub step_lines : ℕ → List Reply → List ℕ
 step_lines done [] = []
 step_lines done (reply ∷ replies) = reply_lines (done + 1) reply ++ step_lines (done + 1) replies
 
-abbrev pub refusal_line : Refusal → List ℕ
-refusal_line r = refusal_text r ++ codes "\n"
+abbrev pub refused_line : Refusal → List ℕ
+refused_line r = refusal_text r ++ codes "\n"
 
 -- a feed's channel, and how many of its messages were accepted and refused
 abbrev pub offered_text : FeedEnd → List ℕ
@@ -33,7 +33,7 @@ feed_line end = line_of (offered_text end ∷ kept_text end ∷ [])
 
 -- a reader's number, and how many entries it read; or the refusal of its cursor
 abbrev pub reader_line : ℕ → ReaderEnd → List ℕ
-reader_line number (ends.Refused r) = refusal_line r
+reader_line number (ends.Refused r) = refused_line r
 reader_line number (ends.Read entries) = line_of (codes "reader" ∷ decimal number ∷ codes "entries" ∷ decimal entries ∷ [])
 
 -- of the readers from this number on
@@ -44,7 +44,7 @@ reader_lines number (end ∷ readers) = reader_line number end ++ reader_lines (
 abbrev pub audit_line : Result Bool Refusal → List ℕ
 audit_line (Ok true) = codes "audit yes\n"
 audit_line (Ok false) = codes "audit no\n"
-audit_line (Err r) = refusal_line r
+audit_line (Err r) = refused_line r
 
 -- the replies to the steps, numbered from 1; the feeds; the readers, numbered from 0; and the audit
 abbrev pub session_text : Ended → List ℕ

@@ -7,7 +7,7 @@ ghost use Rattle.r10_body.specs.declared.spec.ChannelSpec.{ChannelSpec as SpecVa
 ghost use Rattle.r10_control.specs.Own.{AreOwn};
 ghost use Rattle.r10_medium.specs.MemoryDisk.{memory_disk};
 ghost use Rattle.r10_session.specs.Feeds.{FeedCame, feed_end};
-ghost use Rattle.r10_session.specs.Lanes.{HasSender, IsFresh, IsNamed, IsUnused};
+ghost use Rattle.r10_session.specs.Lanes.{HasSender, IsFresh, IsRingNamed, IsUnused};
 ghost use Rattle.r10_session.specs.Readers.{IsReadOf};
 ghost use Rattle.r10_script.specs.Session.{AreApart};
 
@@ -30,9 +30,9 @@ fn feed_of<N: Rings>(
     channel: u16,
     source: Box<dyn ChannelSource + Send>,
 ) -> Feed<N>
-    requires named { All (IsNamed N.rings) senders.old.items }
+    requires named { All (IsRingNamed N.rings) senders.old.items }
     requires there { HasSender senders.old.items channel }
-    ensures named { All (IsNamed N.rings) senders.new.items }
+    ensures named { All (IsRingNamed N.rings) senders.new.items }
     ensures others { (other : ℕ) → (channel == other) ≡ false → HasSender senders.old.items other → HasSender senders.new.items other }
     ensures fresh { (specs : List SpecValue) → All (IsFresh specs) senders.old.items → All (IsFresh specs) senders.new.items }
     ensures unused { (specs : List SpecValue) → All (IsFresh specs) senders.old.items → IsUnused specs channel result.line.port }
@@ -55,7 +55,7 @@ pub(crate) fn run_tables<N: Rings + Send + Sync, T: Threads + Wait + Sync>(
     orders: Vec<Order>,
     players: Vec<Player>,
 ) -> Result<SessionReport<Memory>, SessionFault>
-    requires named { All (IsNamed N.rings) senders.items }
+    requires named { All (IsRingNamed N.rings) senders.items }
     requires there { AllByRecursion (λ table. HasSender senders.items table.channel) tables.items }
     requires apart { AreApart tables.items }
     requires players { All (λ player. player.pass.cell ≡ cabinet) players.items }

@@ -2,7 +2,7 @@
 
 ghost use Rattle.std.specs.Prelude.{◌≡◌, ◌<◌, ◌≤◌, ◌+◌, ◌-◌, ◌^◌, ◌++◌, ◌∷◌, [], All, IfOk, List, OnOk, Option, drop, map, slice_index_or};
 ghost use Rattle.r10_body.specs.declared.refusal.Refusal.{Refusal as RefusalValue};
-ghost use Rattle.r10_session.specs.Readers.{AreOpened, Begins, Opens, cursors_in, fill, refusal_of};
+ghost use Rattle.r10_session.specs.Readers.{AreOpened, BeginsReading, OpensCursor, cursors_in, fill, refusal_of};
 
 use crate::beginning::ask_all;
 use crate::ended::ReaderEnd;
@@ -31,7 +31,7 @@ fn open<M: BlockMedium, N: Rings>(
     held: &mut Held<M, N>,
     table: &ReaderTable,
 ) -> Result<Result<Cursor, Refusal>, AllocError>
-    ensures { IfOk result (λ opened. Opens M.disk held.old table.now opened held.new) }
+    ensures { IfOk result (λ opened. OpensCursor M.disk held.old table.now opened held.new) }
 {
     let channels = table.channels.copied(alloc)?;
     Ok(held.cursor(table.file, channels, table.from, table.to))
@@ -84,7 +84,7 @@ fn begin_held<M: BlockMedium, N: Rings, T: Wait>(
     steps: &[Order],
     tables: &[ReaderTable],
 ) -> Result<Begun, AllocError>
-    ensures { IfOk result (λ begun. Begins M.disk steps.now tables.now begun.replies.items begun.refused.items begun.cursors.items) }
+    ensures { IfOk result (λ begun. BeginsReading M.disk steps.now tables.now begun.replies.items begun.refused.items begun.cursors.items) }
 {
     let replies = ask_all(rt, alloc, held, steps)?;
     let (refused, cursors) = open_all(alloc, held, tables)?;
@@ -103,7 +103,7 @@ pub(crate) fn begin<M: BlockMedium, N: Rings, T: Wait>(
     steps: &[Order],
     tables: &[ReaderTable],
 ) -> Result<Begun, AllocError>
-    ensures { IfOk result (λ begun. Begins M.disk steps.now tables.now begun.replies.items begun.refused.items begun.cursors.items) }
+    ensures { IfOk result (λ begun. BeginsReading M.disk steps.now tables.now begun.replies.items begun.refused.items begun.cursors.items) }
 {
     let mut held = cabinet.hold(rt);
     begin_held(rt, alloc, &mut held, steps, tables)

@@ -7,7 +7,7 @@ ghost use Rattle.r10_held.specs.LockFact.{outlet_received, outlet_spec};
 ghost use Rattle.r10_held.specs.Naming.{AreNamed};
 ghost use Rattle.r10_medium.specs.MemoryDisk.{memory_disk};
 ghost use Rattle.r10_session.specs.Came.{CameOf};
-ghost use Rattle.r10_session.specs.Lanes.{HasSender, HaveChannels, IsFresh, IsNamed};
+ghost use Rattle.r10_session.specs.Lanes.{HasSender, HaveChannels, IsFresh, IsRingNamed};
 ghost use Rattle.r10_script.specs.Session.{AreApart};
 ghost use Rattle.r10_shared.specs.Orders.{order_of};
 ghost use Rattle.r10_shared.specs.declared.order.Order.{Order as OrderValue};
@@ -51,7 +51,7 @@ fn run_between<N: Rings + Send + Sync, T: Threads + Wait + Sync>(
 ) -> Result<Ended, SessionFault>
     requires new { IsNew memory_disk outlet_spec outlet_received recorder }
     requires lanes { AreNamed N.rings recorder.lanes }
-    requires named { All (IsNamed N.rings) senders.items }
+    requires named { All (IsRingNamed N.rings) senders.items }
     requires fresh { All (IsFresh recorder.kept.config.channels) senders.items }
     requires there { AllByRecursion (λ table. HasSender senders.items table.channel) asked.feeds.items }
     requires apart { AreApart asked.feeds.items }

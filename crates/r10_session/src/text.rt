@@ -2,7 +2,7 @@
 
 ghost use Rattle.std.specs.Prelude.{◌≡◌, ◌++◌, ℕ, List, IfOk, codes, string_bytes};
 ghost use Rattle.std.specs.List.{flat_map};
-ghost use Rattle.r10_session.specs.Text.{audit_line, feed_line, kept_text, offered_text, reader_line, reader_lines, refusal_line, session_text, step_lines};
+ghost use Rattle.r10_session.specs.Text.{audit_line, feed_line, kept_text, offered_text, reader_line, reader_lines, refused_line, session_text, step_lines};
 
 use crate::ended::{Ended, FeedEnd, ReaderEnd};
 use r10_body::Refusal;
@@ -12,7 +12,7 @@ use std::alloc::{AllocError, Global};
 
 /// The line of a refusal: that of a reply without its number.
 fn refusal_line(alloc: Global, refusal: Refusal) -> Result<String, AllocError>
-    ensures { IfOk result (λ line. string_bytes line ≡ refusal_line refusal) }
+    ensures { IfOk result (λ line. string_bytes line ≡ refused_line refusal) }
 {
     let lines = reply_lines(alloc, 0, &Reply::Refused(refusal))?;
     String::from_str(alloc, behind_number(lines.as_str()))

@@ -5,23 +5,23 @@ use Rattle.std.specs.List.{find, position}
 use Rattle.r10_builder.proofs.First.{place_found, place_none}
 use Rattle.r10_port.specs.Ends.{Receiving, Ring, Sending}
 use Rattle.r10_shared.proofs.Matching.{DoneTo}
-use Rattle.r10_shared.specs.Settling.{AreBegun, AreWrittenDown, Drains, lane_of}
+use Rattle.r10_shared.specs.Settling.{AreBegun, AreWrittenDown, Drains, receiving_of}
 use Rattle.r10_shared.specs.declared.reading.Reading.{Reading}
 use Rattle.r10_shared.specs.declared.report.FeedReport.{FeedReport}
 use Rattle.r10_held.specs.declared.transcript.Transcript.{Transcript}
 
 module _ (channel : ℕ) (lanes : List Receiving) (at : ℕ) (old : Receiving) (place : position (λ (lane : Receiving). lane.spec.id == channel) lanes ≡ Some at) (here : old ≡ get_or lanes at old) where
-  found : lane_of channel lanes ≡ Some old
+  found : receiving_of channel lanes ≡ Some old
   found = (place_found (λ (lane : Receiving). lane.spec.id == channel) lanes at old place).found ∙ ap (λ (l : Receiving). Some l) (sym here)
 
   pub within : at < length lanes
   within = (place_found (λ (lane : Receiving). lane.spec.id == channel) lanes at old place).within
 
   -- what is known of the channel's lane is known of it
-  pub known_there : (P : Receiving → Type 0) → IsSomeAnd (lane_of channel lanes) P → P old
+  pub known_there : (P : Receiving → Type 0) → IsSomeAnd (receiving_of channel lanes) P → P old
   known_there P known = subst (λ (o : Option Receiving). IsSomeAnd o P) found known
 
-  pub there_known : (P : Receiving → Type 0) → P old → IsSomeAnd (lane_of channel lanes) P
+  pub there_known : (P : Receiving → Type 0) → P old → IsSomeAnd (receiving_of channel lanes) P
   there_known P known = subst (λ (o : Option Receiving). IsSomeAnd o P) (sym found) known
 
 -- where a channel's lane is, by other names
@@ -31,7 +31,7 @@ place_is channel channel' lanes lanes' result answer told same all is =
     subst (λ (n : ℕ). position (λ (lane : Receiving). lane.spec.id == n) lanes ≡ answer) same (subst (λ (ls : List Receiving). position (λ (lane : Receiving). lane.spec.id == channel') ls ≡ answer) all (sym told ∙ is))
 
 -- a channel without a lane
-pub nowhere : {T : Type 0} (channel : ℕ) (lanes : List Receiving) (P : Receiving → Type 0) → position (λ (lane : Receiving). lane.spec.id == channel) lanes ≡ None → IsSomeAnd (lane_of channel lanes) P → T
+pub nowhere : {T : Type 0} (channel : ℕ) (lanes : List Receiving) (P : Receiving → Type 0) → position (λ (lane : Receiving). lane.spec.id == channel) lanes ≡ None → IsSomeAnd (receiving_of channel lanes) P → T
 nowhere channel lanes P none known = absurd (subst (λ (o : Option Receiving). IsSomeAnd o P) (place_none (λ (lane : Receiving). lane.spec.id == channel) lanes none) known)
 
 -- ---- transcripts

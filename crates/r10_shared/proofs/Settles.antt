@@ -16,7 +16,7 @@ use Rattle.r10_medium.specs.Disk.{Disk, Image}
 use Rattle.r10_port.specs.Ends.{Receiving, Ring, sent, unreceived}
 use Rattle.r10_pump.specs.Pumping.{entries_on}
 use Rattle.r10_shared.specs.Naming.{SendingLine}
-use Rattle.r10_shared.specs.Settling.{AreReady, Drains, HasDrained, IsReady, IsSettled, MayDrain, Settles, lane_of}
+use Rattle.r10_shared.specs.Settling.{AreReady, Drains, HasDrained, IsReportReady, IsSettledReport, MayDrain, Settles, receiving_of}
 use Rattle.r10_shared.specs.declared.report.FeedReport.{FeedReport}
 use Rattle.r10_shared.specs.declared.source.Tally.{Tally}
 use Rattle.r10_shared.proofs.Accounts.{account_on, counted}
@@ -34,9 +34,9 @@ whole before left room none enough =
     rw none (take_all (room - 0) left (omega (arith, enough)))
 
 module _ (rings : List ChannelRing) (k : Kept) (lanes : List Receiving) (own : List Entry) (accounts : ChannelAccounts outlet_spec outlet_received own k.config.channels k.taken k.erased lanes) (named : AreNamed rings lanes) where
-  module _ (line : SendingLine) (tally : Tally) (report : FeedReport) (ready : IsReady rings k line tally report) where
+  module _ (line : SendingLine) (tally : Tally) (report : FeedReport) (ready : IsReportReady rings k line tally report) where
     -- a feed's lane is that of its line's ring
-    ring_is : IsSomeAnd (lane_of line.channel lanes) (λ lane. lane.ring ≡ line.port.ring)
+    ring_is : IsSomeAnd (receiving_of line.channel lanes) (λ lane. lane.ring ≡ line.port.ring)
     ring_is =
         let a = account_on outlet_spec outlet_received own line.channel k.config.channels k.taken k.erased lanes ready.taken accounts ready.taken_is in
         let has = found_has (λ (lane : Receiving). ring_for lane.spec.id rings ≡ Some lane.ring) (λ (lane : Receiving). lane.spec.id == line.channel) lanes a.lane named a.found in
@@ -44,7 +44,7 @@ module _ (rings : List ChannelRing) (k : Kept) (lanes : List Receiving) (own : L
         subst (λ (o : Option Receiving). IsSomeAnd o (λ lane. lane.ring ≡ line.port.ring)) (sym a.found) (some_ring a.lane.ring line.port.ring (sym has.0 ∙ ap (λ (c : ℕ). ring_for c rings) id ∙ ready.named))
 
     -- and behind the move all is settled
-    settled : (later : FeedReport) → IsSomeAnd (lane_of line.channel lanes) (λ lane. Drains lane line.port report later) → IsSettled own line tally later
+    settled : (later : FeedReport) → IsSomeAnd (receiving_of line.channel lanes) (λ lane. Drains lane line.port report later) → IsSettledReport own line tally later
     settled later drained =
         let a = account_on outlet_spec outlet_received own line.channel k.config.channels k.taken k.erased lanes ready.taken accounts ready.taken_is in
         let d : Drains a.lane line.port report later = subst (λ (o : Option Receiving). IsSomeAnd o (λ lane. Drains lane line.port report later)) a.found drained in

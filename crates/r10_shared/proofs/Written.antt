@@ -10,12 +10,12 @@ use Rattle.r10_cursor.specs.declared.cursor.Cursor.{Cursor}
 use Rattle.r10_machine.specs.Replay.{Ordered, wanted}
 use Rattle.r10_held.specs.Advancing.{TakesInstalment}
 use Rattle.r10_held.specs.declared.player.Player.{Player}
-use Rattle.r10_shared.specs.Readings.{GoesOn, HasRead, IsAlike, IsTaken, ReadsFrom, ReadsOn}
+use Rattle.r10_shared.specs.Readings.{EachGoesOn, HasReadAll, IsAlike, IsTakenFrom, ReadsFrom, ReadsOn}
 use Rattle.r10_shared.specs.declared.reading.Reading.{Reading}
 use Rattle.r10_held.specs.declared.transcript.Instalment.{Instalment}
 
-goes_join : (a b c : ℕ) (xs ys : List Instalment) → GoesOn a xs b → GoesOn b ys c → GoesOn a (xs ++ ys) c
-goes_join a b c [] ys first second = subst (λ (n : ℕ). GoesOn n ys c) first second
+goes_join : (a b c : ℕ) (xs ys : List Instalment) → EachGoesOn a xs b → EachGoesOn b ys c → EachGoesOn a (xs ++ ys) c
+goes_join a b c [] ys first second = subst (λ (n : ℕ). EachGoesOn n ys c) first second
 goes_join a b c (x ∷ xs) ys first second = (first.0, goes_join x.to b c xs ys first.1 second)
 
 all_join : {X : Type 0} (P : X → Type 0) (xs ys : List X) → AllByRecursion P xs → AllByRecursion P ys → AllByRecursion P (xs ++ ys)
@@ -94,10 +94,10 @@ reads_join player before mid new first second = record {
   more = first.more ++ second.more;
   written = second.written ∙ ap (λ (l : List Instalment). l ++ second.more) first.written ∙ append_assoc before first.more second.more;
   goes_on = goes_join player.cursor.reading.covered mid.player.cursor.reading.covered new.player.cursor.reading.covered first.more second.more first.goes_on second.goes_on;
-  taken = all_join (IsTaken player.cursor.reading.channels player.cursor.reading.from player.cursor.reading.to) first.more second.more first.taken
-      (subst (λ (cs : List ℕ). AllByRecursion (IsTaken cs player.cursor.reading.from player.cursor.reading.to) second.more) first.alike.channels
-      (subst (λ (n : ℕ). AllByRecursion (IsTaken mid.player.cursor.reading.channels n player.cursor.reading.to) second.more) first.alike.first
-      (subst (λ (n : ℕ). AllByRecursion (IsTaken mid.player.cursor.reading.channels mid.player.cursor.reading.from n) second.more) first.alike.last second.taken)));
+  taken = all_join (IsTakenFrom player.cursor.reading.channels player.cursor.reading.from player.cursor.reading.to) first.more second.more first.taken
+      (subst (λ (cs : List ℕ). AllByRecursion (IsTakenFrom cs player.cursor.reading.from player.cursor.reading.to) second.more) first.alike.channels
+      (subst (λ (n : ℕ). AllByRecursion (IsTakenFrom mid.player.cursor.reading.channels n player.cursor.reading.to) second.more) first.alike.first
+      (subst (λ (n : ℕ). AllByRecursion (IsTakenFrom mid.player.cursor.reading.channels mid.player.cursor.reading.from n) second.more) first.alike.last second.taken)));
 }
 
 -- ---- players, at first and at last
@@ -120,7 +120,7 @@ module _ (readings : List Reading) (players : List Player) (is : map (λ (r : Re
 
   -- each has read, where each read on from nothing
   pub have_read : (later : List Reading) → ((k : ℕ) (d : Reading) → k < length readings → (get_or readings k d).instalments.items ≡ []) → ((i : ℕ) (e : Reading) → i < length readings → ReadsOn (get_or readings i e) (get_or later i e))
-      → (i : ℕ) (d : Player) (e : Reading) → i < length players → HasRead (get_or players i d) (get_or later i e)
+      → (i : ℕ) (d : Player) (e : Reading) → i < length players → HasReadAll (get_or players i d) (get_or later i e)
   have_read later none reads i d e inside =
       let here : i < length readings = omega (arith, inside, as_many) in
       subst (λ (p : Player). ReadsFrom p [] (get_or later i e)) (sym (player_is i d e here)) (subst (λ (l : List Instalment). ReadsFrom (get_or readings i e).player l (get_or later i e)) (none i e here) (reads i e here))

@@ -17,15 +17,15 @@ pub record IsAlike (old new : Cursor) : Type 0 where
   pub last : new.reading.to ≡ old.reading.to
 
 -- an instalment has, in order, what was wanted of some packets from its beginning on, up to the last of them
-pub record IsTaken (channels : List ℕ) (first last : ℕ) (i : Instalment) : Type 0 where
+pub record IsTakenFrom (channels : List ℕ) (first last : ℕ) (i : Instalment) : Type 0 where
   pub packets : List Packet
   pub to_is : i.to ≡ length packets
   pub entries : Ordered (wanted channels first last (file_entries (drop i.from packets))) i.entries
 
 -- each goes on where the one before it ended, from a place up to another
-abbrev pub GoesOn : ℕ → List Instalment → ℕ → Type 0
-GoesOn at [] end = end ≡ at
-GoesOn at (i ∷ instalments) end = (i.from ≡ at) × GoesOn i.to instalments end
+abbrev pub EachGoesOn : ℕ → List Instalment → ℕ → Type 0
+EachGoesOn at [] end = end ≡ at
+EachGoesOn at (i ∷ instalments) end = (i.from ≡ at) × EachGoesOn i.to instalments end
 
 -- a player has read on, at the same gauge, and what it took is written down behind these
 pub record ReadsFrom (player : Player) (before : List Instalment) (new : Reading) : Type 0 where
@@ -33,12 +33,12 @@ pub record ReadsFrom (player : Player) (before : List Instalment) (new : Reading
   pub alike : IsAlike player.cursor new.player.cursor
   pub more : List Instalment
   pub written : new.instalments.items ≡ before ++ more
-  pub goes_on : GoesOn player.cursor.reading.covered more new.player.cursor.reading.covered
-  pub taken : AllByRecursion (IsTaken player.cursor.reading.channels player.cursor.reading.from player.cursor.reading.to) more
+  pub goes_on : EachGoesOn player.cursor.reading.covered more new.player.cursor.reading.covered
+  pub taken : AllByRecursion (IsTakenFrom player.cursor.reading.channels player.cursor.reading.from player.cursor.reading.to) more
 
 abbrev pub ReadsOn : Reading → Reading → Type 0
 ReadsOn old new = ReadsFrom old.player old.instalments.items new
 
 -- from nothing written
-abbrev pub HasRead : Player → Reading → Type 0
-HasRead player new = ReadsFrom player [] new
+abbrev pub HasReadAll : Player → Reading → Type 0
+HasReadAll player new = ReadsFrom player [] new

@@ -23,7 +23,7 @@ use Rattle.r10_held.specs.declared.transcript.Transcript.{Transcript}
 
 -- Of a feed that was refused so many messages: what was sent on its line is what erases took, then what the recorder's own files have of the channel, and then the
 -- rest, each once and in order; and the report tells how many of each.
-pub record IsSettled (own : List Entry) (line : SendingLine) (tally : Tally) (report : FeedReport) : Type 0 where
+pub record IsSettledReport (own : List Entry) (line : SendingLine) (tally : Tally) (report : FeedReport) : Type 0 where
   pub channel_is : report.channel ≡ line.channel
   pub gone : List Sample
   pub kept : List Sample
@@ -39,7 +39,7 @@ pub record Settles {F : Type 0} (line_of : F → SendingLine) (tally_of : F → 
   pub own : List Entry
   pub is_own : AreOwn work image own
   pub number : length reports ≡ length feeds
-  pub each : (place : ℕ) (f : F) (r : FeedReport) → place < length feeds → IsSettled own (line_of (slice_index_or feeds place f)) (tally_of (slice_index_or feeds place f)) (slice_index_or reports place r)
+  pub each : (place : ℕ) (f : F) (r : FeedReport) → place < length feeds → IsSettledReport own (line_of (slice_index_or feeds place f)) (tally_of (slice_index_or feeds place f)) (slice_index_or reports place r)
 
 abbrev pub is_failed : Refusal → Bool
 is_failed r = elim r [ Failed ↦ Bool.true | _ ↦ Bool.false ]
@@ -52,7 +52,7 @@ IsEndRefusal work r = r ≡ OutOfMemory
 -- ---- transcripts
 
 -- a transcript is of what a player was to read
-pub record IsBegun (reading : Reading) (transcript : Transcript) : Type 0 where
+pub record IsTranscriptOf (reading : Reading) (transcript : Transcript) : Type 0 where
   pub file : transcript.file ≡ reading.player.cursor.file
   pub channels : transcript.channels ≡ reading.player.cursor.reading.channels
   pub first : transcript.first ≡ reading.player.cursor.reading.from
@@ -60,11 +60,11 @@ pub record IsBegun (reading : Reading) (transcript : Transcript) : Type 0 where
 
 -- and has what it wrote down
 abbrev pub IsWrittenDown : Reading → Transcript → Type 0
-IsWrittenDown reading transcript = IsBegun reading transcript × (transcript.instalments.items ≡ reading.instalments.items)
+IsWrittenDown reading transcript = IsTranscriptOf reading transcript × (transcript.instalments.items ≡ reading.instalments.items)
 
 pub record AreBegun (readings : List Reading) (transcripts : List Transcript) : Type 0 where
   pub number : length transcripts ≡ length readings
-  pub each : (place : ℕ) (a : Reading) (b : Transcript) → place < length readings → IsBegun (slice_index_or readings place a) (slice_index_or transcripts place b)
+  pub each : (place : ℕ) (a : Reading) (b : Transcript) → place < length readings → IsTranscriptOf (slice_index_or readings place a) (slice_index_or transcripts place b)
 
 pub record AreWrittenDown (readings : List Reading) (transcripts : List Transcript) : Type 0 where
   pub number : length transcripts ≡ length readings
@@ -73,7 +73,7 @@ pub record AreWrittenDown (readings : List Reading) (transcripts : List Transcri
 -- ---- room, before anything is moved
 
 -- a report of a feed that has room for all that was sent and not taken in
-pub record IsReady (rings : List ChannelRing) (k : Kept) (line : SendingLine) (tally : Tally) (report : FeedReport) : Type 0 where
+pub record IsReportReady (rings : List ChannelRing) (k : Kept) (line : SendingLine) (tally : Tally) (report : FeedReport) : Type 0 where
   pub named : ring_for line.channel rings ≡ Some line.port.ring
   pub channel_is : report.channel ≡ line.channel
   pub accepted_is : report.accepted ≡ saturated (length (sent line.port))
@@ -87,19 +87,19 @@ pub record IsReady (rings : List ChannelRing) (k : Kept) (line : SendingLine) (t
   pub room : vec_capacity report.rest ≡ report.accepted - taken
 
 -- no two reports are of one channel
-abbrev pub AreApart : List FeedReport → Type 0
-AreApart reports = (i j : ℕ) (r s : FeedReport) → i < j → j < length reports → (slice_index_or reports i r).channel ≡ (slice_index_or reports j s).channel → ⊥
+abbrev pub ReportsAreApart : List FeedReport → Type 0
+ReportsAreApart reports = (i j : ℕ) (r s : FeedReport) → i < j → j < length reports → (slice_index_or reports i r).channel ≡ (slice_index_or reports j s).channel → ⊥
 
 pub record AreReady {F : Type 0} (line_of : F → SendingLine) (tally_of : F → Tally) (rings : List ChannelRing) (k : Kept) (feeds : List F) (reports : List FeedReport) : Type 0 where
   pub number : length reports ≡ length feeds
-  pub each : (place : ℕ) (f : F) (r : FeedReport) → place < length feeds → IsReady rings k (line_of (slice_index_or feeds place f)) (tally_of (slice_index_or feeds place f)) (slice_index_or reports place r)
-  pub apart : AreApart reports
+  pub each : (place : ℕ) (f : F) (r : FeedReport) → place < length feeds → IsReportReady rings k (line_of (slice_index_or feeds place f)) (tally_of (slice_index_or feeds place f)) (slice_index_or reports place r)
+  pub apart : ReportsAreApart reports
 
 -- ---- what is moved
 
 -- a channel's lane
-abbrev pub lane_of : ℕ → List Receiving → Option Receiving
-lane_of channel lanes = find (λ (lane : Receiving). lane.spec.id == channel) lanes
+abbrev pub receiving_of : ℕ → List Receiving → Option Receiving
+receiving_of channel lanes = find (λ (lane : Receiving). lane.spec.id == channel) lanes
 
 -- all that was sent was received before, or is left; of this as much is moved into a report as it has room for
 pub record Drains (lane : Receiving) (port : Sending) (old new : FeedReport) : Type 0 where
@@ -111,11 +111,11 @@ pub record Drains (lane : Receiving) (port : Sending) (old new : FeedReport) : T
 pub record MayDrain {F : Type 0} (line_of : F → SendingLine) (lanes : List Receiving) (feeds : List F) (reports : List FeedReport) : Type 0 where
   pub number : length reports ≡ length feeds
   pub channels : (place : ℕ) (f : F) (r : FeedReport) → place < length feeds → (slice_index_or reports place r).channel ≡ (line_of (slice_index_or feeds place f)).channel
-  pub apart : AreApart reports
-  pub rings : (place : ℕ) (f : F) (r : FeedReport) → place < length feeds → IsSomeAnd (lane_of (line_of (slice_index_or feeds place f)).channel lanes) (λ lane. lane.ring ≡ (line_of (slice_index_or feeds place f)).port.ring)
+  pub apart : ReportsAreApart reports
+  pub rings : (place : ℕ) (f : F) (r : FeedReport) → place < length feeds → IsSomeAnd (receiving_of (line_of (slice_index_or feeds place f)).channel lanes) (λ lane. lane.ring ≡ (line_of (slice_index_or feeds place f)).port.ring)
 
 -- of each feed what was left is moved into its report
 pub record HasDrained {F : Type 0} (line_of : F → SendingLine) (lanes : List Receiving) (feeds : List F) (reports later : List FeedReport) : Type 0 where
   pub number : length later ≡ length reports
   pub each : (place : ℕ) (f : F) (r s : FeedReport) → place < length feeds
-      → IsSomeAnd (lane_of (line_of (slice_index_or feeds place f)).channel lanes) (λ lane. Drains lane (line_of (slice_index_or feeds place f)).port (slice_index_or reports place r) (slice_index_or later place s))
+      → IsSomeAnd (receiving_of (line_of (slice_index_or feeds place f)).channel lanes) (λ lane. Drains lane (line_of (slice_index_or feeds place f)).port (slice_index_or reports place r) (slice_index_or later place s))

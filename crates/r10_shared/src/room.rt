@@ -2,7 +2,7 @@
 
 ghost use Rattle.std.specs.Prelude.{◌≡◌, ◌==◌, ℕ, IfSome, IsSomeAnd};
 ghost use Rattle.std.specs.List.{list_any, position};
-ghost use Rattle.r10_shared.specs.Settling.{AreBegun, AreReady, AreWrittenDown, Drains, HasDrained, IsReady, MayDrain, lane_of};
+ghost use Rattle.r10_shared.specs.Settling.{AreBegun, AreReady, AreWrittenDown, Drains, HasDrained, IsReportReady, MayDrain, receiving_of};
 
 use crate::feed::Feed;
 use crate::line::Line;
@@ -22,7 +22,7 @@ fn room_for<M: BlockMedium, N: Rings>(
     held: &Held<M, N>,
     feed: &Feed<N>,
 ) -> Option<FeedReport>
-    ensures { IfSome result (IsReady N.rings held.now.recorder.kept feed.now.line feed.now.tally) }
+    ensures { IfSome result (IsReportReady N.rings held.now.recorder.kept feed.now.line feed.now.tally) }
 {
     feed.line.is_named();
     let channel = feed.line.channel();
@@ -85,9 +85,9 @@ fn place_of(outlets: &[Outlet], channel: u16) -> Option<usize>
 
 /// Moves what is left of a channel's lane into the room of its report.
 fn drain_one<N: Rings>(outlets: &mut Vec<Outlet>, line: &mut Line<N>, report: &mut FeedReport)
-    requires { IsSomeAnd (lane_of line.old.channel outlets.old.items) (λ outlet. outlet.ring ≡ line.old.port.ring) }
-    ensures drained { IsSomeAnd (lane_of line.old.channel outlets.old.items) (λ outlet. Drains outlet line.old.port report.old report.new) }
-    ensures others { (channel : ℕ) → (channel ≡ line.old.channel → ⊥) → lane_of channel outlets.new.items ≡ lane_of channel outlets.old.items }
+    requires { IsSomeAnd (receiving_of line.old.channel outlets.old.items) (λ outlet. outlet.ring ≡ line.old.port.ring) }
+    ensures drained { IsSomeAnd (receiving_of line.old.channel outlets.old.items) (λ outlet. Drains outlet line.old.port report.old report.new) }
+    ensures others { (channel : ℕ) → (channel ≡ line.old.channel → ⊥) → receiving_of channel outlets.new.items ≡ receiving_of channel outlets.old.items }
 {
     let Some(at) = place_of(outlets, line.channel()) else {
         return;

@@ -2,7 +2,7 @@
 
 ghost use Rattle.std.specs.Prelude.{◌≡◌, ◌<◌, ◌≤◌, ℕ, All, IfErr, IfOk, [], length, map, slice_index_or, vec_capacity, vec_len};
 ghost use Rattle.r10_shared.specs.Feeding.{HasRun};
-ghost use Rattle.r10_shared.specs.Readings.{HasRead, ReadsOn};
+ghost use Rattle.r10_shared.specs.Readings.{HasReadAll, ReadsOn};
 
 use crate::feed::Feed;
 use crate::gate::Gate;
@@ -141,7 +141,7 @@ pub fn run_session<
 ) -> Result<Session<N>, (Vec<Feed<N>>, Vec<Order>, Vec<Player>)>
     requires { All (λ player. player.pass.cell ≡ cabinet.now) players.items }
     ensures feeds { IfOk result (λ session. (length session.feeds.items ≡ length feeds.items) × ((i : ℕ) (d : _) → i < length feeds.items → HasRun (λ s. rest s) (slice_index_or feeds.items i d).source (slice_index_or feeds.items i d).line (slice_index_or feeds.items i d).tally (slice_index_or session.feeds.items i d).line (slice_index_or session.feeds.items i d).tally)) }
-    ensures players { IfOk result (λ session. (length session.readings.items ≡ length players.items) × ((i : ℕ) (d : _) (e : _) → i < length players.items → HasRead (slice_index_or players.items i d) (slice_index_or session.readings.items i e))) }
+    ensures players { IfOk result (λ session. (length session.readings.items ≡ length players.items) × ((i : ℕ) (d : _) (e : _) → i < length players.items → HasReadAll (slice_index_or players.items i d) (slice_index_or session.readings.items i e))) }
     ensures refused { IfErr result (λ back. (back.0.items ≡ feeds.items) × (back.1.items ≡ orders.items) × (back.2.items ≡ players.items)) }
 {
     let Ok(room) = Vec::with_capacity(alloc, players.len()) else {

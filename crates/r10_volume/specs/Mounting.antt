@@ -39,7 +39,7 @@ IsNamed n Medium = Unit {0}
 IsNamed n OutOfMemory = Unit {0}
 
 -- the medium is as it was, where it did not fail
-abbrev pub IsLeft : Disk → Disk → ChainError → Type 0
-IsLeft old new Medium = Unit {0}
-IsLeft old new (BadDirectory n) = Unchanged old new
-IsLeft old new OutOfMemory = Unchanged old new
+abbrev pub IsLeftAsWas : Disk → Disk → ChainError → Type 0
+IsLeftAsWas old new Medium = Unit {0}
+IsLeftAsWas old new (BadDirectory n) = Unchanged old new
+IsLeftAsWas old new OutOfMemory = Unchanged old new

@@ -6,7 +6,7 @@ ghost use Rattle.r10_dirchain.specs.Bad.{IsNoFault};
 ghost use Rattle.r10_dirchain.specs.OnMedium.{IsPublished, Turns};
 ghost use Rattle.r10_dirchain.specs.Steps.{with_shutdown};
 ghost use Rattle.r10_dirchain.specs.declared.chain.ChainBlock.{ChainBlock};
-ghost use Rattle.r10_volume.specs.Mounting.{IsLeft, IsMountError, IsMounted, IsNamed, IsUnusable, IsUsable};
+ghost use Rattle.r10_volume.specs.Mounting.{IsLeftAsWas, IsMountError, IsMounted, IsNamed, IsUnusable, IsUsable};
 ghost use Rattle.r10_volume.specs.Mounted.{MountsFiles};
 
 use r10_dirchain::{ChainError, Directory, read_chain};
@@ -30,7 +30,7 @@ pub fn mount<M: BlockMedium>(
     // What is kept is the medium's directory, and a stop then leaves what is read.
     ensures directory { IfOk result (λ directory. IsPublished directory (M.disk medium.new)) }
     ensures ready { IfOk result (IsUsable reserved (M.disk medium.new).blocks) }
-    ensures left { IfErr result (IsLeft (M.disk medium.old) (M.disk medium.new)) }
+    ensures left { IfErr result (IsLeftAsWas (M.disk medium.old) (M.disk medium.new)) }
     ensures turns { (chain : List ChainBlock) → IsUsable reserved (M.disk medium.old).blocks chain
         → Turns chain (with_shutdown 0x00 chain) [] (1 ∷ []) (M.disk medium.old) (M.disk medium.new) result }
     // Where the medium says files, a recorder of its settings holds them.

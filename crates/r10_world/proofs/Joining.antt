@@ -3,7 +3,7 @@ use Rattle.std.proofs.Common.{◌≡◌, ◌≤◌, ℕ, List, [], ◌∷◌, Op
 use Rattle.std.specs.Prelude.{slice_get}
 use Rattle.r10_medium.specs.Disk.{Image}
 use Rattle.r10_body.specs.declared.entry.Entry.{Entry}
-use Rattle.r10_machine.specs.Calls.{Advances, Gives, Opens}
+use Rattle.r10_machine.specs.Calls.{Advances, GivesQueued, Opens}
 use Rattle.r10_machine.specs.Config.{Config}
 use Rattle.r10_machine.specs.Limits.{IsConfig}
 use Rattle.r10_machine.specs.Machine.{Cursor as MachineCursor, File, Machine, SetsCursor, cursor_of}
@@ -118,12 +118,12 @@ opens law k image before now m file channels from to id slots later limits joine
     (read_at image m new now slots later is leads.read)
 
 pub gives : StepsStaySound → (k : Kept) (image : Image) (before now : ℕ) (m : Machine) (id : ℕ) (given : Option Entry) (slots later : List (Option Cursor)) → IsConfig k.config → KeptAndSlotsStandFor k image before slots m → before ≤ now
-    → refusal k.config m (events.Next id) ≡ None → StepsTo (Gives (record m { failures = now }) id given) (record m { failures = now }) image slots later → SlotsStepTo k m (events.Next id) (replies.Next given) image now later
+    → refusal k.config m (events.Next id) ≡ None → StepsTo (GivesQueued (record m { failures = now }) id given) (record m { failures = now }) image slots later → SlotsStepTo k m (events.Next id) (replies.Next given) image now later
 gives law k image before now m id given slots later limits joined more fine leads =
     let old : Machine = record m { failures = now } in
     let new = leads.machine in
     let is : new ≡ changed m now new.cursors = some_then (new ≡ changed m now new.cursors) (cursor_of id old) _ leads.step (λ c made. made.1.1) in
-    let done : Gives old id given (changed m now new.cursors) = subst (Gives old id given) is leads.step in
+    let done : GivesQueued old id given (changed m now new.cursors) = subst (GivesQueued old id given) is leads.step in
     sets_on law k image before now m (events.Next id) (replies.Next given) slots later new.cursors limits joined (more_failures k image before now m slots joined more, (fine, done)) leads.stand
     (read_at image m new now slots later is leads.read)
 

@@ -18,7 +18,7 @@ use Rattle.r10_medium.specs.Disk.{Disk, Image}
 use Rattle.r10_medium.specs.Stop.{Leaves}
 use Rattle.r10_means.specs.Left.{IsLeft}
 use Rattle.r10_world.specs.State.{WorldState}
-use Rattle.r10_world.specs.Stopping.{Records, Recovers, RunsSafely}
+use Rattle.r10_world.specs.Stopping.{RecordsRun, Recovers, RunsSafely}
 use Rattle.r10_world.specs.Telling.{WorldRuns}
 
 -- the laws of files that are found, and of what was accepted
@@ -34,7 +34,7 @@ FoundFilesStay = (s : Config) (files : List File) (failures : ℕ) (events : Lis
     → Run s (fresh s.channels files failures) events replies images new → list_any may_erase (zip events replies) ≡ false → AreStillFirst files new.files
 
 pub records_so : {M : Type 0} → FilesAreFound → RecordingsAccount → FoundFilesStay → (disk : M → Disk) (s : Config) (medium : M) (old new : WorldState M) (files : List File) (events : List EventValue) (replies : List ReplyValue) → Recovers disk s (disk medium) files old → old.recorder.kept.config ≡ s → old.recorder.medium ≡ medium
-    → WorldRuns disk old events replies new → RunsSafely disk old events replies new → Records s files events replies (disk medium) (disk new.recorder.medium)
+    → WorldRuns disk old events replies new → RunsSafely disk old events replies new → RecordsRun s files events replies (disk medium) (disk new.recorder.medium)
 records_so are_found account stay disk s medium old new files events replies recovers config same runs safely =
     let m : Machine = fresh s.channels recovers.finds.again (disk medium).failures in
     let ran = runs m recovers.stands in

@@ -50,7 +50,7 @@ pub record Recovers {M : Type 0} (disk : M → Disk) (s : Config) (old : Disk) (
 -- ---- a whole recording, with no word of a recorder
 
 -- From a machine with files of which each is found again, on each channel with the same entries, the replies to the events are a run, and the medium says the files that it ends with. On each channel the messages that the replies accepted, in their order and each with the number of those that were lost before it, are those that erases took, those in the lists of the files that the run began, and those that wait, each once; where the medium failed, what is shown stands first and what waits stands last. While nothing is erased, the files that were found stay the first, with what they show. Where a stop left the files before, then at any moment a stop leaves those of a state of the run, or those that the next event makes of them.
-pub record Records (s : Config) (files : List File) (events : List EventValue) (replies : List ReplyValue) (old new : Disk) : Type 0 where
+pub record RecordsRun (s : Config) (files : List File) (events : List EventValue) (replies : List ReplyValue) (old new : Disk) : Type 0 where
   pub again : List File
   pub same : AreAgain files again
   pub images : List Image

@@ -3,7 +3,7 @@
 ghost use Rattle.std.specs.Prelude.{◌≡◌, ◌≤◌, [], ℕ, List, None, Option};
 ghost use Rattle.r10_medium.specs.Disk.{Image};
 ghost use Rattle.r10_body.specs.declared.entry.Entry.{Entry};
-ghost use Rattle.r10_machine.specs.Calls.{Advances, Gives, Opens};
+ghost use Rattle.r10_machine.specs.Calls.{Advances, GivesQueued, Opens};
 ghost use Rattle.r10_machine.specs.Limits.{IsConfig};
 ghost use Rattle.r10_machine.specs.Config.{Config};
 ghost use Rattle.r10_machine.specs.Machine.{File, Machine, SetsCursor, fresh};
@@ -64,7 +64,7 @@ pub fn tables_calls_are_steps()
         → StepsTo (Advances (record m { failures = now }) id n) (record m { failures = now }) image slots later → SlotsStepTo k m (events.Advance id) (replies.Advanced n) image now later }
     ensures gives { (k : Kept) (image : Image) (before : ℕ) (now : ℕ) (m : Machine) (id : ℕ) (given : Option Entry) (slots : List (Option Cursor)) (later : List (Option Cursor))
         → IsConfig k.config → KeptAndSlotsStandFor k image before slots m → before ≤ now → refusal k.config m (events.Next id) ≡ None
-        → StepsTo (Gives (record m { failures = now }) id given) (record m { failures = now }) image slots later → SlotsStepTo k m (events.Next id) (replies.Next given) image now later }
+        → StepsTo (GivesQueued (record m { failures = now }) id given) (record m { failures = now }) image slots later → SlotsStepTo k m (events.Next id) (replies.Next given) image now later }
     ensures closes { (k : Kept) (image : Image) (before : ℕ) (now : ℕ) (m : Machine) (id : ℕ) (slots : List (Option Cursor)) (later : List (Option Cursor))
         → IsConfig k.config → KeptAndSlotsStandFor k image before slots m → before ≤ now → refusal k.config m (events.Close id) ≡ None
         → StepsTo (λ new. SetsCursor (record m { failures = now }) new id None) (record m { failures = now }) image slots later → SlotsStepTo k m (events.Close id) replies.Done image now later }

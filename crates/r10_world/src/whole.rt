@@ -3,7 +3,7 @@
 ghost use Rattle.std.specs.Prelude.{◌≡◌, ◌<◌, ◌≤◌, List, IfErr, IfOk, drop, length, take, vec_len};
 ghost use Rattle.r10_machine.specs.Machine.{File};
 ghost use Rattle.r10_machine.specs.Says.{MediumSays};
-ghost use Rattle.r10_world.specs.Stopping.{Records};
+ghost use Rattle.r10_world.specs.Stopping.{RecordsRun};
 
 use crate::running::run;
 use crate::world::World;
@@ -26,7 +26,7 @@ pub fn record_all<M: BlockMedium + Drop>(
 ) -> Result<(usize, M), M>
     requires { length (M.disk medium).blocks ≡ settings.blocks }
     ensures records { (files : List File) → MediumSays settings (M.disk medium).blocks files
-        → IfOk result (λ r. Records settings files (take r.0 events.now) (drop (vec_len replies.old) replies.new.items) (M.disk medium) (M.disk r.1)) }
+        → IfOk result (λ r. RecordsRun settings files (take r.0 events.now) (drop (vec_len replies.old) replies.new.items) (M.disk medium) (M.disk r.1)) }
     ensures within { IfOk result (λ r. r.0 ≤ length events.now) }
     ensures some { IfOk result (λ r. 0 < length events.now → 0 < r.0) }
     ensures earlier { take (vec_len replies.old) replies.new.items ≡ replies.old.items }

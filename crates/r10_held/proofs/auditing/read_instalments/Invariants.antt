@@ -2,7 +2,7 @@ use Rattle.std.proofs.Common.{◌≡◌, ◌≤◌, List, drop, length}
 use Rattle.r10_body.specs.Packets.{Packet}
 use Rattle.r10_control.specs.Reading.{ShowsAt}
 use Rattle.r10_medium.specs.Disk.{Unchanged}
-use Rattle.r10_held.specs.Auditing.{MayGoOn}
+use Rattle.r10_held.specs.Auditing.{MayReadOn}
 use Rattle.r10_held.proofs.Comparing.{Came}
 use Rattle.r10_held.proofs.auditing.read_instalments.Given as goal
 
@@ -11,7 +11,7 @@ abbrev pub invariant-loop-place : goal.invariant-loop-place
 invariant-loop-place g l =
     let disk = g.M.BlockMedium.disk in
     record {
-      going : MayGoOn l.recorder.kept l.cursor;
+      going : MayReadOn l.recorder.kept l.cursor;
       kept : l.recorder.kept ≡ l.fn.recorder.kept;
       same : Unchanged (disk l.fn.recorder.medium) (disk l.recorder.medium);
       no_fewer : (disk l.fn.recorder.medium).failures ≤ (disk l.recorder.medium).failures;

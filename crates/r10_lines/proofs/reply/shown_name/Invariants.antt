@@ -1,5 +1,5 @@
 use Rattle.std.proofs.Common.{◌≡◌, map, take, string_bytes}
-use Rattle.r10_lines.specs.Replies.{shown_byte}
+use Rattle.r10_count.specs.Printed.{shown_byte}
 use Rattle.r10_lines.proofs.reply.shown_name.Given as goal
 
 -- the text so far is that of the bytes so far

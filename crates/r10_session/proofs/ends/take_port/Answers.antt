@@ -1,7 +1,7 @@
 use Rattle.std.proofs.Common.{◌≡◌, ◌==◌, List, Some, sym, ap, ◌∙◌}
 use Rattle.std.proofs.lemmas.List.{get_or_read}
 use Rattle.std.proofs.lemmas.List.Quantifiers.{position-Some}
-use Rattle.r10_session.specs.Ends.{place_of}
+use Rattle.r10_session.specs.Ends.{sender_place}
 use Rattle.r10_session.specs.declared.ends.Sender.{Sender}
 use Rattle.r10_session.proofs.ends.take_port.Goals as goal
 
@@ -9,7 +9,7 @@ pub returns-in-Some : goal.returns-in-Some
 returns-in-Some c =
     let old = c.args.senders.now.items in
     let one = c.remove-port.result in
-    let found : place_of c.args.channel old ≡ Some c.in-Some.place = ap (λ (l : List Sender). place_of c.args.channel l) (sym c.deref.ensures.value) ∙ sym c.place_of.ensures ∙ c.in-Some.is in
+    let found : sender_place c.args.channel old ≡ Some c.in-Some.place = ap (λ (l : List Sender). sender_place c.args.channel l) (sym c.deref.ensures.value) ∙ sym c.place_of.ensures ∙ c.in-Some.is in
     let first = position-Some (λ (s : Sender). s.channel == c.args.channel) old c.in-Some.place one found in
     record {
       place = c.in-Some.place;
