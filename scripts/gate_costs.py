@@ -1,0 +1,100 @@
+#!/usr/bin/env python3
+"""Runs a gate over the checkout in this folder, and prints what each crate took of it, in minutes of a processor, as docs/GATE.md has it.
+
+    scripts/gate_costs.py [--least MINUTES] [WORD..]     the words are those of `rt ci`: --anew, or names of crates; none for the whole gate
+
+Each prover's processor time is read from the system twice a second while it runs. What is proved already is not proved again, and costs nothing here: for the whole, --anew, on
+a machine that does nothing else. A crate below MINUTES (1 where none is told) stands in one line with the others. Status 1 where the gate fails.
+"""
+import argparse
+import os
+import pathlib
+import re
+import subprocess
+import sys
+import tempfile
+import time
+
+TOP = pathlib.Path(__file__).resolve().parent.parent
+TICKS = os.sysconf('SC_CLK_TCK')
+
+
+def parents_and_times():
+    """Of each process its parent, and the seconds of a processor that it took."""
+    found = {}
+    for pid in filter(str.isdigit, os.listdir('/proc')):
+        try:
+            text = pathlib.Path('/proc', pid, 'stat').read_text(encoding='utf-8', errors='replace')
+        except OSError:
+            continue
+        fields = text[text.rindex(')') + 2:].split()
+        found[int(pid), fields[19]] = int(fields[1]), (int(fields[11]) + int(fields[12])) / TICKS
+    return found
+
+
+def prover_of(pid):
+    """The crate that a prover is at, and which part of the gate that is; none where the process is no prover."""
+    try:
+        words = pathlib.Path('/proc', str(pid), 'cmdline').read_bytes().decode(errors='replace').split('\0')
+        folder = os.readlink('/proc/%d/cwd' % pid)
+    except OSError:
+        return None
+    if os.path.basename(words[0]) != 'rattle' or '--crate-name' not in words:
+        return None
+    part = 'edits' if 'rt-edit' in folder else 'tests' if '--test' in words else 'proof'
+    return words[words.index('--crate-name') + 1], part
+
+
+def is_below(pid, top, parents):
+    """Whether a process was started by another, or by one that was."""
+    while pid in parents and pid != top:
+        pid = parents[pid]
+    return pid == top
+
+
+def watched(words, said):
+    """Runs the gate, and answers its status, what each prover took by crate and part, and what the whole took."""
+    gate, kinds, times = subprocess.Popen(['rt', 'ci', *words], cwd=TOP, stdin=subprocess.DEVNULL, stdout=said, stderr=subprocess.STDOUT), {}, {}
+    while gate.poll() is None:
+        found = parents_and_times()
+        parents = {pid: parent for (pid, _), (parent, _) in found.items()}
+        for key, (_, seconds) in found.items():
+            if not kinds.get(key):
+                kinds[key] = prover_of(key[0]) if is_below(key[0], gate.pid, parents) else None
+            if kinds[key]:
+                times[key] = seconds
+        time.sleep(0.5)
+    table = {}
+    for key, seconds in times.items():
+        crate, part = kinds[key]
+        table.setdefault(crate, {'proof': 0.0, 'tests': 0.0, 'edits': 0.0})[part] += seconds / 60
+    used = os.times()
+    return gate.returncode, table, (used.children_user + used.children_system) / 60
+
+
+def main():
+    words = argparse.ArgumentParser(description=__doc__, formatter_class=argparse.RawDescriptionHelpFormatter)
+    words.add_argument('--least', type=float, default=1.0)
+    words, others = words.parse_known_args()
+    began = time.time()
+    with tempfile.TemporaryFile('w+', errors='replace') as said:
+        status, table, whole = watched(others, said)
+        said.seek(0)
+        last = said.read().rstrip().split('\n')[-1]
+    sums = {it: sum(row[it] for row in table.values()) for it in ('proof', 'tests', 'edits')}
+    print('| Crate | Proof | Tests | Edits |\n|---|---|---|---|')
+    least = [0.0, 0.0, 0.0]
+    for crate, row in sorted(table.items(), key=lambda it: -sum(it[1].values())):
+        parts = row['proof'], row['tests'], row['edits']
+        if sum(parts) < words.least:
+            least = [a + b for a, b in zip(least, parts)]
+        else:
+            print('| `%s` | %s |' % (crate, ' | '.join('%.1f' % it if it else '' for it in parts)))
+    print('| all others | %.1f | %.1f | %.1f |' % tuple(least))
+    print('| all | %.1f | %.1f | %.1f |' % (sums['proof'], sums['tests'], sums['edits']))
+    print('\n%.0f minutes of a processor in all, with what compiles, links and runs; %.0f minutes of time. %s' % (whole, (time.time() - began) / 60, last))
+    sys.exit(1 if status else 0)
+
+
+if __name__ == '__main__':
+    main()
