@@ -48,7 +48,7 @@ pub(crate) fn rounds(number: u32) -> u32 {
 fn offer_all(recorder: &mut InMemory, messages: Vec<Timed>, step: u64) -> Result<(), Refusal> {
     for Timed { count, message } in messages {
         let number = count.get();
-        recorder.offer(channel_of(number), number.saturating_mul(step), message)?;
+        recorder.offer(channel_of(number), number.wrapping_mul(step), message)?;
     }
     Ok(())
 }

@@ -34,6 +34,21 @@ fn of_message(message: &Message) -> u64
         Message::Uart { bytes, .. } | Message::Message { bytes, .. } => {
             12 + bytes.as_slice().len() as u64
         }
+        _ => of_any(message),
+    }
+}
+
+/// As `of_message`. The bytes of a line are asked there, since a table of jumps for all kinds costs more than they do.
+#[inline(never)]
+fn of_any(message: &Message) -> u64
+    ensures is { result ≡ message_cost message.now }
+    ensures small { result < 2 ^ 63 + 2 ^ 20 }
+{
+    match message {
+        Message::Uart { bytes, .. } | Message::Message { bytes, .. } => {
+            let bytes = bytes.as_slice();
+            12 + bytes.len() as u64
+        }
         Message::Bus1553 { words, .. } => 14 + 2 * words.as_slice().len() as u64,
         Message::Discrete { .. } | Message::Event { .. } => 12,
         Message::Arinc { .. } | Message::Time { .. } => 8,

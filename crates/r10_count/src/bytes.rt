@@ -1,6 +1,6 @@
 //! The bytes of a message.
 
-ghost use Rattle.std.specs.Prelude.{◌≡◌, ◌↔◌, ◌≤◌, length, IfOk, IsOk, IsTrue};
+ghost use Rattle.std.specs.Prelude.{◌≡◌, ◌↔◌, ◌≤◌, length, take, IfOk, IfSome, IsOk, IsTrue};
 
 use std::alloc::{AllocError, Global};
 use std::fmt;
@@ -69,6 +69,17 @@ impl Bytes {
         match &self.held {
             Held::Short { len, places } => &places[..usize::from(*len)],
             Held::Long { vec } => vec.as_slice(),
+        }
+    }
+
+    /// The places, and how many of them the bytes are, where they stand in the value itself.
+    #[inline(always)]
+    pub(crate) fn places(&self) -> Option<(&[u8; 38], usize)>
+        ensures { IfSome result (λ found. (found.1 ≤ 38) × (self.now ≡ take found.1 found.0.now)) }
+    {
+        match &self.held {
+            Held::Short { len, places } => Some((places, usize::from(*len))),
+            Held::Long { vec: _ } => None,
         }
     }
 

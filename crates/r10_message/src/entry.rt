@@ -62,7 +62,7 @@ pub fn push_entry(
     data_error: bool,
     format: bool,
     sub: u16,
-    bytes: &[u8],
+    bytes: &Bytes,
 ) -> Result<(), AllocError>
     requires sub { sub < 2 ^ 14 }
     requires bytes { length bytes.now < 2 ^ 16 }
@@ -124,7 +124,7 @@ impl BodyEntry for MessageEntry {
             self.data_error,
             self.format,
             self.sub,
-            self.bytes.as_slice(),
+            &self.bytes,
         )
     }
 

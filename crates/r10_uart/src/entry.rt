@@ -58,7 +58,7 @@ pub fn push_entry(
     count: Count,
     parity: bool,
     sub: u16,
-    bytes: &[u8],
+    bytes: &Bytes,
 ) -> Result<(), AllocError>
     requires sub { sub < 2 ^ 14 }
     requires bytes { length bytes.now < 2 ^ 16 }
@@ -115,13 +115,7 @@ impl BodyEntry for UartEntry {
 
     fn encode_into(&self, before: u64, out: &mut Vec<u8>) -> Result<(), AllocError> {
         let _ = before;
-        push_entry(
-            out,
-            self.count,
-            self.parity,
-            self.sub,
-            self.bytes.as_slice(),
-        )
+        push_entry(out, self.count, self.parity, self.sub, &self.bytes)
     }
 
     fn read(alloc: Global, before: u64, bytes: &[u8]) -> Result<Option<UartEntry>, AllocError> {
