@@ -38,7 +38,7 @@ fn of_message(message: &Message) -> u64
     }
 }
 
-/// As `of_message`. The bytes of a line are asked there, since a table of jumps for all kinds costs more than they do.
+/// As `of_message`, in a call of its own, so that bytes are asked there without a jump through a table.
 #[inline(never)]
 fn of_any(message: &Message) -> u64
     ensures is { result ≡ message_cost message.now }

@@ -76,7 +76,7 @@ fn append_first(
     Ok(())
 }
 
-/// Adds a front, bytes, and a zero byte where their number is odd.
+/// Adds a front, bytes, and a zero byte where their number is odd: in a call, which long bytes and an odd number of them take.
 #[cold]
 #[inline(never)]
 fn append_padded(out: &mut Vec<u8>, front: &[u8; 12], bytes: &[u8]) -> Result<(), AllocError>
