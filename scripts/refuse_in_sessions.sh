@@ -1,6 +1,6 @@
 #!/usr/bin/env bash
 # Refuses the first allocation of a session of two feeds and a reader, then in another run the second, and so on, until runs meet no refusal, and counts what
-# came: for each session that crates/r10_session_trials/stdin names. Run by hand:
+# came: for each session that stands behind `== sessions` in crates/r10_trials/stdin. Run by hand:
 #
 #     scripts/refuse_in_sessions.sh [MOST] [NUMBER]
 #
@@ -22,7 +22,7 @@ trap 'rm -rf "$work"' EXIT
 
 # The names of the sessions.
 names() {
-    cut -d ' ' -f 1 "$top/crates/r10_session_trials/stdin"
+    awk 'on { print $1 } /^== sessions$/ { on = 1 }' "$top/crates/r10_trials/stdin"
 }
 
 # The asks before the run that is refused its allocation of a number. The program itself asks twice before it asks for a session.
@@ -30,14 +30,19 @@ asks_for() {
     echo $((number - 2 - $1))
 }
 
+# The session of this name with so many asks, as the whole of a case.
+session() {
+    printf '== sessions\n%s %s\n' "$1" "$2"
+}
+
 mkdir "$work/cases"
 for name in $(names); do
-    echo "$name $number" >"$work/cases/$name.0"
+    session "$name" "$number" >"$work/cases/$name.0"
     for place in $(seq "$most"); do
-        echo "$name $(asks_for "$place")" >"$work/cases/$name.$place"
+        session "$name" "$(asks_for "$place")" >"$work/cases/$name.$place"
     done
 done
-(cd "$top/crates/r10_session_trials" && rt try --fail-alloc "$number" --cases "$work/cases") >"$work/lines" 2>"$work/notes"
+(cd "$top/crates/r10_trials" && rt try --fail-alloc "$number" --cases "$work/cases") >"$work/lines" 2>"$work/notes"
 bad=0
 for name in $(names); do
     if ! grep -A 1 "^$name $number\$" "$work/lines" | grep -q "^as wanted, refused behind $(asks_for 1) asks before\$"; then

@@ -1,11 +1,11 @@
 //! What is done again where memory was refused.
 
+use crate::asks::{ask, ask_behind, push_refused};
 use crate::course::{Course, one_of};
 use crate::each::is_reply;
 use crate::fault::TrialFault;
 use crate::scene::{image_behind, medium_of, world_over};
 use crate::shown::shown_on;
-use crate::tally::push_number;
 use r10_body::Refusal;
 use r10_checker::{Verdict, check_file};
 use r10_machine::{Event, Reply};
@@ -32,21 +32,6 @@ struct Made {
     before: Option<u32>,
 }
 
-/// How often memory is asked for behind what is done: more often than a number that is refused.
-const BEHIND: u32 = 5_000;
-
-/// Asks for memory so often, and gives it back. It answers how many asks came before one that was refused.
-fn ask(alloc: Global, times: u32) -> Option<u32> {
-    let mut refused = None;
-    for asked in 0..times {
-        let is_refused = Vec::<u8>::with_capacity(alloc, 1).is_err();
-        if is_refused && refused.is_none() {
-            refused = Some(asked);
-        }
-    }
-    refused
-}
-
 /// Asks for memory behind what was done, and adds the line of what came, where memory was asked for before it too.
 fn push_came(
     alloc: Global,
@@ -54,21 +39,10 @@ fn push_came(
     before: Option<u32>,
     text: &mut String,
 ) -> Result<(), TrialFault> {
-    let behind = ask(alloc, BEHIND);
+    let behind = ask_behind(alloc);
     text.push_str(came)?;
-    match (before, behind) {
-        (Some(asks), _) => push_asks(alloc, asks, " asks before", text)?,
-        (None, Some(asks)) => push_asks(alloc, asks, " asks at the end", text)?,
-        (None, None) => (),
-    }
-    text.push_str("\n")?;
+    push_refused(alloc, before, behind, text)?;
     Ok(())
-}
-
-/// Adds which ask was refused.
-fn push_asks(alloc: Global, asks: u32, place: &str, text: &mut String) -> Result<(), AllocError> {
-    text.push_str(", refused behind ")?;
-    push_number(alloc, u64::from(asks), place, text)
 }
 
 /// Asks for memory so often, so that a refused allocation of a fixed number falls on another one behind these; then makes a recorder,

@@ -19,18 +19,18 @@ pub enum TrialFault {
     /// The trials can't be read.
     #[error("{0}")]
     Input(#[from] StreamFault),
-    /// What stands in this place among the trials, from 1, is none.
+    /// What stands in this place among the trials, or in this line of the sessions, from 1, is none.
     #[error("no trial in place {place}")]
     NoTrial { place: usize },
     /// The script of the trial in this place, from 1, is wrong.
     #[error("in the script of trial {place}: {fault}")]
     Script { place: usize, fault: ScriptFault },
-    /// A medium in memory can't be formatted.
-    #[error("cannot format a medium: {0}")]
-    Format(Refusal),
-    /// A medium has not as many blocks as the settings say.
-    #[error("a medium of another size")]
-    Size,
+    /// A call was refused for another reason than memory.
+    #[error("{0}")]
+    Refused(Refusal),
+    /// A medium has not as many blocks as the settings say, or settings are out of their limits.
+    #[error("settings that are out of their limits, or a medium of others")]
+    Settings,
     /// A run makes more calls of its medium than a trial counts.
     #[error("more than {most} calls of the medium")]
     Endless { most: u64 },
@@ -39,5 +39,13 @@ pub enum TrialFault {
 impl fmt::Debug for TrialFault {
     fn fmt<W: fmt::Write>(&self, f: &mut fmt::Formatter<W>) -> fmt::Result {
         fmt::Display::fmt(self, f)
+    }
+}
+
+/// The fault that a refusal is.
+pub fn fault_of(refusal: Refusal) -> TrialFault {
+    match refusal {
+        Refusal::OutOfMemory => TrialFault::Memory(AllocError),
+        other => TrialFault::Refused(other),
     }
 }

@@ -1,14 +1,26 @@
-//! Stops a recorder after each call of its medium and has each call fail, in the runs whose scripts stand in standard input one behind
-//! the other, and prints how often a new recorder finds the files from before the step that was met, and how often those behind it.
+//! Trials of what no contract can say: a recorder is stopped after each call of its medium and has each call fail, in the runs whose scripts stand in
+//! standard input one behind the other; what memory was refused to is done again; and behind them stand sessions between threads, which are run and
+//! ended, whichever of their allocations was refused. It prints how often a new recorder finds the files from before the step that was met, how often
+//! those behind it, and whether all came as it is to.
 #![tactic(auto)]
 
 mod again;
+mod apparatus;
+mod asks;
 mod course;
 mod each;
 mod fault;
+mod listed;
 mod named;
+mod notes;
+mod plan;
+mod recovered;
 mod scene;
+mod session;
+mod sessions;
+mod settled;
 mod shown;
+mod standing;
 mod tally;
 mod title;
 mod trial;
@@ -18,8 +30,13 @@ use std::alloc::Global;
 use std::io;
 use std::io::{BufWriter, Write};
 use std::process::ExitCode;
+use std::sync::Wait;
+use std::thread::Threads;
 
-fn run<R: Input + Print + AllocGlobal>(rt: &R) -> Result<(), TrialFault> {
+/// The line that stands before the sessions.
+const SESSIONS: &str = "== sessions\n";
+
+fn run<R: Input + Print + AllocGlobal + Threads + Wait + Sync>(rt: &R) -> Result<(), TrialFault> {
     let alloc: Global = rt.alloc();
     let bytes = r10_images::read_whole(alloc, &mut rt.reader())?;
     match str::from_utf8(bytes.as_slice()) {
@@ -28,9 +45,25 @@ fn run<R: Input + Print + AllocGlobal>(rt: &R) -> Result<(), TrialFault> {
     }
 }
 
-fn try_text<R: Print>(rt: &R, alloc: Global, text: &str) -> Result<(), TrialFault> {
+/// The trials of a text, and the lines of its sessions.
+fn parts_of(text: &str) -> (&str, &str) {
+    match text.split_once(SESSIONS) {
+        Some(parts) => parts,
+        None => (text, ""),
+    }
+}
+
+fn try_text<R: Print + Threads + Wait + Sync>(
+    rt: &R,
+    alloc: Global,
+    text: &str,
+) -> Result<(), TrialFault> {
     let mut writer = BufWriter::new(alloc, io::writer(rt))?;
-    trial::try_all(alloc, text, &mut writer)?;
+    let (trials, sessions) = parts_of(text);
+    if !trials.is_empty() {
+        trial::try_all(alloc, trials, &mut writer)?;
+    }
+    sessions::try_all(rt, alloc, sessions, &mut writer)?;
     writer.flush()?;
     Ok(())
 }

@@ -166,7 +166,7 @@ pub fn spoil_byte(
     let (image, events) = (course.image.as_slice(), course.events.as_slice());
     let mut image = image_behind(alloc, &course.settings, image, events)?;
     let Some(spoilt) = image.get_mut(place) else {
-        return Err(TrialFault::Size);
+        return Err(TrialFault::Settings);
     };
     *spoilt = byte;
     push_rest(alloc, course, image.as_slice(), text)

@@ -1,10 +1,9 @@
 //! Recorders over media in memory.
 
-use crate::fault::TrialFault;
-use r10_body::Refusal;
+use crate::fault::{TrialFault, fault_of};
 use r10_machine::{Event, Reply, Settings};
 use r10_medium::{BlockMedium, Choice, Crashing, Memory};
-use r10_world::{World, run};
+use r10_world::{World, record_all};
 use std::alloc::{AllocError, Global};
 
 /// The same settings once more.
@@ -32,17 +31,10 @@ pub fn formatted(alloc: Global, settings: &Settings) -> Result<Vec<u8>, TrialFau
     Ok(medium.image(alloc)?)
 }
 
-fn fault_of(refusal: Refusal) -> TrialFault {
-    match refusal {
-        Refusal::OutOfMemory => TrialFault::Memory(AllocError),
-        refusal => TrialFault::Format(refusal),
-    }
-}
-
 /// A medium that reads as these bytes.
 pub fn medium_of(alloc: Global, image: &[u8]) -> Result<Memory, TrialFault> {
     if image.len() % 512 != 0 {
-        return Err(TrialFault::Size);
+        return Err(TrialFault::Settings);
     }
     Ok(Memory::of_image(alloc, image)?)
 }
@@ -55,25 +47,12 @@ pub fn world_over<M: BlockMedium + Drop>(
 ) -> Result<World<M>, TrialFault> {
     let settings = copy_of(alloc, settings)?;
     if medium.blocks() != settings.blocks() {
-        return Err(TrialFault::Size);
+        return Err(TrialFault::Settings);
     }
     match World::new(alloc, settings, medium) {
         Ok(world) => Ok(world),
         Err(_) => Err(TrialFault::Memory(AllocError)),
     }
-}
-
-/// Does events, and adds their replies.
-fn tell<M: BlockMedium>(
-    world: &mut World<M>,
-    events: &[Event],
-    replies: &mut Vec<Reply>,
-) -> Result<(), TrialFault> {
-    let done = run(world, events, replies)?;
-    if done < events.len() {
-        return Err(TrialFault::Memory(AllocError));
-    }
-    Ok(())
 }
 
 /// Tells events to a new recorder over this medium, adds what it answers, and gives the medium behind them.
@@ -84,9 +63,14 @@ pub fn told<M: BlockMedium + Drop>(
     events: &[Event],
     replies: &mut Vec<Reply>,
 ) -> Result<M, TrialFault> {
-    let mut world = world_over(alloc, settings, medium)?;
-    tell(&mut world, events, replies)?;
-    Ok(world.into_medium())
+    let settings = copy_of(alloc, settings)?;
+    if medium.blocks() != settings.blocks() {
+        return Err(TrialFault::Settings);
+    }
+    match record_all(alloc, settings, medium, events, replies) {
+        Ok((done, medium)) if done == events.len() => Ok(medium),
+        _ => Err(TrialFault::Memory(AllocError)),
+    }
 }
 
 /// The bytes that a new recorder leaves behind events, on a medium of these bytes that never fails.

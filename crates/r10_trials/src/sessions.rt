@@ -1,11 +1,11 @@
 //! Sessions in order.
 
-use crate::apparatus::formatted;
-use crate::asks::{BEHIND, ask};
-use crate::course::Course;
-use crate::fault::Fault;
+use crate::apparatus::over_formatted;
+use crate::asks::{ask, ask_behind, push_refused};
+use crate::fault::TrialFault;
 use crate::listed::{Listed, source};
 use crate::notes::Notes;
+use crate::plan::Plan;
 use crate::session::run_over;
 use crate::settled::{Ended, finish, settle};
 use std::alloc::{AllocError, Global};
@@ -15,16 +15,16 @@ use std::sync::Wait;
 use std::thread::Threads;
 
 /// What a line asks for: `NAME ASKS`.
-fn task_of(line: &str) -> Option<(Course, u32)> {
+fn task_of(line: &str) -> Option<(Plan, u32)> {
     let (name, asks) = line.split_once(' ')?;
-    Some((Course::of(name)?, asks.parse().ok()?))
+    Some((Plan::of(name)?, asks.parse().ok()?))
 }
 
 /// A source of all messages, in a box.
-fn boxed(alloc: Global) -> Result<Box<Listed>, Fault> {
+fn boxed(alloc: Global) -> Result<Box<Listed>, TrialFault> {
     match Box::new(alloc, source(alloc)?) {
         Ok(source) => Ok(source),
-        Err(_) => Err(Fault::Memory(AllocError)),
+        Err(_) => Err(TrialFault::Memory(AllocError)),
     }
 }
 
@@ -32,27 +32,27 @@ fn boxed(alloc: Global) -> Result<Box<Listed>, Fault> {
 fn try_once<R: Threads + Wait + Sync>(
     rt: &R,
     alloc: Global,
-    course: Course,
+    plan: Plan,
     notes: &mut Notes,
-) -> Result<Ended, Fault> {
+) -> Result<Ended, TrialFault> {
     let first = boxed(alloc)?;
     let second = boxed(alloc)?;
-    let made = formatted(alloc)?;
-    let (report, standing) = run_over::<Brand, _>(rt, alloc, made, first, second, course, notes)?;
-    finish(alloc, report, standing, course, notes)
+    let made = over_formatted(alloc)?;
+    let (report, standing) = run_over::<Brand, _>(rt, alloc, made, first, second, plan, notes)?;
+    finish(alloc, report, standing, plan, notes)
 }
 
 /// The same, and once more from its beginning where memory was refused to what is made before.
 fn try_again<R: Threads + Wait + Sync>(
     rt: &R,
     alloc: Global,
-    course: Course,
+    plan: Plan,
     notes: &mut Notes,
-) -> Result<Ended, Fault> {
-    match try_once(rt, alloc, course, notes) {
-        Err(Fault::Memory(_)) => {
+) -> Result<Ended, TrialFault> {
+    match try_once(rt, alloc, plan, notes) {
+        Err(TrialFault::Memory(_)) => {
             notes.do_again("all was made again");
-            try_once(rt, alloc, course, notes)
+            try_once(rt, alloc, plan, notes)
         }
         other => other,
     }
@@ -76,20 +76,6 @@ fn push_came(notes: Notes, text: &mut String) -> Result<(), AllocError> {
     text.push_str(what)
 }
 
-/// Adds which ask was refused, if one was, and the end of the line.
-fn push_refused(alloc: Global, asked: Asked, text: &mut String) -> Result<(), AllocError> {
-    match (asked.before, asked.behind) {
-        (Some(asks), _) => push_asks(alloc, asks, "before", text),
-        (None, Some(asks)) => push_asks(alloc, asks, "at the end", text),
-        (None, None) => text.push_str("\n"),
-    }
-}
-
-fn push_asks(alloc: Global, asks: u32, place: &str, text: &mut String) -> Result<(), AllocError> {
-    let line = format!(in alloc; ", refused behind {asks} asks {place}\n")?;
-    text.push_str(line.as_str())
-}
-
 /// Adds a line of the input, and that of what came.
 fn push_lines(
     alloc: Global,
@@ -101,21 +87,21 @@ fn push_lines(
     text.push_str(line)?;
     text.push_str("\n")?;
     push_came(notes, text)?;
-    push_refused(alloc, asked, text)
+    push_refused(alloc, asked.before, asked.behind, text)
 }
 
 /// Runs a session behind so many asks for memory, and settles it.
 fn try_behind<R: Threads + Wait + Sync>(
     rt: &R,
     alloc: Global,
-    course: Course,
+    plan: Plan,
     asks: u32,
     notes: &mut Notes,
-) -> Result<Asked, Fault> {
+) -> Result<Asked, TrialFault> {
     let before = ask(alloc, asks);
-    let ended = try_again(rt, alloc, course, notes);
-    let behind = ask(alloc, BEHIND);
-    settle(alloc, &ended?, course, notes)?;
+    let ended = try_again(rt, alloc, plan, notes);
+    let behind = ask_behind(alloc);
+    settle(alloc, &ended?, plan, notes)?;
     Ok(Asked { before, behind })
 }
 
@@ -126,12 +112,12 @@ fn try_line<R: Threads + Wait + Sync, W: Write>(
     place: usize,
     line: &str,
     writer: &mut W,
-) -> Result<(), Fault> {
-    let Some((course, asks)) = task_of(line) else {
-        return Err(Fault::NoTrial { place });
+) -> Result<(), TrialFault> {
+    let Some((plan, asks)) = task_of(line) else {
+        return Err(TrialFault::NoTrial { place });
     };
     let mut notes = Notes::default();
-    let asked = try_behind(rt, alloc, course, asks, &mut notes)?;
+    let asked = try_behind(rt, alloc, plan, asks, &mut notes)?;
     let mut text = String::new(alloc);
     push_lines(alloc, line, notes, asked, &mut text)?;
     writer.write_all(text.as_bytes())?;
@@ -144,7 +130,7 @@ pub fn try_all<R: Threads + Wait + Sync, W: Write>(
     alloc: Global,
     text: &str,
     writer: &mut W,
-) -> Result<(), Fault> {
+) -> Result<(), TrialFault> {
     for (place, line) in text.lines().enumerate() {
         try_line(rt, alloc, place.saturating_add(1), line, writer)?;
     }

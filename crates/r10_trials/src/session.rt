@@ -7,9 +7,9 @@ ghost use Rattle.r10_held.specs.Naming.{AreNamed, ring_for};
 ghost use Rattle.r10_medium.specs.MemoryDisk.{memory_disk};
 
 use crate::apparatus::{Apparatus, LAST};
-use crate::course::{Course, First, before};
-use crate::fault::{Fault, fault_of};
+use crate::fault::{TrialFault, fault_of};
 use crate::notes::Notes;
+use crate::plan::{First, Plan, before};
 use crate::standing::{CHANNELS, Standing, standing_of};
 use r10_body::Refusal;
 use r10_control::Recorder;
@@ -29,7 +29,7 @@ fn cabinet_of<N: Rings>(
     alloc: Global,
     recorder: Recorder<Memory, Outlet>,
     notes: &mut Notes,
-) -> Result<(Cabinet<Memory, N>, Pass), Fault>
+) -> Result<(Cabinet<Memory, N>, Pass), TrialFault>
     requires { LanesAccounted memory_disk N.rings recorder }
     ensures { IfOk result (λ made. made.1.cell ≡ made.0) }
 {
@@ -45,13 +45,13 @@ fn cabinet_of<N: Rings>(
 fn cabinet_now<N: Rings>(
     alloc: Global,
     recorder: Recorder<Memory, Outlet>,
-) -> Result<(Cabinet<Memory, N>, Pass), Fault>
+) -> Result<(Cabinet<Memory, N>, Pass), TrialFault>
     requires { LanesAccounted memory_disk N.rings recorder }
     ensures { IfOk result (λ made. made.1.cell ≡ made.0) }
 {
     match Cabinet::<Memory, N>::new(alloc, recorder) {
         Ok(made) => Ok(made),
-        Err(_) => Err(Fault::Memory(AllocError)),
+        Err(_) => Err(TrialFault::Memory(AllocError)),
     }
 }
 
@@ -73,7 +73,7 @@ fn give<N: Rings, R: Wait>(
     held: &mut Held<Memory, N>,
     order: &Order,
     notes: &mut Notes,
-) -> Result<(), Fault> {
+) -> Result<(), TrialFault> {
     let standing = standing_of(held);
     match perform(rt, held, order) {
         Ok(()) => Ok(()),
@@ -88,7 +88,7 @@ fn give_again<N: Rings, R: Wait>(
     order: &Order,
     standing: &Standing,
     notes: &mut Notes,
-) -> Result<(), Fault> {
+) -> Result<(), TrialFault> {
     notes.do_again("an order was given again");
     notes.want(
         standing_of(held) == *standing,
@@ -106,7 +106,7 @@ fn begin<N: Rings, R: Wait>(
     alloc: Global,
     held: &mut Held<Memory, N>,
     notes: &mut Notes,
-) -> Result<(), Fault> {
+) -> Result<(), TrialFault> {
     for order in &before(alloc)? {
         give(rt, held, order, notes)?;
     }
@@ -126,7 +126,7 @@ fn cursor_of<N: Rings>(
     alloc: Global,
     held: &mut Held<Memory, N>,
     notes: &mut Notes,
-) -> Result<Cursor, Fault> {
+) -> Result<Cursor, TrialFault> {
     let standing = standing_of(held);
     match open(alloc, held) {
         Ok(cursor) => Ok(cursor),
@@ -140,7 +140,7 @@ fn open_again<N: Rings>(
     held: &mut Held<Memory, N>,
     standing: &Standing,
     notes: &mut Notes,
-) -> Result<Cursor, Fault> {
+) -> Result<Cursor, TrialFault> {
     notes.do_again("a cursor was opened again");
     notes.want(
         standing_of(held) == *standing,
@@ -158,7 +158,7 @@ fn begun<N: Rings, R: Wait>(
     alloc: Global,
     cabinet: &Cabinet<Memory, N>,
     notes: &mut Notes,
-) -> Result<Cursor, Fault> {
+) -> Result<Cursor, TrialFault> {
     begin(rt, alloc, &mut cabinet.hold(rt), notes)?;
     cursor_of(alloc, &mut cabinet.hold(rt), notes)
 }
@@ -199,7 +199,7 @@ fn run_again<N: Rings + Send + Sync, R: Threads + Wait + Sync>(
     players: Vec<Player>,
     gate: First,
     notes: &mut Notes,
-) -> Result<Session<N>, Fault>
+) -> Result<Session<N>, TrialFault>
     requires { All (λ player. player.pass.cell ≡ cabinet.now) players.items }
 {
     match run_session(rt, alloc, cabinet, &gate, feeds, orders, players) {
@@ -219,12 +219,12 @@ fn run_now<N: Rings + Send + Sync, R: Threads + Wait + Sync>(
     orders: Vec<Order>,
     players: Vec<Player>,
     gate: First,
-) -> Result<Session<N>, Fault>
+) -> Result<Session<N>, TrialFault>
     requires { All (λ player. player.pass.cell ≡ cabinet.now) players.items }
 {
     match run_session(rt, alloc, cabinet, &gate, feeds, orders, players) {
         Ok(session) => Ok(session),
-        Err(_) => Err(Fault::Memory(AllocError)),
+        Err(_) => Err(TrialFault::Memory(AllocError)),
     }
 }
 
@@ -235,7 +235,7 @@ fn end_again<N: Rings, R: Wait>(
     cabinet: Cabinet<Memory, N>,
     session: Session<N>,
     notes: &mut Notes,
-) -> Result<(SessionReport<Memory>, Standing), Fault> {
+) -> Result<(SessionReport<Memory>, Standing), TrialFault> {
     let standing = standing_of(&mut cabinet.hold(rt));
     let report = ended(rt, alloc, cabinet, session, &standing, notes)?;
     Ok((report, standing))
@@ -248,7 +248,7 @@ fn ended<N: Rings, R: Wait>(
     session: Session<N>,
     standing: &Standing,
     notes: &mut Notes,
-) -> Result<SessionReport<Memory>, Fault> {
+) -> Result<SessionReport<Memory>, TrialFault> {
     match end_session(alloc, cabinet, session) {
         Ok(report) => Ok(report),
         Err((cabinet, session, Refusal::OutOfMemory)) => {
@@ -267,28 +267,28 @@ fn end_now<N: Rings>(
     alloc: Global,
     cabinet: Cabinet<Memory, N>,
     session: Session<N>,
-) -> Result<SessionReport<Memory>, Fault> {
+) -> Result<SessionReport<Memory>, TrialFault> {
     match end_session(alloc, cabinet, session) {
         Ok(report) => Ok(report),
         Err((_, _, refusal)) => Err(fault_of(refusal)),
     }
 }
 
-/// Begins a file, and runs these feeds and a reader of both beside what control asks by the course.
+/// Begins a file, and runs these feeds and a reader of both beside what control asks by the plan.
 fn run_in<N: Rings + Send + Sync, R: Threads + Wait + Sync>(
     rt: &R,
     alloc: Global,
     cabinet: &Cabinet<Memory, N>,
     pass: Pass,
     feeds: Vec<Feed<N>>,
-    course: Course,
+    plan: Plan,
     notes: &mut Notes,
-) -> Result<Session<N>, Fault>
+) -> Result<Session<N>, TrialFault>
     requires { pass.cell ≡ cabinet.now }
 {
     let cursor = begun(rt, alloc, cabinet, notes)?;
     let players = alone(alloc, Player::new(cursor, pass))?;
-    let orders = course.orders(alloc)?;
+    let orders = plan.orders(alloc)?;
     run_again(
         rt,
         alloc,
@@ -296,12 +296,12 @@ fn run_in<N: Rings + Send + Sync, R: Threads + Wait + Sync>(
         feeds,
         orders,
         players,
-        course.gate(),
+        plan.gate(),
         notes,
     )
 }
 
-/// Two feeds and a reader of both, while a file is recorded and control asks what the course says. What came of it, and how the recorder was
+/// Two feeds and a reader of both, while a file is recorded and control asks what the plan says. What came of it, and how the recorder was
 /// before the end.
 pub fn run_over<N: Rings + Send + Sync, R: Threads + Wait + Sync>(
     rt: &R,
@@ -309,9 +309,9 @@ pub fn run_over<N: Rings + Send + Sync, R: Threads + Wait + Sync>(
     made: Apparatus,
     first: AnySource,
     second: AnySource,
-    course: Course,
+    plan: Plan,
     notes: &mut Notes,
-) -> Result<(SessionReport<Memory>, Standing), Fault>
+) -> Result<(SessionReport<Memory>, Standing), TrialFault>
     requires new { IsNew memory_disk outlet_spec outlet_received made.recorder }
     requires named { AreNamed N.rings made.recorder.lanes }
     requires five { ring_for 5 N.rings ≡ Some made.five.ring }
@@ -325,6 +325,6 @@ pub fn run_over<N: Rings + Send + Sync, R: Threads + Wait + Sync>(
     } = made;
     let feeds = two_feeds(alloc, five, six, first, second)?;
     let (cabinet, pass) = cabinet_of::<N>(alloc, recorder, notes)?;
-    let session = run_in(rt, alloc, &cabinet, pass, feeds, course, notes)?;
+    let session = run_in(rt, alloc, &cabinet, pass, feeds, plan, notes)?;
     end_again(rt, alloc, cabinet, session, notes)
 }

@@ -19,7 +19,7 @@ impl Gate for First {
 
 /// What control asks for while the feeds run.
 #[derive(Clone, Copy, PartialEq, Eq)]
-pub enum Course {
+pub enum Plan {
     /// Nothing.
     Plain,
     /// That the file is closed, and another begun.
@@ -30,14 +30,14 @@ pub enum Course {
     Unwritten,
 }
 
-impl Course {
+impl Plan {
     /// The session of this name.
-    pub fn of(name: &str) -> Option<Course> {
+    pub fn of(name: &str) -> Option<Plan> {
         match name {
-            "two-feeds" => Some(Course::Plain),
-            "a-second-file" => Some(Course::SecondFile),
-            "an-erased-file" => Some(Course::Erased),
-            "nothing-written" => Some(Course::Unwritten),
+            "two-feeds" => Some(Plan::Plain),
+            "a-second-file" => Some(Plan::SecondFile),
+            "an-erased-file" => Some(Plan::Erased),
+            "nothing-written" => Some(Plan::Unwritten),
             _ => None,
         }
     }
@@ -45,7 +45,7 @@ impl Course {
     /// The gate of the session.
     pub fn gate(self) -> First {
         match self {
-            Course::Unwritten => First { workers: 2 },
+            Plan::Unwritten => First { workers: 2 },
             _ => First {
                 workers: usize::MAX,
             },
@@ -55,11 +55,11 @@ impl Course {
     /// What control asks for.
     pub fn orders(self, alloc: Global) -> Result<Vec<Order>, AllocError> {
         let mut orders = Vec::new(alloc);
-        if self == Course::Plain || self == Course::Unwritten {
+        if self == Plan::Plain || self == Plan::Unwritten {
             return Ok(orders);
         }
         orders.push(Order::Stop)?;
-        if self == Course::Erased {
+        if self == Plan::Erased {
             orders.push(Order::Erase)?;
         }
         orders.push(start_of(alloc, b"SECOND")?)?;

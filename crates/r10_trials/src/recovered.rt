@@ -1,19 +1,19 @@
 //! What a new recorder finds on a medium.
 
 use crate::apparatus::{Apparatus, LAST, over_image};
-use crate::fault::{Fault, fault_of};
+use crate::fault::{TrialFault, fault_of};
+use crate::shown::judged_on;
 use crate::standing::CHANNELS;
 use r10_body::Entry;
-use r10_checker::{Verdict, check_medium};
 use r10_control::Recorder;
 use r10_count::Items;
 use r10_lane::LaneOut;
-use r10_medium::{BlockMedium, Memory};
+use r10_medium::BlockMedium;
 use std::alloc::Global;
 
 /// What a new recorder finds on a medium: the messages of both channels, in the order of the files, and whether each file is strict.
 #[derive(Drop)]
-pub struct Found {
+pub struct Recovered {
     pub entries: Vec<Entry>,
     pub strict: bool,
 }
@@ -24,7 +24,7 @@ fn add_file<M: BlockMedium, L: LaneOut>(
     recorder: &mut Recorder<M, L>,
     file: usize,
     entries: &mut Vec<Entry>,
-) -> Result<(), Fault> {
+) -> Result<(), TrialFault> {
     let channels = Items::of(Vec::from_slice(alloc, &CHANNELS)?);
     let mut cursor = match recorder.cursor(file, channels, 0, LAST) {
         Ok(cursor) => cursor,
@@ -43,7 +43,7 @@ fn add_file<M: BlockMedium, L: LaneOut>(
 fn all_entries<M: BlockMedium, L: LaneOut>(
     alloc: Global,
     recorder: &mut Recorder<M, L>,
-) -> Result<Vec<Entry>, Fault> {
+) -> Result<Vec<Entry>, TrialFault> {
     if let Err(refusal) = recorder.mount() {
         return Err(fault_of(refusal));
     }
@@ -58,20 +58,14 @@ fn all_entries<M: BlockMedium, L: LaneOut>(
     Ok(entries)
 }
 
-/// Whether each file of a medium is strict.
-fn is_strict(alloc: Global, medium: &mut Memory) -> Result<bool, Fault> {
-    match check_medium(alloc, medium) {
-        Ok(files) => Ok(files.iter().all(|file| file.verdict == Verdict::Strict)),
-        Err(refusal) => Err(fault_of(refusal)),
-    }
-}
-
 /// What a new recorder finds on a medium that reads as these bytes.
-pub fn found_on(alloc: Global, image: &[u8]) -> Result<Found, Fault> {
+pub fn recovered_from(alloc: Global, image: &[u8]) -> Result<Recovered, TrialFault> {
     let Apparatus { recorder, .. } = over_image(alloc, image)?;
     let mut recorder = recorder;
     let entries = all_entries(alloc, &mut recorder)?;
-    let mut medium = recorder.into_medium();
-    let strict = is_strict(alloc, &mut medium)?;
-    Ok(Found { entries, strict })
+    let strict = match judged_on(alloc, image)? {
+        Some(judged) => judged.files == judged.strict,
+        None => false,
+    };
+    Ok(Recovered { entries, strict })
 }

@@ -1,5 +1,5 @@
 use Rattle.std.proofs.Common.{List, [], ◌∷◌}
-use Rattle.r10_session_trials.proofs.trial.try_once.Given as goal
+use Rattle.r10_trials.proofs.sessions.try_once.Given as goal
 
 -- the rings are named for the channels of their ports
 abbrev pub ghosts-run_over : goal.ghosts-run_over

@@ -6,14 +6,14 @@ ghost use Rattle.r10_held.specs.LockFact.{outlet_received, outlet_spec};
 ghost use Rattle.r10_held.specs.Naming.{AreNamed};
 ghost use Rattle.r10_medium.specs.MemoryDisk.{memory_disk};
 
-use crate::fault::{Fault, fault_of};
+use crate::fault::TrialFault;
+use crate::scene::{formatted, medium_of};
 use r10_body::{ChannelSpec, Kind};
 use r10_control::Recorder;
 use r10_count::Parts;
 use r10_machine::Settings;
 use r10_medium::{BlockMedium, Memory};
 use r10_port::{Outlet, Port, lane};
-use r10_volume::format;
 use std::alloc::{AllocError, Global};
 
 /// The time at count 1000.
@@ -50,13 +50,13 @@ pub struct Apparatus {
 }
 
 /// 64 blocks, 2 of them for the directory, and these channels.
-fn settings_for(alloc: Global, five: ChannelSpec, six: ChannelSpec) -> Result<Settings, Fault>
+fn settings_for(alloc: Global, five: ChannelSpec, six: ChannelSpec) -> Result<Settings, TrialFault>
     ensures { IfOk result (λ s. s.channels ≡ five ∷ six ∷ []) }
 {
     let channels = Vec::from_slice(alloc, &[five, six])?;
     let volume = Vec::from_slice(alloc, b"VOL")?;
     let Ok(settings) = Settings::of(64, 2, volume, 100, 1, 2, channels) else {
-        return Err(Fault::Settings);
+        return Err(TrialFault::Settings);
     };
     Ok(settings)
 }
@@ -71,57 +71,41 @@ fn both(alloc: Global, five: Outlet, six: Outlet) -> Result<Vec<Outlet>, AllocEr
     Ok(lanes)
 }
 
-/// A new recorder over this medium.
-fn over(
-    alloc: Global,
-    settings: Settings,
-    medium: Memory,
-    five: ChannelSpec,
-    six: ChannelSpec,
-) -> Result<Apparatus, Fault>
-    requires channels { settings.channels ≡ five ∷ six ∷ [] }
-    requires five { five.id ≡ 5 }
-    requires six { six.id ≡ 6 }
+/// A new recorder over a medium that reads as these bytes.
+pub fn over_image(alloc: Global, image: &[u8]) -> Result<Apparatus, TrialFault>
     ensures new { IfOk result (λ a. IsNew memory_disk outlet_spec outlet_received a.recorder) }
     ensures named { IfOk result (λ a. AreNamed (record { channel = 5; ring = a.five.ring } ∷ record { channel = 6; ring = a.six.ring } ∷ []) a.recorder.lanes) }
 {
+    let at_six = ChannelSpec { id: 6, ..FIVE };
+    let medium = medium_of(alloc, image)?;
+    let settings = settings_for(alloc, FIVE, at_six)?;
     if medium.blocks() != settings.blocks() {
-        return Err(Fault::Settings);
+        return Err(TrialFault::Settings);
     }
-    let (at_five, first) = lane(alloc, five)?;
-    let (at_six, second) = lane(alloc, six)?;
+    let (five, first) = lane(alloc, FIVE)?;
+    let (six, second) = lane(alloc, at_six)?;
     let lanes = both(alloc, first, second)?;
     match Recorder::new(alloc, settings, medium, lanes) {
         Ok(recorder) => Ok(Apparatus {
             recorder,
-            five: at_five,
-            six: at_six,
+            five,
+            six,
         }),
-        Err(_) => Err(Fault::Memory(AllocError)),
+        Err(_) => Err(TrialFault::Memory(AllocError)),
     }
+}
+
+/// The bytes of a medium that was formatted for such a recorder.
+fn formatted_image(alloc: Global) -> Result<Vec<u8>, TrialFault> {
+    let settings = settings_for(alloc, FIVE, ChannelSpec { id: 6, ..FIVE })?;
+    formatted(alloc, &settings)
 }
 
 /// A new recorder over a medium that was formatted for it.
-pub fn formatted(alloc: Global) -> Result<Apparatus, Fault>
+pub fn over_formatted(alloc: Global) -> Result<Apparatus, TrialFault>
     ensures new { IfOk result (λ a. IsNew memory_disk outlet_spec outlet_received a.recorder) }
     ensures named { IfOk result (λ a. AreNamed (record { channel = 5; ring = a.five.ring } ∷ record { channel = 6; ring = a.six.ring } ∷ []) a.recorder.lanes) }
 {
-    let six = ChannelSpec { id: 6, ..FIVE };
-    let settings = settings_for(alloc, FIVE, six)?;
-    let mut medium = Memory::new(alloc, settings.blocks())?;
-    if let Err(refusal) = format(&mut medium, &settings) {
-        return Err(fault_of(refusal));
-    }
-    over(alloc, settings, medium, FIVE, six)
-}
-
-/// A new recorder over a medium that reads as these bytes.
-pub fn over_image(alloc: Global, image: &[u8]) -> Result<Apparatus, Fault> {
-    if image.len() % 512 != 0 {
-        return Err(Fault::Settings);
-    }
-    let medium = Memory::of_image(alloc, image)?;
-    let six = ChannelSpec { id: 6, ..FIVE };
-    let settings = settings_for(alloc, FIVE, six)?;
-    over(alloc, settings, medium, FIVE, six)
+    let image = formatted_image(alloc)?;
+    over_image(alloc, image.as_slice())
 }

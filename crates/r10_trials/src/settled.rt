@@ -1,10 +1,10 @@
 //! What became of each message, compared with the files that are found.
 
-use crate::course::Course;
-use crate::fault::{Fault, fault_of};
-use crate::found::{Found, found_on};
+use crate::fault::{TrialFault, fault_of};
 use crate::listed::{MESSAGES, is_message};
 use crate::notes::Notes;
+use crate::plan::Plan;
+use crate::recovered::{Recovered, recovered_from};
 use crate::standing::{CHANNELS, Standing};
 use r10_body::{Entry, Refusal};
 use r10_control::Recorder;
@@ -50,7 +50,7 @@ fn taken_of(report: &FeedReport) -> u64 {
 /// the source's, each once and in order; and the numbers are those that the recorder had under its lock.
 fn settle_feed(
     report: &FeedReport,
-    found: &Found,
+    found: &Recovered,
     place: usize,
     standing: &Standing,
     notes: &mut Notes,
@@ -86,7 +86,7 @@ fn settle_numbers(report: &FeedReport, notes: &mut Notes) {
     );
 }
 
-fn settle_messages(report: &FeedReport, found: &Found, notes: &mut Notes) {
+fn settle_messages(report: &FeedReport, found: &Recovered, notes: &mut Notes) {
     let filed = filed_from(found.entries.as_slice(), report.channel, report.erased);
     notes.want(
         filed == Some(report.filed),
@@ -115,7 +115,7 @@ fn agrees(
     alloc: Global,
     report: &mut SessionReport<Memory>,
     notes: &mut Notes,
-) -> Result<bool, Fault> {
+) -> Result<bool, TrialFault> {
     match audit(alloc, report) {
         Ok(yes) => Ok(yes),
         Err(Refusal::OutOfMemory) => {
@@ -126,7 +126,7 @@ fn agrees(
     }
 }
 
-fn agrees_now(alloc: Global, report: &mut SessionReport<Memory>) -> Result<bool, Fault> {
+fn agrees_now(alloc: Global, report: &mut SessionReport<Memory>) -> Result<bool, TrialFault> {
     match audit(alloc, report) {
         Ok(yes) => Ok(yes),
         Err(refusal) => Err(fault_of(refusal)),
@@ -137,7 +137,7 @@ fn agrees_now(alloc: Global, report: &mut SessionReport<Memory>) -> Result<bool,
 fn close<M: BlockMedium, L: LaneOut>(
     recorder: &mut Recorder<M, L>,
     notes: &mut Notes,
-) -> Result<(), Fault> {
+) -> Result<(), TrialFault> {
     match recorder.stop_file() {
         Ok(_) | Err(Refusal::NotRecording) => Ok(()),
         Err(Refusal::OutOfMemory) => {
@@ -148,7 +148,7 @@ fn close<M: BlockMedium, L: LaneOut>(
     }
 }
 
-fn close_now<M: BlockMedium, L: LaneOut>(recorder: &mut Recorder<M, L>) -> Result<(), Fault> {
+fn close_now<M: BlockMedium, L: LaneOut>(recorder: &mut Recorder<M, L>) -> Result<(), TrialFault> {
     match recorder.stop_file() {
         Ok(_) => Ok(()),
         Err(refusal) => Err(fault_of(refusal)),
@@ -171,11 +171,11 @@ pub fn finish(
     alloc: Global,
     report: SessionReport<Memory>,
     standing: Standing,
-    course: Course,
+    plan: Plan,
     notes: &mut Notes,
-) -> Result<Ended, Fault> {
+) -> Result<Ended, TrialFault> {
     let mut report = report;
-    let read = audit_and_close(alloc, &mut report, course, notes)?;
+    let read = audit_and_close(alloc, &mut report, plan, notes)?;
     let SessionReport {
         recorder,
         feeds,
@@ -194,12 +194,12 @@ pub fn finish(
 fn audit_and_close(
     alloc: Global,
     report: &mut SessionReport<Memory>,
-    course: Course,
+    plan: Plan,
     notes: &mut Notes,
-) -> Result<u64, Fault> {
+) -> Result<u64, TrialFault> {
     let agreed = agrees(alloc, report, notes)?;
     notes.want(
-        agreed || course == Course::Erased,
+        agreed || plan == Plan::Erased,
         "the reader wrote down what no file has",
     );
     close(&mut report.recorder, notes)?;
@@ -210,24 +210,24 @@ fn audit_and_close(
 pub fn settle(
     alloc: Global,
     ended: &Ended,
-    course: Course,
+    plan: Plan,
     notes: &mut Notes,
-) -> Result<(), Fault> {
+) -> Result<(), TrialFault> {
     let found = found_behind(alloc, ended)?;
     notes.want(found.strict, "a file is not strict");
     notes.want(ended.feeds.len() == 2, "there are not two reports");
     let left = settle_feeds(ended, &found, notes);
-    settle_left(left, ended.read, course, notes);
+    settle_left(left, ended.read, plan, notes);
     Ok(())
 }
 
-fn found_behind(alloc: Global, ended: &Ended) -> Result<Found, Fault> {
+fn found_behind(alloc: Global, ended: &Ended) -> Result<Recovered, TrialFault> {
     let image = ended.medium.image(alloc)?;
-    found_on(alloc, image.as_slice())
+    recovered_from(alloc, image.as_slice())
 }
 
 /// Settles each feed, and answers how many messages are left.
-fn settle_feeds(ended: &Ended, found: &Found, notes: &mut Notes) -> u64 {
+fn settle_feeds(ended: &Ended, found: &Recovered, notes: &mut Notes) -> u64 {
     let mut left = 0u64;
     for (place, feed) in ended.feeds.iter().enumerate() {
         settle_feed(feed, found, place, &ended.standing, notes);
@@ -237,13 +237,13 @@ fn settle_feeds(ended: &Ended, found: &Found, notes: &mut Notes) -> u64 {
 }
 
 /// Whether a worker ended early, by how many messages are left, and how many were read.
-fn settle_left(left: u64, read: u64, course: Course, notes: &mut Notes) {
+fn settle_left(left: u64, read: u64, plan: Plan, notes: &mut Notes) {
     let all = u64::from(MESSAGES).saturating_mul(2);
-    if course == Course::Unwritten {
+    if plan == Plan::Unwritten {
         notes.want(left == all, "something was written");
         return;
     }
-    let is_unread = course == Course::Plain && read < all;
+    let is_unread = plan == Plan::Plain && read < all;
     if left > 0 || is_unread {
         notes.do_again("a worker ended early");
     }
