@@ -1,8 +1,9 @@
 /* The recorder as a library for programs in C: IRIG 106 chapter 10 recording with record-while-play.
  *
- * Each call answers 0, or why it did nothing: the number of a refusal, 1 to 30, or one of the library's own, from 40 on. A call that answers
- * another number than 0 leaves what it was lent as it was; only R10_OVERFLOW is counted, and after R10_MEDIUM the recorder is failed and answers
- * R10_FAILED from then on (r10_close, and r10_open again). Which numbers a call may answer stands at the call.
+ * Each call answers 0, or why it did not do its work: the number of a refusal, 1 to 30, or one of the library's own, from 40 on. A call that answers
+ * another number than 0 has changed nothing, but for these two: R10_OVERFLOW is counted; after R10_MEDIUM what the call did may be in the region and on
+ * the disk or not, and messages that it took from lanes may be gone; the recorder is failed and answers R10_FAILED from then on (r10_close, and r10_open
+ * again). Memory that was lent for an answer is as it was then too. Which numbers a call may answer stands at the call.
  *
  * The library calls nothing of the system but malloc, realloc and free. It reads and writes the region, and what a disk has to do it says: behind
  * each call, r10_order hands out the operations that the call came to, one by one, in order: write this block, or make sure what was written so far.
@@ -118,8 +119,8 @@ enum { R10_MODE_UNMOUNTED = 0, R10_MODE_IDLE = 1, R10_MODE_RECORDING = 2, R10_MO
 
 typedef struct r10_status_info {
     uint64_t tick;              /* the count of the last tick; 0 where ticked is false */
-    uint64_t free;              /* bytes: of the open file's area, or of the next file's; 0 where nothing is mounted */
-    size_t files;
+    uint64_t free;              /* bytes: what the open file's area has left, or the next file's area; 0 where nothing is mounted or the recorder failed */
+    size_t files;               /* 0 likewise */
     size_t channels;            /* of the settings */
     uint8_t mode;
     bool ticked;
@@ -127,7 +128,7 @@ typedef struct r10_status_info {
 
 typedef struct r10_channel_info {
     uint64_t lost;              /* messages that were refused for an overflow */
-    uint64_t erased;            /* entries that erases took */
+    uint64_t erased;            /* entries that erases took; 0 where the recorder failed */
     size_t waiting;             /* messages in its lane */
     uint16_t channel;
 } r10_channel_info;
