@@ -8,7 +8,7 @@ use r10_count::Parts;
 
 /// The parts that a text of the form `YYYY-MM-DD hh:mm:ss.cc` spells. Whether there is such a time is not asked.
 pub fn parts_of(text: &[u8]) -> Option<Parts>
-    ensures found { IfSome result (λ parts. text.now ≡ civil_text parts) }
+    ensures found { IfSome result (λ parts. HasText parts × (text.now ≡ civil_text parts)) }
     ensures none { IfNone result ((parts : Parts) → HasText parts → text.now ≡ civil_text parts → ⊥) }
 {
     let (year, month, day, rest) = split_date(text)?;

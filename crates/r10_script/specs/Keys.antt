@@ -1,5 +1,5 @@
 -- What a table of a script has under its keys.
-use Rattle.std.specs.Prelude.{◌≡◌, ℕ, ℤ, pos, Bool, true, false, List, [], ◌∷◌, map, Option, Some, None, is_some, option_and_then, if◌then◌else◌}
+use Rattle.std.specs.Prelude.{◌≡◌, ℕ, ℤ, pos, Bool, true, false, List, [], ◌∷◌, map, Option, Some, None, is_some, option_map, option_and_then, if◌then◌else◌}
 use Rattle.std.specs.List.{All, list_any}
 use Rattle.std.specs.Str.{bytes_eq}
 use Rattle.std.specs.Result.{result_ok}
@@ -35,17 +35,17 @@ abbrev pub list_of_items : Items → List Data
 list_of_items no_items = []
 list_of_items (item d ds) = d ∷ list_of_items ds
 
-abbrev pub listed_array : Option Items → List Data
-listed_array None = []
-listed_array (Some ds) = list_of_items ds
+-- the items of an array
+abbrev pub items_at : Members → List ℕ → Option (List Data)
+items_at table key = option_map list_of_items (option_and_then as_array (get_member key table))
 
--- the items of an array, none where there is no such key
-abbrev pub items_at : Members → List ℕ → List Data
-items_at table key = listed_array (option_and_then as_array (get_member key table))
+-- those items, none where there is no such key
+abbrev pub items_or_none_at : Members → List ℕ → Option (List Data)
+items_or_none_at table key = if is_some (get_member key table) then items_at table key else Some []
 
 -- the items of an array as whole numbers
-abbrev pub integers_at : Members → List ℕ → List (Option ℤ)
-integers_at table key = map as_integer (items_at table key)
+abbrev pub integers_at : Members → List ℕ → Option (List (Option ℤ))
+integers_at table key = option_map (map as_integer) (items_at table key)
 
 -- the keys of a table
 abbrev pub keys_of : Members → List (List ℕ)

@@ -1,12 +1,12 @@
 -- What the whole table of a script asks for.
-use Rattle.std.specs.Prelude.{◌≡◌, ℕ, pos, List, [], ◌∷◌, Some, codes, IsSomeAnd}
+use Rattle.std.specs.Prelude.{◌≡◌, ℕ, pos, List, [], ◌∷◌, Option, Some, codes, IsSomeAnd}
 use Rattle.toml.specs.Data.{Data, Members, as_table}
 use Rattle.r10_body.specs.declared.message.Kind.{Kind}
 use Rattle.r10_body.specs.declared.message.Kind.TheVariants as kinds
 use Rattle.r10_body.specs.declared.spec.ChannelSpec.{ChannelSpec}
 use Rattle.r10_machine.specs.Config.{Config}
 use Rattle.r10_machine.specs.declared.event.Event.{Event}
-use Rattle.r10_script.specs.Keys.{integer_at, text_at, items_at, HasOnly}
+use Rattle.r10_script.specs.Keys.{integer_at, text_at, items_or_none_at, HasOnly}
 use Rattle.r10_script.specs.Kinds.{kind_word, channel_keys}
 use Rattle.r10_script.specs.Steps.{IsStep}
 
@@ -15,6 +15,10 @@ abbrev pub EachAsks : {A : Type 0} → (Members → A → Type 0) → List Data 
 EachAsks Asks [] [] = Unit {0}
 EachAsks Asks (d ∷ ds) (x ∷ xs) = IsSomeAnd (as_table d) (λ table. Asks table x) × EachAsks Asks ds xs
 EachAsks Asks _ _ = ⊥
+
+-- there are items, and they ask so
+abbrev pub ItemsAsk : {A : Type 0} → (Members → A → Type 0) → Option (List Data) → List A → Type 0
+ItemsAsk Asks items xs = IsSomeAnd items (λ ds. EachAsks Asks ds xs)
 
 -- a discrete channel tells its number of bits, and any other has none
 abbrev pub IsBits : Kind → Members → ℕ → Type 0
@@ -40,10 +44,10 @@ AreScriptSettings table s =
     × (integer_at table (codes "nodes") ≡ Some (pos s.nodes))
     × (integer_at table (codes "time") ≡ Some (pos s.time))
     × (integer_at table (codes "event") ≡ Some (pos s.event))
-    × EachAsks IsChannelTable (items_at table (codes "channel")) s.channels
+    × ItemsAsk IsChannelTable (items_or_none_at table (codes "channel")) s.channels
 
 abbrev pub AreSteps : List ChannelSpec → Members → List Event → Type 0
-AreSteps channels table events = EachAsks (IsStep channels) (items_at table (codes "step")) events
+AreSteps channels table events = ItemsAsk (IsStep channels) (items_or_none_at table (codes "step")) events
 
 -- the keys above the tables, and those of the tables
 abbrev pub script_keys : List (List ℕ)

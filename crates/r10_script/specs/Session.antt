@@ -7,10 +7,10 @@ use Rattle.r10_body.specs.declared.message.Kind.{Kind}
 use Rattle.r10_body.specs.declared.spec.ChannelSpec.{ChannelSpec}
 use Rattle.r10_machine.specs.declared.event.Event.{Event}
 use Rattle.r10_machine.specs.declared.event.Event.TheVariants as events
-use Rattle.r10_script.specs.Keys.{integer_at, integers_at, items_at, HasOnly}
+use Rattle.r10_script.specs.Keys.{integer_at, integers_at, items_at, items_or_none_at, HasOnly}
 use Rattle.r10_script.specs.Kinds.{item_keys}
 use Rattle.r10_script.specs.Offers.{AreValues}
-use Rattle.r10_script.specs.Script.{EachAsks, script_keys}
+use Rattle.r10_script.specs.Script.{ItemsAsk, script_keys}
 use Rattle.r10_script.specs.Steps.{IsStep}
 use Rattle.r10_script.specs.declared.session.FeedTable.{FeedTable}
 use Rattle.r10_script.specs.declared.session.ReaderTable.{ReaderTable}
@@ -33,7 +33,7 @@ abbrev pub IsOrder : List ChannelSpec → Members → Event → Type 0
 IsOrder channels table event = IsStep channels table event × (is_order event ≡ true)
 
 abbrev pub AreOrders : List ChannelSpec → Members → List ℕ → List Event → Type 0
-AreOrders channels table key events = EachAsks (IsOrder channels) (items_at table key) events
+AreOrders channels table key events = ItemsAsk (IsOrder channels) (items_or_none_at table key) events
 
 -- a count, and the keys of a message of the channel's kind, with no other key
 abbrev pub IsItem : Kind → Members → Timed → Type 0
@@ -44,13 +44,13 @@ abbrev pub IsFeed : List ChannelSpec → Members → FeedTable → Type 0
 IsFeed channels table feed =
     (integer_at table (codes "channel") ≡ Some (pos feed.channel))
     × HasOnly (codes "channel" ∷ codes "items" ∷ []) table
-    × ((spec : ChannelSpec) × (find (λ spec. spec.id == feed.channel) channels ≡ Some spec) × EachAsks (IsItem spec.kind) (items_at table (codes "items")) feed.items)
+    × ((spec : ChannelSpec) × (find (λ spec. spec.id == feed.channel) channels ≡ Some spec) × ItemsAsk (IsItem spec.kind) (items_at table (codes "items")) feed.items)
 
 -- a file, and what of it is read
 abbrev pub IsReader : Members → ReaderTable → Type 0
 IsReader table reader =
     (integer_at table (codes "file") ≡ Some (pos reader.file))
-    × (integers_at table (codes "channels") ≡ map (λ n. Some (pos n)) reader.channels)
+    × (integers_at table (codes "channels") ≡ Some (map (λ n. Some (pos n)) reader.channels))
     × (integer_at table (codes "from") ≡ Some (pos reader.from))
     × (integer_at table (codes "to") ≡ Some (pos reader.to))
     × HasOnly (codes "file" ∷ codes "channels" ∷ codes "from" ∷ codes "to" ∷ []) table

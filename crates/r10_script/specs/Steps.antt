@@ -2,9 +2,11 @@
 use Rattle.std.specs.Prelude.{◌≡◌, ℕ, pos, List, [], ◌∷◌, map, Some, codes}
 use Rattle.toml.specs.Data.{Members}
 use Rattle.r10_body.specs.declared.spec.ChannelSpec.{ChannelSpec}
+use Rattle.r10_count.specs.declared.civil.Parts.{Parts}
 use Rattle.r10_machine.specs.declared.event.Event.{Event}
 use Rattle.r10_machine.specs.declared.event.Event.TheVariants as events
 use Rattle.r10_lines.specs.Civil.{civil_text}
+use Rattle.r10_lines.specs.CivilParts.{HasText}
 use Rattle.r10_script.specs.Keys.{integer_at, integers_at, text_at, bytes_at, HasOnly}
 use Rattle.r10_script.specs.Offers.{IsOffered}
 
@@ -17,6 +19,10 @@ abbrev pub IsIdStep : List ℕ → Members → ℕ → Type 0
 IsIdStep word table id =
     (text_at table (codes "do") ≡ Some word) × (integer_at table (codes "id") ≡ Some (pos id)) × HasOnly (codes "do" ∷ codes "id" ∷ []) table
 
+-- the text of a civil time, whose parts are in decimal digits
+abbrev pub IsCivilText : Members → Parts → Type 0
+IsCivilText table parts = (text_at table (codes "civil") ≡ Some (civil_text parts)) × HasText parts
+
 -- the keys of each event behind the word that names it
 abbrev pub IsStep : List ChannelSpec → Members → Event → Type 0
 IsStep channels table events.Mount = IsBareStep (codes "mount") table
@@ -24,7 +30,7 @@ IsStep channels table events.Dismount = IsBareStep (codes "dismount") table
 IsStep channels table (events.Tick count parts) =
     (text_at table (codes "do") ≡ Some (codes "tick"))
     × (integer_at table (codes "count") ≡ Some (pos count))
-    × (text_at table (codes "civil") ≡ Some (civil_text parts))
+    × IsCivilText table parts
     × HasOnly (codes "do" ∷ codes "count" ∷ codes "civil" ∷ []) table
 IsStep channels table (events.Start name setup) =
     (text_at table (codes "do") ≡ Some (codes "start"))
@@ -55,7 +61,7 @@ IsStep channels table events.Status = IsBareStep (codes "status") table
 IsStep channels table (events.Cursor file ids from to) =
     (text_at table (codes "do") ≡ Some (codes "cursor"))
     × (integer_at table (codes "file") ≡ Some (pos file))
-    × (integers_at table (codes "channels") ≡ map (λ n. Some (pos n)) ids)
+    × (integers_at table (codes "channels") ≡ Some (map (λ n. Some (pos n)) ids))
     × (integer_at table (codes "from") ≡ Some (pos from))
     × (integer_at table (codes "to") ≡ Some (pos to))
     × HasOnly (codes "do" ∷ codes "file" ∷ codes "channels" ∷ codes "from" ∷ codes "to" ∷ []) table
@@ -71,5 +77,5 @@ IsStep channels table (events.Find file channel count) =
 IsStep channels table (events.CountAt file parts) =
     (text_at table (codes "do") ≡ Some (codes "count_at"))
     × (integer_at table (codes "file") ≡ Some (pos file))
-    × (text_at table (codes "civil") ≡ Some (civil_text parts))
+    × IsCivilText table parts
     × HasOnly (codes "do" ∷ codes "file" ∷ codes "civil" ∷ []) table

@@ -1,11 +1,13 @@
 -- Keys and steps written out.
-use Rattle.std.specs.Prelude.{◌≡◌, pos, true, false, [], ◌∷◌, Some, codes, refl}
+use Rattle.std.specs.Prelude.{◌≡◌, pos, true, false, [], ◌∷◌, Some, None, codes, refl}
 use Rattle.std.specs.List.{list_any}
 use Rattle.std.specs.Str.{bytes_eq}
 use Rattle.toml.specs.Data.{Members, integer, string, no_members, member}
 use Rattle.r10_body.specs.declared.message.Kind.TheVariants as kinds
+use Rattle.r10_count.specs.declared.civil.Parts.{Parts}
+use Rattle.r10_lines.specs.CivilParts.{HasText}
 use Rattle.r10_machine.specs.declared.event.Event.TheVariants as events
-use Rattle.r10_script.specs.Keys.{bytes_or_none_at, flag_or_false_at, integer_or_zero_at, HasOnly}
+use Rattle.r10_script.specs.Keys.{bytes_or_none_at, flag_or_false_at, integer_or_zero_at, integers_at, items_at, items_or_none_at, HasOnly}
 use Rattle.r10_script.specs.Kinds.{channel_keys, offer_keys}
 use Rattle.r10_script.specs.Steps.{IsStep}
 
@@ -18,6 +20,20 @@ absent-flag = refl
 
 pub absent-bytes : bytes_or_none_at no_members (codes "words") ≡ Some []
 absent-bytes = refl
+
+-- of items there are none where they may be absent, and nothing is said for them where they may not
+pub absent-steps : items_or_none_at no_members (codes "step") ≡ Some []
+absent-steps = refl
+
+pub absent-items : items_at no_members (codes "items") ≡ None
+absent-items = refl
+
+pub absent-channels : integers_at no_members (codes "channels") ≡ None
+absent-channels = refl
+
+-- what is no array has no items
+pub one-step : items_or_none_at (member (codes "step") (integer (pos 1)) no_members) (codes "step") ≡ None
+one-step = refl
 
 -- what is there
 pub given-number : integer_or_zero_at (member (codes "status") (integer (pos 8192)) no_members) (codes "status") ≡ Some (pos 8192)
@@ -55,6 +71,8 @@ find-step only = (refl, refl, refl, refl, only)
 abbrev dating : Members
 dating = member (codes "civil") (string (codes "2024-02-29 12:34:56.78")) (member (codes "do") (string (codes "count_at")) (member (codes "file") (integer (pos 2)) no_members))
 
-pub count-at-step : HasOnly (codes "do" ∷ codes "file" ∷ codes "civil" ∷ []) dating
-    → IsStep [] dating (events.CountAt 2 (record { year = 2024; month = 2; day = 29; hour = 12; minute = 34; second = 56; centi = 78 }))
-count-at-step only = (refl, refl, refl, only)
+abbrev dated : Parts
+dated = record { year = 2024; month = 2; day = 29; hour = 12; minute = 34; second = 56; centi = 78 }
+
+pub count-at-step : HasOnly (codes "do" ∷ codes "file" ∷ codes "civil" ∷ []) dating → HasText dated → IsStep [] dating (events.CountAt 2 dated)
+count-at-step only digits = (refl, refl, (refl, digits), only)

@@ -5,8 +5,8 @@ ghost use Rattle.std.specs.List.{list_any};
 ghost use Rattle.toml.specs.Data.{Members};
 ghost use Rattle.toml.specs.Parse.{parse_document};
 ghost use Rattle.toml.specs.View.{table_view};
-ghost use Rattle.r10_script.specs.Keys.{items_at, HasOnly};
-ghost use Rattle.r10_script.specs.Script.{AreScriptSettings, EachAsks};
+ghost use Rattle.r10_script.specs.Keys.{items_at, items_or_none_at, HasOnly};
+ghost use Rattle.r10_script.specs.Script.{AreScriptSettings, ItemsAsk};
 ghost use Rattle.r10_script.specs.Session.{AreApart, AreOrders, IsFeed, IsItem, IsOrder, IsReader, is_order, session_keys};
 
 use crate::offer::{message_of, only_item, spec_of};
@@ -63,9 +63,9 @@ pub fn read_session(alloc: Global, text: &[u8]) -> Result<SessionScript, ScriptF
     ensures text { IfOk result (λ _. IsUtf8 text.now) }
     ensures session { IfOk result (λ session. (table : Members) × (parse_document text.now ≡ Some table) × HasOnly session_keys table × AreScriptSettings table session.settings
         × AreOrders session.settings.channels table (codes "step") session.steps.items
-        × EachAsks (IsFeed session.settings.channels) (items_at table (codes "feed")) session.feeds.items
+        × ItemsAsk (IsFeed session.settings.channels) (items_or_none_at table (codes "feed")) session.feeds.items
         × AreOrders session.settings.channels table (codes "order") session.orders.items
-        × EachAsks IsReader (items_at table (codes "reader")) session.readers.items) }
+        × ItemsAsk IsReader (items_or_none_at table (codes "reader")) session.readers.items) }
     ensures apart { IfOk result (λ session. AreApart session.feeds.items) }
 {
     match session_of(alloc, text) {
@@ -79,9 +79,9 @@ fn session_of(alloc: Global, text: &[u8]) -> Result<SessionScript, ScriptFault>
     ensures text { IfOk result (λ _. IsUtf8 text.now) }
     ensures session { IfOk result (λ session. (table : Members) × (parse_document text.now ≡ Some table) × HasOnly session_keys table × AreScriptSettings table session.settings
         × AreOrders session.settings.channels table (codes "step") session.steps.items
-        × EachAsks (IsFeed session.settings.channels) (items_at table (codes "feed")) session.feeds.items
+        × ItemsAsk (IsFeed session.settings.channels) (items_or_none_at table (codes "feed")) session.feeds.items
         × AreOrders session.settings.channels table (codes "order") session.orders.items
-        × EachAsks IsReader (items_at table (codes "reader")) session.readers.items) }
+        × ItemsAsk IsReader (items_or_none_at table (codes "reader")) session.readers.items) }
     ensures apart { IfOk result (λ session. AreApart session.feeds.items) }
 {
     let table = match toml::table_from_slice(alloc, text) {
@@ -182,7 +182,7 @@ fn feeds_of(
     channels: &[ChannelSpec],
     top: Fields<'_>,
 ) -> Result<Vec<FeedTable>, ScriptFault>
-    ensures feeds { IfOk result (λ feeds. EachAsks (IsFeed channels.now) (items_at (table_view top.entry.table.now) (codes "feed")) feeds.items) }
+    ensures feeds { IfOk result (λ feeds. ItemsAsk (IsFeed channels.now) (items_or_none_at (table_view top.entry.table.now) (codes "feed")) feeds.items) }
     ensures apart { IfOk result (λ feeds. AreApart feeds.items) }
 {
     let mut feeds: Vec<FeedTable> = Vec::new(alloc);
@@ -233,7 +233,7 @@ fn items_of(
     fields: Fields<'_>,
     feed: usize,
 ) -> Result<Vec<Timed>, ScriptFault>
-    ensures { IfOk result (λ items. EachAsks (IsItem kind) (items_at (table_view fields.entry.table.now) (codes "items")) items.items) }
+    ensures { IfOk result (λ items. ItemsAsk (IsItem kind) (items_at (table_view fields.entry.table.now) (codes "items")) items.items) }
 {
     let mut items = Vec::new(alloc);
     let mut number = 0usize;
@@ -258,7 +258,7 @@ fn item_of(kind: Kind, fields: Fields<'_>) -> Result<Timed, ScriptFault>
 }
 
 fn readers_of(alloc: Global, top: Fields<'_>) -> Result<Vec<ReaderTable>, ScriptFault>
-    ensures { IfOk result (λ readers. EachAsks IsReader (items_at (table_view top.entry.table.now) (codes "reader")) readers.items) }
+    ensures { IfOk result (λ readers. ItemsAsk IsReader (items_or_none_at (table_view top.entry.table.now) (codes "reader")) readers.items) }
 {
     let mut readers = Vec::new(alloc);
     let mut number = 0usize;

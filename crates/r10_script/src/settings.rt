@@ -2,9 +2,9 @@
 
 ghost use Rattle.std.specs.Prelude.{◌≡◌, Some, codes, IfOk};
 ghost use Rattle.toml.specs.View.{table_view};
-ghost use Rattle.r10_script.specs.Keys.{items_at, text_at, HasOnly};
+ghost use Rattle.r10_script.specs.Keys.{items_or_none_at, text_at, HasOnly};
 ghost use Rattle.r10_script.specs.Kinds.{channel_keys, kind_word};
-ghost use Rattle.r10_script.specs.Script.{AreScriptSettings, EachAsks, IsBits, IsChannelTable};
+ghost use Rattle.r10_script.specs.Script.{AreScriptSettings, ItemsAsk, IsBits, IsChannelTable};
 
 use crate::limits::{
     BITS, BLOCKS, BYTES, CAPACITY, CHECK, DIRECTORY, ID, NODES, NUMBER, VOLUME, limit_fault,
@@ -35,7 +35,7 @@ pub fn settings_of(alloc: Global, top: Fields<'_>) -> Result<Settings, ScriptFau
 }
 
 fn channels_of(alloc: Global, top: Fields<'_>) -> Result<Vec<ChannelSpec>, ScriptFault>
-    ensures { IfOk result (λ channels. EachAsks IsChannelTable (items_at (table_view top.entry.table.now) (codes "channel")) channels.items) }
+    ensures { IfOk result (λ channels. ItemsAsk IsChannelTable (items_or_none_at (table_view top.entry.table.now) (codes "channel")) channels.items) }
 {
     let mut channels = Vec::new(alloc);
     let mut number = 0usize;

@@ -4,9 +4,8 @@ ghost use Rattle.std.specs.Prelude.{◌≡◌, pos, Some, codes, IfOk, IfSome, L
 ghost use Rattle.toml.specs.Data.{Members};
 ghost use Rattle.toml.specs.View.{table_view};
 ghost use Rattle.r10_body.specs.declared.spec.ChannelSpec.{ChannelSpec as ChannelSpecValue};
-ghost use Rattle.r10_lines.specs.Civil.{civil_text};
 ghost use Rattle.r10_script.specs.Keys.{integer_at, text_at, HasOnly};
-ghost use Rattle.r10_script.specs.Steps.{IsBareStep, IsStep};
+ghost use Rattle.r10_script.specs.Steps.{IsBareStep, IsCivilText, IsStep};
 
 use crate::offer::offered_of;
 use crate::table::Fields;
@@ -83,7 +82,7 @@ fn tick_of(fields: Fields<'_>) -> Result<Event, ScriptFault>
 
 /// A civil time. Whether there is such a day or time is not asked.
 fn civil_of(fields: Fields<'_>) -> Result<Parts, ScriptFault>
-    ensures { IfOk result (λ parts. text_at (table_view fields.entry.table.now) (codes "civil") ≡ Some (civil_text parts)) }
+    ensures { IfOk result (λ parts. IsCivilText (table_view fields.entry.table.now) parts) }
 {
     match parts_of(fields.text("civil", CIVIL)?.as_bytes()) {
         Some(parts) => Ok(parts),

@@ -7,7 +7,7 @@ ghost use Rattle.std.specs.Str.{bytes_eq};
 ghost use Rattle.toml.specs.Data.{get_member, as_table};
 ghost use Rattle.toml.specs.View.{view, table_view};
 ghost use Rattle.r10_lines.specs.Line.{words_high_first};
-ghost use Rattle.r10_script.specs.Keys.{integer_at, integer_or_zero_at, integers_at, text_at, bytes_at, bytes_or_none_at, flag_or_false_at, items_at, HasOnly};
+ghost use Rattle.r10_script.specs.Keys.{integer_at, integer_or_zero_at, integers_at, text_at, bytes_at, bytes_or_none_at, flag_or_false_at, items_at, items_or_none_at, HasOnly};
 
 use crate::found::{cut, found_of, listed};
 use r10_lines::{Place, ScriptFault, Spot, Wrong};
@@ -249,7 +249,7 @@ impl<'a> Fields<'a> {
 
     /// The elements of an array.
     fn elements(&self, key: &'static str, wanted: &'static str) -> Result<&'a [Value], ScriptFault>
-        ensures { IfOk result (λ vs. map view vs.now ≡ items_at (table_view self.now.table.now) key.now) }
+        ensures { IfOk result (λ vs. items_at (table_view self.now.table.now) key.now ≡ Some (map view vs.now)) }
     {
         let value = self.value(key)?;
         match value.as_array() {
@@ -260,7 +260,7 @@ impl<'a> Fields<'a> {
 
     /// The channel IDs of an array.
     pub fn shorts(&self, key: &'static str) -> Result<Vec<u16>, ScriptFault>
-        ensures { IfOk result (λ v. integers_at (table_view self.now.table.now) key.now ≡ map (λ n. Some (pos n)) v.items) }
+        ensures { IfOk result (λ v. integers_at (table_view self.now.table.now) key.now ≡ Some (map (λ n. Some (pos n)) v.items)) }
     {
         let mut numbers = Vec::new(self.alloc);
         for value in self.elements(key, SHORTS)? {
@@ -355,14 +355,14 @@ impl<'a> Fields<'a> {
 
     /// The elements of an array of tables, whose key must be there.
     pub fn needed_tables(&self, key: &'static str) -> Result<&'a [Value], ScriptFault>
-        ensures { IfOk result (λ vs. map view vs.now ≡ items_at (table_view self.now.table.now) key.now) }
+        ensures { IfOk result (λ vs. items_at (table_view self.now.table.now) key.now ≡ Some (map view vs.now)) }
     {
         self.elements(key, TABLES)
     }
 
     /// The elements of an array of tables, none where the key is absent.
     pub fn tables(&self, key: &'static str) -> Result<&'a [Value], ScriptFault>
-        ensures { IfOk result (λ vs. map view vs.now ≡ items_at (table_view self.now.table.now) key.now) }
+        ensures { IfOk result (λ vs. items_or_none_at (table_view self.now.table.now) key.now ≡ Some (map view vs.now)) }
     {
         if self.has(key) {
             self.elements(key, TABLES)

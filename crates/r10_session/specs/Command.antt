@@ -9,7 +9,7 @@ use Rattle.r10_session.specs.Text.{session_text}
 use Rattle.r10_session.specs.declared.ended.Ended.{Ended}
 use Rattle.r10_images.specs.declared.listing.Outcome.{Outcome}
 use Rattle.r10_images.specs.declared.listing.Outcome.TheVariants as outcomes
-use Rattle.r10_script.specs.Keys.{items_at, HasOnly}
+use Rattle.r10_script.specs.Keys.{items_or_none_at, HasOnly}
 use Rattle.r10_script.specs.Script.{AreScriptSettings, EachAsks}
 use Rattle.r10_script.specs.Session.{AreOrders, IsFeed, IsReader, session_keys}
 use Rattle.r10_script.specs.declared.session.SessionScript.{SessionScript}
@@ -25,9 +25,9 @@ pub record IsSession (text : List ℕ) (script : SessionScript) : Type 0 where
   pub only : HasOnly session_keys table
   pub settings : AreScriptSettings table script.settings
   pub steps : AreOrders script.settings.channels table (codes "step") script.steps.items
-  pub feeds : EachAsks (IsFeed script.settings.channels) (items_at table (codes "feed")) script.feeds.items
+  pub feeds : ItemsAsk (IsFeed script.settings.channels) (items_or_none_at table (codes "feed")) script.feeds.items
   pub orders : AreOrders script.settings.channels table (codes "order") script.orders.items
-  pub readers : EachAsks IsReader (items_at table (codes "reader")) script.readers.items
+  pub readers : ItemsAsk IsReader (items_or_none_at table (codes "reader")) script.readers.items
 
 -- a session is done where the audit says yes
 abbrev pub outcome_of : Result Bool Refusal → Outcome
