@@ -1,5 +1,5 @@
 -- Which directory a recorder mounts, and what it answers where it mounts none.
-use Rattle.std.specs.Prelude.{◌≡◌, ℕ, List, length, None, Some}
+use Rattle.std.specs.Prelude.{◌≡◌, ℕ, List, length, None, Some, Result, MatchResult}
 use Rattle.r10_count.specs.Checks.{first_broken}
 use Rattle.r10_medium.specs.Disk.{Disk, Image, Unchanged}
 use Rattle.r10_dirchain.specs.Bad.{IsBad}
@@ -37,6 +37,11 @@ abbrev pub IsNamed : ℕ → ChainError → Type 0
 IsNamed n (BadDirectory m) = m ≡ n
 IsNamed n Medium = Unit {0}
 IsNamed n OutOfMemory = Unit {0}
+
+-- A medium can't be used, because of this block: an error that names a block names this one, and nothing is written, also where the medium fails.
+pub record IsSpared {T : Type 0} (n : ℕ) (old new : Disk) (result : Result T ChainError) : Type 0 where
+  pub named : MatchResult result (λ _. ⊥) (IsNamed n)
+  pub same : Unchanged old new
 
 -- the medium is as it was, where it did not fail
 abbrev pub IsLeftAsWas : Disk → Disk → ChainError → Type 0

@@ -6,7 +6,7 @@ ghost use Rattle.r10_dirchain.specs.Bad.{IsNoFault};
 ghost use Rattle.r10_dirchain.specs.OnMedium.{IsPublished, Turns};
 ghost use Rattle.r10_dirchain.specs.Steps.{with_shutdown};
 ghost use Rattle.r10_dirchain.specs.declared.chain.ChainBlock.{ChainBlock};
-ghost use Rattle.r10_volume.specs.Mounting.{IsLeftAsWas, IsMountError, IsMounted, IsNamed, IsUnusable, IsUsable};
+ghost use Rattle.r10_volume.specs.Mounting.{IsLeftAsWas, IsMountError, IsMounted, IsSpared, IsUnusable, IsUsable};
 ghost use Rattle.r10_volume.specs.Mounted.{MountsFiles};
 
 use r10_dirchain::{ChainError, Directory, read_chain};
@@ -26,7 +26,8 @@ pub fn mount<M: BlockMedium>(
     ensures mounted { IfOk result (IsMounted reserved (M.disk medium.old).blocks) }
     ensures fault { IfErr result (IsMountError reserved (M.disk medium.old).blocks) }
     ensures usable { (chain : List ChainBlock) → IsUsable reserved (M.disk medium.old).blocks chain → MatchResult result (λ directory. directory ≡ with_shutdown 0x00 chain) IsNoFault }
-    ensures unusable { (n : ℕ) → IsUnusable reserved (M.disk medium.old).blocks n → MatchResult result (λ _. ⊥) (IsNamed n) }
+    // What can't be used is as it was, also where the medium fails.
+    ensures unusable { (n : ℕ) → IsUnusable reserved (M.disk medium.old).blocks n → IsSpared n (M.disk medium.old) (M.disk medium.new) result }
     // What is kept is the medium's directory, and a stop then leaves what is read.
     ensures directory { IfOk result (λ directory. IsPublished directory (M.disk medium.new)) }
     ensures ready { IfOk result (IsUsable reserved (M.disk medium.new).blocks) }

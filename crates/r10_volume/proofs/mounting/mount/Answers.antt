@@ -16,7 +16,8 @@ pub returns-in-Err-clause-usable : goal.returns-in-Err-clause-usable
 returns-in-Err-clause-usable g c = no_error c.args.reserved (g.M.BlockMedium.disk c.args.medium.now).blocks c.in-Err.error c.in-Err.ensures.fault
 
 pub returns-in-Err-clause-unusable : goal.returns-in-Err-clause-unusable
-returns-in-Err-clause-unusable g c = named_error c.args.reserved (g.M.BlockMedium.disk c.args.medium.now).blocks c.in-Err.error c.in-Err.ensures.fault
+returns-in-Err-clause-unusable g c = λ n there.
+    record { named = named_error c.args.reserved (g.M.BlockMedium.disk c.args.medium.now).blocks c.in-Err.error c.in-Err.ensures.fault n there; same = c.in-Err.ensures.same }
 
 pub returns-in-Err-clause-files : goal.returns-in-Err-clause-files
 returns-in-Err-clause-files g c =
@@ -36,7 +37,11 @@ returns-in-Ok-set_shutdown-clause-usable g c =
 
 pub returns-in-Ok-set_shutdown-clause-unusable : goal.returns-in-Ok-set_shutdown-clause-unusable
 returns-in-Ok-set_shutdown-clause-unusable g c =
-    λ n there. none_unusable c.args.reserved (g.M.BlockMedium.disk c.args.medium.now).blocks c.in-Ok.directory n c.in-Ok.ensures.usable there
+    λ n there. absurd (none_unusable c.args.reserved (g.M.BlockMedium.disk c.args.medium.now).blocks c.in-Ok.directory n c.in-Ok.ensures.usable there)
+
+pub returns-in-Err-set_shutdown-clause-unusable : goal.returns-in-Err-set_shutdown-clause-unusable
+returns-in-Err-set_shutdown-clause-unusable g c =
+    λ n there. absurd (none_unusable c.args.reserved (g.M.BlockMedium.disk c.args.medium.now).blocks c.in-Ok.directory n c.in-Ok.ensures.usable there)
 
 pub returns-in-Ok-set_shutdown-clause-directory : goal.returns-in-Ok-set_shutdown-clause-directory
 returns-in-Ok-set_shutdown-clause-directory g c =
