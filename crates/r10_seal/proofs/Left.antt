@@ -46,7 +46,7 @@ use Rattle.r10_seal.proofs.Sealed.{one_unsealed}
 pub same_cost : (text : List ℕ) (xs ys : List Entry) → ((channel : ℕ) → on_channel channel xs ≡ on_channel channel ys) → file_cost text xs ≡ file_cost text ys
 same_cost text xs ys same = omega (arith, same_sum entry_cost xs ys same)
 
-one_text : (packets : List Packet) (text other : List ℕ) (entries others : List Entry) → PacketsSay packets text entries false → PacketsSay packets other others false → text ≡ other
+pub one_text : (packets : List Packet) (text other : List ℕ) (entries others : List Entry) → PacketsSay packets text entries false → PacketsSay packets other others false → text ≡ other
 one_text packets text other entries others one two = let same : setup text ∷ [] ≡ setup other ∷ [] = sym one.setup_is ∙ two.setup_is in cc
 
 -- ---- the file as it is left

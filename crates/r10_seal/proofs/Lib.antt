@@ -8,3 +8,4 @@ pub mod Closed
 pub mod Left
 pub mod Held
 pub mod Usable
+pub mod Spared

@@ -2,6 +2,7 @@
 use Rattle.std.specs.Prelude.{◌≡◌, ℕ, ◌<◌, ◌≤◌, false, List, Some, None}
 use Rattle.r10_body.specs.Faults.{IsAtFault}
 use Rattle.r10_body.specs.Packets.{Packet}
+use Rattle.r10_body.specs.declared.fault.FileFault.{FileFault}
 use Rattle.r10_medium.specs.Disk.{Disk, Unchanged}
 use Rattle.r10_tracks.specs.Times.{last_mark}
 use Rattle.r10_tracks.specs.Tracks.{IsTracked}
@@ -25,6 +26,11 @@ pub record CostsTooMuch (bytes : List ℕ) (area : ℕ) : Type 0 where
   pub packets : List Packet
   pub unsealed : IsUnsealed bytes text packets
   pub much : area < cost_of_packets text packets
+
+-- the file may not be closed: its bytes are at fault, or strict packets that cost too much
+pub data IsUnsealable (bytes : List ℕ) (area : ℕ) : Type 0 where
+  at_fault : (offset : ℕ) (fault : FileFault) → IsAtFault bytes false offset fault → IsUnsealable bytes area
+  too_much : CostsTooMuch bytes area → IsUnsealable bytes area
 
 -- what a fault says of the file's bytes
 abbrev pub IsSealFault : List ℕ → ℕ → SealFault → Type 0

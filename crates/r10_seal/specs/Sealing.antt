@@ -1,8 +1,8 @@
 -- A last file that was left open, and the file that it is with its index.
-use Rattle.std.specs.Prelude.{◌≡◌, ◌⊎◌, ℕ, ◌^◌, ◌<◌, ◌≤◌, ◌++◌, false, List, [], ◌∷◌, length, Option, Some, None, Result, OnOk}
+use Rattle.std.specs.Prelude.{◌≡◌, ◌⊎◌, ℕ, ◌^◌, ◌<◌, ◌≤◌, ◌++◌, false, List, [], ◌∷◌, length, Some, None}
 use Rattle.r10_count.specs.declared.civil.Parts.{Parts}
 use Rattle.r10_medium.specs.Disk.{Disk, Image}
-use Rattle.r10_medium.specs.Stop.{ComesBy, Leaves, PutsSome, Settled}
+use Rattle.r10_medium.specs.Stop.{ComesBy, PutsSome}
 use Rattle.r10_blockout.specs.Blocks.{Shows, bytes_from, file_blocks}
 use Rattle.r10_body.specs.Cost.{file_cost}
 use Rattle.r10_body.specs.Files.{PacketsSay}
@@ -78,10 +78,3 @@ abbrev pub IsSealing : ℕ → DirectoryEntry → List Packet → List ChainBloc
 IsSealing nodes e packets chain old image =
     ComesBy (PutsSome e.first_block (file_blocks (sealed_bytes nodes packets))) old image
     ⊎ ((made : List ChainBlock) × ListsSealed nodes e packets chain made old.blocks image)
-
--- Where the last file, with this entry, is strict and has no index: at every moment, and where it fails, blocks of the file with its index are put, or the file is closed; after an Ok a stop leaves it closed.
-pub record SealsByParts {T E : Type 0} (nodes : ℕ) (last : Option DirectoryEntry) (chain made : List ChainBlock) (old new : Disk) (result : Result T E) : Type 0 where
-  pub moments : (e : DirectoryEntry) (text : List ℕ) (packets : List Packet) → last ≡ Some e → IsUnsealed (bytes_from old.blocks e.first_block e.size) text packets → Leaves (IsSealing nodes e packets chain old) old new
-  pub reads : (e : DirectoryEntry) (text : List ℕ) (packets : List Packet) → last ≡ Some e → IsUnsealed (bytes_from old.blocks e.first_block e.size) text packets → IsPartlySealed nodes e packets chain old.blocks new.blocks
-  pub sure : (e : DirectoryEntry) (text : List ℕ) (packets : List Packet) → last ≡ Some e → IsUnsealed (bytes_from old.blocks e.first_block e.size) text packets
-      → OnOk result (Settled (ListsSealed nodes e packets chain made old.blocks) new)
