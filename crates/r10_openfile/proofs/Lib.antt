@@ -24,3 +24,4 @@ pub mod BackToBack
 pub mod Listing
 pub mod ListedTurning
 pub mod Calls
+mod Parts

@@ -9,3 +9,4 @@ pub mod Entering
 pub mod Relisting
 pub mod Begins
 pub mod Asking
+pub mod ByParts
