@@ -1,3 +1,4 @@
 pub mod Device
 pub mod Orders
+pub mod Queue
 pub mod RegionDisk

@@ -1,11 +1,11 @@
 -- What lent memory reads as, and what a stop leaves of the disk that does what it is told.
-use Rattle.std.specs.Prelude.{◌≡◌, ℕ, ◌-◌, ◌^◌, ◌≤◌, ◌<◌, List, length, take, min, refl}
+use Rattle.std.specs.Prelude.{◌≡◌, ℕ, ◌-◌, ◌^◌, ◌≤◌, ◌<◌, List, length, min}
 use Rattle.std.proofs.Common.{arith, sym, ap, subst}
 use Rattle.std.proofs.lemmas.List.{take_all}
 use Rattle.rtrb.specs.Ring.{sent}
 use Rattle.r10_medium.specs.Crashing.{stays_in_range}
 use Rattle.r10_medium.specs.Disk.{Disk, Image, Block, IsWhole, PicksEach, block_at}
-use Rattle.r10_region.specs.Device.{Device, device_of, at_rest, MayHold, IsLeftOfDevice, IsStoppedSince, AreWhole, all_sound, all_whole, rest_is_sound, rest_is_whole}
+use Rattle.r10_region.specs.Device.{device_of, at_rest, MayHold, IsLeftOfDevice, IsStoppedSince, AreWhole, all_sound, all_whole, rest_is_sound, rest_is_whole}
 use Rattle.r10_region.specs.declared.operation.Operation.{Operation as OperationValue}
 use Rattle.r10_region.specs.declared.region.Region.{Region}
 

@@ -43,6 +43,7 @@ impl Region {
     ghost use Rattle.rtrb.specs.Ring.{IsPair};
     ghost use Rattle.r10_medium.specs.Disk.{IsSynced};
     ghost use Rattle.r10_region.specs.Orders.{taken};
+    ghost use Rattle.r10_region.specs.Queue.{queue_room, places_known};
     ghost use Rattle.r10_region.specs.RegionDisk.{region_disk, lent_to, asked};
 
     /// The medium of these blocks, and the orders of its disk, of which as many as `room` may wait. The disk holds what the blocks hold.
@@ -53,6 +54,7 @@ impl Region {
         ensures failures { IfOk result (λ r. (region_disk r.0).failures ≡ 0) }
         ensures none_yet { IfOk result (λ r. (asked r.0 ≡ []) × (taken r.1 ≡ [])) }
         ensures pair { IfOk result (λ r. IsPair r.0.device r.1.device) }
+        ensures room { IfOk result (λ r. (queue_room r.0 ≡ room) × (places_known r.0 ≡ room)) }
     {
         let (producer, consumer) = RingBuffer::new(alloc, room)?;
         let was = Snapshot::of(&strip);
@@ -70,7 +72,11 @@ impl Region {
 }
 
 impl BlockMedium for Region {
+    ghost use Rattle.std.specs.Prelude.{slice_set, IsOk, OnErr, OnOk};
+    ghost use Rattle.r10_medium.specs.Disk.{block_at, Counts, IsSynced, Unchanged, Wrote};
+    ghost use Rattle.r10_region.specs.Queue.{AsksDisk, FindsNoPlace};
     ghost use Rattle.r10_region.specs.RegionDisk.{region_disk};
+    ghost use Rattle.r10_region.specs.declared.operation.Operation.TheVariants.{Write, Sync};
 
     ghost disk = { region_disk };
 
@@ -78,12 +84,25 @@ impl BlockMedium for Region {
         self.blocks.len()
     }
 
-    fn read(&mut self, n: usize, block: &mut [u8; 512]) -> Result<(), MediumFault> {
+    fn read(&mut self, n: usize, block: &mut [u8; 512]) -> Result<(), MediumFault>
+        requires { n < length (region_disk self.old).blocks }
+        ensures read { OnOk result (block.new ≡ block_at (region_disk self.old).blocks n) }
+        ensures same { Unchanged (region_disk self.old) (region_disk self.new) }
+        ensures counts { Counts (region_disk self.old) (region_disk self.new) result }
+        ensures always { IsOk result × (self.new ≡ self.old) }
+    {
         *block = self.blocks[n];
         Ok(())
     }
 
-    fn write(&mut self, n: usize, block: &[u8; 512]) -> Result<(), MediumFault> {
+    fn write(&mut self, n: usize, block: &[u8; 512]) -> Result<(), MediumFault>
+        requires { n < length (region_disk self.old).blocks }
+        ensures written { OnOk result ((region_disk self.new).blocks ≡ slice_set (region_disk self.old).blocks n block.now) }
+        ensures wrote { Wrote n block.now (region_disk self.old) (region_disk self.new) }
+        ensures counts { Counts (region_disk self.old) (region_disk self.new) result }
+        ensures asks { OnOk result (AsksDisk (Write n block.now) self.old self.new) }
+        ensures full { OnErr result (FindsNoPlace self.old self.new) }
+    {
         if tell_write(self.blocks, &mut self.device, n, block) {
             return Ok(());
         }
@@ -91,7 +110,13 @@ impl BlockMedium for Region {
         Err(MediumFault)
     }
 
-    fn sync(&mut self) -> Result<(), MediumFault> {
+    fn sync(&mut self) -> Result<(), MediumFault>
+        ensures sure { OnOk result (IsSynced (region_disk self.new)) }
+        ensures same { Unchanged (region_disk self.old) (region_disk self.new) }
+        ensures counts { Counts (region_disk self.old) (region_disk self.new) result }
+        ensures asks { OnOk result (AsksDisk Sync self.old self.new) }
+        ensures full { OnErr result (FindsNoPlace self.old self.new) }
+    {
         if tell_sync(&mut self.device) {
             return Ok(());
         }

@@ -3,6 +3,7 @@
 ghost use Rattle.std.specs.Prelude.{◌≡◌, ◌<◌, length};
 ghost use Rattle.rtrb.specs.Ring.{sent};
 ghost use Rattle.r10_region.specs.Device.{told_if, put_if};
+ghost use Rattle.r10_region.specs.Queue.{KeepsQueue};
 ghost use Rattle.r10_region.specs.declared.operation.Operation.TheVariants.{Write, Sync};
 
 use crate::operation::{Operation, has_its_bytes};
@@ -20,6 +21,7 @@ pub(crate) fn tell_write(
     ensures told { sent device.new ≡ told_if result (Write n block.now) (sent device.old) }
     ensures put { blocks.new ≡ put_if result n block.now blocks.old }
     ensures whole { length block.now ≡ 512 }
+    ensures queue { KeepsQueue result device.old device.new }
 {
     has_its_bytes(block);
     let operation = Operation::Write {
@@ -37,7 +39,8 @@ pub(crate) fn tell_write(
 
 /// Tells the disk to make sure what was written.
 pub(crate) fn tell_sync(device: &mut Producer<Operation, Global>) -> bool
-    ensures { sent device.new ≡ told_if result Sync (sent device.old) }
+    ensures told { sent device.new ≡ told_if result Sync (sent device.old) }
+    ensures queue { KeepsQueue result device.old device.new }
 {
     match device.push(Operation::Sync) {
         Ok(()) => true,
