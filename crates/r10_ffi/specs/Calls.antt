@@ -4,6 +4,8 @@ use Rattle.rtrb.specs.Ring.{IsPair}
 use Rattle.r10_medium.specs.Disk.{Image}
 use Rattle.r10_world.specs.State.{WorldState}
 use Rattle.r10_desk.specs.Opening.{FormatsByScript, OpensRecorder}
+use Rattle.r10_region.specs.Orders.{taken}
+use Rattle.r10_region.specs.Queue.{queue_room, places_known}
 use Rattle.r10_region.specs.RegionDisk.{region_disk, lent_to, asked}
 use Rattle.r10_region.specs.declared.region.Region.{Region}
 use Rattle.r10_ffi.specs.declared.held.Held.{Held}
@@ -18,14 +20,18 @@ pub record IsFormattedRegion (text : List ℕ) : Type 0 where
   pub medium : Region
   pub formats : FormatsByScript text (region_disk medium)
 
--- A recorder by the script over memory that held this, of whose disk nothing was asked yet, and beside it the other end of its disk's queue.
-pub record OpensOver (text : List ℕ) (image : Image) (h : Held) : Type 0 where
+-- A recorder by the script over memory that held this, of whose disk nothing was asked yet, and beside it the other end of its disk's queue, out of which
+-- nothing was handed yet. So many operations may wait in it, and it is known that there is a place for each.
+pub record OpensOver (text : List ℕ) (image : Image) (room : ℕ) (h : Held) : Type 0 where
   pub medium : Region
   pub lent : lent_to medium ≡ image
   pub none_yet : asked medium ≡ []
+  pub none_out : taken h.orders ≡ []
   pub queue : IsPair medium.device h.orders.device
+  pub room_is : queue_room medium ≡ room
+  pub places : places_known medium ≡ room
   pub opens : OpensRecorder region_disk text medium h.desk.world
 
-abbrev pub IsOpened : List ℕ → Image → Option Held → Type 0
-IsOpened text image None = ⊥
-IsOpened text image (Some h) = OpensOver text image h
+abbrev pub IsOpened : List ℕ → Image → ℕ → Option Held → Type 0
+IsOpened text image room None = ⊥
+IsOpened text image room (Some h) = OpensOver text image room h

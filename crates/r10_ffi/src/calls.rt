@@ -1,6 +1,6 @@
 //! The calls of the library.
 
-ghost use Rattle.std.specs.Prelude.{◌≡◌, ◌⊎◌, ◌≤◌, ◌<◌, length};
+ghost use Rattle.std.specs.Prelude.{◌≡◌, ◌⊎◌, ◌≤◌, ◌<◌, None, length};
 ghost use Rattle.r10_body.specs.declared.message.Message.TheVariants as messages;
 ghost use Rattle.r10_machine.specs.declared.event.Event.TheVariants as events;
 ghost use Rattle.r10_desk.specs.Listing.{file_in, files_in, channel_given, lane_place, name_in, file_place, status_given};
@@ -47,7 +47,7 @@ pub extern "C" fn r10_open(
     script: &[u8],
     recorder: &mut Handle,
 ) -> u32
-    ensures opens { result ≡ 0 → IsOpened script.now region.held recorder.new.held }
+    ensures opens { result ≡ 0 → IsOpened script.now region.held room recorder.new.held }
     ensures untouched { (result ≡ 30) ⊎ (result ≡ 40) ⊎ (result ≡ 41) → recorder.new ≡ recorder.old }
     ensures other { result ≡ 41 → HasOtherBlocks script.now (length region.held) }
     ensures numbers { (result ≡ 0) ⊎ (result ≡ 30) ⊎ (result ≡ 40) ⊎ (result ≡ 41) }
@@ -93,6 +93,7 @@ pub extern "C" fn r10_order(
 #[unsafe(no_mangle)]
 pub extern "C" fn r10_close(alloc: Global, recorder: &mut Handle)
     requires { IsThere recorder.old.held }
+    ensures { recorder.new.held ≡ None }
 {
     let _held = recorder.take(alloc);
 }

@@ -31,7 +31,8 @@ impl Handle {
     /// Takes what it holds, and leaves none.
     pub(crate) fn take(&mut self, alloc: Global) -> Box<Held>
         requires { IsThere self.old.held }
-        ensures { self.old.held ≡ Some result.value }
+        ensures taken { self.old.held ≡ Some result.value }
+        ensures left { self.new.held ≡ None }
     {
         std::mem::replace(self, Handle::none(alloc))
             .untied()

@@ -3,4 +3,4 @@ use Rattle.r10_ffi.proofs.Between.{between}
 use Rattle.r10_ffi.proofs.calls.r10_close_cursor.Goals as goal
 
 pub returns : goal.returns
-returns c = between _ _ _ _ _ _ c.take-held.ensures c.deref_mut.ensures.value c.put.ensures (c.close_cursor-answer.ensures, refl)
+returns c = between _ _ _ _ _ _ c.take-held.ensures.taken c.deref_mut.ensures.value c.put.ensures (c.close_cursor-answer.ensures, refl)
