@@ -41,3 +41,4 @@ mod Allowed
 mod Alike
 mod Alone
 mod Shown
+mod Fronting

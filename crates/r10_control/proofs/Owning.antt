@@ -241,7 +241,7 @@ number_some reserved image chain usable some =
     let place = placed reserved 1 chain (place_rules_hold reserved (length image) chain usable.rules) found.0 found.1.within in
     subst (λ (i : ℕ). 1 ≤ (at_place chain i).number) (sym (last_listing_is chain found.0 found.1)) (omega (arith, place.0))
 
-sealed_front : (reserved : ℕ) (old new : Image) (chain made : List ChainBlock) (nodes : ℕ) (e : DirectoryEntry) (packets : List Packet) → IsUsable reserved old chain → 0 < length (listed_files chain) → ListsSealed nodes e packets chain made old new → KeepsFront reserved e.first_block old new
+pub sealed_front : (reserved : ℕ) (old new : Image) (chain made : List ChainBlock) (nodes : ℕ) (e : DirectoryEntry) (packets : List Packet) → IsUsable reserved old chain → 0 < length (listed_files chain) → ListsSealed nodes e packets chain made old new → KeepsFront reserved e.first_block old new
 sealed_front reserved old new chain made nodes e packets usable some closed =
     let number = (at_place chain (last_listing chain)).number in
     let low : number ≤ reserved = number_reserved reserved old chain usable some in

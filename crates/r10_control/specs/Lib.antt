@@ -17,3 +17,4 @@ pub mod Effects
 pub mod Safely
 pub mod Own
 pub mod Standing
+pub mod Fronts

@@ -1,4 +1,4 @@
-use Rattle.std.proofs.Common.{◌≡◌, ◌+◌, ℕ, List, None, refl, sym, ap, ◌∙◌, subst}
+use Rattle.std.proofs.Common.{◌≡◌, ◌+◌, ℕ, List, None, refl, sym, ap, ◌∙◌, subst, [], ◌∷◌}
 use Rattle.r10_body.specs.declared.refusal.Refusal.TheVariants as refusals
 use Rattle.r10_count.specs.Checks.{first_broken}
 use Rattle.r10_count.proofs.Rules.{rules_pass, rules_stop}
@@ -26,6 +26,9 @@ use Rattle.r10_means.specs.Left.{StaysSafe, whichever}
 use Rattle.r10_control.proofs.StopPoints.{made_of}
 use Rattle.r10_control.proofs.Making.{erase_left}
 use Rattle.r10_medium.proofs.Stops.{unchanged}
+use Rattle.r10_dirchain.specs.OnMedium.{SameButIn}
+use Rattle.r10_dirchain.specs.Steps.{emptied}
+use Rattle.r10_control.proofs.Fronting.{same_but_none, turned_alone}
 use Rattle.r10_control.proofs.recorder.Recorder.erase.Goals as goal
 
 pub returns-in-Err-clause-steps : goal.returns-in-Err-clause-steps
@@ -196,3 +199,42 @@ returns-in-Err-erase-clause-stops g c =
     rules_pass (idle_checks (mode_of k.work)) (erase_checks k.generation) (ap (λ mode. first_broken (idle_checks mode)) (sym c.mode_in.ensures) ∙ c.in_default.ensures) ∙ c.in_default-check_erase.ensures in
     subst (λ (v : RecorderState _ _). StaysSafe whichever v.kept events.Erase (replies.Refused refusals.Medium) (disk v.medium) (record k { work = work_of c.turn.new.work }) later) c.self.view_is
     (failed_safely whichever k (record k { work = work_of c.turn.new.work }) events.Erase (replies.Refused refusals.Medium) (disk w.medium) later (ap work_of c.turn.ensures) (made_of whichever k events.Erase (disk w.medium) later (erase_left k (disk w.medium) later c.in-Idle.directory (ap work_of c.in-Idle.is) fine (λ files held settled. c.erase.ensures.moments k.config files held settled))))
+
+-- ---- which blocks stay
+
+pub returns-in-Err-clause-front : goal.returns-in-Err-clause-front
+returns-in-Err-clause-front g c =
+    let w = c.self.inside in
+    let disk = g.M.BlockMedium.disk in
+    subst (λ (v : RecorderState _ _). SameButIn (1 ∷ []) (disk v.medium).blocks (disk v.medium).blocks) c.self.view_is
+    (same_but_none (1 ∷ []) (disk w.medium).blocks)
+
+pub returns-in-Err-check_erase-clause-front : goal.returns-in-Err-check_erase-clause-front
+returns-in-Err-check_erase-clause-front g c =
+    let w = c.self.inside in
+    let disk = g.M.BlockMedium.disk in
+    subst (λ (v : RecorderState _ _). SameButIn (1 ∷ []) (disk v.medium).blocks (disk v.medium).blocks) c.self.view_is
+    (same_but_none (1 ∷ []) (disk w.medium).blocks)
+
+pub returns-in_default-from_slice-clause-front : goal.returns-in_default-from_slice-clause-front
+returns-in_default-from_slice-clause-front g c =
+    let w = c.self.inside in
+    let disk = g.M.BlockMedium.disk in
+    subst (λ (v : RecorderState _ _). SameButIn (1 ∷ []) (disk v.medium).blocks (disk v.medium).blocks) c.self.view_is
+    (same_but_none (1 ∷ []) (disk w.medium).blocks)
+
+pub returns-in-Ok-erase-clause-front : goal.returns-in-Ok-erase-clause-front
+returns-in-Ok-erase-clause-front g c =
+    let w = c.self.inside in
+    let disk = g.M.BlockMedium.disk in
+    let later = disk c.erase.new.medium in
+    subst (λ (v : RecorderState _ _). SameButIn (1 ∷ []) (disk v.medium).blocks later.blocks) c.self.view_is
+    (turned_alone c.in-Idle.directory (emptied c.in-Idle.directory) (disk w.medium) later c.erase.result c.erase.ensures.turns)
+
+pub returns-in-Err-erase-clause-front : goal.returns-in-Err-erase-clause-front
+returns-in-Err-erase-clause-front g c =
+    let w = c.self.inside in
+    let disk = g.M.BlockMedium.disk in
+    let later = disk c.erase.new.medium in
+    subst (λ (v : RecorderState _ _). SameButIn (1 ∷ []) (disk v.medium).blocks later.blocks) c.self.view_is
+    (turned_alone c.in-Idle.directory (emptied c.in-Idle.directory) (disk w.medium) later c.erase.result c.erase.ensures.turns)

@@ -26,6 +26,8 @@ use Rattle.r10_medium.specs.Disk.{Image}
 use Rattle.r10_means.proofs.Behind.{failed_safely, refused_safely, synced_safely}
 use Rattle.r10_means.specs.Left.{StaysSafe, whichever}
 use Rattle.r10_control.proofs.StopPoints.{makes_none, unmounted_leaves}
+use Rattle.r10_control.specs.Fronts.{MountSpares}
+use Rattle.r10_control.proofs.Fronting.{mount_spares, mount_spares_all}
 use Rattle.r10_control.proofs.recorder.Recorder.mount.Goals as goal
 
 pub returns-in-Err-clause-steps : goal.returns-in-Err-clause-steps
@@ -222,3 +224,43 @@ returns-in-Err-Medium-clause-stops g c =
     let fine : first_broken (unmounted_checks (mode_of k.work)) ≡ None = ap (λ mode. first_broken (unmounted_checks mode)) (sym c.mode_in.ensures) ∙ c.in_default.ensures in
     subst (λ (v : RecorderState _ _). StaysSafe whichever v.kept events.Mount (replies.Refused refusals.Medium) (disk v.medium) (record k { work = work_of c.turn-in-Err-Medium.new.work }) later) c.self.view_is
     (failed_safely whichever k (record k { work = work_of c.turn-in-Err-Medium.new.work }) events.Mount (replies.Refused refusals.Medium) (disk w.medium) later (ap work_of c.turn-in-Err-Medium.ensures) (makes_none whichever k events.Mount (disk w.medium) later (unmounted_leaves k (disk w.medium) later (unmounted_work k.work fine) (λ files settled. c.mount.ensures.files.moments k.config files settled))))
+
+-- ---- what stays
+
+pub returns-in-Err-clause-spares : goal.returns-in-Err-clause-spares
+returns-in-Err-clause-spares g c =
+    let w = c.self.inside in
+    let disk = g.M.BlockMedium.disk in
+    subst (λ (v : RecorderState _ _). MountSpares v.kept.config.directory (disk v.medium) (disk v.medium)) c.self.view_is (mount_spares_all w.settings.directory (disk w.medium))
+
+pub returns-in-Ok-clause-spares : goal.returns-in-Ok-clause-spares
+returns-in-Ok-clause-spares g c =
+    let w = c.self.inside in
+    let disk = g.M.BlockMedium.disk in
+    let later = disk c.mount.new.medium in
+    subst (λ (v : RecorderState _ _). MountSpares v.kept.config.directory (disk v.medium) later) c.self.view_is
+    (subst (λ (n : ℕ). MountSpares n (disk w.medium) later) c.directory.ensures.value (mount_spares c.directory.result (disk w.medium) later c.mount.result (λ chain usable. c.mount.ensures.turns chain usable)))
+
+pub returns-in-Err-BadDirectory-clause-spares : goal.returns-in-Err-BadDirectory-clause-spares
+returns-in-Err-BadDirectory-clause-spares g c =
+    let w = c.self.inside in
+    let disk = g.M.BlockMedium.disk in
+    let later = disk c.mount.new.medium in
+    subst (λ (v : RecorderState _ _). MountSpares v.kept.config.directory (disk v.medium) later) c.self.view_is
+    (subst (λ (n : ℕ). MountSpares n (disk w.medium) later) c.directory.ensures.value (mount_spares c.directory.result (disk w.medium) later c.mount.result (λ chain usable. c.mount.ensures.turns chain usable)))
+
+pub returns-in-Err-OutOfMemory-clause-spares : goal.returns-in-Err-OutOfMemory-clause-spares
+returns-in-Err-OutOfMemory-clause-spares g c =
+    let w = c.self.inside in
+    let disk = g.M.BlockMedium.disk in
+    let later = disk c.mount.new.medium in
+    subst (λ (v : RecorderState _ _). MountSpares v.kept.config.directory (disk v.medium) later) c.self.view_is
+    (subst (λ (n : ℕ). MountSpares n (disk w.medium) later) c.directory.ensures.value (mount_spares c.directory.result (disk w.medium) later c.mount.result (λ chain usable. c.mount.ensures.turns chain usable)))
+
+pub returns-in-Err-Medium-clause-spares : goal.returns-in-Err-Medium-clause-spares
+returns-in-Err-Medium-clause-spares g c =
+    let w = c.self.inside in
+    let disk = g.M.BlockMedium.disk in
+    let later = disk c.mount.new.medium in
+    subst (λ (v : RecorderState _ _). MountSpares v.kept.config.directory (disk v.medium) later) c.self.view_is
+    (subst (λ (n : ℕ). MountSpares n (disk w.medium) later) c.directory.ensures.value (mount_spares c.directory.result (disk w.medium) later c.mount.result (λ chain usable. c.mount.ensures.turns chain usable)))
