@@ -2,6 +2,7 @@
 use Rattle.std.specs.Prelude.{◌≡◌, ◌≤◌, ◌+◌, ◌-◌, ◌*◌, ◌^◌, ◌==◌, ◌⊎◌, ℕ, List, [], ◌∷◌, ◌++◌, count_by, length, map, min, None, Option, Some}
 use Rattle.std.specs.List.{AllByRecursion, sum_by}
 use Rattle.r10_blockout.specs.Output.{first_of}
+use Rattle.r10_body.specs.Cost.{entry_cost}
 use Rattle.r10_body.specs.declared.entry.Entry.{Entry}
 use Rattle.r10_body.specs.declared.entry.Sample.{Sample}
 use Rattle.r10_body.specs.declared.spec.ChannelSpec.{ChannelSpec}
@@ -22,7 +23,7 @@ use Rattle.r10_index.specs.Written.{IsGroup}
 use Rattle.r10_openfile.specs.Keeping.{ListsLast, MayGoOn, ended_in}
 use Rattle.r10_pump.specs.Pumping.{IsReadyFor, packets_at_most}
 use Rattle.r10_openfile.specs.Intake.{AreMovedIn}
-use Rattle.r10_pump.specs.Stopping.{AllEnd, FailsAll, IsOpenToAll, Part, TellsWaiting, TookAll, entries_of, most_of, room_of}
+use Rattle.r10_pump.specs.Stopping.{AllEnd, FailsAll, GoesThrough, IsOpenToAll, Part, TellsWaiting, TookAll, entries_of, most_of, room_of}
 use Rattle.r10_machine.specs.Says.{MediumSays}
 
 -- what the close of a file behind a stop's samples asks: groups of index packets of a size that there is, each channel once in the order, a number for each, memory for all that may be put, and a file that is open to the lanes and may go on
@@ -46,6 +47,8 @@ pub record TakenAll {L : Type 0} (took : L → List Sample → L → Type 0) (qu
   pub number : said.taken ≡ length (entries_of parts)
   pub left : said.left ≡ min (sum_by (λ (p : Part). length p.rest) parts) (2 ^ 64 - 1)
   pub recording : Recording
+  pub paid : recording.cost ≡ old.recording.cost + sum_by entry_cost (entries_of parts)
+  pub through : GoesThrough (most_of (map spec_of lanes)) recording area parts
   pub moves : (s : Config) (files : List File) (f : File) → HoldsFiles s before chain (Some old) (files ++ f ∷ []) → AllEnd spec_of reached lanes f.entries → area ≡ area_of s f
       → AreMovedIn s f (map spec_of lanes) order parts said.taken recording
 

@@ -1,16 +1,21 @@
 -- Machines whose lanes stand for lanes of any kind.
 use Rattle.std.specs.Prelude.{◌≡◌, ℕ, ◌≤◌, List, [], ◌∷◌, Option, None, Some, Result, IfErr, MatchOption, MatchResult, slice_get}
 use Rattle.std.specs.List.{AllByRecursion}
+use Rattle.r10_blockout.specs.Output.{first_of}
 use Rattle.r10_body.specs.declared.entry.Sample.{Sample}
 use Rattle.r10_body.specs.declared.refusal.Refusal.{Refusal}
 use Rattle.r10_body.specs.declared.refusal.Refusal.TheVariants.{MediumFull}
 use Rattle.r10_body.specs.declared.spec.ChannelSpec.{ChannelSpec}
 use Rattle.r10_lane.specs.Lanes.{Gives}
+use Rattle.r10_machine.specs.Config.{Config}
 use Rattle.r10_machine.specs.Machine.{Lane, Machine}
+use Rattle.r10_machine.specs.Room.{area_from}
 use Rattle.r10_machine.specs.SoundParts.{count_or_0}
-use Rattle.r10_means.specs.Kept.{Kept}
+use Rattle.r10_means.specs.Kept.{Kept, Work, recording}
 use Rattle.r10_means.specs.Means.{KeptStandsFor}
 use Rattle.r10_medium.specs.Disk.{Image}
+use Rattle.r10_mux.specs.declared.fault.Full.TheVariants as lacking
+use Rattle.r10_pump.specs.Pumping.{SampleLacks}
 use Rattle.r10_pump.specs.Stopping.{Part, TookAll, samples_on}
 use Rattle.r10_control.specs.Leading.{KeptStepsTaking, none_taken}
 use Rattle.r10_control.specs.Taking.{one_part, taken_of}
@@ -110,11 +115,17 @@ pub record StepsShowing {L : Type 0} (quiet : L → Option (List Sample)) (reach
   pub stays : KeptStandsFor later new now m
   pub stands : StandFor quiet reached spec_of lanes' m.lanes
 
--- The channel's lane shows a sample, which is the one that it gives next; and where the lane may give that, the call is a step so, from each machine that is meant and stands for the lanes.
+-- this sample has no room in the file that is recorded
+abbrev pub LacksShown : ℕ → Sample → Config → Work → Type 0
+LacksShown channel first s (recording chain o) = SampleLacks o.recording channel (area_from s (first_of o.recording.out.blocks)) lacking.Medium first
+LacksShown channel first s work = ⊥
+
+-- The channel's lane shows a sample, which is the one that it gives next, and which has no room; and where the lane may give that, the call is a step so, from each machine that is meant and stands for the lanes.
 pub record RefusesShown {L : Type 0} (took : L → List Sample → L → Type 0) (shows : L → Sample → Type 0) (quiet : L → Option (List Sample)) (reached : L → ℕ) (spec_of : L → ChannelSpec)
     (k : Kept) (old : Image) (before : ℕ) (channel : ℕ) (event : EventValue) (r : Refusal) (later : Kept) (new : Image) (now : ℕ) (lanes lanes' : List L) : Type 0 where
   pub first : Sample
   pub shown : AllByRecursion (λ lane. (spec_of lane).id ≡ channel → shows lane first) lanes'
+  pub lacks : LacksShown channel first later.config later.work
   pub steps : StaysShared took quiet → MayGive quiet reached spec_of channel first lanes → (m : Machine) → KeptStandsFor k old before m → StandFor quiet reached spec_of lanes m.lanes
       → StepsShowing quiet reached spec_of k old before channel first event r later new now lanes lanes' m
 

@@ -1,10 +1,11 @@
 -- What a call takes from lanes.
 use Rattle.r10_blockout.specs.Output.{first_of}
-use Rattle.std.specs.Prelude.{◌≡◌, ◌⊎◌, ℕ, ◌-◌, ◌^◌, ◌≤◌, List, [], ◌∷◌, ◌++◌, length, map, min, Option, None, Some, IfErr, IfOk, IsSomeAnd, OnOk, Result, Ok, Err, MatchResult, slice_get}
+use Rattle.std.specs.Prelude.{◌≡◌, ◌⊎◌, ℕ, ◌+◌, ◌-◌, ◌^◌, ◌≤◌, List, [], ◌∷◌, ◌++◌, length, map, min, Option, None, Some, IfErr, IfOk, IsSomeAnd, OnOk, Result, Ok, Err, MatchResult, slice_get}
 use Rattle.std.specs.List.{AllByRecursion, sum_by}
 use Rattle.r10_control.specs.Own.{OwnGrow}
 use Rattle.r10_control.specs.Refused.{IsSameKept}
 use Rattle.r10_openfile.specs.Entering.{IsAskedFor}
+use Rattle.r10_body.specs.Cost.{entry_cost}
 use Rattle.r10_body.specs.declared.entry.Entry.{Entry}
 use Rattle.r10_body.specs.declared.entry.Sample.{Sample}
 use Rattle.r10_body.specs.declared.refusal.Refusal.{Refusal}
@@ -29,8 +30,9 @@ use Rattle.r10_openfile.specs.Carrying.{IsShown}
 use Rattle.r10_openfile.specs.Intake.{IsMovedIn}
 use Rattle.r10_openfile.specs.Keeping.{MayGoOn}
 use Rattle.r10_pump.specs.Machines.{HasWaiting}
-use Rattle.r10_pump.specs.Pumping.{Begins, SampleHasRoom, entries_on}
-use Rattle.r10_pump.specs.Stopping.{Part, TellsWaiting, TookAll, entries_of, most_of, samples_on}
+use Rattle.r10_packetout.specs.Carries.{Recording}
+use Rattle.r10_pump.specs.Pumping.{Begins, PumpEnds, SampleHasRoom, entries_on}
+use Rattle.r10_pump.specs.Stopping.{GoesThrough, Part, TellsWaiting, TookAll, entries_of, most_of, samples_on}
 use Rattle.r10_control.specs.Leading.{KeptStepsTaking}
 use Rattle.r10_control.specs.declared.pumping.PumpFault.{PumpFault}
 use Rattle.r10_control.specs.declared.pumping.PumpFault.TheVariants as pump_faults
@@ -52,7 +54,19 @@ one_part channel samples rest = record { channel = channel; samples = samples; r
 abbrev pub NoneBehind : {L : Type 0} → (L → Option (List Sample)) → (L → ChannelSpec) → List L → Part → Type 0
 NoneBehind quiet spec_of lanes p = AllByRecursion (λ lane. (spec_of lane).id ≡ p.channel → quiet lane ≡ None → p.rest ≡ []) lanes
 
+-- Behind a file that took all of this in, channel by channel all went in that may, up to the first sample that has no room there; behind that one none did.
+pub record WentThrough (most : ℕ → ℕ) (s : Config) (o : Open) (parts : List Part) : Type 0 where
+  pub file : Recording
+  pub cost : file.cost ≡ o.recording.cost + sum_by entry_cost (entries_of parts)
+  pub through : GoesThrough most file (area_from s (first_of o.recording.out.blocks)) parts
+
+-- so it is where a file is recorded
+abbrev pub GoesInto : (ℕ → ℕ) → Config → Work → List Part → Type 0
+GoesInto most s (recording chain o) parts = WentThrough most s o parts
+GoesInto most s work parts = ⊥
+
 -- Channel by channel in this order, up to some, a call took these parts from the lanes, no more of a channel than may be; of a lane that is quiet, a part and its rest are all that waited. Where the medium failed while they were taken, nothing is told of the rests.
+-- Where the call succeeds, each channel has its part, and all went in that may, up to the first sample that has no room.
 -- No part is more than its lane has room for. Where the answer says that nothing was left, none is told to wait behind what was taken of a lane that isn't quiet.
 -- They are counted where the call succeeds, and whatever entries the recorder's own files had, these are behind them then. From each machine that is meant, and in whose lanes the parts and their rests wait, what the call answers leads to one that is meant then.
 pub record StepsByTaking {L T : Type 0} (took : L → List Sample → L → Type 0) (quiet : L → Option (List Sample)) (spec_of : L → ChannelSpec) (order : List ℕ) (most : ℕ → ℕ) (says : T → List Part → Type 0) (bare : Result T Refusal → Type 0)
@@ -62,6 +76,8 @@ pub record StepsByTaking {L T : Type 0} (took : L → List Sample → L → Type
   pub told : (known ≡ parts) ⊎ ((known ≡ []) × (result ≡ Err Medium))
   pub passed : List ℕ
   pub order_is : map (λ (p : Part). p.channel) parts ++ passed ≡ order
+  pub whole : OnOk result (passed ≡ [])
+  pub through : OnOk result (GoesInto most k.config k.work parts)
   pub within : AllByRecursion (λ (p : Part). length p.samples ≤ most p.channel) parts
   pub few : AllByRecursion (λ (p : Part). length p.samples ≤ most_of (map spec_of lanes) p.channel) parts
   pub taken : TookAll took spec_of parts lanes lanes'
@@ -137,12 +153,14 @@ abbrev pub MovesAny : (List Entry → Type 0) → ℕ → ℕ → ℕ → ℕ �
 MovesAny ends channel most area n samples rest full old before new =
     (s : Config) (chain : List ChainBlock) (files : List File) (f : File) → HoldsFiles s before chain (Some old) (files ++ f ∷ []) → ends f.entries → area ≡ area_of s f → IsMovedIn s f channel most n samples rest full new.recording
 
--- so many were moved, and where none was, none was asked for or nothing waits
+-- so many were moved, and where none was, none was asked for or nothing waits; why no more were is told
 pub record MovedSamples (ends ends' : List Entry → Type 0) (channel most area : ℕ) (samples rest : List Sample) (old : Open) (before : Image) (new : Open) (after : Image) (n : ℕ) : Type 0 where
   pub number : n ≡ length samples
   pub on : WentOn area ends ends' (entries_on channel samples) old before new after
   pub full : Option Full
   pub some : n ≡ 0 → full ≡ None
+  pub paid : new.recording.cost ≡ old.recording.cost + sum_by entry_cost (entries_on channel samples)
+  pub ended : PumpEnds new.recording channel area most n rest full
   pub moves : MovesAny ends channel most area n samples rest full old before new
 
 -- nothing was moved and nothing written, and the file is the same but for its memory
