@@ -239,7 +239,7 @@ returns-in-Ok-clause-spares g c =
     let disk = g.M.BlockMedium.disk in
     let later = disk c.mount.new.medium in
     subst (λ (v : RecorderState _ _). MountSpares v.kept.config.directory (disk v.medium) later) c.self.view_is
-    (subst (λ (n : ℕ). MountSpares n (disk w.medium) later) c.directory.ensures.value (mount_spares c.directory.result (disk w.medium) later c.mount.result (λ chain usable. c.mount.ensures.turns chain usable)))
+    (subst (λ (n : ℕ). MountSpares n (disk w.medium) later) c.directory.ensures.value (mount_spares c.directory.result (disk w.medium) later c.mount.result (λ chain usable. c.mount.ensures.turns chain usable) (λ n is. (c.mount.ensures.unusable n is).same)))
 
 pub returns-in-Err-BadDirectory-clause-spares : goal.returns-in-Err-BadDirectory-clause-spares
 returns-in-Err-BadDirectory-clause-spares g c =
@@ -247,7 +247,7 @@ returns-in-Err-BadDirectory-clause-spares g c =
     let disk = g.M.BlockMedium.disk in
     let later = disk c.mount.new.medium in
     subst (λ (v : RecorderState _ _). MountSpares v.kept.config.directory (disk v.medium) later) c.self.view_is
-    (subst (λ (n : ℕ). MountSpares n (disk w.medium) later) c.directory.ensures.value (mount_spares c.directory.result (disk w.medium) later c.mount.result (λ chain usable. c.mount.ensures.turns chain usable)))
+    (subst (λ (n : ℕ). MountSpares n (disk w.medium) later) c.directory.ensures.value (mount_spares c.directory.result (disk w.medium) later c.mount.result (λ chain usable. c.mount.ensures.turns chain usable) (λ n is. (c.mount.ensures.unusable n is).same)))
 
 pub returns-in-Err-OutOfMemory-clause-spares : goal.returns-in-Err-OutOfMemory-clause-spares
 returns-in-Err-OutOfMemory-clause-spares g c =
@@ -255,7 +255,7 @@ returns-in-Err-OutOfMemory-clause-spares g c =
     let disk = g.M.BlockMedium.disk in
     let later = disk c.mount.new.medium in
     subst (λ (v : RecorderState _ _). MountSpares v.kept.config.directory (disk v.medium) later) c.self.view_is
-    (subst (λ (n : ℕ). MountSpares n (disk w.medium) later) c.directory.ensures.value (mount_spares c.directory.result (disk w.medium) later c.mount.result (λ chain usable. c.mount.ensures.turns chain usable)))
+    (subst (λ (n : ℕ). MountSpares n (disk w.medium) later) c.directory.ensures.value (mount_spares c.directory.result (disk w.medium) later c.mount.result (λ chain usable. c.mount.ensures.turns chain usable) (λ n is. (c.mount.ensures.unusable n is).same)))
 
 pub returns-in-Err-Medium-clause-spares : goal.returns-in-Err-Medium-clause-spares
 returns-in-Err-Medium-clause-spares g c =
@@ -263,4 +263,4 @@ returns-in-Err-Medium-clause-spares g c =
     let disk = g.M.BlockMedium.disk in
     let later = disk c.mount.new.medium in
     subst (λ (v : RecorderState _ _). MountSpares v.kept.config.directory (disk v.medium) later) c.self.view_is
-    (subst (λ (n : ℕ). MountSpares n (disk w.medium) later) c.directory.ensures.value (mount_spares c.directory.result (disk w.medium) later c.mount.result (λ chain usable. c.mount.ensures.turns chain usable)))
+    (subst (λ (n : ℕ). MountSpares n (disk w.medium) later) c.directory.ensures.value (mount_spares c.directory.result (disk w.medium) later c.mount.result (λ chain usable. c.mount.ensures.turns chain usable) (λ n is. (c.mount.ensures.unusable n is).same)))
