@@ -29,7 +29,7 @@ use Rattle.r10_account.proofs.Doing.{Known}
 use Rattle.r10_account.proofs.Exchanges.{lost_next}
 use Rattle.r10_account.proofs.Files.{AllBehind, none_behind, shown_front}
 use Rattle.r10_account.proofs.Lanes.{lane_of_spec}
-use Rattle.r10_account.proofs.Numbers.{at_first, small_again, twice}
+use Rattle.r10_account.proofs.Numbers.{at_first, same_number, small_again, twice}
 use Rattle.r10_account.proofs.Stepping.{FailsTo, FailedSteps, WorkSteps, work_steps, failed_steps}
 use Rattle.r10_account.proofs.Stepping.WorkSteps.{on, failing}
 
@@ -79,13 +79,13 @@ known_of s channel m config sound is works =
 
 -- ---- what stands of an account
 
--- with a premise for what is shown and for the number of those that are gone
-record Stands (P : Type 0) (channel start : ℕ) (m : Machine) (taken gone : List Entry) : Type 0 where
+-- with a premise for what is shown, and one for the number of those that are gone
+record Stands (P E : Type 0) (channel start : ℕ) (m : Machine) (taken gone : List Entry) : Type 0 where
   each : is_working m.mode ≡ true → gone ++ own_entries channel m.files ++ waiting_of channel m.lanes ≡ taken
   behind : P → is_working m.mode ≡ true → AllBehind m.files
   shown : P → StandsInFront (gone ++ shown_own channel m.files) taken
   waits : StandsLast (waiting_of channel m.lanes) taken
-  erased : P → erased_of channel m.lanes ≡ saturated (start + length gone)
+  erased : E → erased_of channel m.lanes ≡ saturated (start + length gone)
 
 first_more : (front taken more : List Entry) → StandsInFront front taken → StandsInFront front (taken ++ more)
 first_more front taken more (rest, is) = (rest ++ more, sym (append_assoc front rest more) ∙ ap (λ (l : List Entry). l ++ more) is)
@@ -111,19 +111,19 @@ number_on start was now gone more is then =
 
 -- ---- a step
 
-record StandsOn (P : Type 0) (channel start : ℕ) (new : Machine) (taken gone : List Entry) : Type 0 where
+record StandsOn (P E : Type 0) (channel start : ℕ) (new : Machine) (taken gone : List Entry) : Type 0 where
   more : List Entry
-  stands : Stands P channel start new taken (gone ++ more)
+  stands : Stands P E channel start new taken (gone ++ more)
 
 -- lanes and files before a step, with what was taken and is gone by then
-record Before (P : Type 0) (channel start : ℕ) (lanes : List Lane) (files : List File) (taken gone : List Entry) : Type 0 where
+record Before (P E : Type 0) (channel start : ℕ) (lanes : List Lane) (files : List File) (taken gone : List Entry) : Type 0 where
   each : gone ++ own_entries channel files ++ waiting_of channel lanes ≡ taken
   behind : P → AllBehind files
-  erased : P → erased_of channel lanes ≡ saturated (start + length gone)
+  erased : E → erased_of channel lanes ≡ saturated (start + length gone)
 
-works_on : (P : Type 0) (channel start : ℕ) (lanes : List Lane) (files : List File) (x : Exchange) (new : Machine) (taken gone : List Entry) → Before P channel start lanes files taken gone
-    → StepAccounts channel lanes files x new.lanes new.files → StandsOn P channel start new (taken ++ entry_with channel (missed_of channel lanes) x) gone
-works_on P channel start lanes files x new taken gone b a =
+works_on : (P E : Type 0) (channel start : ℕ) (lanes : List Lane) (files : List File) (x : Exchange) (new : Machine) (taken gone : List Entry) → Before P E channel start lanes files taken gone
+    → StepAccounts channel lanes files x new.lanes new.files → StandsOn P E channel start new (taken ++ entry_with channel (missed_of channel lanes) x) gone
+works_on P E channel start lanes files x new taken gone b a =
     let entry = entry_with channel (missed_of channel lanes) x in
     let own = own_entries channel files in
     let waiting = waiting_of channel lanes in
@@ -146,15 +146,15 @@ works_on P channel start lanes files x new taken gone b a =
       };
     }
 
-fails_on : (P : Type 0) (channel start : ℕ) (lanes : List Lane) (files : List File) (x : Exchange) (new : Machine) (taken gone : List Entry) → Before P channel start lanes files taken gone
-    → IsApart channel x → is_working new.mode ≡ false → FailsTo channel lanes files new.lanes new.files → StandsOn P channel start new (taken ++ entry_with channel (missed_of channel lanes) x) gone
-fails_on P channel start lanes files x new taken gone b apart failed f =
+fails_on : (P E : Type 0) (channel start : ℕ) (lanes : List Lane) (files : List File) (x : Exchange) (new : Machine) (taken gone : List Entry) → Before P E channel start lanes files taken gone
+    → IsApart channel x → is_working new.mode ≡ false → FailsTo channel lanes files new.lanes new.files → StandsOn P E channel start new (taken ++ entry_with channel (missed_of channel lanes) x) gone
+fails_on P E channel start lanes files x new taken gone b apart failed f =
     let own = own_entries channel files in
     let waiting = waiting_of channel lanes in
     let waiting' = waiting_of channel new.lanes in
     let shown' = shown_own channel new.files in
-    subst (λ (entry : List Entry). StandsOn P channel start new (taken ++ entry) gone) (sym (apart.makes_none (missed_of channel lanes)))
-    (subst (λ (l : List Entry). StandsOn P channel start new l gone) (sym (append-nil taken)) (record {
+    subst (λ (entry : List Entry). StandsOn P E channel start new (taken ++ entry) gone) (sym (apart.makes_none (missed_of channel lanes)))
+    (subst (λ (l : List Entry). StandsOn P E channel start new l gone) (sym (append-nil taken)) (record {
       more = f.gone;
       stands = record {
         each = λ works. absurd (true≢false (sym works ∙ failed));
@@ -176,13 +176,13 @@ fails_on P channel start lanes files x new taken gone b apart failed f =
       };
     }))
 
-stays_on : (P : Type 0) (channel start : ℕ) (old : Machine) (x : Exchange) (new : Machine) (taken gone : List Entry) → Stands P channel start old taken gone
-    → FailedSteps channel old.lanes old.files x new.lanes new.files new.mode → StandsOn P channel start new (taken ++ entry_with channel (missed_of channel old.lanes) x) gone
-stays_on P channel start old x new taken gone b f =
+stays_on : (P E : Type 0) (channel start : ℕ) (old : Machine) (x : Exchange) (new : Machine) (taken gone : List Entry) → Stands P E channel start old taken gone
+    → FailedSteps channel old.lanes old.files x new.lanes new.files new.mode → StandsOn P E channel start new (taken ++ entry_with channel (missed_of channel old.lanes) x) gone
+stays_on P E channel start old x new taken gone b f =
     let entry = entry_with channel (missed_of channel old.lanes) x in
     record {
       more = [];
-      stands = subst (λ (g : List Entry). Stands P channel start new (taken ++ entry) g) (sym (append-nil gone)) (record {
+      stands = subst (λ (g : List Entry). Stands P E channel start new (taken ++ entry) g) (sym (append-nil gone)) (record {
         each = λ works. absurd (true≢false (sym works ∙ f.failed));
         behind = λ p works. absurd (true≢false (sym works ∙ f.failed));
         shown = λ p. first_more (gone ++ shown_own channel new.files) taken entry (subst (λ (fs : List File). StandsInFront (gone ++ shown_own channel fs) taken) (sym f.waits.files_stay) (b.shown p));
@@ -191,56 +191,56 @@ stays_on P channel start old x new taken gone b f =
       });
     }
 
-record OneStep (P : Type 0) (channel start : ℕ) (old : Machine) (x : Exchange) (new : Machine) (taken gone : List Entry) : Type 0 where
-  on : StandsOn P channel start new (taken ++ entry_with channel (missed_of channel old.lanes) x) gone
+record OneStep (P E : Type 0) (channel start : ℕ) (old : Machine) (x : Exchange) (new : Machine) (taken gone : List Entry) : Type 0 where
+  on : StandsOn P E channel start new (taken ++ entry_with channel (missed_of channel old.lanes) x) gone
   missed : missed_of channel new.lanes ≡ missed_behind channel (missed_of channel old.lanes) x
 
-one_step : (P : Type 0) (s : Config) (channel start : ℕ) (old : Machine) (event : EventValue) (reply : ReplyValue) (new : Machine) (taken gone : List Entry) → IsConfig s → IsSound s old → is_some (spec_of s.channels channel) ≡ true
-    → Stands P channel start old taken gone → Step s old event reply new → OneStep P channel start old (event, reply) new taken gone
-one_step P s channel start old event reply new taken gone config sound is b step = by (is_working old.mode) refl
+one_step : (P E : Type 0) (s : Config) (channel start : ℕ) (old : Machine) (event : EventValue) (reply : ReplyValue) (new : Machine) (taken gone : List Entry) → IsConfig s → IsSound s old → is_some (spec_of s.channels channel) ≡ true
+    → Stands P E channel start old taken gone → Step s old event reply new → OneStep P E channel start old (event, reply) new taken gone
+one_step P E s channel start old event reply new taken gone config sound is b step = by (is_working old.mode) refl
   where
-    working : Before P channel start old.lanes old.files taken gone → WorkSteps channel (record old { failures = new.failures }) (event, reply) new → OneStep P channel start old (event, reply) new taken gone
-    working before (on a) = record { on = works_on P channel start old.lanes old.files (event, reply) new taken gone before a; missed = a.missed }
+    working : Before P E channel start old.lanes old.files taken gone → WorkSteps channel (record old { failures = new.failures }) (event, reply) new → OneStep P E channel start old (event, reply) new taken gone
+    working before (on a) = record { on = works_on P E channel start old.lanes old.files (event, reply) new taken gone before a; missed = a.missed }
     working before (failing apart failed f) = record {
-      on = fails_on P channel start old.lanes old.files (event, reply) new taken gone before apart failed f;
+      on = fails_on P E channel start old.lanes old.files (event, reply) new taken gone before apart failed f;
       missed = f.missed ∙ missed_on channel (missed_of channel old.lanes) (event, reply) apart;
     }
 
-    by : (w : Bool) → is_working old.mode ≡ w → OneStep P channel start old (event, reply) new taken gone
+    by : (w : Bool) → is_working old.mode ≡ w → OneStep P E channel start old (event, reply) new taken gone
     by true works =
         working (record { each = b.each works; behind = λ p. b.behind p works; erased = b.erased })
         (work_steps s channel old event reply new (known_of s channel old config sound is works) step)
     by false failed =
         let h = has_lane s channel old sound is in
         let f = failed_steps s channel old event reply new h.lane h.there h.its failed step in
-        record { on = stays_on P channel start old (event, reply) new taken gone b f; missed = f.waits.missed }
+        record { on = stays_on P E channel start old (event, reply) new taken gone b f; missed = f.waits.missed }
 
 -- ---- runs
 
-runs_on : (P : Type 0) (s : Config) (channel start first : ℕ) → StepsStaySound → IsConfig s → is_some (spec_of s.channels channel) ≡ true → (before : List Exchange) (old : Machine) (events : List EventValue) (rs : List ReplyValue) (images : List Image) (new : Machine)
-    → (taken gone : List Entry) → IsSound s old → missed_of channel old.lanes ≡ lost_since channel first before → Stands P channel start old taken gone → Run s old events rs images new
-    → StandsOn P channel start new (taken ++ entries_behind channel first before (zip events rs)) gone
-runs_on P s channel start first law config is before old [] [] [] new taken gone sound missed b same = record {
+runs_on : (P E : Type 0) (s : Config) (channel start first : ℕ) → StepsStaySound → IsConfig s → is_some (spec_of s.channels channel) ≡ true → (before : List Exchange) (old : Machine) (events : List EventValue) (rs : List ReplyValue) (images : List Image) (new : Machine)
+    → (taken gone : List Entry) → IsSound s old → missed_of channel old.lanes ≡ lost_since channel first before → Stands P E channel start old taken gone → Run s old events rs images new
+    → StandsOn P E channel start new (taken ++ entries_behind channel first before (zip events rs)) gone
+runs_on P E s channel start first law config is before old [] [] [] new taken gone sound missed b same = record {
   more = [];
-  stands = subst (λ (m : Machine). Stands P channel start m (taken ++ []) (gone ++ [])) (sym same)
-      (subst (λ (g : List Entry). Stands P channel start old (taken ++ []) g) (sym (append-nil gone)) (subst (λ (t : List Entry). Stands P channel start old t gone) (sym (append-nil taken)) b));
+  stands = subst (λ (m : Machine). Stands P E channel start m (taken ++ []) (gone ++ [])) (sym same)
+      (subst (λ (g : List Entry). Stands P E channel start old (taken ++ []) g) (sym (append-nil gone)) (subst (λ (t : List Entry). Stands P E channel start old t gone) (sym (append-nil taken)) b));
 }
-runs_on P s channel start first law config is before old (event ∷ events) (reply ∷ rs) (image ∷ images) new taken gone sound missed b (mid, step, says, rest) =
+runs_on P E s channel start first law config is before old (event ∷ events) (reply ∷ rs) (image ∷ images) new taken gone sound missed b (mid, step, says, rest) =
     let x : Exchange = (event, reply) in
-    let one = one_step P s channel start old event reply mid taken gone config sound is b step in
+    let one = one_step P E s channel start old event reply mid taken gone config sound is b step in
     let entry = entry_with channel (missed_of channel old.lanes) x in
     let next : missed_of channel mid.lanes ≡ lost_since channel first (before ++ x ∷ []) =
     one.missed ∙ ap (λ (m : ℕ). missed_behind channel m x) missed ∙ sym (lost_next channel first before x) in
-    let all = runs_on P s channel start first law config is (before ++ x ∷ []) mid events rs images new (taken ++ entry) (gone ++ one.on.more) (law s old event reply mid config sound step) next one.on.stands rest in
+    let all = runs_on P E s channel start first law config is (before ++ x ∷ []) mid events rs images new (taken ++ entry) (gone ++ one.on.more) (law s old event reply mid config sound step) next one.on.stands rest in
     let behind = entries_behind channel first (before ++ x ∷ []) (zip events rs) in
     let same : taken ++ entry ++ behind ≡ taken ++ (entry_with channel (lost_since channel first before) x ++ behind) =
     append_assoc taken entry behind ∙ ap (λ (lost : ℕ). taken ++ (entry_with channel lost x ++ behind)) missed in
     record {
       more = one.on.more ++ all.more;
-      stands = subst (λ (t : List Entry). Stands P channel start new t (gone ++ (one.on.more ++ all.more))) same
-          (subst (λ (g : List Entry). Stands P channel start new (taken ++ entry ++ behind) g) (append_assoc gone one.on.more all.more) all.stands);
+      stands = subst (λ (t : List Entry). Stands P E channel start new t (gone ++ (one.on.more ++ all.more))) same
+          (subst (λ (g : List Entry). Stands P E channel start new (taken ++ entry ++ behind) g) (append_assoc gone one.on.more all.more) all.stands);
     }
-runs_on P s channel start first law config is before old events rs images new taken gone sound missed b same = absurd same
+runs_on P E s channel start first law config is before old events rs images new taken gone sound missed b same = absurd same
 
 -- ---- laws
 
@@ -249,15 +249,16 @@ pub run_goes_over : StepsStaySound → (s : Config) (channel : ℕ) (old : Machi
     → is_working old.mode ≡ true → is_working new.mode ≡ true → Run s old events rs images new → GoesOver channel old new (accepted_entries channel (missed_of channel old.lanes) events rs)
 run_goes_over law s channel old events rs images new config sound is works ends run =
     let had = own_entries channel old.files ++ waiting_of channel old.lanes in
-    let stands : Stands ⊥ channel 0 old had [] = record {
+    let start = erased_of channel old.lanes in
+    let stands : Stands ⊥ (start ≤ 2 ^ 64 - 1) channel start old had [] = record {
       each = λ works. refl;
       behind = λ p. absurd p;
       shown = λ p. absurd p;
       waits = (own_entries channel old.files, refl);
-      erased = λ p. absurd p;
+      erased = λ small. same_number start start (2 ^ 64 - 1) small refl;
     } in
-    let all = runs_on ⊥ s channel 0 (missed_of channel old.lanes) law config is [] old events rs images new had [] sound (none_before (lane_in channel old.lanes) refl) stands run in
-    record { gone = all.more; each = all.stands.each ends }
+    let all = runs_on ⊥ (start ≤ 2 ^ 64 - 1) s channel start (missed_of channel old.lanes) law config is [] old events rs images new had [] sound (none_before (lane_in channel old.lanes) refl) stands run in
+    record { gone = all.more; each = all.stands.each ends; erased = all.stands.erased }
   where
     none_before : (o : Option Lane) → lane_in channel old.lanes ≡ o → missed_of channel old.lanes ≡ lost_since channel (missed_of channel old.lanes) []
     none_before None there = ap (λ (o : Option Lane). missed_in o) there ∙ sym (ap (λ (o : Option Lane). lost_since channel (missed_in o) []) there)
@@ -288,14 +289,14 @@ recording_accounts law begins s channel files failures events rs images new conf
     let waiting : waiting_of channel old.lanes ≡ [] = fresh_same channel waiting_in [] refl (λ spec. refl) s.channels in
     let missed : missed_of channel old.lanes ≡ 0 = fresh_same channel missed_in 0 refl (λ spec. refl) s.channels in
     let erased : erased_of channel old.lanes ≡ 0 = fresh_same channel erased_in 0 refl (λ spec. refl) s.channels in
-    let stands : Stands (Unit {0}) channel 0 old [] [] = record {
+    let stands : Stands (Unit {0}) (Unit {0}) channel 0 old [] [] = record {
       each = λ works. ap (λ (l : List Entry). l ++ waiting_of channel old.lanes) own ∙ waiting;
       behind = λ p works. none_behind files none;
       shown = λ p. ([], ap (λ (l : List Entry). l ++ []) shown);
       waits = ([], waiting);
       erased = λ p. erased;
     } in
-    let all = runs_on (Unit {0}) s channel 0 0 law config is [] old events rs images new [] [] (begins s files failures found most) (missed ∙ none_before) stands run in
+    let all = runs_on (Unit {0}) (Unit {0}) s channel 0 0 law config is [] old events rs images new [] [] (begins s files failures found most) (missed ∙ none_before) stands run in
     record {
       gone = all.more;
       each = all.stands.each;

@@ -1,5 +1,5 @@
 -- Where the accepted messages of a channel are.
-use Rattle.std.specs.Prelude.{◌≡◌, ℕ, true, List, [], ◌++◌, length, Option, Some, None}
+use Rattle.std.specs.Prelude.{◌≡◌, ◌≤◌, ℕ, ◌+◌, ◌-◌, ◌^◌, true, List, [], ◌++◌, length, Option, Some, None}
 use Rattle.std.specs.List.{flat_map}
 use Rattle.r10_body.specs.Files.{on_channel}
 use Rattle.r10_body.specs.declared.entry.Entry.{Entry}
@@ -55,7 +55,8 @@ pub record IsAccount (channel : ℕ) (m : Machine) (entries : List Entry) : Type
   pub waits : StandsLast (waiting_of channel m.lanes) entries
   pub erased : erased_of channel m.lanes ≡ saturated (length gone)
 
--- What a channel had, and behind it what was accepted since: erases took the first, those behind them are in own files' lists, and the last wait.
+-- What a channel had, and behind it what was accepted since: erases took the first, so many as the lane's number of them rose by, up to 2^64 - 1; those behind them are in own files' lists, and the last wait.
 pub record GoesOver (channel : ℕ) (old new : Machine) (accepted : List Entry) : Type 0 where
   pub gone : List Entry
   pub each : gone ++ own_entries channel new.files ++ waiting_of channel new.lanes ≡ own_entries channel old.files ++ waiting_of channel old.lanes ++ accepted
+  pub erased : erased_of channel old.lanes ≤ 2 ^ 64 - 1 → erased_of channel new.lanes ≡ saturated (erased_of channel old.lanes + length gone)

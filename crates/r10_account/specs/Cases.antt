@@ -1,6 +1,6 @@
 -- Worked cases: what whole recordings accepted, and where it is.
 use Rattle.std.specs.Prelude.{◌≡◌, ℕ, ◌++◌, ◌∷◌, [], List, refl, map}
-use Rattle.std.proofs.Common.{ap, arith, length}
+use Rattle.std.proofs.Common.{ap, arith, length, lit≤}
 use Rattle.std.proofs.lemmas.List.{length-append}
 use Rattle.r10_body.specs.declared.gap.Gap.TheVariants.{Whole, Lost}
 use Rattle.r10_body.specs.declared.refusal.Refusal.TheVariants as refusals
@@ -12,7 +12,7 @@ use Rattle.r10_machine.specs.declared.reply.Reply.{Reply}
 use Rattle.r10_machine.specs.declared.reply.Reply.TheVariants as say
 use Rattle.r10_machine.specs.Vectors.{after_gap, both_offered, entry, leap_day, lost, name, replayed, resumed, setup_text, small_started, small_stopped, stopped, text, two}
 use Rattle.r10_account.specs.Accepted.{accepted_entries}
-use Rattle.r10_account.specs.Account.{IsAccount, missed_of, shown_own, waiting_of}
+use Rattle.r10_account.specs.Account.{GoesOver, IsAccount, missed_of, shown_own, waiting_of}
 
 -- ---- the first recording
 
@@ -112,3 +112,7 @@ unaccepted account = omega (arith, ap length account.waits.1, length-append acco
 -- and what was accepted is somewhere
 pub nowhere : IsAccount 5 small_started two → ⊥
 nowhere account = omega (arith, ap length (account.each refl), length-append (account.gone ++ []) [], length-append account.gone [], account.erased)
+
+-- what waits doesn't go without an erase
+pub vanished : GoesOver 5 both_offered small_started [] → ⊥
+vanished over = omega (arith, ap length over.each, length-append (over.gone ++ []) [], length-append over.gone [], over.erased (lit≤ tt))
