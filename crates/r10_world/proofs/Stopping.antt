@@ -38,10 +38,10 @@ use Rattle.r10_world.specs.Telling.{RecorderStepsTo}
 
 -- no events
 begins : {M : Type 0} (disk : M → Disk) (w : WorldState M) → RunsSafely disk w [] [] w
-begins disk w m stands safe = record {
+begins disk w m stands = record {
   ran = record { images = []; machine = m; run = refl; stands = stands; config = refl };
-  left = leaves_begun w.recorder.kept.config m (disk w.recorder.medium) (safe_says w.recorder.kept.config w.recorder.kept.work m.files (disk w.recorder.medium) safe);
-  held = inr safe;
+  left = λ safe. leaves_begun w.recorder.kept.config m (disk w.recorder.medium) (safe_says w.recorder.kept.config w.recorder.kept.work m.files (disk w.recorder.medium) safe);
+  held = λ safe. inr safe;
 }
 
 pub begun_safely : {M : Type 0} (disk : M → Disk) (w : WorldState M) (n : ℕ) (xs : List ReplyValue) → n ≡ length xs → RunsSafely disk w [] (drop n xs) w
@@ -70,20 +70,20 @@ goes_from law k mid later m es rs event reply start old now lanes lanes' slots a
         };
         config = go.on.config ∙ ran.config;
       };
-      left = ⊎_elim
-          (λ failed. leaves_still k.config m es rs event reply start old now so_far.left (fails failed).0)
-          (λ was. leaves_more k.config m ran.machine es rs ran.images event reply start old now ran.run so_far.left
+      left = λ first. ⊎_elim
+          (λ failed. leaves_still k.config m es rs event reply start old now (so_far.left first) (fails failed).0)
+          (λ was. leaves_more k.config m ran.machine es rs ran.images event reply start old now ran.run (so_far.left first)
           (subst (λ (s : Config). Leaves (IsEither s ran.machine event) old now) ran.config (safe.left ran.machine means ran.stands.lanes_are was)))
-          so_far.held;
-      held = ⊎_elim (λ failed. inl (fails failed).1) (λ was. safe.behind ran.machine go.machine means was (record { step = go.on.step; means = go.on.joined.means })) so_far.held;
+          (so_far.held first);
+      held = λ first. ⊎_elim (λ failed. inl (fails failed).1) (λ was. safe.behind ran.machine go.machine means was (record { step = go.on.step; means = go.on.joined.means })) (so_far.held first);
     }
 
 pub run_more_safely : {M : Type 0} (disk : M → Disk) (start mid new : WorldState M) (events : List EventValue) (i n : ℕ) (event : EventValue) (reply : ReplyValue) (xs ys : List ReplyValue) → RunsJoin
     → i < length events → event ≡ get_or events i event → n ≤ length xs → ys ≡ xs ++ reply ∷ []
     → RunsSafely disk start (take i events) (drop n xs) mid → RecorderStepsTo disk mid.recorder mid.slots event reply new.recorder new.slots → Survives disk mid.recorder event reply new.recorder → RunsSafely disk start (take (i + 1) events) (drop n ys) new
-run_more_safely disk start mid new events i n event reply xs ys law here is within longer runs tells survives = λ m stands safe.
+run_more_safely disk start mid new events i n event reply xs ys law here is within longer runs tells survives = λ m stands.
     let more : take (i + 1) events ≡ take i events ++ event ∷ [] = take_more events i event here ∙ ap (λ (e : EventValue). take i events ++ e ∷ []) (sym is) in
-    let so_far = runs m stands safe in
+    let so_far = runs m stands in
     rw (more, drop_one_more n xs ys reply within longer)
     (goes_from law start.recorder.kept mid.recorder.kept new.recorder.kept m (take i events) (drop n xs) event reply (disk start.recorder.medium) (disk mid.recorder.medium) (disk new.recorder.medium)
     mid.recorder.lanes new.recorder.lanes mid.slots new.slots so_far (tells so_far.ran.machine so_far.ran.stands) survives.safe survives.failed)

@@ -1,5 +1,5 @@
 -- What a stop of the medium leaves at events, and over runs.
-use Rattle.std.specs.Prelude.{◌≡◌, ℕ, false, List, Option, IsSome, zip}
+use Rattle.std.specs.Prelude.{◌≡◌, ℕ, true, false, List, Option, IsSome, zip}
 use Rattle.std.specs.List.{list_any}
 use Rattle.r10_account.specs.Accepted.{accepted_entries}
 use Rattle.r10_account.specs.Account.{IsAccount}
@@ -10,16 +10,19 @@ use Rattle.r10_control.specs.State.{RecorderState}
 use Rattle.r10_cursor.specs.declared.cursor.Cursor.{Cursor}
 use Rattle.r10_machine.specs.Machine.{File, Lane, Machine, fresh}
 use Rattle.r10_machine.specs.Config.{Config}
-use Rattle.r10_machine.specs.Says.{MediumSays}
+use Rattle.r10_machine.specs.Says.{MediumHas, MediumSays}
+use Rattle.r10_machine.specs.Checks.{is_working}
+use Rattle.r10_machine.specs.declared.mode.Mode.{Mode}
+use Rattle.r10_machine.specs.declared.mode.Mode.TheVariants as modes
 use Rattle.r10_machine.specs.Step.{Run}
 use Rattle.r10_machine.specs.declared.event.Event.{Event as EventValue}
 use Rattle.r10_machine.specs.declared.reply.Reply.{Reply as ReplyValue}
 use Rattle.r10_means.specs.Kept.{Kept, failed}
-use Rattle.r10_medium.specs.Disk.{Disk, Image, Unchanged}
+use Rattle.r10_medium.specs.Disk.{Disk, Image, IsSynced, Unchanged}
 use Rattle.r10_medium.specs.Stop.{Leaves, Settled}
 use Rattle.r10_means.specs.Again.{AreAgain, FindsAgain}
 use Rattle.r10_means.specs.Left.{IsLeft, StaysSafe}
-use Rattle.r10_means.specs.Safe.{IsSafe, IsSafeOrFailed}
+use Rattle.r10_means.specs.Safe.{IsSafe, IsSafeOrFailed, SaysLast}
 use Rattle.r10_world.specs.Standing.{PartsRunTo}
 use Rattle.r10_world.specs.State.{WorldState}
 use Rattle.r10_world.specs.Telling.{WorldStandsFor}
@@ -29,16 +32,16 @@ pub record Survives {M : Type 0} (disk : M → Disk) (old : RecorderState M Lane
   pub safe : StaysSafe (AreLanes old.lanes) old.kept event reply (disk old.medium) new.kept (disk new.medium)
   pub failed : old.kept.work ≡ failed → Unchanged (disk old.medium) (disk new.medium) × (new.kept.work ≡ failed)
 
--- The replies are a run; a stop at any moment of it left the files of a state of the run, or those that the next event makes of them; and behind the last event the machine's files are safe, unless the recorder failed.
+-- The replies are a run. Where the files were safe before it, a stop at any moment of it left the files of a state of the run, or those that the next event makes of them; and behind the last event the files of the machine that it ends with are safe, unless the recorder failed.
 pub record RanSafely (k : Kept) (m : Machine) (events : List EventValue) (replies : List ReplyValue) (later : Kept) (old new : Disk) (lanes : List Lane) (slots : List (Option Cursor)) : Type 0 where
   pub ran : PartsRunTo k m events replies later new.blocks new.failures lanes slots
-  pub left : Leaves (IsLeft k.config m events replies) old new
-  pub held : IsSafeOrFailed later.config later.work ran.machine.files new
+  pub left : IsSafe k.config k.work m.files old → Leaves (IsLeft k.config m events replies) old new
+  pub held : IsSafe k.config k.work m.files old → IsSafeOrFailed later.config later.work ran.machine.files new
 
--- from each machine for which a world stands, and whose files are safe
+-- from each machine for which a world stands
 abbrev pub RunsSafely : {M : Type 0} → (M → Disk) → WorldState M → List EventValue → List ReplyValue → WorldState M → Type 0
 RunsSafely disk old events replies new =
-    (m : Machine) → WorldStandsFor disk old m → IsSafe old.recorder.kept.config old.recorder.kept.work m.files (disk old.recorder.medium)
+    (m : Machine) → WorldStandsFor disk old m
     → RanSafely old.recorder.kept m events replies new.recorder.kept (disk old.recorder.medium) (disk new.recorder.medium) new.recorder.lanes new.slots
 
 -- a new world stands for a new machine with the files that it finds again, which are safe where a stop leaves the files
@@ -49,14 +52,26 @@ pub record Recovers {M : Type 0} (disk : M → Disk) (s : Config) (old : Disk) (
 
 -- ---- a whole recording, with no word of a recorder
 
--- From a machine with files of which each is found again, on each channel with the same entries, the replies to the events are a run, and the medium says the files that it ends with. On each channel the messages that the replies accepted, in their order and each with the number of those that were lost before it, are those that erases took, those in the lists of the files that the run began, and those that wait, each once; where the medium failed, what is shown stands first and what waits stands last. While nothing is erased, the files that were found stay the first, with what they show. Where a stop left the files before, then at any moment a stop leaves those of a state of the run, or those that the next event makes of them.
+-- What a stop leaves at rest, by what a machine does. Not mounted: these files. Mounted: what is read, which says them. Recording: these files, and of the last the bytes that are read. Nothing is said of one that failed.
+abbrev pub IsSafeIn : Config → Mode → List File → Disk → Type 0
+IsSafeIn s modes.Unmounted files disk = Settled (λ image. MediumSays s image files) disk
+IsSafeIn s modes.Idle files disk = IsSynced disk × MediumSays s disk.blocks files
+IsSafeIn s modes.Recording files disk = Settled (SaysLast s files disk.blocks) disk
+IsSafeIn s modes.Failed files disk = Unit {0}
+
+-- From a machine with the files that the medium has, of which each is found again, on each channel with the same entries, the replies to the events are a run; the medium says the files that it ends with, and has failed as often as the run says. On each channel the messages that the replies accepted, in their order and each with the number of those that were lost before it, are those that erases took, those in the lists of the files that the run began, and those that wait, each once; where the medium failed, what is shown stands first and what waits stands last. While nothing is erased, the files that were found stay the first, with what they show.
+-- Where a stop left the files before: at any moment a stop leaves those of a state of the run, or those that the next event makes of them. And a stop now leaves the files that the run ends with, unless the medium failed in it; while no file is recorded it leaves what is read, and while one is, of that one the bytes that are read.
 pub record RecordsRun (s : Config) (files : List File) (events : List EventValue) (replies : List ReplyValue) (old new : Disk) : Type 0 where
   pub again : List File
+  pub has : MediumHas s old.blocks again
   pub same : AreAgain files again
   pub images : List Image
   pub machine : Machine
   pub run : Run s (fresh s.channels again old.failures) events replies images machine
   pub says : MediumSays s new.blocks machine.files
+  pub failures : machine.failures ≡ new.failures
   pub accounts : (channel : ℕ) → IsSome (spec_of s.channels channel) → IsAccount channel machine (accepted_entries channel 0 events replies)
   pub found : list_any may_erase (zip events replies) ≡ false → AreStillFirst again machine.files
   pub left : Settled (λ image. MediumSays s image files) old → Leaves (IsLeft s (fresh s.channels again old.failures) events replies) old new
+  pub settled : Settled (λ image. MediumSays s image files) old → is_working machine.mode ≡ true → Settled (λ image. MediumSays s image machine.files) new
+  pub sure : Settled (λ image. MediumSays s image files) old → IsSafeIn s machine.mode machine.files new

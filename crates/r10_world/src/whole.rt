@@ -1,6 +1,6 @@
 //! A whole recording: a new world that is told events, and the medium that it leaves.
 
-ghost use Rattle.std.specs.Prelude.{◌≡◌, ◌<◌, ◌≤◌, List, IfErr, IfOk, drop, length, take, vec_len};
+ghost use Rattle.std.specs.Prelude.{◌≡◌, ◌<◌, ◌≤◌, ◌+◌, List, IfErr, IfOk, drop, length, take, vec_len};
 ghost use Rattle.r10_machine.specs.Machine.{File};
 ghost use Rattle.r10_machine.specs.Says.{MediumSays};
 ghost use Rattle.r10_world.specs.Stopping.{RecordsRun};
@@ -14,9 +14,10 @@ use std::alloc::Global;
 
 /// Tells a new world over this medium, which says some files, these events, and gives how many it did and the medium that they leave. Their
 /// replies are added to those that are there: they are a run of the small machine from these files, and the medium says the files that
-/// the run ends with. On each channel the messages that they accepted are in the lists of the files that the run began, wait, or were erased: each
-/// once, in its order. Where the medium failed, of these the files show the first, behind what was erased, and the last wait. It does some events
-/// where there are any. Where memory is refused before the first event, the medium comes back as it was.
+/// the run ends with, and has failed as often as the run says. On each channel the messages that they accepted are in the lists of the files that the run began, wait, or were erased: each
+/// once, in its order. Where the medium failed, of these the files show the first, behind what was erased, and the last wait. Where a stop left the
+/// files before, then at any moment a stop leaves those of a state of the run, or those that the next event makes of them; and one now leaves those
+/// that the run ends with, unless the medium failed. It does some events where there are any. Where memory is refused before the first event, the medium comes back as it was.
 pub fn record_all<M: BlockMedium + Drop>(
     alloc: Global,
     settings: Settings,
@@ -29,6 +30,7 @@ pub fn record_all<M: BlockMedium + Drop>(
         → IfOk result (λ r. RecordsRun settings files (take r.0 events.now) (drop (vec_len replies.old) replies.new.items) (M.disk medium) (M.disk r.1)) }
     ensures within { IfOk result (λ r. r.0 ≤ length events.now) }
     ensures some { IfOk result (λ r. 0 < length events.now → 0 < r.0) }
+    ensures count { IfOk result (λ r. vec_len replies.new ≡ vec_len replies.old + r.0) }
     ensures earlier { take (vec_len replies.old) replies.new.items ≡ replies.old.items }
     ensures refused { IfErr result (λ back. back ≡ medium) }
     ensures none { IfErr result (λ back. replies.new.items ≡ replies.old.items) }
