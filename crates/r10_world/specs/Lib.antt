@@ -4,3 +4,4 @@ pub mod Telling
 pub mod Copies
 pub mod Joined
 pub mod Stopping
+pub mod Answering

@@ -4,6 +4,7 @@ ghost use Rattle.std.specs.Prelude.{◌≡◌, ℕ, List};
 ghost use Rattle.r10_machine.specs.Machine.{Lane, Machine};
 ghost use Rattle.r10_means.specs.Kept.{Kept};
 ghost use Rattle.r10_medium.specs.Disk.{Image};
+ghost use Rattle.r10_world.specs.Answering.{AnswersClose, AnswersNext, AnswersSo};
 ghost use Rattle.r10_world.specs.Standing.{PartsStepTo, PartsStandFor};
 ghost use Rattle.r10_world.specs.Stopping.{Survives};
 ghost use Rattle.r10_world.specs.Telling.{RecorderStepsTo};
@@ -35,6 +36,7 @@ pub(crate) fn open<M: BlockMedium>(
     to: u64,
 ) -> Reply
     ensures tells { RecorderStepsTo M.disk recorder.old cursors.old.slots (events.Cursor file channels.now from to) result recorder.new cursors.new.slots }
+    ensures answers { AnswersSo M.disk recorder.old cursors.old.slots (events.Cursor file channels.now from to) result recorder.new cursors.new.slots }
     ensures stops { Survives M.disk recorder.old (events.Cursor file channels.now from to) result recorder.new }
     ensures config { recorder.new.kept.config ≡ recorder.old.kept.config }
 {
@@ -63,6 +65,7 @@ pub(crate) fn advance<M: BlockMedium>(
     id: usize,
 ) -> Reply
     ensures tells { RecorderStepsTo M.disk recorder.old cursors.old.slots (events.Advance id) result recorder.new cursors.new.slots }
+    ensures answers { AnswersSo M.disk recorder.old cursors.old.slots (events.Advance id) result recorder.new cursors.new.slots }
     ensures stops { Survives M.disk recorder.old (events.Advance id) result recorder.new }
     ensures config { recorder.new.kept.config ≡ recorder.old.kept.config }
 {
@@ -91,7 +94,8 @@ pub(crate) fn advance<M: BlockMedium>(
 
 /// A cursor gives the first of its queue.
 pub(crate) fn next(cursors: &mut Slab<Cursor>, id: usize) -> Reply
-    ensures { (k : Kept) (image : Image) (failures : ℕ) (lanes : List Lane) (m : Machine) → PartsStandFor k image failures lanes cursors.old.slots m → PartsStepTo k m (events.Next id) result k image failures lanes cursors.new.slots }
+    ensures tells { (k : Kept) (image : Image) (failures : ℕ) (lanes : List Lane) (m : Machine) → PartsStandFor k image failures lanes cursors.old.slots m → PartsStepTo k m (events.Next id) result k image failures lanes cursors.new.slots }
+    ensures answers { AnswersNext cursors.old.slots id result cursors.new.slots }
 {
     // For the proof: a recorder's call is a step of the machine; a call on the cursors is a step too; a refusal is a step that changes nothing.
     recorders_calls_are_steps();
@@ -105,7 +109,8 @@ pub(crate) fn next(cursors: &mut Slab<Cursor>, id: usize) -> Reply
 
 /// A cursor is closed.
 pub(crate) fn close(cursors: &mut Slab<Cursor>, id: usize) -> Reply
-    ensures { (k : Kept) (image : Image) (failures : ℕ) (lanes : List Lane) (m : Machine) → PartsStandFor k image failures lanes cursors.old.slots m → PartsStepTo k m (events.Close id) result k image failures lanes cursors.new.slots }
+    ensures tells { (k : Kept) (image : Image) (failures : ℕ) (lanes : List Lane) (m : Machine) → PartsStandFor k image failures lanes cursors.old.slots m → PartsStepTo k m (events.Close id) result k image failures lanes cursors.new.slots }
+    ensures answers { AnswersClose cursors.old.slots id result cursors.new.slots }
 {
     // For the proof: a recorder's call is a step of the machine; a call on the cursors is a step too; a refusal is a step that changes nothing.
     recorders_calls_are_steps();

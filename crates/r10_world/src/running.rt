@@ -1,6 +1,7 @@
 //! Runs of a world.
 
 ghost use Rattle.std.specs.Prelude.{◌≡◌, ◌<◌, ◌≤◌, ◌+◌, Ok, Err, IfOk, OnErr, length, take, drop, vec_len};
+ghost use Rattle.r10_world.specs.Answering.{AnswersEach};
 ghost use Rattle.r10_world.specs.Copies.{IsCopy};
 ghost use Rattle.r10_world.specs.Stopping.{RunsSafely};
 ghost use Rattle.r10_world.specs.Telling.{WorldRuns};
@@ -23,13 +24,16 @@ fn message_of(alloc: Global, event: &Event) -> Result<Option<Message>, AllocErro
 
 /// Does events in order, until one can't be told or taken for want of memory, and adds their replies. It answers how many events it
 /// did; it fails only where it did none though there are some. Of every machine for which the world stands, the events that were done and
-/// their replies are a run to one for which it stands then.
+/// their replies are a run to one for which it stands then. Whatever files the medium has, also where no machine stands for them: a refusal names the
+/// first check that doesn't hold, or what is lacking, and changes nothing but the count of a loss, unless the medium failed; and any other reply comes where
+/// all checks hold, and says what the event did.
 pub fn run<M: BlockMedium>(
     world: &mut World<M>,
     events: &[Event],
     replies: &mut Vec<Reply>,
 ) -> Result<usize, AllocError>
     ensures run { IfOk result (λ n. WorldRuns M.disk world.old (take n events.now) (drop (vec_len replies.old) replies.new.items) world.new) }
+    ensures answers { IfOk result (λ n. AnswersEach M.disk world.old (take n events.now) (drop (vec_len replies.old) replies.new.items) world.new) }
     ensures stops { IfOk result (λ n. RunsSafely M.disk world.old (take n events.now) (drop (vec_len replies.old) replies.new.items) world.new) }
     ensures config { world.new.recorder.kept.config ≡ world.old.recorder.kept.config }
     ensures within { IfOk result (λ n. n ≤ length events.now) }

@@ -5,6 +5,7 @@ ghost use Rattle.r10_machine.specs.Machine.{File, fresh, fresh_lane};
 ghost use Rattle.r10_world.specs.Copies.{IsCopy};
 ghost use Rattle.r10_medium.specs.Stop.{Settled};
 ghost use Rattle.r10_means.specs.Safe.{IsSafe};
+ghost use Rattle.r10_world.specs.Answering.{AnswersSo};
 ghost use Rattle.r10_world.specs.Stopping.{Recovers, Survives};
 ghost use Rattle.r10_world.specs.Telling.{WorldStandsFor, RecorderStepsTo};
 ghost use Rattle.r10_machine.specs.Says.{MediumHas, MediumSays};
@@ -115,6 +116,7 @@ impl<M: BlockMedium> World<M> {
     pub(crate) fn step(&mut self, event: &Event, copy: &mut Option<Message>) -> Reply
         requires { IsCopy event.now copy.old }
         ensures tells { RecorderStepsTo M.disk self.old.recorder self.old.slots event.now result self.new.recorder self.new.slots }
+        ensures answers { AnswersSo M.disk self.old.recorder self.old.slots event.now result self.new.recorder self.new.slots }
         ensures stops { Survives M.disk self.old.recorder event.now result self.new.recorder }
         ensures config { self.new.recorder.kept.config ≡ self.old.recorder.kept.config }
     {
@@ -138,6 +140,7 @@ fn answer<M: BlockMedium>(
 ) -> Reply
     requires { IsCopy event.now copy.old }
     ensures tells { RecorderStepsTo M.disk recorder.old cursors.old.slots event.now result recorder.new cursors.new.slots }
+    ensures answers { AnswersSo M.disk recorder.old cursors.old.slots event.now result recorder.new cursors.new.slots }
     ensures stops { Survives M.disk recorder.old event.now result recorder.new }
     ensures config { recorder.new.kept.config ≡ recorder.old.kept.config }
 {

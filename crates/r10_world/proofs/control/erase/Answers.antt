@@ -1,5 +1,9 @@
+use Rattle.std.proofs.Common.{ap, refl}
+use Rattle.r10_machine.specs.declared.reply.Reply.{Reply}
+use Rattle.r10_world.proofs.Answering.{matched, or_either, refused_call}
+use Rattle.r10_world.specs.Answering.{AnswersSo}
+use Rattle.r10_control.specs.Refused.{nothing_lacks}
 use Rattle.r10_world.proofs.Telling.{telling}
-use Rattle.std.proofs.Common.{ap}
 use Rattle.r10_body.specs.declared.refusal.Refusal.TheVariants.{Failed}
 use Rattle.r10_control.specs.Checks.{recorder_refusal}
 use Rattle.r10_means.specs.Kept.{Work}
@@ -23,3 +27,15 @@ returns-clause-stops g c =
     let fails = stays_failed disk old new (recorder_refusal old.kept events.Erase) Failed _ call.result (λ is. ap (λ (w : Work). recorder_refusal (record old.kept { work = w }) events.Erase) is) call.ensures.passed call.ensures.refused
     (λ r some refuses. alone_if disk (recorder_refusal old.kept events.Erase) _ Failed old.kept new.kept old.medium new.medium r some refuses) in
     survives_by disk old new events.Erase (λ _. replies.Done) call.result c.done.result call.ensures.stops c.done.ensures fails
+
+pub returns-clause-answers : goal.returns-clause-answers
+returns-clause-answers g c = λ slots.
+    let call = c.erase in
+    let a = c.args in
+    let old = a.recorder.now in
+    let new = call.new.self in
+    let disk = g.M.BlockMedium.disk in
+    matched _ _ _ (λ (x : Reply). AnswersSo disk old slots events.Erase x new slots) (λ _. replies.Done) call.result c.done.result call.ensures.passed call.ensures.effect call.ensures.refused
+    (λ v is passed effect. (passed, record { does_so = effect; lanes = call.ensures.lanes; cursors = refl }))
+    (λ r is refuses. refused_call disk (recorder_refusal old.kept events.Erase) nothing_lacks old new slots events.Erase r refuses call.ensures.lanes refl (or_either nothing_lacks) (λ none fails. tt) (λ lacks. tt) (λ left. left) tt (λ lanes. lanes))
+    c.done.ensures

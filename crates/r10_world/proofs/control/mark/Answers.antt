@@ -1,5 +1,9 @@
+use Rattle.std.proofs.Common.{ap, refl}
+use Rattle.r10_machine.specs.declared.reply.Reply.{Reply}
+use Rattle.r10_world.proofs.Answering.{matched, refused_open}
+use Rattle.r10_world.specs.Answering.{AnswersSo}
+use Rattle.r10_control.specs.Recording.{IsEntryRefusal}
 use Rattle.r10_world.proofs.Telling.{telling}
-use Rattle.std.proofs.Common.{ap}
 use Rattle.r10_body.specs.declared.refusal.Refusal.TheVariants.{Failed}
 use Rattle.r10_control.specs.Checks.{recorder_refusal}
 use Rattle.r10_means.specs.Kept.{Work}
@@ -24,3 +28,15 @@ returns-clause-stops g c =
     let fails = stays_failed disk old new (recorder_refusal old.kept (events.Event a.number a.count)) Failed _ call.result (λ is. ap (λ (w : Work). recorder_refusal (record old.kept { work = w }) (events.Event a.number a.count)) is) call.ensures.passed call.ensures.refused
     (λ r some refuses. alone_if_open disk (recorder_refusal old.kept (events.Event a.number a.count)) _ Failed old.kept new.kept old.medium new.medium r some refuses) in
     survives_by disk old new (events.Event a.number a.count) (λ _. replies.Done) call.result c.done.result call.ensures.stops c.done.ensures fails
+
+pub returns-clause-answers : goal.returns-clause-answers
+returns-clause-answers g c = λ slots.
+    let call = c.event in
+    let a = c.args in
+    let old = a.recorder.now in
+    let new = call.new.self in
+    let disk = g.M.BlockMedium.disk in
+    matched _ _ _ (λ (x : Reply). AnswersSo disk old slots (events.Event a.number a.count) x new slots) (λ _. replies.Done) call.result c.done.result call.ensures.passed call.ensures.effect call.ensures.refused
+    (λ v is passed effect. (passed, record { does_so = effect; lanes = call.ensures.lanes; cursors = refl }))
+    (λ r is refuses. refused_open disk (recorder_refusal old.kept (events.Event a.number a.count)) (IsEntryRefusal old.kept.config old.kept.work 116) old new slots (events.Event a.number a.count) r refuses call.ensures.lanes refl (λ q holds. holds) (λ left. left) tt (λ lanes. lanes))
+    c.done.ensures

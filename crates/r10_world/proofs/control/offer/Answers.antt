@@ -1,5 +1,10 @@
-use Rattle.r10_world.proofs.Telling.{telling_with}
 use Rattle.std.proofs.Common.{refl}
+use Rattle.r10_machine.specs.declared.reply.Reply.{Reply}
+use Rattle.r10_world.proofs.Answering.{refused_check, told_either}
+use Rattle.r10_world.specs.Answering.{AnswersSo}
+use Rattle.r10_machine.specs.Checks.{offer_refusal}
+use Rattle.r10_machine.specs.Machine.{lane_in}
+use Rattle.r10_world.proofs.Telling.{telling_with}
 use Rattle.r10_world.proofs.Stopping.{survives_same}
 use Rattle.r10_world.proofs.control.offer.Goals as goal
 use Rattle.r10_machine.specs.declared.event.Event.TheVariants as events
@@ -16,3 +21,16 @@ returns-clause-stops g c =
     let call = c.offer in
     let a = c.args in
     survives_same g.M.BlockMedium.disk a.recorder.now call.new.self (events.Offer a.channel a.count a.message) c.done.result refl call.ensures.kept call.ensures.medium
+
+pub returns-clause-answers : goal.returns-clause-answers
+returns-clause-answers g c = λ slots.
+    let call = c.offer in
+    let a = c.args in
+    let old = a.recorder.now in
+    let new = call.new.self in
+    let disk = g.M.BlockMedium.disk in
+    let event = events.Offer a.channel a.count a.message in
+    told_either _ _ (λ (x : Reply). AnswersSo disk old slots event x new slots) (λ _. replies.Done) call.result c.done.result call.ensures.offers
+    (λ v does. (does.0, (does.1, call.ensures.kept, call.ensures.medium, refl)))
+    (λ r does. refused_check disk (offer_refusal (lane_in a.channel old.lanes) a.count a.message) old new slots slots event r does.0 call.ensures.kept call.ensures.medium does.1 refl)
+    c.done.ensures

@@ -1,12 +1,30 @@
-use Rattle.std.proofs.Common.{refl}
+use Rattle.std.proofs.Common.{refl, subst, sym}
+use Rattle.r10_machine.specs.declared.reply.Reply.{Reply}
+use Rattle.r10_world.proofs.Answering.{told_apart}
+use Rattle.r10_world.specs.Answering.{AnswersSo}
+use Rattle.r10_body.specs.declared.refusal.Refusal.{Refusal}
+use Rattle.r10_medium.proofs.Stops.{unchanged}
 use Rattle.r10_world.proofs.Telling.{telling_with}
 use Rattle.r10_world.proofs.Stopping.{survives_same}
 use Rattle.r10_world.proofs.control.status.Goals as goal
 use Rattle.r10_machine.specs.declared.event.Event.TheVariants as events
 use Rattle.r10_machine.specs.declared.reply.Reply.TheVariants as replies
 
-pub returns : goal.returns
-returns g c =
+pub returns-clause-tells : goal.returns-clause-tells
+returns-clause-tells g c =
     let call = c.status_with_lost in
     let r = c.args.recorder.now in
-    record { tells = telling_with g.M.BlockMedium.disk r r c.recorders_calls_are_steps.ensures.stays events.Status (λ v. replies.Status v) call.result c.reported.result call.ensures.steps refl refl c.reported.ensures; stops = survives_same g.M.BlockMedium.disk r r events.Status c.reported.result refl refl refl }
+    telling_with g.M.BlockMedium.disk r r c.recorders_calls_are_steps.ensures.stays events.Status (λ v. replies.Status v) call.result c.reported.result call.ensures.steps refl refl c.reported.ensures
+
+pub returns-clause-stops : goal.returns-clause-stops
+returns-clause-stops g c = survives_same g.M.BlockMedium.disk c.args.recorder.now c.args.recorder.now events.Status c.reported.result refl refl refl
+
+pub returns-clause-answers : goal.returns-clause-answers
+returns-clause-answers g c = λ slots.
+    let call = c.status_with_lost in
+    let old = c.args.recorder.now in
+    let disk = g.M.BlockMedium.disk in
+    told_apart _ _ (λ (x : Reply). AnswersSo disk old slots events.Status x old slots) (λ status. replies.Status status) call.result c.reported.result call.ensures.told call.ensures.refused
+    (λ v told. (refl, (told, refl, refl)))
+    (λ r lacks. subst (λ (q : Refusal). AnswersSo disk old slots events.Status (replies.Refused q) old slots) (sym lacks) (record { cause = tt; leaves = (refl, unchanged (disk old.medium)); lanes = refl; cursors = refl }))
+    c.reported.ensures

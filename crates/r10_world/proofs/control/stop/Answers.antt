@@ -1,7 +1,15 @@
+use Rattle.std.proofs.Common.{ap, refl}
+use Rattle.r10_machine.specs.declared.reply.Reply.{Reply}
+use Rattle.r10_world.proofs.Answering.{have_given, matched, none_of_medium, or_either, refused_readied, takes_none, takes_parts}
+use Rattle.r10_world.specs.Answering.{AnswersSo}
+use Rattle.r10_control.specs.Taking.{IsStopped, LeftNone}
+use Rattle.r10_control.specs.Refused.{nothing_lacks}
+use Rattle.r10_machine.specs.Limits.{channel_ids}
+use Rattle.r10_machine.specs.Machine.{rising}
+use Rattle.r10_pump.specs.Stopping.{most_of}
 use Rattle.r10_world.proofs.Taking.{telling_taken}
-use Rattle.std.proofs.Common.{ap}
 use Rattle.r10_body.specs.declared.refusal.Refusal.TheVariants.{Failed}
-use Rattle.r10_control.specs.Checks.{recorder_refusal}
+use Rattle.r10_control.specs.Checks.{recorder_checks, recorder_refusal}
 use Rattle.r10_means.specs.Kept.{Work}
 use Rattle.r10_world.proofs.Stopping.{alone_if_readied, stays_failed, survives_stop}
 use Rattle.r10_world.proofs.control.stop.Goals as goal
@@ -24,3 +32,17 @@ returns-clause-stops g c =
     let fails = stays_failed disk old new (recorder_refusal old.kept events.Stop) Failed _ call.result (λ is. ap (λ (w : Work). recorder_refusal (record old.kept { work = w }) events.Stop) is) call.ensures.passed call.ensures.refused
     (λ r some refuses. alone_if_readied disk (recorder_refusal old.kept events.Stop) _ Failed old.kept new.kept old.medium new.medium r some refuses) in
     survives_stop disk old new call.result c.stopped.result call.ensures.stops c.stopped.ensures fails
+
+pub returns-clause-answers : goal.returns-clause-answers
+returns-clause-answers g c = λ slots.
+    let call = c.stop_file in
+    let a = c.args in
+    let old = a.recorder.now in
+    let new = call.new.self in
+    let disk = g.M.BlockMedium.disk in
+    let lacks = nothing_lacks in
+    matched _ _ _ (λ (x : Reply). AnswersSo disk old slots events.Stop x new slots) (λ v. replies.Stopped v) call.result c.stopped.result call.ensures.passed call.ensures.effect call.ensures.refused
+    (λ v is passed effect. (passed, (effect, takes_parts (rising (channel_ids old.kept.config.channels)) (most_of old.kept.config.channels) IsStopped LeftNone old.kept (disk old.medium) events.Stop (λ v. replies.Stopped v) call.result new.kept (disk new.medium) old.lanes new.lanes call.ensures.takes v is, refl)))
+    (λ r is refuses. refused_readied disk (recorder_refusal old.kept events.Stop) lacks old new slots events.Stop r refuses (none_of_medium (recorder_checks old.kept events.Stop) (refl, (refl, (refl, tt))))
+    (takes_none call.result call.ensures.takes.parts old.lanes new.lanes r call.ensures.takes.none call.ensures.takes.taken is) refl (or_either lacks) tt tt (λ left. left) tt (have_given call.ensures.takes.parts old.lanes new.lanes call.ensures.takes.taken))
+    c.stopped.ensures

@@ -1,8 +1,11 @@
-use Rattle.std.proofs.Common.{ℕ, ap, refl, sym, subst, ◌≡◌, ◌∙◌, Some}
+use Rattle.std.proofs.Common.{None, ℕ, ap, refl, sym, subst, ◌≡◌, ◌∙◌, Some}
+use Rattle.r10_world.proofs.Answering.{refused_check, set_puts}
+use Rattle.r10_world.proofs.OnTable.{instalment_refused, mounted_reads, some_at, unmounted_refuses}
+use Rattle.r10_world.specs.Answering.{AdvancesAt, TakesEntries, first_refusal}
+use Rattle.r10_cursor.specs.Standing.{PutsSlot, slot_at}
 use Rattle.std.specs.Prelude.{slice_set}
 use Rattle.r10_count.specs.Checks.{first_broken}
 use Rattle.r10_machine.specs.Checks.{advance_checks, mounted_checks}
-use Rattle.r10_cursor.specs.Standing.{slot_at}
 use Rattle.r10_machine.specs.Machine.{cursor_of}
 use Rattle.r10_cursor.specs.declared.cursor.Cursor.{Cursor}
 use Rattle.r10_world.proofs.Tables.{advance_refused, advances_on, passes_too, reads, same_slots, set_same, slot_tells}
@@ -94,3 +97,59 @@ returns-in-Err-take_instalment-clause-stops g c =
     let new = call.new.self in
     survives_refused disk old new (events.Advance a.id) c.in-Err-take_instalment.refusal call.ensures.reads.config call.ensures.reads.same (λ is.
     (ap (λ (k : Kept). k.work) (alone_if disk (first_broken (mounted_checks (mode_of old.kept.work))) _ Failed old.kept new.kept old.medium new.medium c.in-Err-take_instalment.refusal (ap (λ (w : Work). first_broken (mounted_checks (mode_of w))) is) c.in-Err-take_instalment.ensures.refused).0 ∙ is))
+
+pub returns-in-Err-clause-answers : goal.returns-in-Err-clause-answers
+returns-in-Err-clause-answers g c =
+    let a = c.args in
+    let old = a.recorder.now in
+    let slots = a.cursors.now.slots in
+    refused_check g.M.BlockMedium.disk (first_refusal old.kept old.lanes slots (events.Advance a.id)) old old slots slots (events.Advance a.id) c.in-Err.refusal (unmounted_refuses old.kept (slot_at slots a.id) c.in-Err.refusal c.in-Err.ensures.tested) refl refl refl refl
+
+pub returns-in-Err-check_read-clause-answers : goal.returns-in-Err-check_read-clause-answers
+returns-in-Err-check_read-clause-answers g c =
+    let a = c.args in
+    let old = a.recorder.now in
+    let slots = a.cursors.now.slots in
+    let r = c.in-Err-check_read.refusal in
+    refused_check g.M.BlockMedium.disk (first_refusal old.kept old.lanes slots (events.Advance a.id)) old old slots slots (events.Advance a.id) r
+    (mounted_reads old.kept (slot_at slots a.id) c.in-Ok.generation (Some r) c.in-Ok.ensures.tested.1 c.in-Ok.ensures.tested.0 c.in-Err-check_read.ensures.tested) refl refl refl refl
+
+pub returns-in-Ok-take_instalment-clause-answers : goal.returns-in-Ok-take_instalment-clause-answers
+returns-in-Ok-take_instalment-clause-answers g c =
+    let a = c.args in
+    let disk = g.M.BlockMedium.disk in
+    let old = a.recorder.now in
+    let call = c.take_instalment in
+    let new = call.new.self in
+    let slots = a.cursors.now.slots in
+    let cursor = c.in-Some.cursor.now in
+    let next = call.new.cursor in
+    let n = c.in-Ok-take_instalment.queued in
+    let later = slice_set slots a.id (Some next) in
+    let is : slot_at slots a.id ≡ Some cursor = sym c.in-Some.ensures.value in
+    let passed = mounted_reads old.kept (slot_at slots a.id) c.in-Ok.generation None c.in-Ok.ensures.tested.1 c.in-Ok.ensures.tested.0 c.in-Ok-check_read.ensures.tested in
+    let takes : TakesEntries disk old cursor n next = record {
+      there = c.in-Ok-take_instalment.ensures.there;
+      file = call.ensures.place.0;
+      generation = call.ensures.place.1;
+      queued = c.in-Ok-take_instalment.ensures.queued;
+      advances = λ packets shows. c.in-Ok-take_instalment.ensures.advances packets shows;
+    } in
+    let advances : AdvancesAt disk old slots a.id n later =
+    some_at (slot_at slots a.id) cursor (λ (x : Cursor). (y : Cursor) × TakesEntries disk old x n y × PutsSlot slots later a.id (Some y)) is (next, takes, set_puts slots a.id cursor next is) in
+    (passed, (advances, record { kept = c.in-Ok-take_instalment.ensures.reads.kept; same = call.ensures.reads.same; no_fewer = call.ensures.reads.no_fewer; lanes = call.ensures.reads.lanes }))
+
+pub returns-in-Err-take_instalment-clause-answers : goal.returns-in-Err-take_instalment-clause-answers
+returns-in-Err-take_instalment-clause-answers g c =
+    let a = c.args in
+    let old = a.recorder.now in
+    let call = c.take_instalment in
+    let slots = a.cursors.now.slots in
+    let cursor = c.in-Some.cursor.now in
+    let next = call.new.cursor in
+    let later = slice_set slots a.id (Some next) in
+    let is : slot_at slots a.id ≡ Some cursor = sym c.in-Some.ensures.value in
+    let passed = mounted_reads old.kept (slot_at slots a.id) c.in-Ok.generation None c.in-Ok.ensures.tested.1 c.in-Ok.ensures.tested.0 c.in-Ok-check_read.ensures.tested in
+    let kept : later ≡ slots = subst (λ (x : Cursor). slice_set slots a.id (Some x) ≡ slots) (sym c.in-Err-take_instalment.ensures.cursor) (set_same slots a.id cursor is) in
+    instalment_refused g.M.BlockMedium.disk old call.new.self slots later a.id cursor (first_broken (mounted_checks (mode_of old.kept.work))) (first_refusal old.kept old.lanes slots (events.Advance a.id)) c.in-Err-take_instalment.refusal is c.in-Ok.ensures.tested.1 passed
+    c.in-Err-take_instalment.ensures.refused call.ensures.reads.lanes call.ensures.reads.same kept

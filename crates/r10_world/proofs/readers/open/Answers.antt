@@ -1,12 +1,15 @@
+use Rattle.r10_world.proofs.Answering.{or_either, refused_call}
+use Rattle.r10_world.proofs.OnTable.{opens_slot, refused_memory}
+use Rattle.r10_control.specs.Reading.{IsReadFileRefusal}
 use Rattle.std.proofs.Common.{ap, refl, ◌∙◌}
 use Rattle.r10_world.proofs.Tables.{is_mounted, open_lacks, opens_on}
 use Rattle.r10_world.proofs.Telling.{refused_on}
 use Rattle.r10_body.specs.declared.refusal.Refusal.TheVariants.{Failed}
-use Rattle.r10_body.specs.declared.refusal.Refusal.TheVariants as refusals
 use Rattle.r10_control.specs.Checks.{recorder_refusal}
-use Rattle.r10_machine.specs.declared.reply.Reply.TheVariants as replies
 use Rattle.r10_means.specs.Kept.{Kept, Work}
 use Rattle.r10_world.proofs.Stopping.{alone_if, survives_kept, survives_refused}
+use Rattle.r10_body.specs.declared.refusal.Refusal.TheVariants as refusals
+use Rattle.r10_machine.specs.declared.reply.Reply.TheVariants as replies
 use Rattle.r10_world.proofs.readers.open.Goals as goal
 use Rattle.r10_machine.specs.declared.event.Event.TheVariants as events
 
@@ -61,3 +64,42 @@ pub returns-in-Err-open_cursor-clause-stops : goal.returns-in-Err-open_cursor-cl
 returns-in-Err-open_cursor-clause-stops g c =
     let a = c.args in
     survives_kept g.M.BlockMedium.disk a.recorder.now c.check_file.new.self (events.Cursor a.file a.channels.now a.from a.to) (replies.Refused refusals.OutOfMemory) refl c.in-Ok.ensures.reads.kept c.check_file.ensures.reads.same
+
+pub returns-in-Err-clause-answers : goal.returns-in-Err-clause-answers
+returns-in-Err-clause-answers g c =
+    let a = c.args in
+    let old = a.recorder.now in
+    let call = c.check_file in
+    let new = call.new.self in
+    let disk = g.M.BlockMedium.disk in
+    let lacks = IsReadFileRefusal old.kept.work (disk old.medium).blocks a.file in
+    refused_call disk (recorder_refusal old.kept (events.Cursor a.file a.channels.now a.from a.to)) lacks old new a.cursors.now.slots (events.Cursor a.file a.channels.now a.from a.to) c.in-Err.refusal (c.in-Err.ensures.refused a.channels.now) call.ensures.reads.lanes refl
+    (or_either lacks) (λ none fails. tt) (λ lacks. tt) (λ left. left) call.ensures.reads.same (λ lanes. lanes)
+
+pub returns-in-Err-generation-clause-answers : goal.returns-in-Err-generation-clause-answers
+returns-in-Err-generation-clause-answers g c =
+    let a = c.args in
+    absurd (is_mounted a.recorder.now.kept c.check_file.new.self.kept a.file a.channels.now a.from a.to c.in-Err-generation.refusal (c.in-Ok.ensures.passed a.channels.now) c.in-Ok.ensures.reads.kept c.in-Err-generation.ensures.tested)
+
+pub returns-in-Ok-open_cursor-clause-answers : goal.returns-in-Ok-open_cursor-clause-answers
+returns-in-Ok-open_cursor-clause-answers g c =
+    let a = c.args in
+    let call = c.check_file in
+    let opened = c.in-Ok-open_cursor in
+    let generation = c.in-Ok-generation.ensures.tested.0 ∙ ap (λ (k : Kept). k.generation) c.in-Ok.ensures.reads.kept in (
+      c.in-Ok.ensures.passed a.channels.now,
+      (
+        c.in-Ok.ensures.there,
+        opened.ensures.was_free,
+        opens_slot a.cursors.now c.open_cursor.new.cursors opened.id c.in-Ok-generation.generation a.recorder.now.kept.generation a.file a.from a.to c.in-Ok.range.0 c.in-Ok.range.1 a.channels.now generation c.in-Ok.ensures.range.0 c.in-Ok.ensures.range.1 opened.ensures.opened,
+        record { kept = c.in-Ok.ensures.reads.kept; same = call.ensures.reads.same; no_fewer = call.ensures.reads.no_fewer; lanes = call.ensures.reads.lanes },
+      ),
+    )
+
+pub returns-in-Err-open_cursor-clause-answers : goal.returns-in-Err-open_cursor-clause-answers
+returns-in-Err-open_cursor-clause-answers g c =
+    let a = c.args in
+    let old = a.recorder.now in
+    let call = c.check_file in
+    refused_memory g.M.BlockMedium.disk (recorder_refusal old.kept (events.Cursor a.file a.channels.now a.from a.to)) old call.new.self a.cursors.now.slots c.open_cursor.new.cursors.slots (events.Cursor a.file a.channels.now a.from a.to)
+    (c.in-Ok.ensures.passed a.channels.now) tt (c.in-Ok.ensures.reads.kept, call.ensures.reads.same) call.ensures.reads.lanes c.in-Err-open_cursor.ensures.kept

@@ -1,7 +1,8 @@
 use Rattle.std.proofs.Common.{◌≡◌, ◌≤◌, ◌<◌, ◌++◌, ◌∷◌, [], ◌∙◌, length, arith, ap, drop, refl, subst, sym, take, vec_len, ℕ, List}
-use Rattle.r10_world.proofs.Going.{all_of, begun, run_more, take_one_more}
+use Rattle.r10_world.proofs.Going.{all_of, answer_more, begun, begun_each, run_more, take_one_more}
 use Rattle.r10_world.proofs.running.run.Goals as goal
 use Rattle.r10_world.proofs.Stopping.{begun_safely, run_more_safely}
+use Rattle.r10_world.specs.Answering.{AnswersEach}
 use Rattle.r10_world.specs.Stopping.{RunsSafely}
 use Rattle.r10_world.specs.Telling.{WorldRuns}
 use Rattle.r10_machine.specs.declared.reply.Reply.{Reply}
@@ -12,6 +13,7 @@ loop-i-init g c =
     let number : vec_len replies ≡ length replies.items = omega (arith, replies.ok.0) in
     record {
       run = begun g.M.BlockMedium.disk c.args.world.now (vec_len replies) replies.items number;
+      answers = begun_each g.M.BlockMedium.disk c.args.world.now (vec_len replies) replies.items number;
       stops = begun_safely g.M.BlockMedium.disk c.args.world.now (vec_len replies) replies.items number;
       config = refl;
       earlier = all_of (vec_len replies) replies.items number;
@@ -24,6 +26,15 @@ pub returns-clause-run : goal.returns-clause-run
 returns-clause-run g c =
     let ended : c.loop-i.i ≡ length c.args.events.now = omega arith in
     subst (λ (n : ℕ). WorldRuns g.M.BlockMedium.disk c.args.world.now (take n c.args.events.now) (drop (vec_len c.args.replies.now) c.loop-i.replies.items) c.loop-i.world) ended c.loop-i.invariant.run
+
+pub returns-clause-answers : goal.returns-clause-answers
+returns-clause-answers g c =
+    let ended : c.loop-i.i ≡ length c.args.events.now = omega arith in
+    subst (λ (n : ℕ). AnswersEach g.M.BlockMedium.disk c.args.world.now (take n c.args.events.now) (drop (vec_len c.args.replies.now) c.loop-i.replies.items) c.loop-i.world) ended c.loop-i.invariant.answers
+
+pub returns-else-i-eq0-clause-answers : goal.returns-else-i-eq0-clause-answers
+returns-else-i-eq0-clause-answers g c =
+    subst (λ (xs : List Reply). AnswersEach g.M.BlockMedium.disk c.args.world.now (take c.loop-i.i c.args.events.now) (drop (vec_len c.args.replies.now) xs) c.loop-i.world) (sym c.reserve-place.ensures.items) c.loop-i.invariant.answers
 
 pub returns-clause-stops : goal.returns-clause-stops
 returns-clause-stops g c =
@@ -48,6 +59,7 @@ loop-i-preserved g c =
     record {
       run = run_more g.M.BlockMedium.disk c.args.world.now c.loop-i.world c.step-reply.new.self c.args.events.now c.loop-i.i n event reply xs ys c.runs_join.ensures
           here c.index-events-i.is within longer so_far.run c.step-reply.ensures.tells;
+      answers = answer_more g.M.BlockMedium.disk c.args.world.now c.loop-i.world c.step-reply.new.self c.args.events.now c.loop-i.i n event reply xs ys here c.index-events-i.is within longer so_far.answers c.step-reply.ensures.answers;
       stops = run_more_safely g.M.BlockMedium.disk c.args.world.now c.loop-i.world c.step-reply.new.self c.args.events.now c.loop-i.i n event reply xs ys c.runs_join.ensures
           here c.index-events-i.is within longer so_far.stops c.step-reply.ensures.tells c.step-reply.ensures.stops;
       config = c.step-reply.ensures.config ∙ so_far.config;

@@ -1,4 +1,5 @@
 use Rattle.std.proofs.Common.{◌≡◌, ◌+◌, take, drop, vec_len}
+use Rattle.r10_world.specs.Answering.{AnswersEach}
 use Rattle.r10_world.specs.Stopping.{RunsSafely}
 use Rattle.r10_world.specs.Telling.{WorldRuns}
 use Rattle.r10_world.proofs.running.run.Given as goal
@@ -6,6 +7,7 @@ use Rattle.r10_world.proofs.running.run.Given as goal
 abbrev pub invariant-loop-i : goal.invariant-loop-i
 invariant-loop-i g l = record {
   run : WorldRuns g.M.BlockMedium.disk l.fn.world (take l.i l.events) (drop (vec_len l.fn.replies) l.replies.items) l.world;
+  answers : AnswersEach g.M.BlockMedium.disk l.fn.world (take l.i l.events) (drop (vec_len l.fn.replies) l.replies.items) l.world;
   stops : RunsSafely g.M.BlockMedium.disk l.fn.world (take l.i l.events) (drop (vec_len l.fn.replies) l.replies.items) l.world;
   config : l.world.recorder.kept.config ≡ l.fn.world.recorder.kept.config;
   earlier : take (vec_len l.fn.replies) l.replies.items ≡ l.fn.replies.items;

@@ -1,0 +1,212 @@
+-- Calls of the recorder and on the table, answered whatever files the medium has.
+use Rattle.std.proofs.Common.{◌≡◌, ◌<◌, ℕ, zero, suc, ◌==◌, ⊎_elim, Bool, true, false, cond, List, [], ◌∷◌, ◌++◌, length, drop, set, Option, Some, None, Result, Ok, Err, refl, sym, ap, ◌∙◌, subst, arith}
+use Rattle.std.specs.Prelude.{◌⊎◌, IfErr, IfOk, MatchResult, OnOk}
+use Rattle.std.specs.List.{AllByRecursion}
+use Rattle.std.proofs.Math.Seq.{drop-append_seam}
+use Rattle.std.proofs.lemmas.List.{get_or-set_same, get_or-set_other}
+use Rattle.r10_count.specs.Checks.{first_broken}
+use Rattle.r10_body.specs.declared.entry.Sample.{Sample}
+use Rattle.r10_body.specs.declared.refusal.Refusal.{Refusal}
+use Rattle.r10_body.specs.declared.refusal.Refusal.TheVariants as refusals
+use Rattle.r10_medium.specs.Disk.{Disk, Unchanged}
+use Rattle.r10_machine.specs.Checks.{Check, mounted_checks}
+use Rattle.r10_machine.specs.Machine.{Lane}
+use Rattle.r10_machine.specs.declared.event.Event.{Event as EventValue}
+use Rattle.r10_machine.specs.declared.reply.Reply.{Reply as ReplyValue}
+use Rattle.r10_machine.specs.declared.reply.Reply.TheVariants as replies
+use Rattle.r10_cursor.specs.Standing.{PutsSlot, slot_at}
+use Rattle.r10_cursor.specs.declared.cursor.Cursor.{Cursor}
+use Rattle.r10_lane.specs.Lanes.{TookWaiting}
+use Rattle.r10_pump.specs.Stopping.{Part, TellsWaiting, TookAll, entries_of, samples_on}
+use Rattle.r10_means.specs.Grown.{AreGrown}
+use Rattle.r10_means.specs.Kept.{Kept, Work, mode_of, unmounted, idle, recording, failed}
+use Rattle.r10_control.specs.Refused.{IsSameKept, IsSameWork, RefusesCall, RefusesOpen}
+use Rattle.r10_control.specs.Reading.{OnlyReads}
+use Rattle.r10_control.specs.State.{RecorderState}
+use Rattle.r10_control.specs.Taking.{RefusesReadied, StepsByTaking}
+use Rattle.r10_world.specs.Answering.{EitherOr, HaveGiven, LeavesAll, LeavesLanes, LeavesRead, MayLack, MediumOr, MemoryOr, OnlyRead, RefusesSo, TakesParts, lanes_counted}
+
+-- ---- what a call answered
+
+-- by its parts: what passed and what was done at Ok, and what a refusal says
+pub matched : {T : Type 0} (A : Type 0) (P : T → Type 0) (Q : Refusal → Type 0) (C : ReplyValue → Type 0) (reply : T → ReplyValue) (result : Result T Refusal) (said : ReplyValue) → OnOk result A → IfOk result P → IfErr result Q
+    → ((v : T) → result ≡ Ok v → A → P v → C (reply v)) → ((r : Refusal) → result ≡ Err r → Q r → C (replies.Refused r)) → said ≡ elim result [ Ok v ↦ reply v | Err r ↦ replies.Refused r ] → C said
+matched A P Q C reply (Ok v) said a b q done refused is = rw is (done v refl a b)
+matched A P Q C reply (Err r) said a b q done refused is = rw is (refused r refl q)
+
+pub told_apart : {T : Type 0} (P : T → Type 0) (Q : Refusal → Type 0) (C : ReplyValue → Type 0) (reply : T → ReplyValue) (result : Result T Refusal) (said : ReplyValue) → IfOk result P → IfErr result Q
+    → ((v : T) → P v → C (reply v)) → ((r : Refusal) → Q r → C (replies.Refused r)) → said ≡ elim result [ Ok v ↦ reply v | Err r ↦ replies.Refused r ] → C said
+told_apart P Q C reply (Ok v) said p q done refused is = rw is (done v p)
+told_apart P Q C reply (Err r) said p q done refused is = rw is (refused r q)
+
+pub told_either : {T : Type 0} (P : T → Type 0) (Q : Refusal → Type 0) (C : ReplyValue → Type 0) (reply : T → ReplyValue) (result : Result T Refusal) (said : ReplyValue) → MatchResult result P Q
+    → ((v : T) → P v → C (reply v)) → ((r : Refusal) → Q r → C (replies.Refused r)) → said ≡ elim result [ Ok v ↦ reply v | Err r ↦ replies.Refused r ] → C said
+told_either P Q C reply (Ok v) said p done refused is = rw is (done v p)
+told_either P Q C reply (Err r) said q done refused is = rw is (refused r q)
+
+-- what holds at Ok holds of the value
+pub at_ok : {T : Type 0} (A : Type 0) (result : Result T Refusal) (v : T) → result ≡ Ok v → OnOk result A → A
+at_ok {T} A result v is holds = subst (λ (r : Result T Refusal). OnOk r A) is holds
+
+pub at_value : {T : Type 0} (P : T → Type 0) (result : Result T Refusal) (v : T) → result ≡ Ok v → IfOk result P → P v
+at_value {T} P result v is holds = subst (λ (r : Result T Refusal). IfOk r P) is holds
+
+pub only_read : {M T : Type 0} (disk : M → Disk) (old new : RecorderState M Lane) (result : Result T Refusal) (v : T) → result ≡ Ok v → OnlyReads disk old new result → OnlyRead disk old new
+only_read disk old new result v is reads = record { kept = at_ok (new.kept ≡ old.kept) result v is reads.kept; same = reads.same; no_fewer = reads.no_fewer; lanes = reads.lanes }
+
+-- ---- causes
+
+pub or_memory : (lacks : Refusal → Type 0) (q : Refusal) → lacks q → MemoryOr lacks q
+or_memory lacks refusals.OutOfMemory holds = tt
+or_memory lacks q holds = holds
+
+pub or_medium : (lacks : Refusal → Type 0) (q : Refusal) → lacks q → MediumOr lacks q
+or_medium lacks refusals.Medium holds = tt
+or_medium lacks q holds = holds
+
+pub or_either : (lacks : Refusal → Type 0) (q : Refusal) → lacks q → EitherOr lacks q
+or_either lacks q holds = or_medium (MemoryOr lacks) q (or_memory lacks q holds)
+
+-- ---- refusals
+
+-- by a check
+pub refused_check : {M : Type 0} (disk : M → Disk) (first : Option Refusal) (old new : RecorderState M Lane) (slots later : List (Option Cursor)) (event : EventValue) (r : Refusal) → first ≡ Some r → new.kept ≡ old.kept → new.medium ≡ old.medium
+    → new.lanes ≡ lanes_counted event old.lanes → later ≡ slots → RefusesSo disk first old slots event r new later
+refused_check disk (Some f) old new slots later event r is kept medium lanes same = let same_is : r ≡ f = cc in record { first_is = same_is; kept = kept; medium = medium; lanes = lanes; cursors = same }
+refused_check disk None old new slots later event r is kept medium lanes same = cc
+
+pub refused_call : {M : Type 0} (disk : M → Disk) (first : Option Refusal) (lacks : Refusal → Type 0) (old new : RecorderState M Lane) (slots : List (Option Cursor)) (event : EventValue) (r : Refusal) → RefusesCall disk first lacks old.kept new.kept old.medium new.medium r
+    → new.lanes ≡ old.lanes → old.lanes ≡ lanes_counted event old.lanes → ((q : Refusal) → lacks q → MayLack disk old slots event new q) → (first ≡ None → new.kept ≡ record old.kept { work = failed } → MayLack disk old slots event new refusals.Medium)
+    → (r ≡ refusals.OutOfMemory → MayLack disk old slots event new refusals.OutOfMemory) → ((new.kept ≡ old.kept) × Unchanged (disk old.medium) (disk new.medium) → LeavesAll disk old event new) → LeavesRead disk old.medium event new.medium
+    → (new.lanes ≡ old.lanes → LeavesLanes old.lanes event new.lanes) → RefusesSo disk first old slots event r new slots
+refused_call disk (Some f) lacks old new slots event r refuses lanes counted more medium memory leaves reads left = record { first_is = refuses.0; kept = refuses.1; medium = refuses.2; lanes = lanes ∙ counted; cursors = refl }
+refused_call disk None lacks old new slots event refusals.Medium refuses lanes counted more medium memory leaves reads left =
+    record { cause = medium refl refuses.1; rose = refuses.0; kept = refuses.1; reads = reads; lanes = left lanes; cursors = refl }
+refused_call disk None lacks old new slots event refusals.OutOfMemory refuses lanes counted more medium memory leaves reads left =
+    record { cause = memory refl; leaves = leaves (refuses.1, refuses.0); lanes = lanes; cursors = refl }
+refused_call disk None lacks old new slots event r refuses lanes counted more medium memory leaves reads left =
+    record { cause = more r refuses.0; leaves = leaves (refuses.2, refuses.1); lanes = lanes; cursors = refl }
+
+same_work : (work : Work) → IsSameWork work work
+same_work unmounted = refl
+same_work (idle chain) = refl
+same_work (recording chain o) = (refl, record { rest = refl; out = refl; held = refl; specs = refl }, refl)
+same_work failed = refl
+
+same_kept : (old new : Kept) → new ≡ old → IsSameKept old new
+same_kept old new same = subst (λ (k : Kept). IsSameKept old k) (sym same) (refl, same_work old.work)
+
+-- a call that puts into the file that is recorded
+pub refused_open : {M : Type 0} (disk : M → Disk) (first : Option Refusal) (cause : Refusal → Type 0) (old new : RecorderState M Lane) (slots : List (Option Cursor)) (event : EventValue) (r : Refusal) → RefusesOpen disk first cause old.kept new.kept old.medium new.medium r
+    → new.lanes ≡ old.lanes → old.lanes ≡ lanes_counted event old.lanes → ((q : Refusal) → cause q → MayLack disk old slots event new q) → (IsSameKept old.kept new.kept × (new.medium ≡ old.medium) → LeavesAll disk old event new)
+    → LeavesRead disk old.medium event new.medium → (new.lanes ≡ old.lanes → LeavesLanes old.lanes event new.lanes) → RefusesSo disk first old slots event r new slots
+refused_open disk (Some f) cause old new slots event r refuses lanes counted more leaves reads left = record { first_is = refuses.0; kept = refuses.1; medium = refuses.2; lanes = lanes ∙ counted; cursors = refl }
+refused_open disk None cause old new slots event refusals.Medium refuses lanes counted more leaves reads left =
+    record { cause = more refusals.Medium refuses.0; rose = refuses.1; kept = refuses.2; reads = reads; lanes = left lanes; cursors = refl }
+refused_open disk None cause old new slots event refusals.OutOfMemory refuses lanes counted more leaves reads left =
+    record { cause = more refusals.OutOfMemory refuses.0; leaves = leaves (refuses.1, refuses.2); lanes = lanes; cursors = refl }
+refused_open disk None cause old new slots event r refuses lanes counted more leaves reads left =
+    record { cause = more r refuses.0; leaves = leaves (same_kept old.kept new.kept refuses.1, refuses.2); lanes = lanes; cursors = refl }
+
+-- and takes from lanes
+pub refused_readied : {M : Type 0} (disk : M → Disk) (first : Option Refusal) (lacks : Refusal → Type 0) (old new : RecorderState M Lane) (slots : List (Option Cursor)) (event : EventValue) (r : Refusal) → RefusesReadied disk first lacks old.kept new.kept old.medium new.medium r
+    → (first ≡ Some refusals.Medium → ⊥) → ((r ≡ refusals.Medium → ⊥) → new.lanes ≡ old.lanes) → old.lanes ≡ lanes_counted event old.lanes → ((q : Refusal) → lacks q → MayLack disk old slots event new q)
+    → MayLack disk old slots event new refusals.Medium → MayLack disk old slots event new refusals.OutOfMemory → (IsSameKept old.kept new.kept × (new.medium ≡ old.medium) → LeavesAll disk old event new) → LeavesRead disk old.medium event new.medium
+    → LeavesLanes old.lanes event new.lanes → RefusesSo disk first old slots event r new slots
+refused_readied disk (Some f) lacks old new slots event r refuses never lanes counted more medium memory leaves reads left =
+    record { first_is = refuses.0; kept = refuses.1; medium = refuses.2; lanes = lanes (λ is. never (ap (λ (q : Refusal). Some q) (sym refuses.0 ∙ is))) ∙ counted; cursors = refl }
+refused_readied disk None lacks old new slots event refusals.Medium refuses never lanes counted more medium memory leaves reads left =
+    record { cause = medium; rose = refuses.0; kept = refuses.1; reads = reads; lanes = left; cursors = refl }
+refused_readied disk None lacks old new slots event refusals.OutOfMemory refuses never lanes counted more medium memory leaves reads left =
+    record { cause = memory; leaves = leaves (refuses.0, refuses.1); lanes = lanes (λ is. cc); cursors = refl }
+refused_readied disk None lacks old new slots event r refuses never lanes counted more medium memory leaves reads left =
+    record { cause = more r refuses.0; leaves = leaves (refuses.1, refuses.2); lanes = lanes (λ is. cc); cursors = refl }
+
+-- ---- what is taken from lanes
+
+pub have_given : (parts : List Part) (old new : List Lane) → TookAll TookWaiting (λ (lane : Lane). lane.spec) parts old new → HaveGiven old new
+have_given parts [] [] took = tt
+have_given parts (a ∷ old) (b ∷ new) (took, more) =
+    let xs = samples_on a.spec.id parts in
+    let rest : drop (length xs) a.waiting ≡ b.waiting = ap (λ (w : List Sample). drop (length xs) w) took.front ∙ drop-append_seam xs b.waiting in
+    ((length xs, took.others ∙ ap (λ (w : List Sample). record a { waiting = w }) (sym rest)), have_given parts old new more)
+have_given parts [] (b ∷ new) took = absurd took
+have_given parts (a ∷ old) [] took = absurd took
+
+none_on : (channel : ℕ) (parts : List Part) → AllByRecursion (λ (p : Part). p.samples ≡ []) parts → samples_on channel parts ≡ []
+none_on channel [] all = refl
+none_on channel (p ∷ parts) (here, all) = by (channel == p.channel) p.samples (samples_on channel parts) here (none_on channel parts all)
+  where
+    by : (b : Bool) (xs ys : List Sample) → xs ≡ [] → ys ≡ [] → cond b xs [] ++ ys ≡ []
+    by true xs ys first rest = rw (first, rest) refl
+    by false xs ys first rest = rest
+
+pub none_given : (parts : List Part) (old new : List Lane) → AllByRecursion (λ (p : Part). p.samples ≡ []) parts → TookAll TookWaiting (λ (lane : Lane). lane.spec) parts old new → new ≡ old
+none_given parts [] [] all took = refl
+none_given parts (a ∷ old) (b ∷ new) all (took, more) =
+    let front : a.waiting ≡ b.waiting = took.front ∙ ap (λ (xs : List Sample). xs ++ b.waiting) (none_on a.spec.id parts all) in
+    let head : b ≡ a = took.others ∙ ap (λ (w : List Sample). record a { waiting = w }) (sym front) in
+    let rest : new ≡ old = none_given parts old new all more in
+    rw (head, rest) refl
+none_given parts [] (b ∷ new) all took = absurd took
+none_given parts (a ∷ old) [] all took = absurd took
+
+-- what a call that succeeded took
+pub takes_parts : {T : Type 0} (order : List ℕ) (most : ℕ → ℕ) (says : T → List Part → Type 0) (bare : Result T Refusal → Type 0) (k : Kept) (old : Disk) (event : EventValue) (reply : T → ReplyValue) (result : Result T Refusal) (later : Kept) (new : Disk) (lanes lanes' : List Lane)
+    → StepsByTaking TookWaiting (λ (lane : Lane). Some lane.waiting) (λ (lane : Lane). lane.spec) order most says bare k old.blocks old.failures event reply result later new.blocks new.failures lanes lanes' → (v : T) → result ≡ Ok v
+    → TakesParts order most (says v) k old lanes later new lanes'
+takes_parts {T} order most says bare k old event reply result later new lanes lanes' takes v is =
+    let known : takes.known ≡ takes.parts = ⊎_elim (λ same. same) (λ none. absurd (apart result v refusals.Medium is none.1)) takes.told in
+    record {
+      parts = takes.parts;
+      passed = takes.passed;
+      order_is = takes.order_is;
+      within = takes.within;
+      taken = takes.taken;
+      waits = subst (λ (ps : List Part). AllByRecursion (TellsWaiting (λ (lane : Lane). Some lane.waiting) (λ (lane : Lane). lane.spec) lanes) ps) known takes.waits;
+      tells = subst (λ (r : Result T Refusal). IfOk r (λ x. says x takes.parts)) is takes.tells;
+      counts = subst (λ (r : Result T Refusal). OnOk r (AreGrown (entries_of takes.parts) k.config.channels k.taken later.taken)) is takes.counts;
+      own = takes.own;
+    }
+  where
+    apart : (result : Result T Refusal) (v : T) (r : Refusal) → result ≡ Ok v → result ≡ Err r → ⊥
+    apart (Ok x) v r is fails = cc
+    apart (Err x) v r is fails = cc
+
+-- and one that was refused, if the medium didn't fail
+pub takes_none : {T : Type 0} (result : Result T Refusal) (parts : List Part) (old new : List Lane) (r : Refusal) → IfErr result (λ r. (r ≡ refusals.Medium) ⊎ AllByRecursion (λ (p : Part). p.samples ≡ []) parts)
+    → TookAll TookWaiting (λ (lane : Lane). lane.spec) parts old new → result ≡ Err r → (r ≡ refusals.Medium → ⊥) → new ≡ old
+takes_none {T} result parts old new r none took is differs =
+    let either : (r ≡ refusals.Medium) ⊎ AllByRecursion (λ (p : Part). p.samples ≡ []) parts =
+    subst (λ (x : Result T Refusal). IfErr x (λ r. (r ≡ refusals.Medium) ⊎ AllByRecursion (λ (p : Part). p.samples ≡ []) parts)) is none in
+    ⊎_elim (λ fails. absurd (differs fails)) (λ all. none_given parts old new all took) either
+
+-- ---- checks
+
+abbrev is_medium : Refusal → Bool
+is_medium r = elim r [ refusals.Medium ↦ true | _ ↦ false ]
+
+pub none_of_medium : (checks : List Check) → AllByRecursion (λ (x : Check). is_medium x.1 ≡ false) checks → first_broken checks ≡ Some refusals.Medium → ⊥
+none_of_medium [] all is = cc
+none_of_medium ((true, r) ∷ checks) (here, all) is = none_of_medium checks all is
+none_of_medium ((false, r) ∷ checks) (here, all) is =
+    let same : r ≡ refusals.Medium = cc in
+    let no : true ≡ false = subst (λ (q : Refusal). is_medium q ≡ false) same here in
+    cc
+
+-- a recorder that failed isn't mounted
+pub failed_refuses : (work : Work) → first_broken (mounted_checks (mode_of work)) ≡ None → work ≡ failed → ⊥
+failed_refuses work passed fails = let no : Some refusals.Failed ≡ None = subst (λ (w : Work). first_broken (mounted_checks (mode_of w)) ≡ None) fails passed in cc
+
+-- ---- cursors
+
+pub set_puts : (slots : List (Option Cursor)) (id : ℕ) (c new : Cursor) → slot_at slots id ≡ Some c → PutsSlot slots (set slots id (Some new)) id (Some new)
+set_puts slots id c new is = record {
+  changed = get_or-set_same slots id (Some new) None (within slots id c is);
+  others = λ other differs. get_or-set_other slots id other (Some new) None differs;
+}
+  where
+    within : (slots : List (Option Cursor)) (id : ℕ) (c : Cursor) → slot_at slots id ≡ Some c → id < length slots
+    within [] id c e = absurd (cc (e))
+    within (x ∷ slots) zero c e = omega arith
+    within (x ∷ slots) (suc id) c e = omega (arith, within slots id c e)
