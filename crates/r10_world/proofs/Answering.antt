@@ -51,6 +51,9 @@ at_ok {T} A result v is holds = subst (λ (r : Result T Refusal). OnOk r A) is h
 pub at_value : {T : Type 0} (P : T → Type 0) (result : Result T Refusal) (v : T) → result ≡ Ok v → IfOk result P → P v
 at_value {T} P result v is holds = subst (λ (r : Result T Refusal). IfOk r P) is holds
 
+pub at_match : {T : Type 0} (P : T → Type 0) (Q : Refusal → Type 0) (result : Result T Refusal) (v : T) → result ≡ Ok v → MatchResult result P Q → P v
+at_match {T} P Q result v is holds = subst (λ (r : Result T Refusal). MatchResult r P Q) is holds
+
 pub only_read : {M T : Type 0} (disk : M → Disk) (old new : RecorderState M Lane) (result : Result T Refusal) (v : T) → result ≡ Ok v → OnlyReads disk old new result → OnlyRead disk old new
 only_read disk old new result v is reads = record { kept = at_ok (new.kept ≡ old.kept) result v is reads.kept; same = reads.same; no_fewer = reads.no_fewer; lanes = reads.lanes }
 

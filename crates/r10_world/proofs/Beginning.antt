@@ -1,7 +1,8 @@
 -- A new world.
 use Rattle.std.proofs.Common.{◌≡◌, ℕ, List, [], ◌∷◌, map, Option, refl, sym, ap, ◌∙◌}
 use Rattle.r10_body.specs.declared.spec.ChannelSpec.{ChannelSpec}
-use Rattle.r10_world.specs.Joined.{KeptAndSlotsStandFor, new_kept}
+use Rattle.r10_world.specs.Joined.{KeptAndSlotsStandFor, begun_world, new_kept}
+use Rattle.r10_world.specs.State.{WorldState}
 use Rattle.r10_machine.specs.Config.{Config}
 use Rattle.r10_machine.specs.Limits.{IsConfig}
 use Rattle.r10_machine.specs.Machine.{File, Lane, fresh, fresh_lane}
@@ -46,3 +47,14 @@ new_world disk law s r slots medium files limits kept left same none has =
 pub new_safe : {M : Type 0} (disk : M → Disk) (s : Config) (r : RecorderState M Lane) (medium : M) (files : List File) → r.kept ≡ new_kept s → r.medium ≡ medium → Settled (λ image. MediumSays s image files) (disk medium)
     → IsSafe r.kept.config r.kept.work files (disk r.medium)
 new_safe disk s r medium files kept same settled = rw (kept, same) settled
+
+abbrev pub world_of : {M : Type 0} → RecorderState M Lane → List (Option Cursor) → WorldState M
+world_of r slots = record { recorder = r; slots = slots }
+
+pub is_begun_world : {M : Type 0} (s : Config) (r : RecorderState M Lane) (slots : List (Option Cursor)) (medium : M) → r.kept ≡ new_kept s → r.lanes ≡ map fresh_lane s.channels → r.medium ≡ medium → slots ≡ []
+    → world_of r slots ≡ begun_world s medium
+is_begun_world {M} s r slots medium kept left same none = joined r.kept (new_kept s) r.lanes (map fresh_lane s.channels) r.medium medium slots [] kept left same none
+  where
+    joined : (k k' : Kept) (ls ls' : List Lane) (m m' : M) (cs cs' : List (Option Cursor)) → k ≡ k' → ls ≡ ls' → m ≡ m' → cs ≡ cs'
+        → world_of (record { kept = k; lanes = ls; medium = m }) cs ≡ world_of (record { kept = k'; lanes = ls'; medium = m' }) cs'
+    joined k k' ls ls' m m' cs cs' a b c d = rw (a, b, c, d) refl

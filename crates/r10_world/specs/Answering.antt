@@ -10,6 +10,7 @@ use Rattle.r10_body.specs.declared.refusal.Refusal.{Refusal}
 use Rattle.r10_body.specs.declared.refusal.Refusal.TheVariants as refusals
 use Rattle.r10_medium.specs.Disk.{Disk, Rose, IsSynced, Unchanged}
 use Rattle.r10_machine.specs.Calls.{accepted, overflowed}
+use Rattle.r10_machine.specs.Config.{Config}
 use Rattle.r10_machine.specs.Checks.{Check, mounted_checks, offer_checks, offer_refusal}
 use Rattle.r10_machine.specs.Finding.{count_after, first_from, last_until, ticks_of}
 use Rattle.r10_machine.specs.Limits.{channel_ids}
@@ -28,7 +29,7 @@ use Rattle.r10_means.specs.Grown.{AreGrown}
 use Rattle.r10_means.specs.Kept.{Kept, failed, mode_of}
 use Rattle.r10_control.specs.Checks.{files_of, recorder_refusal}
 use Rattle.r10_control.specs.Effects.{CommitEffect, DismountEffect, EraseEffect, EventEffect, MountEffect, PumpEffect, StartEffect, StopEffect, TickEffect}
-use Rattle.r10_control.specs.Own.{OwnGrow}
+use Rattle.r10_control.specs.Own.{AreOwn, OwnGrow, OwnStay}
 use Rattle.r10_control.specs.Reading.{IsReadAt, IsReadFileRefusal, ShowsAt}
 use Rattle.r10_control.specs.Recording.{IsCommitRefusal, IsEntryRefusal}
 use Rattle.r10_control.specs.Refused.{IsMountRefusal, IsSameKept, nothing_lacks}
@@ -37,6 +38,7 @@ use Rattle.r10_control.specs.Started.{IsStartRefusal}
 use Rattle.r10_control.specs.State.{RecorderState}
 use Rattle.r10_control.specs.Taking.{CountsMoved, FirstLacks, IsStopped}
 use Rattle.r10_control.specs.Told.{status_in}
+use Rattle.r10_world.specs.Joined.{begun_world}
 use Rattle.r10_world.specs.State.{WorldState}
 
 -- ---- what is checked
@@ -159,11 +161,16 @@ RefusesSo disk None old slots event r new later = IsLacking disk old slots event
 
 -- ---- what a call does
 
--- this; and lanes and cursors stay
-pub record DoesAlone (does : Type 0) (before : List Lane) (slots : List (Option CursorValue)) (now : List Lane) (later : List (Option CursorValue)) : Type 0 where
+-- this; the recorder's own files keep what they had, so; and lanes and cursors stay
+pub record DoesAlone (does keeps : Type 0) (before : List Lane) (slots : List (Option CursorValue)) (now : List Lane) (later : List (Option CursorValue)) : Type 0 where
   pub does_so : does
+  pub own : keeps
   pub lanes : now ≡ before
   pub cursors : later ≡ slots
+
+-- whatever entries the recorder's own files had, they have them then, and times or events behind them
+abbrev pub KeepsOwn : {M : Type 0} → (M → Disk) → RecorderState M Lane → RecorderState M Lane → Type 0
+KeepsOwn disk old new = OwnStay old.kept (disk old.medium).blocks new.kept (disk new.medium).blocks
 
 -- what is kept and the lanes stay, and the medium is only read
 pub record OnlyRead {M : Type 0} (disk : M → Disk) (old new : RecorderState M Lane) : Type 0 where
@@ -208,21 +215,21 @@ AdvancesAt disk old slots id n later = IsSomeAnd (slot_at slots id) (λ (c : Cur
 
 -- what an event does that is answered so
 abbrev pub DoesSo : {M : Type 0} → (M → Disk) → RecorderState M Lane → List (Option CursorValue) → EventValue → ReplyValue → RecorderState M Lane → List (Option CursorValue) → Type 0
-DoesSo disk old slots Mount replies.Done new later = DoesAlone (MountEffect old.kept (disk old.medium) new.kept (disk new.medium)) old.lanes slots new.lanes later
-DoesSo disk old slots Dismount replies.Done new later = DoesAlone (DismountEffect old.kept (disk old.medium) new.kept (disk new.medium)) old.lanes slots new.lanes later
-DoesSo disk old slots (Tick count parts) replies.Done new later = DoesAlone (TickEffect (record { count = count; civil = parts }) old.kept (disk old.medium) new.kept (disk new.medium)) old.lanes slots new.lanes later
-DoesSo disk old slots (Start name setup) replies.Done new later = DoesAlone (StartEffect name setup old.kept (disk old.medium) new.kept (disk new.medium)) old.lanes slots new.lanes later
+DoesSo disk old slots Mount replies.Done new later = DoesAlone (MountEffect old.kept (disk old.medium) new.kept (disk new.medium)) (KeepsOwn disk old new) old.lanes slots new.lanes later
+DoesSo disk old slots Dismount replies.Done new later = DoesAlone (DismountEffect old.kept (disk old.medium) new.kept (disk new.medium)) (KeepsOwn disk old new) old.lanes slots new.lanes later
+DoesSo disk old slots (Tick count parts) replies.Done new later = DoesAlone (TickEffect (record { count = count; civil = parts }) old.kept (disk old.medium) new.kept (disk new.medium)) (KeepsOwn disk old new) old.lanes slots new.lanes later
+DoesSo disk old slots (Start name setup) replies.Done new later = DoesAlone (StartEffect name setup old.kept (disk old.medium) new.kept (disk new.medium)) (KeepsOwn disk old new) old.lanes slots new.lanes later
 DoesSo disk old slots (Offer channel count message) replies.Done new later =
     (new.lanes ≡ change_first (is_channel channel) (accepted count message) old.lanes) × (new.kept ≡ old.kept) × (new.medium ≡ old.medium) × (later ≡ slots)
 DoesSo disk old slots (Pump channel most) (replies.Moved n) new later =
     PumpEffect old.kept (disk old.medium) new.kept (disk new.medium) × TakesParts (channel ∷ []) (λ _. most) (CountsMoved n) old.kept (disk old.medium) old.lanes new.kept (disk new.medium) new.lanes × (later ≡ slots)
-DoesSo disk old slots (Event number count) replies.Done new later = DoesAlone (EventEffect number count old.kept (disk old.medium) new.kept (disk new.medium)) old.lanes slots new.lanes later
-DoesSo disk old slots Commit replies.Done new later = DoesAlone (CommitEffect old.kept (disk old.medium) new.kept (disk new.medium)) old.lanes slots new.lanes later
+DoesSo disk old slots (Event number count) replies.Done new later = DoesAlone (EventEffect number count old.kept (disk old.medium) new.kept (disk new.medium)) (KeepsOwn disk old new) old.lanes slots new.lanes later
+DoesSo disk old slots Commit replies.Done new later = DoesAlone (CommitEffect old.kept (disk old.medium) new.kept (disk new.medium)) (KeepsOwn disk old new) old.lanes slots new.lanes later
 DoesSo disk old slots Stop (replies.Stopped said) new later =
     StopEffect old.kept (disk old.medium) new.kept (disk new.medium)
     × TakesParts (rising (channel_ids old.kept.config.channels)) (most_of old.kept.config.channels) (IsStopped said) old.kept (disk old.medium) old.lanes new.kept (disk new.medium) new.lanes × (later ≡ slots)
-DoesSo disk old slots Seal replies.Done new later = DoesAlone (SealsSo disk old new) old.lanes slots new.lanes later
-DoesSo disk old slots Erase replies.Done new later = DoesAlone (EraseEffect old.kept (disk old.medium) new.kept (disk new.medium)) old.lanes slots new.lanes later
+DoesSo disk old slots Seal replies.Done new later = DoesAlone (SealsSo disk old new) (KeepsOwn disk old new) old.lanes slots new.lanes later
+DoesSo disk old slots Erase replies.Done new later = DoesAlone (EraseEffect old.kept (disk old.medium) new.kept (disk new.medium)) (AreOwn new.kept.work (disk new.medium).blocks []) old.lanes slots new.lanes later
 DoesSo disk old slots Files (replies.Files files) new later = (files ≡ map info_in (files_of old.kept.work)) × (new ≡ old) × (later ≡ slots)
 DoesSo disk old slots Status (replies.Status status) new later = (status ≡ status_in old.kept old.lanes) × (new ≡ old) × (later ≡ slots)
 DoesSo disk old slots (Cursor file channels from to) (replies.Cursor id) new later =
@@ -256,6 +263,12 @@ abbrev pub AnswersEach : {M : Type 0} → (M → Disk) → WorldState M → List
 AnswersEach disk old [] [] new = new ≡ old
 AnswersEach {M} disk old (event ∷ events) (reply ∷ given) new = (mid : WorldState M) × AnswersSo disk old.recorder old.slots event reply mid.recorder mid.slots × AnswersEach disk mid events given new
 AnswersEach disk old events given new = ⊥
+
+-- a whole recording: events in turn, from a new world over this medium
+pub record AnswersAll {M : Type 0} (disk : M → Disk) (s : Config) (medium : M) (events : List EventValue) (given : List ReplyValue) (left : M) : Type 0 where
+  pub end : WorldState M
+  pub each : AnswersEach disk (begun_world s medium) events given end
+  pub medium_is : end.recorder.medium ≡ left
 
 -- ---- the table alone
 

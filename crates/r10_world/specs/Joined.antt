@@ -1,8 +1,8 @@
 -- Which machines a recorder and the cursors of its readers stand for together.
-use Rattle.std.specs.Prelude.{◌≡◌, ℕ, List, Option, None, length, replicate}
+use Rattle.std.specs.Prelude.{◌≡◌, ℕ, List, [], Option, None, length, map, replicate}
 use Rattle.r10_medium.specs.Disk.{Image}
 use Rattle.r10_machine.specs.Config.{Config}
-use Rattle.r10_machine.specs.Machine.{Machine}
+use Rattle.r10_machine.specs.Machine.{Machine, fresh_lane}
 use Rattle.r10_machine.specs.Says.{MediumSays}
 use Rattle.r10_machine.specs.Step.{Step}
 use Rattle.r10_machine.specs.declared.event.Event.{Event as EventValue}
@@ -12,6 +12,7 @@ use Rattle.r10_cursor.specs.Read.{HaveRead}
 use Rattle.r10_cursor.specs.Standing.{SlotsStandFor}
 use Rattle.r10_means.specs.Kept.{Kept, unmounted}
 use Rattle.r10_means.specs.Means.{KeptStandsFor}
+use Rattle.r10_world.specs.State.{WorldState}
 
 -- what a new recorder of these settings keeps
 abbrev pub new_kept : Config → Kept
@@ -24,6 +25,10 @@ new_kept s = record {
   taken = replicate (length s.channels) 0;
   erased = replicate (length s.channels) 0;
 }
+
+-- a new world over a medium: fresh lanes, and no readers
+abbrev pub begun_world : {M : Type 0} → Config → M → WorldState M
+begun_world s medium = record { recorder = record { kept = new_kept s; lanes = map fresh_lane s.channels; medium = medium }; slots = [] }
 
 -- what a recorder keeps, over a medium that reads as an image and has failed so often, stands for the machine, and so does the table for
 -- its cursors, which are as far in their files as the machine's

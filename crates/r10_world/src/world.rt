@@ -3,6 +3,7 @@
 ghost use Rattle.std.specs.Prelude.{◌≡◌, List, length, map, IfErr, IfOk};
 ghost use Rattle.r10_machine.specs.Machine.{File, fresh, fresh_lane};
 ghost use Rattle.r10_world.specs.Copies.{IsCopy};
+ghost use Rattle.r10_world.specs.Joined.{begun_world};
 ghost use Rattle.r10_medium.specs.Stop.{Settled};
 ghost use Rattle.r10_means.specs.Safe.{IsSafe};
 ghost use Rattle.r10_world.specs.Answering.{AnswersSo};
@@ -72,6 +73,7 @@ impl<M: BlockMedium> World<M> {
         // So it does over what a stop left of a medium that said files: it finds these again.
         ensures recovers { (files : List File) → MediumSays settings (M.disk medium).blocks files → IfOk result (Recovers M.disk settings (M.disk medium) files) }
         ensures safe { (files : List File) → Settled (λ image. MediumSays settings image files) (M.disk medium) → IfOk result (λ w. IsSafe w.recorder.kept.config w.recorder.kept.work files (M.disk w.recorder.medium)) }
+        ensures begins { IfOk result (λ w. w ≡ begun_world settings medium) }
         ensures config { IfOk result (λ w. w.recorder.kept.config ≡ settings) }
         ensures medium { IfOk result (λ w. w.recorder.medium ≡ medium) }
         ensures refused { IfErr result (λ back. (back.0 ≡ settings) × (back.1 ≡ medium)) }

@@ -36,6 +36,6 @@ returns-clause-answers g c = λ slots.
     let new = call.new.self in
     let disk = g.M.BlockMedium.disk in
     matched _ _ _ (λ (x : Reply). AnswersSo disk old slots events.Dismount x new slots) (λ _. replies.Done) call.result c.done.result call.ensures.passed call.ensures.effect call.ensures.refused
-    (λ v is passed effect. (passed, record { does_so = effect; lanes = call.ensures.lanes; cursors = refl }))
+    (λ v is passed effect. (passed, record { does_so = effect; own = call.ensures.owned; lanes = call.ensures.lanes; cursors = refl }))
     (λ r is refuses. refused_call disk (recorder_refusal old.kept events.Dismount) nothing_lacks old new slots events.Dismount r refuses call.ensures.lanes refl (or_medium nothing_lacks) (λ none fails. tt) (λ lacks. absurd (call.ensures.memory (is ∙ ap Err lacks))) (λ left. left) tt (λ lanes. lanes))
     c.done.ensures

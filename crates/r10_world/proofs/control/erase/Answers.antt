@@ -1,6 +1,6 @@
 use Rattle.std.proofs.Common.{ap, refl}
 use Rattle.r10_machine.specs.declared.reply.Reply.{Reply}
-use Rattle.r10_world.proofs.Answering.{matched, or_either, refused_call}
+use Rattle.r10_world.proofs.Answering.{at_match, matched, or_either, refused_call}
 use Rattle.r10_world.specs.Answering.{AnswersSo}
 use Rattle.r10_control.specs.Refused.{nothing_lacks}
 use Rattle.r10_world.proofs.Telling.{telling}
@@ -36,6 +36,6 @@ returns-clause-answers g c = λ slots.
     let new = call.new.self in
     let disk = g.M.BlockMedium.disk in
     matched _ _ _ (λ (x : Reply). AnswersSo disk old slots events.Erase x new slots) (λ _. replies.Done) call.result c.done.result call.ensures.passed call.ensures.effect call.ensures.refused
-    (λ v is passed effect. (passed, record { does_so = effect; lanes = call.ensures.lanes; cursors = refl }))
+    (λ v is passed effect. (passed, record { does_so = effect; own = at_match _ _ call.result v is call.ensures.owned; lanes = call.ensures.lanes; cursors = refl }))
     (λ r is refuses. refused_call disk (recorder_refusal old.kept events.Erase) nothing_lacks old new slots events.Erase r refuses call.ensures.lanes refl (or_either nothing_lacks) (λ none fails. tt) (λ lacks. tt) (λ left. left) tt (λ lanes. lanes))
     c.done.ensures

@@ -36,6 +36,6 @@ returns-clause-answers g c = λ slots.
     let new = call.new.self in
     let disk = g.M.BlockMedium.disk in
     matched _ _ _ (λ (x : Reply). AnswersSo disk old slots (events.Start a.name.now a.setup.now) x new slots) (λ _. replies.Done) call.result c.done.result call.ensures.passed call.ensures.effect call.ensures.refused
-    (λ v is passed effect. (passed, record { does_so = effect; lanes = call.ensures.lanes; cursors = refl }))
+    (λ v is passed effect. (passed, record { does_so = effect; own = call.ensures.owned; lanes = call.ensures.lanes; cursors = refl }))
     (λ r is refuses. refused_call disk (recorder_refusal old.kept (events.Start a.name.now a.setup.now)) (IsStartRefusal old.kept a.setup.now) old new slots (events.Start a.name.now a.setup.now) r refuses call.ensures.lanes refl (or_either (IsStartRefusal old.kept a.setup.now)) (λ none fails. tt) (λ lacks. tt) (λ left. left) tt (λ lanes. lanes))
     c.done.ensures

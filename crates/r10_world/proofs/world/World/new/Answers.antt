@@ -1,7 +1,7 @@
 use Rattle.std.proofs.Common.{List, ap, map, ◌∙◌}
 use Rattle.r10_body.specs.declared.spec.ChannelSpec.{ChannelSpec}
 use Rattle.r10_machine.specs.Machine.{Lane, fresh_lane}
-use Rattle.r10_world.proofs.Beginning.{new_safe, new_world, specs_of_fresh}
+use Rattle.r10_world.proofs.Beginning.{is_begun_world, new_safe, new_world, specs_of_fresh}
 use Rattle.r10_means.proofs.Finding.{again_said, found_again}
 use Rattle.r10_world.proofs.world.World.new.Goals as goal
 
@@ -26,3 +26,8 @@ returns-in-Ok-new-clause-recovers g c = λ files says.
 
 pub returns-in-Ok-new-clause-safe : goal.returns-in-Ok-new-clause-safe
 returns-in-Ok-new-clause-safe g c = λ files settled. new_safe g.M.BlockMedium.disk c.args.settings c.in-Ok-new.recorder c.args.medium files c.in-Ok-new.ensures.kept c.in-Ok-new.ensures.medium settled
+
+pub returns-in-Ok-new-clause-begins : goal.returns-in-Ok-new-clause-begins
+returns-in-Ok-new-clause-begins g c =
+    is_begun_world c.args.settings c.in-Ok-new.recorder c.new-cursors.result.slots c.args.medium c.in-Ok-new.ensures.kept
+    (c.in-Ok-new.ensures.lanes ∙ c.in-Ok.ensures ∙ ap (λ (xs : List ChannelSpec). map fresh_lane xs) c.channels.ensures.value) c.in-Ok-new.ensures.medium c.new-cursors.ensures.empty
