@@ -8,10 +8,12 @@ use Rattle.r10_count.specs.Checks.{first_broken}
 use Rattle.r10_body.specs.declared.entry.Sample.{Sample}
 use Rattle.r10_body.specs.declared.refusal.Refusal.{Refusal}
 use Rattle.r10_body.specs.declared.refusal.Refusal.TheVariants as refusals
+use Rattle.r10_medium.proofs.Stops.{unchanged}
 use Rattle.r10_medium.specs.Disk.{Disk, Unchanged}
 use Rattle.r10_machine.specs.Checks.{Check, mounted_checks}
 use Rattle.r10_machine.specs.Machine.{Lane}
 use Rattle.r10_machine.specs.declared.event.Event.{Event as EventValue}
+use Rattle.r10_machine.specs.declared.event.Event.TheVariants as events
 use Rattle.r10_machine.specs.declared.reply.Reply.{Reply as ReplyValue}
 use Rattle.r10_machine.specs.declared.reply.Reply.TheVariants as replies
 use Rattle.r10_cursor.specs.Standing.{PutsSlot, slot_at}
@@ -24,7 +26,7 @@ use Rattle.r10_control.specs.Refused.{IsSameKept, IsSameWork, RefusesCall, Refus
 use Rattle.r10_control.specs.Reading.{OnlyReads}
 use Rattle.r10_control.specs.State.{RecorderState}
 use Rattle.r10_control.specs.Taking.{RefusesReadied, StepsByTaking}
-use Rattle.r10_world.specs.Answering.{EitherOr, HaveGiven, LeavesAll, LeavesLanes, LeavesRead, MayLack, MediumOr, MemoryOr, OnlyRead, RefusesSo, TakesParts, lanes_counted}
+use Rattle.r10_world.specs.Answering.{AnswersSo, ChangesNothing, EitherOr, HaveGiven, IsLacking, LeavesAll, LeavesLanes, LeavesRead, MayLack, MediumOr, MemoryOr, OnlyRead, RefusesSo, TakesParts, first_refusal, lanes_counted}
 
 -- ---- what a call answered
 
@@ -213,3 +215,45 @@ set_puts slots id c new is = record {
     within [] id c e = absurd (cc (e))
     within (x ∷ slots) zero c e = omega arith
     within (x ∷ slots) (suc id) c e = omega (arith, within slots id c e)
+
+-- ---- what a refusal leaves
+
+leaves_all : {M : Type 0} (disk : M → Disk) (old : RecorderState M Lane) (event : EventValue) (new : RecorderState M Lane) → LeavesAll disk old event new → IsSameKept old.kept new.kept × Unchanged (disk old.medium) (disk new.medium)
+leaves_all {M} disk old event new leaves = by event leaves
+  where
+    same_medium : IsSameKept old.kept new.kept × (new.medium ≡ old.medium) → IsSameKept old.kept new.kept × Unchanged (disk old.medium) (disk new.medium)
+    same_medium (kept, same) = (kept, subst (λ (m : M). Unchanged (disk old.medium) (disk m)) (sym same) (unchanged (disk old.medium)))
+
+    by : (event : EventValue) → LeavesAll disk old event new → IsSameKept old.kept new.kept × Unchanged (disk old.medium) (disk new.medium)
+    by (events.Tick count parts) left = same_medium left
+    by (events.Pump channel most) left = same_medium left
+    by (events.Event number count) left = same_medium left
+    by events.Commit left = same_medium left
+    by events.Stop left = same_medium left
+    by event (kept, same) = (same_kept old.kept new.kept kept, same)
+
+-- an offer lacks nothing
+none_counted : {M : Type 0} (disk : M → Disk) (old : RecorderState M Lane) (slots : List (Option Cursor)) (event : EventValue) (r : Refusal) (new : RecorderState M Lane) → MayLack disk old slots event new r → old.lanes ≡ lanes_counted event old.lanes
+none_counted disk old slots (events.Offer channel count message) r new lacks = absurd lacks
+none_counted disk old slots event r new lacks = refl
+
+lacking_changes : {M : Type 0} (disk : M → Disk) (old : RecorderState M Lane) (slots : List (Option Cursor)) (event : EventValue) (r : Refusal) (new : RecorderState M Lane) (later : List (Option Cursor)) → IsLacking disk old slots event r new later
+    → ChangesNothing disk old slots event new later
+lacking_changes disk old slots event r new later lacks =
+    let left = leaves_all disk old event new lacks.leaves in
+    record { kept = left.0; medium = left.1; lanes = lacks.lanes ∙ none_counted disk old slots event r new lacks.cause; cursors = lacks.cursors }
+
+refused_changes : {M : Type 0} (disk : M → Disk) (first : Option Refusal) (old : RecorderState M Lane) (slots : List (Option Cursor)) (event : EventValue) (r : Refusal) (new : RecorderState M Lane) (later : List (Option Cursor)) → RefusesSo disk first old slots event r new later
+    → (r ≡ refusals.Medium → ⊥) → ChangesNothing disk old slots event new later
+refused_changes {M} disk (Some f) old slots event r new later refuses differs = record {
+  kept = same_kept old.kept new.kept refuses.kept;
+  medium = subst (λ (m : M). Unchanged (disk old.medium) (disk m)) (sym refuses.medium) (unchanged (disk old.medium));
+  lanes = refuses.lanes;
+  cursors = refuses.cursors;
+}
+refused_changes disk None old slots event refusals.Medium new later refuses differs = absurd (differs refl)
+refused_changes disk None old slots event r new later refuses differs = lacking_changes disk old slots event r new later refuses
+
+pub change_nothing : {M : Type 0} (disk : M → Disk) (old : RecorderState M Lane) (slots : List (Option Cursor)) (event : EventValue) (r : Refusal) (new : RecorderState M Lane) (later : List (Option Cursor)) → AnswersSo disk old slots event (replies.Refused r) new later
+    → (r ≡ refusals.Medium → ⊥) → ChangesNothing disk old slots event new later
+change_nothing disk old slots event r new later answers differs = refused_changes disk (first_refusal old.kept old.lanes slots event) old slots event r new later answers differs

@@ -254,6 +254,13 @@ abbrev pub AnswersSo : {M : Type 0} → (M → Disk) → RecorderState M Lane �
 AnswersSo disk old slots event (replies.Refused r) new later = RefusesSo disk (first_refusal old.kept old.lanes slots event) old slots event r new later
 AnswersSo disk old slots event reply new later = (first_refusal old.kept old.lanes slots event ≡ None) × DoesSo disk old slots event reply new later
 
+-- nothing changed but the count of a loss: what is kept, of the medium what is read and what a stop leaves, the lanes, and the cursors; the file that is recorded may have more memory
+pub record ChangesNothing {M : Type 0} (disk : M → Disk) (old : RecorderState M Lane) (slots : List (Option CursorValue)) (event : EventValue) (new : RecorderState M Lane) (later : List (Option CursorValue)) : Type 0 where
+  pub kept : IsSameKept old.kept new.kept
+  pub medium : Unchanged (disk old.medium) (disk new.medium)
+  pub lanes : new.lanes ≡ lanes_counted event old.lanes
+  pub cursors : later ≡ slots
+
 -- whatever cursors there are, they stay
 abbrev pub AnswersAlone : {M : Type 0} → (M → Disk) → RecorderState M Lane → EventValue → ReplyValue → RecorderState M Lane → Type 0
 AnswersAlone disk old event reply new = (slots : List (Option CursorValue)) → AnswersSo disk old slots event reply new slots
@@ -265,7 +272,7 @@ AnswersEach {M} disk old (event ∷ events) (reply ∷ given) new = (mid : World
 AnswersEach disk old events given new = ⊥
 
 -- a whole recording: events in turn, from a new world over this medium
-pub record AnswersAll {M : Type 0} (disk : M → Disk) (s : Config) (medium : M) (events : List EventValue) (given : List ReplyValue) (left : M) : Type 0 where
+pub record RecordsEach {M : Type 0} (disk : M → Disk) (s : Config) (medium : M) (events : List EventValue) (given : List ReplyValue) (left : M) : Type 0 where
   pub end : WorldState M
   pub each : AnswersEach disk (begun_world s medium) events given end
   pub medium_is : end.recorder.medium ≡ left

@@ -3,10 +3,13 @@
 ghost use Rattle.std.specs.Prelude.{◌≡◌, ◌≤◌, [], ℕ, List, None, Option};
 ghost use Rattle.r10_medium.specs.Disk.{Image};
 ghost use Rattle.r10_body.specs.declared.entry.Entry.{Entry};
+ghost use Rattle.r10_body.specs.declared.refusal.Refusal.{Refusal as RefusalValue};
+ghost use Rattle.r10_body.specs.declared.refusal.Refusal.TheVariants as refusals;
+ghost use Rattle.r10_control.specs.State.{RecorderState};
 ghost use Rattle.r10_machine.specs.Calls.{Advances, GivesQueued, Opens};
 ghost use Rattle.r10_machine.specs.Limits.{IsConfig};
 ghost use Rattle.r10_machine.specs.Config.{Config};
-ghost use Rattle.r10_machine.specs.Machine.{File, Machine, SetsCursor, fresh};
+ghost use Rattle.r10_machine.specs.Machine.{File, Lane, Machine, SetsCursor, fresh};
 ghost use Rattle.r10_machine.specs.EventChecks.{refusal};
 ghost use Rattle.r10_machine.specs.Says.{MediumHas};
 ghost use Rattle.r10_machine.specs.declared.event.Event.{Event as EventValue};
@@ -19,10 +22,12 @@ ghost use Rattle.r10_cursor.specs.Read.{KeepsBytes};
 ghost use Rattle.r10_cursor.specs.Steps.{StepsTo};
 ghost use Rattle.r10_means.specs.Kept.{Kept};
 ghost use Rattle.r10_means.specs.Means.{KeptStepsTo, KeptStandsFor};
+ghost use Rattle.r10_world.specs.Answering.{AnswersSo, ChangesNothing};
 ghost use Rattle.r10_world.specs.Joined.{KeptAndSlotsStandFor, SlotsStepTo, KeptAndSlotsStepTo, new_kept};
 
 use r10_cursor::cursors_stay_over_steps;
 use r10_machine::{a_new_recorder_is_sound, a_step_stays_sound, files_on_a_medium_are_found};
+use r10_medium::BlockMedium;
 
 /// A new recorder over a medium that has files, joined by an empty table, stands for a machine that is unmounted, with these files and empty
 /// lanes.
@@ -72,3 +77,9 @@ pub fn tables_calls_are_steps()
     // For the proof: a step keeps a state sound.
     a_step_stays_sound();
 }
+
+/// An event that is refused, and not because the medium failed, changes nothing but the count of a loss, whatever files the medium has.
+pub fn refusals_change_nothing<M: BlockMedium>(_medium: &M)
+    ensures { (old : RecorderState M Lane) (slots : List (Option Cursor)) (event : EventValue) (r : RefusalValue) (new : RecorderState M Lane) (later : List (Option Cursor))
+        → AnswersSo M.disk old slots event (replies.Refused r) new later → (r ≡ refusals.Medium → ⊥) → ChangesNothing M.disk old slots event new later }
+{}

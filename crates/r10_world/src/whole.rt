@@ -3,7 +3,7 @@
 ghost use Rattle.std.specs.Prelude.{◌≡◌, ◌<◌, ◌≤◌, ◌+◌, List, IfErr, IfOk, drop, length, take, vec_len};
 ghost use Rattle.r10_machine.specs.Machine.{File};
 ghost use Rattle.r10_machine.specs.Says.{MediumSays};
-ghost use Rattle.r10_world.specs.Answering.{AnswersAll};
+ghost use Rattle.r10_world.specs.Answering.{RecordsEach};
 ghost use Rattle.r10_world.specs.Stopping.{RecordsRun};
 
 use crate::running::run;
@@ -30,7 +30,7 @@ pub fn record_all<M: BlockMedium + Drop>(
     ensures records { (files : List File) → MediumSays settings (M.disk medium).blocks files
         → IfOk result (λ r. RecordsRun settings files (take r.0 events.now) (drop (vec_len replies.old) replies.new.items) (M.disk medium) (M.disk r.1)) }
     // And over any medium, also one that says no files.
-    ensures answers { IfOk result (λ r. AnswersAll M.disk settings medium (take r.0 events.now) (drop (vec_len replies.old) replies.new.items) r.1) }
+    ensures answers { IfOk result (λ r. RecordsEach M.disk settings medium (take r.0 events.now) (drop (vec_len replies.old) replies.new.items) r.1) }
     ensures within { IfOk result (λ r. r.0 ≤ length events.now) }
     ensures some { IfOk result (λ r. 0 < length events.now → 0 < r.0) }
     ensures count { IfOk result (λ r. vec_len replies.new ≡ vec_len replies.old + r.0) }
