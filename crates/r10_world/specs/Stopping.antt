@@ -60,7 +60,7 @@ IsSafeIn s modes.Recording files disk = Settled (SaysLast s files disk.blocks) d
 IsSafeIn s modes.Failed files disk = Unit {0}
 
 -- From a machine with the files that the medium has, of which each is found again, on each channel with the same entries, the replies to the events are a run; the medium says the files that it ends with, and has failed as often as the run says. On each channel the messages that the replies accepted, in their order and each with the number of those that were lost before it, are those that erases took, those in the lists of the files that the run began, and those that wait, each once; where the medium failed, what is shown stands first and what waits stands last. While nothing is erased, the files that were found stay the first, with what they show.
--- Where a stop left the files before: at any moment a stop leaves those of a state of the run, or those that the next event makes of them. And a stop now leaves the files that the run ends with, unless the medium failed in it; while no file is recorded it leaves what is read, and while one is, of that one the bytes that are read.
+-- Where a stop left the files before: at any moment a stop leaves those of a state of the run, or those that the next event makes of them. And a stop now leaves the files that the run ends with, unless the medium failed in it; while the recorder is mounted and records nothing it leaves what is read, and while it records, of that file the bytes that are read.
 pub record RecordsRun (s : Config) (files : List File) (events : List EventValue) (replies : List ReplyValue) (old new : Disk) : Type 0 where
   pub again : List File
   pub has : MediumHas s old.blocks again
