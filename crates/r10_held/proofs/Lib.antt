@@ -7,3 +7,4 @@ mod Refusing
 mod Agreeing
 mod Comparing
 mod Several
+mod Absent

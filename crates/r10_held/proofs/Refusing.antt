@@ -1,10 +1,10 @@
 -- What a refused call leaves, behind another that only read.
-use Rattle.std.proofs.Common.{◌≡◌, ◌≤◌, ◌<◌, ◌⊎◌, ◌-◌, ◌^◌, ℕ, Option, None, sym, ◌∙◌, subst, arith, inl, inr}
+use Rattle.std.proofs.Common.{◌≡◌, ◌≤◌, Option, None, sym, ◌∙◌, subst}
 use Rattle.r10_body.specs.declared.refusal.Refusal.{Refusal}
 use Rattle.r10_body.specs.declared.refusal.Refusal.TheVariants as refusals
 use Rattle.r10_control.specs.Refused.{RefusesCall}
 use Rattle.r10_means.specs.Kept.{Kept}
-use Rattle.r10_medium.specs.Disk.{Disk, Rose, Unchanged}
+use Rattle.r10_medium.specs.Disk.{Disk, Unchanged}
 use Rattle.r10_medium.proofs.Failures.{rose_later}
 use Rattle.r10_medium.proofs.Stops.{unchanged_twice}
 

@@ -1,15 +1,16 @@
 -- When an audit is refused, and how it goes through instalments.
-use Rattle.std.specs.Prelude.{◌≡◌, ℕ, ◌≤◌, Bool, List, [], ◌∷◌, ◌++◌, Option, None}
+use Rattle.std.specs.Prelude.{◌≡◌, ◌⊎◌, ℕ, ◌≤◌, Bool, List, [], ◌∷◌, ◌++◌, length, Option, None}
 use Rattle.r10_body.specs.Packets.{Packet}
 use Rattle.r10_body.specs.declared.refusal.Refusal.{Refusal}
 use Rattle.r10_body.specs.declared.refusal.Refusal.TheVariants.{Failed, NotMounted, NoSuchFile, BadFile}
-use Rattle.r10_control.specs.Reading.{IsReadFileRefusal}
+use Rattle.r10_control.specs.Checks.{files_of}
+use Rattle.r10_control.specs.Reading.{IsReadAt, IsReadFileRefusal}
 use Rattle.r10_count.specs.Checks.{first_broken}
 use Rattle.r10_cursor.specs.declared.cursor.Cursor.{Cursor}
 use Rattle.r10_machine.specs.Checks.{is_working, mounted_checks}
 use Rattle.r10_means.specs.Kept.{Kept, Work, mode_of}
 use Rattle.r10_medium.specs.Disk.{Image}
-use Rattle.r10_held.specs.Transcripts.{AllAgree, IsPart}
+use Rattle.r10_held.specs.Transcripts.{Agrees, AllAgree, IsPart}
 use Rattle.r10_held.specs.declared.transcript.Instalment.{Instalment}
 use Rattle.r10_held.specs.declared.transcript.Transcript.{Transcript}
 
@@ -36,6 +37,17 @@ pub record IsFirstRefused (work : Work) (image : Image) (transcripts : List Tran
 -- the refusals of a file that isn't there
 abbrev pub is_absence : Refusal → Bool
 is_absence r = elim r [ NotMounted ↦ Bool.true | NoSuchFile ↦ Bool.true | _ ↦ Bool.false ]
+
+-- ---- what an answer rests on
+
+-- no file has this number; or it is read as one that is whole, so that of a file at fault no audit answers
+abbrev pub IsAbsentOrRead : Work → Image → ℕ → Type 0
+IsAbsentOrRead work image file = (length (files_of work) ≤ file) ⊎ IsReadAt work image file
+
+-- so it is of each transcript's file, one behind the other, up to the first that doesn't agree
+abbrev pub AreAbsentOrRead : Work → Image → List Transcript → Type 0
+AreAbsentOrRead work image [] = Unit {0}
+AreAbsentOrRead work image (t ∷ transcripts) = IsAbsentOrRead work image t.file × (Agrees work image t → AreAbsentOrRead work image transcripts)
 
 -- ---- instalment by instalment
 

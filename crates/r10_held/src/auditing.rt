@@ -8,7 +8,7 @@ ghost use Rattle.r10_control.specs.Refused.{RefusesCall};
 ghost use Rattle.r10_count.specs.Count.{IsCount};
 ghost use Rattle.r10_cursor.specs.Standing.{fresh_slot};
 ghost use Rattle.r10_machine.specs.declared.event.Event.TheVariants as events;
-ghost use Rattle.r10_held.specs.Auditing.{GoOn, IsAuditRefusal, IsFirstRefused, IsNext, MayReadOn, at_place, audit_refusal, is_absence as told_absence};
+ghost use Rattle.r10_held.specs.Auditing.{AreAbsentOrRead, GoOn, IsAbsentOrRead, IsAuditRefusal, IsFirstRefused, IsNext, MayReadOn, at_place, audit_refusal, is_absence as told_absence};
 ghost use Rattle.r10_held.specs.Transcripts.{Agrees, AllAgree, beginning};
 
 use crate::same::are_same;
@@ -29,6 +29,7 @@ pub fn audit_all<M: BlockMedium, L: LaneOut>(
     transcripts: &[Transcript],
 ) -> Result<bool, Refusal>
     ensures agrees { IfOk result (λ yes. IsTrue yes ↔ AllAgree recorder.old.kept.work (M.disk recorder.old.medium).blocks transcripts.now) }
+    ensures there { OnOk result (AreAbsentOrRead recorder.old.kept.work (M.disk recorder.old.medium).blocks transcripts.now) }
     ensures passed { OnOk result (audit_refusal recorder.old.kept ≡ None) }
     ensures refused { IfErr result (RefusesCall M.disk (audit_refusal recorder.old.kept) (IsFirstRefused recorder.old.kept.work (M.disk recorder.old.medium).blocks transcripts.now) recorder.old.kept recorder.new.kept recorder.old.medium recorder.new.medium) }
     ensures reads { OnlyReads M.disk recorder.old recorder.new result }
@@ -71,6 +72,7 @@ pub fn audit<M: BlockMedium, L: LaneOut>(
     transcript: &Transcript,
 ) -> Result<bool, Refusal>
     ensures agrees { IfOk result (λ yes. IsTrue yes ↔ Agrees recorder.old.kept.work (M.disk recorder.old.medium).blocks transcript.now) }
+    ensures there { OnOk result (IsAbsentOrRead recorder.old.kept.work (M.disk recorder.old.medium).blocks transcript.now.file) }
     ensures passed { OnOk result (audit_refusal recorder.old.kept ≡ None) }
     ensures refused { IfErr result (RefusesCall M.disk (audit_refusal recorder.old.kept) (IsAuditRefusal recorder.old.kept.work (M.disk recorder.old.medium).blocks transcript.now.file) recorder.old.kept recorder.new.kept recorder.old.medium recorder.new.medium) }
     ensures reads { OnlyReads M.disk recorder.old recorder.new result }
@@ -101,6 +103,7 @@ fn read_again<M: BlockMedium, L: LaneOut>(
     transcript: &Transcript,
 ) -> Result<bool, Refusal>
     ensures agrees { IfOk result (λ yes. IsTrue yes ↔ Agrees recorder.old.kept.work (M.disk recorder.old.medium).blocks transcript.now) }
+    ensures there { OnOk result (IsReadAt recorder.old.kept.work (M.disk recorder.old.medium).blocks transcript.now.file) }
     ensures passed { OnOk result (recorder_refusal recorder.old.kept (events.Cursor transcript.now.file transcript.now.channels transcript.now.first transcript.now.last) ≡ None) }
     ensures refused { IfErr result (RefusesCall M.disk (recorder_refusal recorder.old.kept (events.Cursor transcript.now.file transcript.now.channels transcript.now.first transcript.now.last)) (IsReadFileRefusal recorder.old.kept.work (M.disk recorder.old.medium).blocks transcript.now.file) recorder.old.kept recorder.new.kept recorder.old.medium recorder.new.medium) }
     ensures counts { IsCount transcript.now.first × IsCount transcript.now.last }

@@ -3,7 +3,7 @@
 ghost use Rattle.std.specs.Prelude.{◌≡◌, ◌↔◌, IfErr, IfOk, IsTrue, None, OnOk};
 ghost use Rattle.r10_control.specs.Reading.{OnlyReads};
 ghost use Rattle.r10_control.specs.Refused.{RefusesCall};
-ghost use Rattle.r10_held.specs.Auditing.{IsFirstRefused, audit_refusal};
+ghost use Rattle.r10_held.specs.Auditing.{AreAbsentOrRead, IsFirstRefused, audit_refusal};
 ghost use Rattle.r10_held.specs.Transcripts.{AllAgree};
 
 use r10_body::{Refusal, Sample};
@@ -42,6 +42,7 @@ pub struct SessionReport<M: BlockMedium> {
 /// Medium, OutOfMemory.
 pub fn audit<M: BlockMedium>(alloc: Global, report: &mut SessionReport<M>) -> Result<bool, Refusal>
     ensures agrees { IfOk result (λ yes. IsTrue yes ↔ AllAgree report.old.recorder.kept.work (M.disk report.old.recorder.medium).blocks report.old.transcripts.items) }
+    ensures there { OnOk result (AreAbsentOrRead report.old.recorder.kept.work (M.disk report.old.recorder.medium).blocks report.old.transcripts.items) }
     ensures passed { OnOk result (audit_refusal report.old.recorder.kept ≡ None) }
     ensures refused { IfErr result (RefusesCall M.disk (audit_refusal report.old.recorder.kept) (IsFirstRefused report.old.recorder.kept.work (M.disk report.old.recorder.medium).blocks report.old.transcripts.items) report.old.recorder.kept report.new.recorder.kept report.old.recorder.medium report.new.recorder.medium) }
     ensures reads { OnlyReads M.disk report.old.recorder report.new.recorder result }
