@@ -12,6 +12,8 @@ use Rattle.r10_count.specs.Checks.{first_broken}
 use Rattle.r10_cursor.specs.Replays.{AdvancesReading}
 use Rattle.r10_cursor.specs.declared.cursor.Cursor.{Cursor}
 use Rattle.r10_gauge.specs.Published.{commits_of, last_triple}
+use Rattle.r10_held.specs.LockFact.{LockFact}
+use Rattle.r10_held.specs.Naming.{ChannelRing}
 use Rattle.r10_held.specs.Publishing.{StaysPublished}
 use Rattle.r10_held.specs.State.{HeldState}
 use Rattle.r10_means.specs.Kept.{mode_of}
@@ -46,10 +48,11 @@ pub record AdvancesHeld {M : Type 0} (disk : M → Disk) (seen : List Glance) (o
   pub advances : commits_of seen ≤ commits_of old.published → AdvancesRecorder disk old.recorder new.recorder cursor later result
   pub gauge : StaysPublished old new
 
--- so it was of what the lock had when it was taken
-pub record AdvancesUnderLock {M : Type 0} (disk : M → Disk) (seen : List Glance) (cursor later : Cursor) (result : Result ℕ Refusal) : Type 0 where
+-- so it was of what the lock had when it was taken, of which is known what is known of whatever a lock keeps
+pub record AdvancesUnderLock {M : Type 0} (disk : M → Disk) (rings : List ChannelRing) (seen : List Glance) (cursor later : Cursor) (result : Result ℕ Refusal) : Type 0 where
   pub old : HeldState M
   pub new : HeldState M
+  pub fact : LockFact disk rings old.recorder old.published
   pub advances : AdvancesHeld disk seen old new cursor later result
 
 -- the cursor had given all that it had, and took, of some packets, those that it wants and had not covered: so many, in order

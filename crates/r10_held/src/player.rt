@@ -67,13 +67,16 @@ impl Player {
         requires { self.old.pass.cell ≡ cabinet.now }
         ensures same { self.new.pass.cell ≡ self.old.pass.cell }
         ensures seen { IsPrefix self.old.pass.seen self.new.pass.seen }
-        ensures advances { AdvancesUnderLock M.disk self.new.pass.seen self.old.cursor self.new.cursor result }
+        ensures advances { AdvancesUnderLock M.disk N.rings self.new.pass.seen self.old.cursor self.new.cursor result }
         ensures takes { IfOk result (λ n. TakesInstalment self.old.cursor self.new.cursor n) }
         ensures cursor { OnErr result (self.new.cursor ≡ self.old.cursor) }
     {
         let _seen = cabinet.glance(rt, &mut self.pass);
-        let mut held = cabinet.hold(rt);
-        self.advance_in(&mut held)
+        let mut lock = cabinet.hold(rt);
+        let held: &mut Held<M, N> = &mut lock;
+        // For the proof: what is known of whatever a lock keeps.
+        held.look();
+        self.advance_in(held)
     }
 
     /// Takes the next instalment of its cursor from the recorder that is held, which must have published at least what was seen: else this is
