@@ -24,7 +24,7 @@ fn finish<N: Rings>(
     cabinet: Cabinet<Memory, N>,
     session: Session<N>,
 ) -> Result<SessionReport<Memory>, SessionFault>
-    ensures settled { IfOk result (λ report. Settles (λ feed. feed.line) (λ feed. feed.tally) report.recorder.kept.work (memory_disk report.recorder.medium).blocks session.feeds.items report.feeds.items) }
+    ensures settled { IfOk result (λ report. Settles (λ feed. feed.line) (λ feed. feed.tally) report.recorder.kept (memory_disk report.recorder.medium).blocks session.feeds.items report.feeds.items) }
     ensures transcripts { IfOk result (λ report. AreWrittenDown session.readings.items report.transcripts.items) }
 {
     match end_session(alloc, cabinet, session) {

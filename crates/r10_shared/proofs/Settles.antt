@@ -1,7 +1,8 @@
 -- What is settled once the recorder is out of the lock and what was left is moved.
-use Rattle.std.proofs.Common.{◌≡◌, ◌⊎◌, ℕ, ◌+◌, ◌-◌, ◌<◌, ◌==◌, List, [], ◌++◌, length, take, refl, sym, ap, subst, ◌∙◌, ⊎_elim, arith, take_all, Option, Some, None}
+use Rattle.std.proofs.Common.{◌≡◌, ◌⊎◌, ℕ, ◌+◌, ◌-◌, ◌<◌, ◌==◌, List, [], ◌++◌, length, take, drop, refl, sym, ap, subst, ◌∙◌, ⊎_elim, arith, take_all, length-append, Option, Some, None}
 use Rattle.std.specs.Prelude.{IsSomeAnd, slice_index_or, vec_capacity}
 use Rattle.std.specs.List.{AllByRecursion, find}
+use Rattle.std.proofs.Math.Seq.{drop-append_seam}
 use Rattle.std.proofs.lemmas.Bool.{eqb-true}
 use Rattle.r10_body.specs.Files.{on_channel}
 use Rattle.r10_body.specs.declared.entry.Entry.{Entry}
@@ -11,12 +12,12 @@ use Rattle.r10_control.specs.State.{RecorderState}
 use Rattle.r10_held.specs.Account.{ChannelAccounts, IsAccounted}
 use Rattle.r10_held.specs.LockFact.{LanesAccounted, outlet_received, outlet_spec}
 use Rattle.r10_held.specs.Naming.{AreNamed, ChannelRing, ring_for}
-use Rattle.r10_means.specs.Kept.{Kept, Work, failed}
+use Rattle.r10_means.specs.Kept.{Kept, failed}
 use Rattle.r10_medium.specs.Disk.{Disk, Image}
 use Rattle.r10_port.specs.Ends.{Receiving, Ring, sent, unreceived}
 use Rattle.r10_pump.specs.Pumping.{entries_on}
 use Rattle.r10_shared.specs.Naming.{SendingLine}
-use Rattle.r10_shared.specs.Settling.{AreReady, Drains, HasDrained, IsReportReady, IsSettledReport, MayDrain, Settles, receiving_of}
+use Rattle.r10_shared.specs.Settling.{AreReady, Drains, HasDrained, IsReportReady, IsSettledReport, MayDrain, Settles, TellsKept, receiving_of}
 use Rattle.r10_shared.specs.declared.report.FeedReport.{FeedReport}
 use Rattle.r10_shared.specs.declared.source.Tally.{Tally}
 use Rattle.r10_shared.proofs.Accounts.{account_on, counted}
@@ -33,6 +34,11 @@ whole : (before left : List Sample) (room : ℕ) → before ≡ [] → room ≡ 
 whole before left room none enough =
     rw none (take_all (room - 0) left (omega (arith, enough)))
 
+-- what stands behind those that are gone and those that are kept
+behind : (gone kept left all : List Sample) (taken : ℕ) → all ≡ (gone ++ kept) ++ left → taken ≡ length gone + length kept → drop taken all ≡ left
+behind gone kept left all taken are number =
+    rw (are, number ∙ sym (length-append gone kept)) (drop-append_seam (gone ++ kept) left)
+
 module _ (rings : List ChannelRing) (k : Kept) (lanes : List Receiving) (own : List Entry) (accounts : ChannelAccounts outlet_spec outlet_received own k.config.channels k.taken k.erased lanes) (named : AreNamed rings lanes) where
   module _ (line : SendingLine) (tally : Tally) (report : FeedReport) (ready : IsReportReady rings k line tally report) where
     -- a feed's lane is that of its line's ring
@@ -43,8 +49,8 @@ module _ (rings : List ChannelRing) (k : Kept) (lanes : List Receiving) (own : L
         let id : a.lane.spec.id ≡ line.channel = eqb-true a.lane.spec.id line.channel has.1 in
         subst (λ (o : Option Receiving). IsSomeAnd o (λ lane. lane.ring ≡ line.port.ring)) (sym a.found) (some_ring a.lane.ring line.port.ring (sym has.0 ∙ ap (λ (c : ℕ). ring_for c rings) id ∙ ready.named))
 
-    -- and behind the move all is settled
-    settled : (later : FeedReport) → IsSomeAnd (receiving_of line.channel lanes) (λ lane. Drains lane line.port report later) → IsSettledReport own line tally later
+    -- and behind the move all is settled, by the numbers that were kept
+    settled : (later : FeedReport) → IsSomeAnd (receiving_of line.channel lanes) (λ lane. Drains lane line.port report later) → IsSettledReport own line tally later × TellsKept k line later
     settled later drained =
         let a = account_on outlet_spec outlet_received own line.channel k.config.channels k.taken k.erased lanes ready.taken accounts ready.taken_is in
         let d : Drains a.lane line.port report later = subst (λ (o : Option Receiving). IsSomeAnd o (λ lane. Drains lane line.port report later)) a.found drained in
@@ -54,17 +60,30 @@ module _ (rings : List ChannelRing) (k : Kept) (lanes : List Receiving) (own : L
         let all : sent line.port ≡ (a.account.gone ++ a.account.filed) ++ left = d.all ∙ ap (λ (l : List Sample). l ++ left) a.account.received_is in
         let count = counted a.account.gone a.account.filed left (sent line.port) report.accepted a.t a.e ready.accepted_is ready.few all a.account.erased_is a.account.taken_is in
         let room : vec_capacity report.rest ≡ length left = ready.room ∙ ap (λ (n : ℕ). report.accepted - n) (sym t) ∙ count.room in
-        let rest : later.rest.items ≡ left = d.moved ∙ whole report.rest.items left (vec_capacity report.rest) ready.empty room in record {
-          channel_is = ap (λ (r : FeedReport). r.channel) d.same ∙ ready.channel_is;
-          gone = a.account.gone;
-          kept = a.account.filed;
-          sent_is = all ∙ ap (λ (l : List Sample). (a.account.gone ++ a.account.filed) ++ l) (sym rest);
-          entries_are = subst (λ (c : ℕ). on_channel c own ≡ entries_on c a.account.filed) a.id_is a.account.entries_are;
-          accepted_is = ap (λ (r : FeedReport). r.accepted) d.same ∙ ready.accepted_is;
-          erased_is = ap (λ (r : FeedReport). r.erased) d.same ∙ sym e ∙ a.account.erased_is;
-          filed_is = ap (λ (r : FeedReport). r.filed) d.same ∙ ready.filed_is ∙ ap (λ (n : ℕ). n - report.erased) (sym t) ∙ ap (λ (n : ℕ). a.t - n) (sym e) ∙ count.filed_is;
-          refused_is = ap (λ (r : FeedReport). r.refused) d.same ∙ ready.refused_is;
-        }
+        let rest : later.rest.items ≡ left = d.moved ∙ whole report.rest.items left (vec_capacity report.rest) ready.empty room in
+        let accepted : later.accepted ≡ report.accepted = ap (λ (r : FeedReport). r.accepted) d.same in
+        let erased : later.erased ≡ report.erased = ap (λ (r : FeedReport). r.erased) d.same in
+        let filed : later.filed ≡ report.filed = ap (λ (r : FeedReport). r.filed) d.same in (
+          record {
+            channel_is = ap (λ (r : FeedReport). r.channel) d.same ∙ ready.channel_is;
+            gone = a.account.gone;
+            kept = a.account.filed;
+            sent_is = all ∙ ap (λ (l : List Sample). (a.account.gone ++ a.account.filed) ++ l) (sym rest);
+            entries_are = subst (λ (c : ℕ). on_channel c own ≡ entries_on c a.account.filed) a.id_is a.account.entries_are;
+            accepted_is = accepted ∙ ready.accepted_is;
+            erased_is = erased ∙ sym e ∙ a.account.erased_is;
+            filed_is = filed ∙ ready.filed_is ∙ ap (λ (n : ℕ). n - report.erased) (sym t) ∙ ap (λ (n : ℕ). a.t - n) (sym e) ∙ count.filed_is;
+            refused_is = ap (λ (r : FeedReport). r.refused) d.same ∙ ready.refused_is;
+          },
+          record {
+            few = omega (arith, accepted, ready.few);
+            erased_is = ready.erased_is ∙ ap (λ (n : ℕ). Some n) (sym erased);
+            taken = ready.taken;
+            taken_is = ready.taken_is;
+            filed_is = filed ∙ ready.filed_is ∙ ap (λ (n : ℕ). ready.taken - n) (sym erased);
+            rest_is = rest ∙ sym (behind a.account.gone a.account.filed left (sent line.port) ready.taken all (sym t ∙ count.taken_is));
+          },
+        )
 
   module _ {F : Type 0} (line_of : F → SendingLine) (tally_of : F → Tally) (feeds : List F) (reports : List FeedReport) (ready : AreReady line_of tally_of rings k feeds reports) where
     pub may_drain : MayDrain line_of lanes feeds reports
@@ -75,13 +94,18 @@ module _ (rings : List ChannelRing) (k : Kept) (lanes : List Receiving) (own : L
       rings = λ place f r inside. ring_is (line_of (slice_index_or feeds place f)) (tally_of (slice_index_or feeds place f)) (slice_index_or reports place r) (ready.each place f r inside);
     }
 
-    pub settles : (work : Work) (image : Image) (later : List FeedReport) → AreOwn work image own → HasDrained line_of lanes feeds reports later → Settles line_of tally_of work image feeds later
-    settles work image later is_own drained = record {
+    pub settles : (image : Image) (later : List FeedReport) → AreOwn k.work image own → HasDrained line_of lanes feeds reports later → Settles line_of tally_of k image feeds later
+    settles image later is_own drained = record {
       own = own;
       is_own = is_own;
       number = drained.number ∙ ready.number;
-      each = λ place f r inside. settled (line_of (slice_index_or feeds place f)) (tally_of (slice_index_or feeds place f)) (slice_index_or reports place r) (ready.each place f r inside) (slice_index_or later place r) (drained.each place f r r inside);
+      each = λ place f r inside. (both place f r inside).0;
+      numbers = λ place f r inside. (both place f r inside).1;
     }
+      where
+        both : (place : ℕ) (f : F) (r : FeedReport) → place < length feeds
+            → IsSettledReport own (line_of (slice_index_or feeds place f)) (tally_of (slice_index_or feeds place f)) (slice_index_or later place r) × TellsKept k (line_of (slice_index_or feeds place f)) (slice_index_or later place r)
+        both place f r inside = settled (line_of (slice_index_or feeds place f)) (tally_of (slice_index_or feeds place f)) (slice_index_or reports place r) (ready.each place f r inside) (slice_index_or later place r) (drained.each place f r r inside)
 
 -- ---- out of the lock
 
@@ -93,5 +117,5 @@ module _ {M F : Type 0} (disk : M → Disk) (rings : List ChannelRing) (r : Reco
   pub may_drain_out : MayDrain line_of r.lanes feeds reports
   may_drain_out = may_drain rings r.kept r.lanes accounted.own accounted.each known.named line_of tally_of feeds reports ready
 
-  pub settles_out : (later : List FeedReport) → HasDrained line_of r.lanes feeds reports later → Settles line_of tally_of r.kept.work (disk r.medium).blocks feeds later
-  settles_out later drained = settles rings r.kept r.lanes accounted.own accounted.each known.named line_of tally_of feeds reports ready r.kept.work (disk r.medium).blocks later accounted.is_own drained
+  pub settles_out : (later : List FeedReport) → HasDrained line_of r.lanes feeds reports later → Settles line_of tally_of r.kept (disk r.medium).blocks feeds later
+  settles_out later drained = settles rings r.kept r.lanes accounted.own accounted.each known.named line_of tally_of feeds reports ready (disk r.medium).blocks later accounted.is_own drained

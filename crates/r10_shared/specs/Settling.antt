@@ -1,5 +1,5 @@
 -- What became of the messages of a session.
-use Rattle.std.specs.Prelude.{◌≡◌, ℕ, ◌<◌, ◌-◌, ◌^◌, ◌==◌, Bool, List, ◌++◌, [], length, take, Option, Some, IsSomeAnd, find, slice_index_or, vec_capacity}
+use Rattle.std.specs.Prelude.{◌≡◌, ℕ, ◌<◌, ◌-◌, ◌^◌, ◌==◌, Bool, List, ◌++◌, [], length, take, drop, Option, Some, IsSomeAnd, find, slice_index_or, vec_capacity}
 use Rattle.r10_body.specs.Files.{on_channel}
 use Rattle.r10_body.specs.declared.entry.Entry.{Entry}
 use Rattle.r10_body.specs.declared.entry.Sample.{Sample}
@@ -34,12 +34,23 @@ pub record IsSettledReport (own : List Entry) (line : SendingLine) (tally : Tall
   pub filed_is : report.filed ≡ saturated (length kept)
   pub refused_is : report.refused ≡ tally.refused
 
--- each feed has its report, by the entries of the recorder's own files
-pub record Settles {F : Type 0} (line_of : F → SendingLine) (tally_of : F → Tally) (work : Work) (image : Image) (feeds : List F) (reports : List FeedReport) : Type 0 where
+-- The report's numbers are those that the recorder kept: so many erased of the feed's channel, and as filed what it took in there less those. Fewer than 2^64 - 1 were sent, so that none of these numbers stands for a larger one:
+-- it is known then how many are gone and how many kept, and the rest is what stands behind them, all that was sent and not taken in. A message that was left in a ring can't be told as erased.
+pub record TellsKept (k : Kept) (line : SendingLine) (report : FeedReport) : Type 0 where
+  pub few : report.accepted < 2 ^ 64 - 1
+  pub erased_is : number_on line.channel k.config.channels k.erased ≡ Some report.erased
+  pub taken : ℕ
+  pub taken_is : number_on line.channel k.config.channels k.taken ≡ Some taken
+  pub filed_is : report.filed ≡ taken - report.erased
+  pub rest_is : report.rest.items ≡ drop taken (sent line.port)
+
+-- each feed has its report, by the entries of the recorder's own files and by the numbers that it kept
+pub record Settles {F : Type 0} (line_of : F → SendingLine) (tally_of : F → Tally) (k : Kept) (image : Image) (feeds : List F) (reports : List FeedReport) : Type 0 where
   pub own : List Entry
-  pub is_own : AreOwn work image own
+  pub is_own : AreOwn k.work image own
   pub number : length reports ≡ length feeds
   pub each : (place : ℕ) (f : F) (r : FeedReport) → place < length feeds → IsSettledReport own (line_of (slice_index_or feeds place f)) (tally_of (slice_index_or feeds place f)) (slice_index_or reports place r)
+  pub numbers : (place : ℕ) (f : F) (r : FeedReport) → place < length feeds → TellsKept k (line_of (slice_index_or feeds place f)) (slice_index_or reports place r)
 
 abbrev pub is_failed : Refusal → Bool
 is_failed r = elim r [ Failed ↦ Bool.true | _ ↦ Bool.false ]

@@ -35,7 +35,7 @@ pub fn end_held<M: BlockMedium, N: Rings>(
     held: Held<M, N>,
     session: Session<N>,
 ) -> Result<SessionReport<M>, (Held<M, N>, Session<N>, Refusal)>
-    ensures settled { IfOk result (λ report. Settles (λ feed. feed.line) (λ feed. feed.tally) report.recorder.kept.work (M.disk report.recorder.medium).blocks session.feeds.items report.feeds.items) }
+    ensures settled { IfOk result (λ report. Settles (λ feed. feed.line) (λ feed. feed.tally) report.recorder.kept (M.disk report.recorder.medium).blocks session.feeds.items report.feeds.items) }
     ensures recorder { IfOk result (λ report. (report.recorder.kept ≡ held.recorder.kept) × (report.recorder.medium ≡ held.recorder.medium)) }
     ensures transcripts { IfOk result (λ report. AreWrittenDown session.readings.items report.transcripts.items) }
     ensures refused { IfErr result (λ back. (back.0 ≡ held) × (back.1 ≡ session) × IsEndRefusal held.recorder.kept.work back.2) }
@@ -76,7 +76,7 @@ pub fn end_session<M: BlockMedium, N: Rings>(
     cabinet: Cabinet<M, N>,
     session: Session<N>,
 ) -> Result<SessionReport<M>, (Cabinet<M, N>, Session<N>, Refusal)>
-    ensures settled { IfOk result (λ report. Settles (λ feed. feed.line) (λ feed. feed.tally) report.recorder.kept.work (M.disk report.recorder.medium).blocks session.feeds.items report.feeds.items) }
+    ensures settled { IfOk result (λ report. Settles (λ feed. feed.line) (λ feed. feed.tally) report.recorder.kept (M.disk report.recorder.medium).blocks session.feeds.items report.feeds.items) }
     ensures transcripts { IfOk result (λ report. AreWrittenDown session.readings.items report.transcripts.items) }
     ensures refused { IfErr result (λ back. (back.0 ≡ cabinet) × (back.1 ≡ session)) }
 {
