@@ -1,6 +1,7 @@
 //! The end of a session.
 
-ghost use Rattle.std.specs.Prelude.{◌≡◌, ◌↔◌, IfErr, IfOk, IsTrue};
+ghost use Rattle.std.specs.Prelude.{◌≡◌, ◌⊎◌, ◌↔◌, IfErr, IfOk, IsTrue};
+ghost use Rattle.r10_body.specs.declared.refusal.Refusal.TheVariants as refusals;
 ghost use Rattle.r10_means.specs.Kept.{failed};
 ghost use Rattle.r10_shared.specs.Settling.{AreWrittenDown, IsEndRefusal, Settles, is_failed as told_failed};
 
@@ -29,7 +30,7 @@ fn has_failed<M: BlockMedium, N: Rings>(held: &Held<M, N>) -> bool
     }
 }
 
-/// The end of a session, by what the lock kept.
+/// The end of a session, by what the lock kept. Refused: Failed where the recorder failed, OutOfMemory; then all comes back as it was.
 pub fn end_held<M: BlockMedium, N: Rings>(
     alloc: Global,
     held: Held<M, N>,
@@ -70,7 +71,7 @@ pub fn end_held<M: BlockMedium, N: Rings>(
     }
 }
 
-/// The end of a session, once no thread shares the cabinet any more.
+/// The end of a session, once no thread shares the cabinet any more. Refused: Failed, OutOfMemory; then all comes back as it was.
 pub fn end_session<M: BlockMedium, N: Rings>(
     alloc: Global,
     cabinet: Cabinet<M, N>,
@@ -78,7 +79,7 @@ pub fn end_session<M: BlockMedium, N: Rings>(
 ) -> Result<SessionReport<M>, (Cabinet<M, N>, Session<N>, Refusal)>
     ensures settled { IfOk result (λ report. Settles (λ feed. feed.line) (λ feed. feed.tally) report.recorder.kept (M.disk report.recorder.medium).blocks session.feeds.items report.feeds.items) }
     ensures transcripts { IfOk result (λ report. AreWrittenDown session.readings.items report.transcripts.items) }
-    ensures refused { IfErr result (λ back. (back.0 ≡ cabinet) × (back.1 ≡ session)) }
+    ensures refused { IfErr result (λ back. (back.0 ≡ cabinet) × (back.1 ≡ session) × ((back.2 ≡ refusals.Failed) ⊎ (back.2 ≡ refusals.OutOfMemory))) }
 {
     let (held, watch) = cabinet.into_parts();
     match end_held(alloc, held, session) {
