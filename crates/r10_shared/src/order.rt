@@ -1,8 +1,9 @@
 //! What control asks of the recorder.
 
-ghost use Rattle.std.specs.Prelude.{◌≡◌, MatchResult, None, OnOk, Some};
+ghost use Rattle.std.specs.Prelude.{◌≡◌, IfErr, MatchResult, None, OnOk, Some};
 ghost use Rattle.r10_control.specs.Checks.{recorder_refusal};
-ghost use Rattle.r10_shared.specs.Orders.{Performs, PublishesAs, event_of, order_of};
+ghost use Rattle.r10_control.specs.Leading.{MachinesKeepShown};
+ghost use Rattle.r10_shared.specs.Orders.{HasDone, LanesStayBut, LeavesAs, OwnsAs, Performs, PublishesAs, RefusesAs, event_of, order_of};
 
 use r10_body::Refusal;
 use r10_count::{Items, Parts};
@@ -51,7 +52,13 @@ impl Order {
         held: &mut Held<M, N>,
     ) -> Result<Reply, Refusal>
         ensures passed { OnOk result (recorder_refusal held.old.recorder.kept (event_of self.now) ≡ None) }
+        ensures refused { IfErr result (RefusesAs M.disk self.now held.old held.new) }
         ensures performs { Performs M.disk self.now held.old held.new result }
+        ensures effect { OnOk result (HasDone M.disk self.now held.old held.new) }
+        ensures lanes { LanesStayBut self.now held.old held.new }
+        ensures owned { OwnsAs M.disk self.now held.old held.new result }
+        ensures bytes { MachinesKeepShown held.old.recorder.kept (M.disk held.old.recorder.medium).blocks (M.disk held.old.recorder.medium).failures (M.disk held.new.recorder.medium).blocks }
+        ensures stops { LeavesAs M.disk self.now held.old held.new result }
         ensures publishes { PublishesAs self.now held.old held.new result }
         ensures config { held.new.recorder.kept.config ≡ held.old.recorder.kept.config }
     {
