@@ -4,7 +4,7 @@ ghost use Rattle.std.specs.Prelude.{◌≡◌};
 
 use r10_medium::{BlockMedium, MediumFault};
 
-/// An image that was read, as a medium that can't be written: each write fails, and changes nothing.
+/// An image that was read, as a medium that can't be written: each write fails, and changes nothing of it. A read never fails.
 /// Bytes behind the last whole block are no part of it.
 #[derive(Debug, Drop)]
 pub struct Image {
@@ -26,6 +26,8 @@ impl Image {
 }
 
 impl BlockMedium for Image {
+    ghost use Rattle.std.specs.Prelude.{◌≡◌, ◌<◌, length, slice_set, IsErr, IsOk, OnOk};
+    ghost use Rattle.r10_medium.specs.Disk.{block_at, Counts, IsSynced, Unchanged, Wrote};
     ghost use Rattle.r10_images.specs.ImageDisk.{image_disk};
 
     ghost disk = { image_disk };
@@ -34,17 +36,40 @@ impl BlockMedium for Image {
         self.bytes.len() / 512
     }
 
-    fn read(&mut self, n: usize, block: &mut [u8; 512]) -> Result<(), MediumFault> {
+    /// A read of an image never fails, and changes nothing.
+    fn read(&mut self, n: usize, block: &mut [u8; 512]) -> Result<(), MediumFault>
+        requires { n < length (image_disk self.old).blocks }
+        ensures read { OnOk result (block.new ≡ block_at (image_disk self.old).blocks n) }
+        ensures same { Unchanged (image_disk self.old) (image_disk self.new) }
+        ensures counts { Counts (image_disk self.old) (image_disk self.new) result }
+        ensures never_fails { IsOk result }
+        ensures image { self.new ≡ self.old }
+    {
         block.copy_from_slice(&self.bytes[512 * n..512 * n + 512]);
         Ok(())
     }
 
-    fn write(&mut self, _: usize, _: &[u8; 512]) -> Result<(), MediumFault> {
+    /// A write of an image always fails, and changes nothing of it: what is read, and what a stop may leave, is as before.
+    fn write(&mut self, n: usize, block: &[u8; 512]) -> Result<(), MediumFault>
+        requires { n < length (image_disk self.old).blocks }
+        ensures written { OnOk result ((image_disk self.new).blocks ≡ slice_set (image_disk self.old).blocks n block.now) }
+        ensures wrote { Wrote n block.now (image_disk self.old) (image_disk self.new) }
+        ensures counts { Counts (image_disk self.old) (image_disk self.new) result }
+        ensures always_fails { IsErr result }
+        ensures same { Unchanged (image_disk self.old) (image_disk self.new) }
+    {
         self.failures = self.failures.saturating_add(1);
         Err(MediumFault)
     }
 
-    fn sync(&mut self) -> Result<(), MediumFault> {
+    /// A sync of an image never fails, and changes nothing.
+    fn sync(&mut self) -> Result<(), MediumFault>
+        ensures sure { OnOk result (IsSynced (image_disk self.new)) }
+        ensures same { Unchanged (image_disk self.old) (image_disk self.new) }
+        ensures counts { Counts (image_disk self.old) (image_disk self.new) result }
+        ensures never_fails { IsOk result }
+        ensures image { self.new ≡ self.old }
+    {
         Ok(())
     }
 
