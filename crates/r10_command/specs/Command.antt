@@ -14,6 +14,14 @@ use Rattle.r10_playback.specs.Checked.{Checks}
 use Rattle.r10_command.specs.Sim.{Simulates, WritesLeft}
 use Rattle.r10_command.specs.Written.{WritesFormatted}
 
+-- the words are those of a command that reads a script: a run, or its medium's image
+abbrev pub AsksScript : List (List ℕ) → Type 0
+AsksScript words = AsksSim words ⊎ AsksImage words
+
+-- the words are those of a command that reads its input: a script, an image to be listed, a recording, or an image to be played, whatever the options of `play`
+abbrev pub AsksInput : List (List ℕ) → Type 0
+AsksInput words = AsksScript words ⊎ (AsksFiles words ⊎ (AsksCheck words ⊎ AsksCommand (codes "play") words))
+
 -- the words are those of `format`, with its options, and the image was written
 abbrev pub Formats : List (List ℕ) → Option (List ℕ) → Option (List ℕ) → Type 0
 Formats words old new = (format : FormatWords) × (AsksCommand (codes "format") words × GivesAll words format) × WritesFormatted format old new

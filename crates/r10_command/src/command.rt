@@ -1,9 +1,9 @@
 //! What the words of the command line ask for.
 
-ghost use Rattle.std.specs.Prelude.{◌≡◌, [], IfOk, OnOk, map, string_bytes};
+ghost use Rattle.std.specs.Prelude.{◌≡◌, [], IfErr, IfOk, OnOk, map, string_bytes};
 ghost use Rattle.std.specs.Io.KnownBytes.{Appends};
 ghost use Rattle.std.specs.Io.Buffered.{writer_buffer, writer_contents};
-ghost use Rattle.r10_command.specs.Command.{DoesCommand, selected};
+ghost use Rattle.r10_command.specs.Command.{AsksInput, AsksScript, DoesCommand, selected};
 ghost use Rattle.r10_command.specs.Status.{fault_status, EndsWithStatus, IsFailure};
 ghost use Rattle.r10_command.specs.Written.{WritesFormatted};
 
@@ -18,7 +18,9 @@ use std::io::{BufWriter, Read, Write};
 
 /// Runs the command that the words name, the program's own name first, and answers the exit status: 0, 1 where an image
 /// refused it or a recording is faulty, 2 for wrong words or a wrong script, 3 for want of memory and for what can't be read or written.
-/// A fault goes to `faults`, as one line. With 0 and 1 nothing is left in the writer's buffer: a flush that fails is a write that failed.
+/// A fault goes to `faults`, as one line; with 0 and 1 nothing goes there, and nothing is left in the writer's buffer: a flush that fails is a
+/// write that failed. With 2 nothing goes to the writer. The reader is called only where the words ask for a command that reads its input, and
+/// wrong words are refused before that.
 pub fn run<R: Read, W: Write + Drop, E: Write>(
     alloc: Global,
     words: &[String],
@@ -28,6 +30,10 @@ pub fn run<R: Read, W: Write + Drop, E: Write>(
 ) -> u8
     ensures does { EndsWithStatus result (DoesCommand (map string_bytes words.now) (R.remaining reader.old) (writer_contents W.contents writer.old) (writer_contents W.contents writer.new)) }
     ensures sent { EndsWithStatus result (λ _. writer_buffer writer.new ≡ []) }
+    ensures silent { EndsWithStatus result (λ _. faults.new ≡ faults.old) }
+    ensures quiet { result ≡ 2 → writer.new ≡ writer.old }
+    ensures unread { (AsksInput (map string_bytes words.now) → ⊥) → reader.new ≡ reader.old }
+    ensures wrong { (AsksScript (map string_bytes words.now) → ⊥) → result ≡ 2 → reader.new ≡ reader.old }
 {
     match perform(alloc, words, reader, writer) {
         Ok(Outcome::Done) => 0,
@@ -53,6 +59,9 @@ fn perform<R: Read, W: Write + Drop>(
 ) -> Result<Outcome, Fault>
     ensures does { IfOk result (DoesCommand (map string_bytes words.now) (R.remaining reader.old) (writer_contents W.contents writer.old) (writer_contents W.contents writer.new)) }
     ensures sent { OnOk result (writer_buffer writer.new ≡ []) }
+    ensures quiet { IfErr result (λ fault. fault_status fault ≡ 2 → writer.new ≡ writer.old) }
+    ensures unread { (AsksInput (map string_bytes words.now) → ⊥) → reader.new ≡ reader.old }
+    ensures wrong { (AsksScript (map string_bytes words.now) → ⊥) → IfErr result (λ fault. fault_status fault ≡ 2 → reader.new ≡ reader.old) }
 {
     match read_words(alloc, words) {
         Ok(Asked::Sim) => {
@@ -98,6 +107,7 @@ fn write_medium<W: Write + Drop>(
 ) -> Result<(), Fault>
     ensures image { OnOk result (WritesFormatted format.now (writer_contents W.contents writer.old) (writer_contents W.contents writer.new)) }
     ensures sent { OnOk result (writer_buffer writer.new ≡ []) }
+    ensures quiet { IfErr result (λ fault. fault_status fault ≡ 2 → writer.new ≡ writer.old) }
 {
     let (blocks, directory) = (format.blocks, format.directory);
     let volume = format.volume.as_bytes();
@@ -111,6 +121,7 @@ fn write_medium<W: Write + Drop>(
 fn print_text<W: Write + Drop>(writer: &mut BufWriter<W>, text: &str) -> Result<(), Fault>
     ensures text { OnOk result (Appends (writer_contents W.contents writer.old) (writer_contents W.contents writer.new) text.now) }
     ensures sent { OnOk result (writer_buffer writer.new ≡ []) }
+    ensures status { IfErr result (λ fault. fault_status fault ≡ 3) }
 {
     writer.write_all(text.as_bytes()).map_err(Fault::Write)?;
     writer.flush().map_err(Fault::Write)

@@ -1,6 +1,6 @@
 //! Why a command gives up.
 
-ghost use Rattle.std.specs.Prelude.{◌≡◌};
+ghost use Rattle.std.specs.Prelude.{◌≡◌, ◌≢◌};
 ghost use Rattle.std.specs.IoError.{error_kind};
 ghost use Rattle.r10_command.specs.Status.{fault_status, IsFailure};
 ghost use Rattle.r10_command.specs.declared.fault.Fault.TheVariants.{NotText};
@@ -18,7 +18,7 @@ use thiserror::Error;
 pub enum Fault {
     /// A growth was refused.
     #[error("out of memory")]
-    Memory(#[from(alloc)] AllocError),
+    Memory(AllocError),
     /// The reader failed.
     #[error("cannot read: {0}")]
     Read(io::Error),
@@ -45,6 +45,17 @@ pub enum Fault {
     Script(ScriptFault),
 }
 
+impl From<AllocError> for Fault {
+    ghost use Rattle.std.specs.Prelude.{◌≡◌};
+    ghost use Rattle.r10_command.specs.Status.{fault_status};
+
+    ghost from_gives = { λ _ fault. fault_status fault ≡ 3 };
+
+    fn from(error: AllocError) -> Fault {
+        Fault::Memory(error)
+    }
+}
+
 impl From<StreamFault> for Fault {
     ghost use Rattle.std.specs.Prelude.{◌≡◌};
     ghost use Rattle.r10_command.specs.Status.{fault_status};
@@ -62,9 +73,10 @@ impl From<StreamFault> for Fault {
 }
 
 impl Fault {
-    /// Why the words of the command line can't be had.
+    /// Why the words of the command line can't be had. They are blamed only where one of them is not UTF-8.
     pub fn of_words(error: io::Error) -> Fault
-        ensures { error_kind error ≡ ErrorKind.InvalidData → result ≡ NotText }
+        ensures not_text { error_kind error ≡ ErrorKind.InvalidData → result ≡ NotText }
+        ensures other { error_kind error ≢ ErrorKind.InvalidData → fault_status result ≡ 3 }
     {
         match error.kind() {
             ErrorKind::InvalidData => Fault::NotText,

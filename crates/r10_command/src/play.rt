@@ -1,12 +1,13 @@
 //! The command `sim`: runs the steps of a script.
 
-ghost use Rattle.std.specs.Prelude.{◌≡◌, ◌<◌, ◌+◌, ◌^◌, [], length, IfOk, IfSome, OnOk};
+ghost use Rattle.std.specs.Prelude.{◌≡◌, ◌<◌, ◌+◌, ◌^◌, [], length, IfErr, IfOk, IfSome, OnOk};
 ghost use Rattle.std.specs.Io.Buffered.{writer_buffer, writer_contents};
 ghost use Rattle.r10_machine.specs.Machine.{Machine, fresh};
 ghost use Rattle.r10_medium.specs.MemoryDisk.{memory_disk};
 ghost use Rattle.r10_world.specs.Telling.{WorldStandsFor};
 ghost use Rattle.r10_command.specs.Lines.{WritesLines, RunsAndWrites};
 ghost use Rattle.r10_command.specs.Sim.{IsScript, PlaysScript, Simulates};
+ghost use Rattle.r10_command.specs.Status.{fault_status};
 
 use crate::fault::Fault;
 use r10_body::Refusal;
@@ -20,6 +21,7 @@ use std::alloc::{AllocError, Global};
 use std::io::{BufWriter, Read, Write};
 
 /// Reads a script, runs its steps on a fresh medium in memory, and writes the lines of each reply. The writer's buffer is flushed.
+/// Of a wrong script nothing is written.
 pub fn sim<R: Read, W: Write + Drop>(
     alloc: Global,
     reader: &mut R,
@@ -27,6 +29,7 @@ pub fn sim<R: Read, W: Write + Drop>(
 ) -> Result<(), Fault>
     ensures simulates { OnOk result (IfSome (R.remaining reader.old) (λ text. Simulates text (writer_contents W.contents writer.old) (writer_contents W.contents writer.new))) }
     ensures sent { OnOk result (writer_buffer writer.new ≡ []) }
+    ensures quiet { IfErr result (λ fault. fault_status fault ≡ 2 → writer.new ≡ writer.old) }
 {
     let text = read_whole(alloc, reader)?;
     let Script { settings, events } = script_of(alloc, text.as_slice())?;
@@ -55,7 +58,8 @@ pub fn run_script<W: Write>(
     events: Vec<Event>,
     writer: &mut W,
 ) -> Result<Memory, Fault>
-    ensures { IfOk result (λ medium. PlaysScript settings events.items (memory_disk medium).blocks (W.contents writer.old) (W.contents writer.new)) }
+    ensures plays { IfOk result (λ medium. PlaysScript settings events.items (memory_disk medium).blocks (W.contents writer.old) (W.contents writer.new)) }
+    ensures status { IfErr result (λ fault. fault_status fault ≡ 3) }
 {
     let world = run_on_fresh(alloc, settings, events, writer)?;
     Ok(world.into_medium())
@@ -68,7 +72,8 @@ pub(crate) fn run_on_fresh<W: Write>(
     events: Vec<Event>,
     writer: &mut W,
 ) -> Result<World<Memory>, Fault>
-    ensures { IfOk result (λ world. PlaysScript settings events.items (memory_disk world.recorder.medium).blocks (W.contents writer.old) (W.contents writer.new)) }
+    ensures plays { IfOk result (λ world. PlaysScript settings events.items (memory_disk world.recorder.medium).blocks (W.contents writer.old) (W.contents writer.new)) }
+    ensures status { IfErr result (λ fault. fault_status fault ≡ 3) }
 {
     let medium = Memory::new(alloc, settings.blocks())?;
     let mut world = fresh_world(alloc, settings, medium)?;
@@ -85,6 +90,7 @@ fn fresh_world<M: BlockMedium + Drop>(
     requires { length (M.disk medium).blocks ≡ settings.blocks }
     ensures config { IfOk result (λ w. w.recorder.kept.config ≡ settings) }
     ensures stands { IfOk result (λ w. WorldStandsFor M.disk w (fresh settings.channels [] (M.disk w.recorder.medium).failures)) }
+    ensures status { IfErr result (λ fault. fault_status fault ≡ 3) }
 {
     match r10_volume::format(&mut medium, &settings) {
         Ok(()) => (),
@@ -107,6 +113,7 @@ fn run_steps<M: BlockMedium, W: Write>(
     ensures runs { OnOk result ((m : Machine) → WorldStandsFor M.disk world.old m
         → RunsAndWrites M.disk world.old.recorder.kept.config m events.now world.new (W.contents writer.old) (W.contents writer.new)) }
     ensures config { OnOk result (world.new.recorder.kept.config ≡ world.old.recorder.kept.config) }
+    ensures status { IfErr result (λ fault. fault_status fault ≡ 3) }
 {
     runs_join();
     let mut replies = Vec::new(alloc);
@@ -128,7 +135,8 @@ fn write_lines<W: Write>(
     writer: &mut W,
 ) -> Result<(), Fault>
     requires { done + length replies.now < 2 ^ 64 }
-    ensures { OnOk result (WritesLines (W.contents writer.old) (W.contents writer.new) done replies.now) }
+    ensures lines { OnOk result (WritesLines (W.contents writer.old) (W.contents writer.new) done replies.now) }
+    ensures status { IfErr result (λ fault. fault_status fault ≡ 3) }
 {
     let mut number = done;
     for reply in replies {

@@ -11,4 +11,4 @@ returns-clause-image g c =
     let contents = writer_contents g.W.Write.contents in
     let image = (memory_disk c.in_ok-world.world.recorder.medium).blocks in
     let written : Appends (contents c.args.writer.now) (contents c.write_image.new.writer) (concat image) = search rules in
-    left_is_written _ _ _ _ _ image _ _ _ _ c.in_ok-text.ensures.whole c.as_slice.ensures.value c.in_ok-settings.ensures c.in_ok-world.ensures written
+    left_is_written _ _ _ _ _ image _ _ _ _ c.in_ok-text.ensures.whole c.as_slice.ensures.value c.in_ok-settings.ensures c.in_ok-world.ensures.plays written

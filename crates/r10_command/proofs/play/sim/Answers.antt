@@ -7,4 +7,4 @@ pub returns-in-Ok-clause-simulates : goal.returns-in-Ok-clause-simulates
 returns-in-Ok-clause-simulates g c =
     let contents = writer_contents g.W.Write.contents in
     let kept : Keeps (contents c.run_script.new.writer) (contents c.flush.new.self) = c.flush.ensures.bytes in
-    played_is_written _ _ _ _ _ _ _ _ _ c.in_ok-text.ensures.whole c.as_slice.ensures.value c.in_ok-settings.ensures c.in_ok-run_script.ensures kept
+    played_is_written _ _ _ _ _ _ _ _ _ c.in_ok-text.ensures.whole c.as_slice.ensures.value c.in_ok-settings.ensures c.in_ok-run_script.ensures.plays kept
