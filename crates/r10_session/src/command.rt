@@ -1,11 +1,13 @@
 //! All commands of the program, `run` among them.
 
-ghost use Rattle.std.specs.Prelude.{◌≡◌, [], IfOk, IfSome, OnOk, map, string_bytes};
+ghost use Rattle.std.specs.Prelude.{◌≡◌, [], IfErr, IfOk, IfSome, OnOk, map, string_bytes};
 ghost use Rattle.std.specs.Io.Buffered.{writer_buffer, writer_contents};
 ghost use Rattle.std.specs.Io.KnownBytes.{Appends};
-ghost use Rattle.r10_command.specs.Status.{EndsWithStatus};
+ghost use Rattle.r10_command.specs.Command.{AsksInput, AsksScript};
+ghost use Rattle.r10_command.specs.Status.{EndsWithStatus, fault_status};
 ghost use Rattle.r10_session.specs.Command.{DoesAny, IsSession, Sessions, outcome_of};
 ghost use Rattle.r10_script.specs.Session.{AreApart};
+ghost use Rattle.r10_words.specs.Words.{AsksRun};
 
 use crate::fault::SessionFault;
 use crate::running::run_script;
@@ -23,7 +25,9 @@ use std::thread::Threads;
 
 /// Runs the command that the words name, the program's own name first, and answers the exit status: 0, 1 where an audit says no, an image
 /// refused it or a recording is faulty, 2 for wrong words or a wrong script, 3 for want of memory and for what can't be read or written.
-/// A fault goes to `faults`, as one line. With 0 and 1 nothing is left in the writer's buffer. Only `run` starts threads and waits.
+/// A fault goes to `faults`, as one line; with 0 and 1 nothing goes there, and nothing is left in the writer's buffer. With 2 nothing goes to the
+/// writer. The reader is called only where the words ask for a command that reads its input, and wrong words are refused before that. Only `run`
+/// starts threads and waits.
 pub fn run<T: Threads + Wait + Sync, R: Read, W: Write + Drop, E: Write>(
     rt: &T,
     alloc: Global,
@@ -34,6 +38,10 @@ pub fn run<T: Threads + Wait + Sync, R: Read, W: Write + Drop, E: Write>(
 ) -> u8
     ensures does { EndsWithStatus result (DoesAny (map string_bytes words.now) (R.remaining reader.old) (writer_contents W.contents writer.old) (writer_contents W.contents writer.new)) }
     ensures sent { EndsWithStatus result (λ _. writer_buffer writer.new ≡ []) }
+    ensures silent { EndsWithStatus result (λ _. faults.new ≡ faults.old) }
+    ensures quiet { result ≡ 2 → writer.new ≡ writer.old }
+    ensures unread { (AsksRun (map string_bytes words.now) → ⊥) → (AsksInput (map string_bytes words.now) → ⊥) → reader.new ≡ reader.old }
+    ensures wrong { (AsksRun (map string_bytes words.now) → ⊥) → (AsksScript (map string_bytes words.now) → ⊥) → result ≡ 2 → reader.new ≡ reader.old }
 {
     if !asks_run(words) {
         return r10_command::run(alloc, words, reader, writer, faults);
@@ -57,7 +65,7 @@ fn session_script(alloc: Global, text: &[u8]) -> Result<SessionScript, Fault>
 }
 
 /// Reads a session script, runs it on a recorder between threads, over a fresh medium in memory, and writes the lines of what came of it. Refused
-/// is a session whose audit does not say yes. The writer's buffer is flushed.
+/// is a session whose audit does not say yes. The writer's buffer is flushed. Of a wrong script nothing is written.
 fn session<T: Threads + Wait + Sync, R: Read, W: Write + Drop>(
     rt: &T,
     alloc: Global,
@@ -66,6 +74,7 @@ fn session<T: Threads + Wait + Sync, R: Read, W: Write + Drop>(
 ) -> Result<Outcome, Fault>
     ensures ends { IfOk result (λ outcome. IfSome (R.remaining reader.old) (λ text. Sessions text outcome (writer_contents W.contents writer.old) (writer_contents W.contents writer.new))) }
     ensures sent { OnOk result (writer_buffer writer.new ≡ []) }
+    ensures quiet { IfErr result (λ fault. fault_status fault ≡ 2 → writer.new ≡ writer.old) }
 {
     let text = read_whole(alloc, reader)?;
     let script = session_script(alloc, text.as_slice())?;
@@ -100,6 +109,7 @@ fn outcome(audit: Result<bool, Refusal>) -> Outcome
 fn put<W: Write + Drop>(writer: &mut BufWriter<W>, text: &str) -> Result<(), Fault>
     ensures text { OnOk result (Appends (writer_contents W.contents writer.old) (writer_contents W.contents writer.new) text.now) }
     ensures sent { OnOk result (writer_buffer writer.new ≡ []) }
+    ensures status { IfErr result (λ fault. fault_status fault ≡ 3) }
 {
     writer.write_all(text.as_bytes()).map_err(Fault::Write)?;
     writer.flush().map_err(Fault::Write)
