@@ -1,15 +1,18 @@
 -- Calls of the recorder and on the table, answered whatever files the medium has.
-use Rattle.std.proofs.Common.{◌≡◌, ◌<◌, ℕ, zero, suc, ◌==◌, ⊎_elim, Bool, true, false, cond, List, [], ◌∷◌, ◌++◌, length, drop, set, Option, Some, None, Result, Ok, Err, refl, sym, ap, ◌∙◌, subst, arith}
+use Rattle.std.proofs.Common.{◌≡◌, ◌<◌, ℕ, zero, suc, ◌==◌, ⊎_elim, inr, Bool, true, false, cond, List, [], ◌∷◌, ◌++◌, length, drop, set, Option, Some, None, Result, Ok, Err, refl, sym, ap, ◌∙◌, subst, arith}
 use Rattle.std.specs.Prelude.{◌⊎◌, IfErr, IfOk, MatchResult, OnOk}
 use Rattle.std.specs.List.{AllByRecursion}
 use Rattle.std.proofs.Math.Seq.{drop-append_seam}
-use Rattle.std.proofs.lemmas.List.{get_or-set_same, get_or-set_other}
+use Rattle.std.proofs.lemmas.List.{append-nil, get_or-set_same, get_or-set_other}
 use Rattle.r10_count.specs.Checks.{first_broken}
+use Rattle.r10_body.specs.Files.{on_channel}
+use Rattle.r10_body.specs.declared.entry.Entry.{Entry}
 use Rattle.r10_body.specs.declared.entry.Sample.{Sample}
+use Rattle.r10_body.specs.declared.spec.ChannelSpec.{ChannelSpec}
 use Rattle.r10_body.specs.declared.refusal.Refusal.{Refusal}
 use Rattle.r10_body.specs.declared.refusal.Refusal.TheVariants as refusals
 use Rattle.r10_medium.proofs.Stops.{unchanged}
-use Rattle.r10_medium.specs.Disk.{Disk, Unchanged}
+use Rattle.r10_medium.specs.Disk.{Disk, Image, Unchanged}
 use Rattle.r10_machine.specs.Checks.{Check, mounted_checks}
 use Rattle.r10_machine.specs.Machine.{Lane}
 use Rattle.r10_machine.specs.declared.event.Event.{Event as EventValue}
@@ -23,10 +26,11 @@ use Rattle.r10_pump.specs.Stopping.{Part, TellsWaiting, TookAll, entries_of, sam
 use Rattle.r10_means.specs.Grown.{AreGrown}
 use Rattle.r10_means.specs.Kept.{Kept, Work, mode_of, unmounted, idle, recording, failed}
 use Rattle.r10_control.specs.Refused.{IsSameKept, IsSameWork, RefusesCall, RefusesOpen}
+use Rattle.r10_control.specs.Own.{AreOwn, OwnGrow, OwnStay}
 use Rattle.r10_control.specs.Reading.{OnlyReads}
 use Rattle.r10_control.specs.State.{RecorderState}
 use Rattle.r10_control.specs.Taking.{RefusesReadied, StepsByTaking}
-use Rattle.r10_world.specs.Answering.{AnswersSo, ChangesNothing, EitherOr, HaveGiven, IsLacking, LeavesAll, LeavesLanes, LeavesRead, MayLack, MediumOr, MemoryOr, OnlyRead, RefusesSo, TakesParts, first_refusal, lanes_counted}
+use Rattle.r10_world.specs.Answering.{AnswersSo, ChangesNothing, EitherOr, HaveGiven, IsLacking, KeepsOwn, LeavesAll, LeavesLanes, LeavesRead, MayLack, MediumOr, MemoryOr, OnlyRead, RefusesSo, TakesParts, first_refusal, lanes_counted}
 
 -- ---- what a call answered
 
@@ -80,6 +84,25 @@ pub refused_check : {M : Type 0} (disk : M → Disk) (first : Option Refusal) (o
 refused_check disk (Some f) old new slots later event r is kept medium lanes same = let same_is : r ≡ f = cc in record { first_is = same_is; kept = kept; medium = medium; lanes = lanes; cursors = same }
 refused_check disk None old new slots later event r is kept medium lanes same = cc
 
+-- the recorder's own files, where nothing changes
+all_none : (specs : List ChannelSpec) → AllByRecursion (λ (spec : ChannelSpec). on_channel spec.id [] ≡ []) specs
+all_none [] = tt
+all_none (spec ∷ specs) = (refl, all_none specs)
+
+own_on : (k later : Kept) (old new : Image) (more : List Entry) → more ≡ [] → OwnGrow k old later new more → OwnStay k old later new
+own_on k later old new more none grows = record { more = []; own = subst (OwnGrow k old later new) none grows; others = all_none k.config.channels }
+
+pub own_same : (k later : Kept) (old new : Image) → later ≡ k → new ≡ old → OwnStay k old later new
+own_same k later old new kept reads = own_on k later old new [] refl (inr (λ own are.
+    subst (AreOwn later.work new) (sym (append-nil own)) (subst (λ (i : Image). AreOwn later.work i own) (sym reads) (subst (λ (x : Kept). AreOwn x.work old own) (sym kept) are))))
+
+pub own_none : (k later : Kept) (old new : Image) (parts : List Part) → AllByRecursion (λ (p : Part). p.samples ≡ []) parts → OwnGrow k old later new (entries_of parts) → OwnStay k old later new
+own_none k later old new parts all grows = own_on k later old new (entries_of parts) (none_in parts all) grows
+  where
+    none_in : (parts : List Part) → AllByRecursion (λ (p : Part). p.samples ≡ []) parts → entries_of parts ≡ []
+    none_in [] all = refl
+    none_in (p ∷ parts) (here, all) = rw (here, none_in parts all) refl
+
 pub refused_call : {M : Type 0} (disk : M → Disk) (first : Option Refusal) (lacks : Refusal → Type 0) (old new : RecorderState M Lane) (slots : List (Option Cursor)) (event : EventValue) (r : Refusal) → RefusesCall disk first lacks old.kept new.kept old.medium new.medium r
     → new.lanes ≡ old.lanes → old.lanes ≡ lanes_counted event old.lanes → ((q : Refusal) → lacks q → MayLack disk old slots event new q) → (first ≡ None → new.kept ≡ record old.kept { work = failed } → MayLack disk old slots event new refusals.Medium)
     → (r ≡ refusals.OutOfMemory → MayLack disk old slots event new refusals.OutOfMemory) → ((new.kept ≡ old.kept) × Unchanged (disk old.medium) (disk new.medium) → LeavesAll disk old event new) → LeavesRead disk old.medium event new.medium
@@ -88,9 +111,9 @@ refused_call disk (Some f) lacks old new slots event r refuses lanes counted mor
 refused_call disk None lacks old new slots event refusals.Medium refuses lanes counted more medium memory leaves reads left =
     record { cause = medium refl refuses.1; rose = refuses.0; kept = refuses.1; reads = reads; lanes = left lanes; cursors = refl }
 refused_call disk None lacks old new slots event refusals.OutOfMemory refuses lanes counted more medium memory leaves reads left =
-    record { cause = memory refl; leaves = leaves (refuses.1, refuses.0); lanes = lanes; cursors = refl }
+    record { cause = memory refl; leaves = leaves (refuses.1, refuses.0); own = own_same old.kept new.kept (disk old.medium).blocks (disk new.medium).blocks refuses.1 refuses.0.reads; lanes = lanes; cursors = refl }
 refused_call disk None lacks old new slots event r refuses lanes counted more medium memory leaves reads left =
-    record { cause = more r refuses.0; leaves = leaves (refuses.2, refuses.1); lanes = lanes; cursors = refl }
+    record { cause = more r refuses.0; leaves = leaves (refuses.2, refuses.1); own = own_same old.kept new.kept (disk old.medium).blocks (disk new.medium).blocks refuses.2 refuses.1.reads; lanes = lanes; cursors = refl }
 
 same_work : (work : Work) → IsSameWork work work
 same_work unmounted = refl
@@ -103,29 +126,29 @@ same_kept old new same = subst (λ (k : Kept). IsSameKept old k) (sym same) (ref
 
 -- a call that puts into the file that is recorded
 pub refused_open : {M : Type 0} (disk : M → Disk) (first : Option Refusal) (cause : Refusal → Type 0) (old new : RecorderState M Lane) (slots : List (Option Cursor)) (event : EventValue) (r : Refusal) → RefusesOpen disk first cause old.kept new.kept old.medium new.medium r
-    → new.lanes ≡ old.lanes → old.lanes ≡ lanes_counted event old.lanes → ((q : Refusal) → cause q → MayLack disk old slots event new q) → (IsSameKept old.kept new.kept × (new.medium ≡ old.medium) → LeavesAll disk old event new)
+    → new.lanes ≡ old.lanes → old.lanes ≡ lanes_counted event old.lanes → ((q : Refusal) → cause q → MayLack disk old slots event new q) → KeepsOwn disk old new → (IsSameKept old.kept new.kept × (new.medium ≡ old.medium) → LeavesAll disk old event new)
     → LeavesRead disk old.medium event new.medium → (new.lanes ≡ old.lanes → LeavesLanes old.lanes event new.lanes) → RefusesSo disk first old slots event r new slots
-refused_open disk (Some f) cause old new slots event r refuses lanes counted more leaves reads left = record { first_is = refuses.0; kept = refuses.1; medium = refuses.2; lanes = lanes ∙ counted; cursors = refl }
-refused_open disk None cause old new slots event refusals.Medium refuses lanes counted more leaves reads left =
+refused_open disk (Some f) cause old new slots event r refuses lanes counted more own leaves reads left = record { first_is = refuses.0; kept = refuses.1; medium = refuses.2; lanes = lanes ∙ counted; cursors = refl }
+refused_open disk None cause old new slots event refusals.Medium refuses lanes counted more own leaves reads left =
     record { cause = more refusals.Medium refuses.0; rose = refuses.1; kept = refuses.2; reads = reads; lanes = left lanes; cursors = refl }
-refused_open disk None cause old new slots event refusals.OutOfMemory refuses lanes counted more leaves reads left =
-    record { cause = more refusals.OutOfMemory refuses.0; leaves = leaves (refuses.1, refuses.2); lanes = lanes; cursors = refl }
-refused_open disk None cause old new slots event r refuses lanes counted more leaves reads left =
-    record { cause = more r refuses.0; leaves = leaves (same_kept old.kept new.kept refuses.1, refuses.2); lanes = lanes; cursors = refl }
+refused_open disk None cause old new slots event refusals.OutOfMemory refuses lanes counted more own leaves reads left =
+    record { cause = more refusals.OutOfMemory refuses.0; leaves = leaves (refuses.1, refuses.2); own = own; lanes = lanes; cursors = refl }
+refused_open disk None cause old new slots event r refuses lanes counted more own leaves reads left =
+    record { cause = more r refuses.0; leaves = leaves (same_kept old.kept new.kept refuses.1, refuses.2); own = own; lanes = lanes; cursors = refl }
 
 -- and takes from lanes
 pub refused_readied : {M : Type 0} (disk : M → Disk) (first : Option Refusal) (lacks : Refusal → Type 0) (old new : RecorderState M Lane) (slots : List (Option Cursor)) (event : EventValue) (r : Refusal) → RefusesReadied disk first lacks old.kept new.kept old.medium new.medium r
-    → (first ≡ Some refusals.Medium → ⊥) → ((r ≡ refusals.Medium → ⊥) → new.lanes ≡ old.lanes) → old.lanes ≡ lanes_counted event old.lanes → ((q : Refusal) → lacks q → MayLack disk old slots event new q)
+    → (first ≡ Some refusals.Medium → ⊥) → ((r ≡ refusals.Medium → ⊥) → new.lanes ≡ old.lanes) → ((r ≡ refusals.Medium → ⊥) → KeepsOwn disk old new) → old.lanes ≡ lanes_counted event old.lanes → ((q : Refusal) → lacks q → MayLack disk old slots event new q)
     → MayLack disk old slots event new refusals.Medium → MayLack disk old slots event new refusals.OutOfMemory → (IsSameKept old.kept new.kept × (new.medium ≡ old.medium) → LeavesAll disk old event new) → LeavesRead disk old.medium event new.medium
     → LeavesLanes old.lanes event new.lanes → RefusesSo disk first old slots event r new slots
-refused_readied disk (Some f) lacks old new slots event r refuses never lanes counted more medium memory leaves reads left =
+refused_readied disk (Some f) lacks old new slots event r refuses never lanes own counted more medium memory leaves reads left =
     record { first_is = refuses.0; kept = refuses.1; medium = refuses.2; lanes = lanes (λ is. never (ap (λ (q : Refusal). Some q) (sym refuses.0 ∙ is))) ∙ counted; cursors = refl }
-refused_readied disk None lacks old new slots event refusals.Medium refuses never lanes counted more medium memory leaves reads left =
+refused_readied disk None lacks old new slots event refusals.Medium refuses never lanes own counted more medium memory leaves reads left =
     record { cause = medium; rose = refuses.0; kept = refuses.1; reads = reads; lanes = left; cursors = refl }
-refused_readied disk None lacks old new slots event refusals.OutOfMemory refuses never lanes counted more medium memory leaves reads left =
-    record { cause = memory; leaves = leaves (refuses.0, refuses.1); lanes = lanes (λ is. cc); cursors = refl }
-refused_readied disk None lacks old new slots event r refuses never lanes counted more medium memory leaves reads left =
-    record { cause = more r refuses.0; leaves = leaves (refuses.1, refuses.2); lanes = lanes (λ is. cc); cursors = refl }
+refused_readied disk None lacks old new slots event refusals.OutOfMemory refuses never lanes own counted more medium memory leaves reads left =
+    record { cause = memory; leaves = leaves (refuses.0, refuses.1); own = own (λ is. cc); lanes = lanes (λ is. cc); cursors = refl }
+refused_readied disk None lacks old new slots event r refuses never lanes own counted more medium memory leaves reads left =
+    record { cause = more r refuses.0; leaves = leaves (refuses.1, refuses.2); own = own (λ is. cc); lanes = lanes (λ is. cc); cursors = refl }
 
 -- ---- what is taken from lanes
 
@@ -179,12 +202,20 @@ takes_parts {T} order most says bare k old event reply result later new lanes la
     apart (Err x) v r is fails = cc
 
 -- and one that was refused, if the medium didn't fail
-pub takes_none : {T : Type 0} (result : Result T Refusal) (parts : List Part) (old new : List Lane) (r : Refusal) → IfErr result (λ r. (r ≡ refusals.Medium) ⊎ AllByRecursion (λ (p : Part). p.samples ≡ []) parts)
-    → TookAll TookWaiting (λ (lane : Lane). lane.spec) parts old new → result ≡ Err r → (r ≡ refusals.Medium → ⊥) → new ≡ old
-takes_none {T} result parts old new r none took is differs =
+all_empty : {T : Type 0} (result : Result T Refusal) (parts : List Part) (r : Refusal) → IfErr result (λ r. (r ≡ refusals.Medium) ⊎ AllByRecursion (λ (p : Part). p.samples ≡ []) parts) → result ≡ Err r → (r ≡ refusals.Medium → ⊥)
+    → AllByRecursion (λ (p : Part). p.samples ≡ []) parts
+all_empty {T} result parts r none is differs =
     let either : (r ≡ refusals.Medium) ⊎ AllByRecursion (λ (p : Part). p.samples ≡ []) parts =
     subst (λ (x : Result T Refusal). IfErr x (λ r. (r ≡ refusals.Medium) ⊎ AllByRecursion (λ (p : Part). p.samples ≡ []) parts)) is none in
-    ⊎_elim (λ fails. absurd (differs fails)) (λ all. none_given parts old new all took) either
+    ⊎_elim (λ fails. absurd (differs fails)) (λ all. all) either
+
+pub takes_none : {T : Type 0} (result : Result T Refusal) (parts : List Part) (old new : List Lane) (r : Refusal) → IfErr result (λ r. (r ≡ refusals.Medium) ⊎ AllByRecursion (λ (p : Part). p.samples ≡ []) parts)
+    → TookAll TookWaiting (λ (lane : Lane). lane.spec) parts old new → result ≡ Err r → (r ≡ refusals.Medium → ⊥) → new ≡ old
+takes_none result parts old new r none took is differs = none_given parts old new (all_empty result parts r none is differs) took
+
+pub keeps_none : {T : Type 0} (result : Result T Refusal) (parts : List Part) (k later : Kept) (old new : Image) (r : Refusal) → IfErr result (λ r. (r ≡ refusals.Medium) ⊎ AllByRecursion (λ (p : Part). p.samples ≡ []) parts)
+    → OwnGrow k old later new (entries_of parts) → result ≡ Err r → (r ≡ refusals.Medium → ⊥) → OwnStay k old later new
+keeps_none result parts k later old new r none grows is differs = own_none k later old new parts (all_empty result parts r none is differs) grows
 
 -- ---- checks
 
@@ -241,13 +272,14 @@ lacking_changes : {M : Type 0} (disk : M → Disk) (old : RecorderState M Lane) 
     → ChangesNothing disk old slots event new later
 lacking_changes disk old slots event r new later lacks =
     let left = leaves_all disk old event new lacks.leaves in
-    record { kept = left.0; medium = left.1; lanes = lacks.lanes ∙ none_counted disk old slots event r new lacks.cause; cursors = lacks.cursors }
+    record { kept = left.0; medium = left.1; own = lacks.own; lanes = lacks.lanes ∙ none_counted disk old slots event r new lacks.cause; cursors = lacks.cursors }
 
 refused_changes : {M : Type 0} (disk : M → Disk) (first : Option Refusal) (old : RecorderState M Lane) (slots : List (Option Cursor)) (event : EventValue) (r : Refusal) (new : RecorderState M Lane) (later : List (Option Cursor)) → RefusesSo disk first old slots event r new later
     → (r ≡ refusals.Medium → ⊥) → ChangesNothing disk old slots event new later
 refused_changes {M} disk (Some f) old slots event r new later refuses differs = record {
   kept = same_kept old.kept new.kept refuses.kept;
   medium = subst (λ (m : M). Unchanged (disk old.medium) (disk m)) (sym refuses.medium) (unchanged (disk old.medium));
+  own = own_same old.kept new.kept (disk old.medium).blocks (disk new.medium).blocks refuses.kept (ap (λ (m : M). (disk m).blocks) refuses.medium);
   lanes = refuses.lanes;
   cursors = refuses.cursors;
 }

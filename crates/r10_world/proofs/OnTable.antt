@@ -21,7 +21,7 @@ use Rattle.r10_control.specs.Refused.{RefusesCall}
 use Rattle.r10_control.specs.State.{RecorderState}
 use Rattle.slab.specs.Slab.{Slab, Updates, get}
 use Rattle.r10_world.proofs.Answering.{or_either, refused_call, refused_check}
-use Rattle.r10_world.specs.Answering.{AnswersClose, AnswersNext, AnswersSo, EitherOr, LeavesAll, MayLack, RefusesSo, slot_checks}
+use Rattle.r10_world.specs.Answering.{AnswersClose, AnswersNext, AnswersSo, EitherOr, KeepsOwn, LeavesAll, MayLack, RefusesSo, slot_checks}
 
 -- ---- checks of a cursor
 
@@ -101,9 +101,9 @@ close_so disk old slots later id reply answers = absurd answers
 -- ---- memory, and a file at fault
 
 pub refused_memory : {M : Type 0} (disk : M → Disk) (first : Option Refusal) (old new : RecorderState M Lane) (slots later : List (Option Cursor)) (event : EventValue) → first ≡ None → MayLack disk old slots event new refusals.OutOfMemory
-    → LeavesAll disk old event new → new.lanes ≡ old.lanes → later ≡ slots → RefusesSo disk first old slots event refusals.OutOfMemory new later
-refused_memory disk None old new slots later event is cause leaves lanes same = record { cause = cause; leaves = leaves; lanes = lanes; cursors = same }
-refused_memory disk (Some f) old new slots later event is cause leaves lanes same = cc
+    → LeavesAll disk old event new → KeepsOwn disk old new → new.lanes ≡ old.lanes → later ≡ slots → RefusesSo disk first old slots event refusals.OutOfMemory new later
+refused_memory disk None old new slots later event is cause leaves own lanes same = record { cause = cause; leaves = leaves; own = own; lanes = lanes; cursors = same }
+refused_memory disk (Some f) old new slots later event is cause leaves own lanes same = cc
 
 -- an instalment that is refused where the cursor's checks pass
 pub instalment_refused : {M : Type 0} (disk : M → Disk) (old new : RecorderState M Lane) (slots later : List (Option Cursor)) (id : ℕ) (c : Cursor) (first first' : Option Refusal) (r : Refusal) → slot_at slots id ≡ Some c → first ≡ None → first' ≡ None

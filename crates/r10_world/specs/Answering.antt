@@ -129,6 +129,10 @@ LeavesLanes old (Pump channel most) new = HaveGiven old new
 LeavesLanes old Stop new = HaveGiven old new
 LeavesLanes old event new = new ≡ old
 
+-- whatever entries the recorder's own files had, they have them then, and times or events behind them
+abbrev pub KeepsOwn : {M : Type 0} → (M → Disk) → RecorderState M Lane → RecorderState M Lane → Type 0
+KeepsOwn disk old new = OwnStay old.kept (disk old.medium).blocks new.kept (disk new.medium).blocks
+
 -- a check refuses the event: nothing changes but the count of a loss
 pub record IsChecked {M : Type 0} (first : Refusal) (old : RecorderState M Lane) (slots : List (Option CursorValue)) (event : EventValue) (r : Refusal) (new : RecorderState M Lane) (later : List (Option CursorValue)) : Type 0 where
   pub first_is : r ≡ first
@@ -141,6 +145,7 @@ pub record IsChecked {M : Type 0} (first : Refusal) (old : RecorderState M Lane)
 pub record IsLacking {M : Type 0} (disk : M → Disk) (old : RecorderState M Lane) (slots : List (Option CursorValue)) (event : EventValue) (r : Refusal) (new : RecorderState M Lane) (later : List (Option CursorValue)) : Type 0 where
   pub cause : MayLack disk old slots event new r
   pub leaves : LeavesAll disk old event new
+  pub own : KeepsOwn disk old new
   pub lanes : new.lanes ≡ old.lanes
   pub cursors : later ≡ slots
 
@@ -167,10 +172,6 @@ pub record DoesAlone (does keeps : Type 0) (before : List Lane) (slots : List (O
   pub own : keeps
   pub lanes : now ≡ before
   pub cursors : later ≡ slots
-
--- whatever entries the recorder's own files had, they have them then, and times or events behind them
-abbrev pub KeepsOwn : {M : Type 0} → (M → Disk) → RecorderState M Lane → RecorderState M Lane → Type 0
-KeepsOwn disk old new = OwnStay old.kept (disk old.medium).blocks new.kept (disk new.medium).blocks
 
 -- what is kept and the lanes stay, and the medium is only read
 pub record OnlyRead {M : Type 0} (disk : M → Disk) (old new : RecorderState M Lane) : Type 0 where
@@ -254,10 +255,11 @@ abbrev pub AnswersSo : {M : Type 0} → (M → Disk) → RecorderState M Lane �
 AnswersSo disk old slots event (replies.Refused r) new later = RefusesSo disk (first_refusal old.kept old.lanes slots event) old slots event r new later
 AnswersSo disk old slots event reply new later = (first_refusal old.kept old.lanes slots event ≡ None) × DoesSo disk old slots event reply new later
 
--- nothing changed but the count of a loss: what is kept, of the medium what is read and what a stop leaves, the lanes, and the cursors; the file that is recorded may have more memory
+-- nothing changed but the count of a loss: what is kept, of the medium what is read and what a stop leaves, the entries of the recorder's own files, the lanes, and the cursors; the file that is recorded may have more memory
 pub record ChangesNothing {M : Type 0} (disk : M → Disk) (old : RecorderState M Lane) (slots : List (Option CursorValue)) (event : EventValue) (new : RecorderState M Lane) (later : List (Option CursorValue)) : Type 0 where
   pub kept : IsSameKept old.kept new.kept
   pub medium : Unchanged (disk old.medium) (disk new.medium)
+  pub own : KeepsOwn disk old new
   pub lanes : new.lanes ≡ lanes_counted event old.lanes
   pub cursors : later ≡ slots
 

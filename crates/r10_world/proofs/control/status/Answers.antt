@@ -1,6 +1,6 @@
 use Rattle.std.proofs.Common.{refl, subst, sym}
 use Rattle.r10_machine.specs.declared.reply.Reply.{Reply}
-use Rattle.r10_world.proofs.Answering.{told_apart}
+use Rattle.r10_world.proofs.Answering.{own_same, told_apart}
 use Rattle.r10_world.specs.Answering.{AnswersSo}
 use Rattle.r10_body.specs.declared.refusal.Refusal.{Refusal}
 use Rattle.r10_medium.proofs.Stops.{unchanged}
@@ -26,5 +26,5 @@ returns-clause-answers g c = λ slots.
     let disk = g.M.BlockMedium.disk in
     told_apart _ _ (λ (x : Reply). AnswersSo disk old slots events.Status x old slots) (λ status. replies.Status status) call.result c.reported.result call.ensures.told call.ensures.refused
     (λ v told. (refl, (told, refl, refl)))
-    (λ r lacks. subst (λ (q : Refusal). AnswersSo disk old slots events.Status (replies.Refused q) old slots) (sym lacks) (record { cause = tt; leaves = (refl, unchanged (disk old.medium)); lanes = refl; cursors = refl }))
+    (λ r lacks. subst (λ (q : Refusal). AnswersSo disk old slots events.Status (replies.Refused q) old slots) (sym lacks) (record { cause = tt; leaves = (refl, unchanged (disk old.medium)); own = own_same old.kept old.kept (disk old.medium).blocks (disk old.medium).blocks refl refl; lanes = refl; cursors = refl }))
     c.reported.ensures

@@ -1,6 +1,6 @@
 use Rattle.std.proofs.Common.{ap, refl}
 use Rattle.r10_machine.specs.declared.reply.Reply.{Reply}
-use Rattle.r10_world.proofs.Answering.{have_given, matched, none_of_medium, or_either, refused_readied, takes_none, takes_parts}
+use Rattle.r10_world.proofs.Answering.{have_given, matched, none_of_medium, or_either, refused_readied, takes_none, takes_parts, keeps_none}
 use Rattle.r10_world.specs.Answering.{AnswersSo}
 use Rattle.r10_control.specs.Taking.{IsStopped, LeftNone}
 use Rattle.r10_control.specs.Refused.{nothing_lacks}
@@ -44,5 +44,6 @@ returns-clause-answers g c = λ slots.
     matched _ _ _ (λ (x : Reply). AnswersSo disk old slots events.Stop x new slots) (λ v. replies.Stopped v) call.result c.stopped.result call.ensures.passed call.ensures.effect call.ensures.refused
     (λ v is passed effect. (passed, (effect, takes_parts (rising (channel_ids old.kept.config.channels)) (most_of old.kept.config.channels) IsStopped LeftNone old.kept (disk old.medium) events.Stop (λ v. replies.Stopped v) call.result new.kept (disk new.medium) old.lanes new.lanes call.ensures.takes v is, refl)))
     (λ r is refuses. refused_readied disk (recorder_refusal old.kept events.Stop) lacks old new slots events.Stop r refuses (none_of_medium (recorder_checks old.kept events.Stop) (refl, (refl, (refl, tt))))
-    (takes_none call.result call.ensures.takes.parts old.lanes new.lanes r call.ensures.takes.none call.ensures.takes.taken is) refl (or_either lacks) tt tt (λ left. left) tt (have_given call.ensures.takes.parts old.lanes new.lanes call.ensures.takes.taken))
+    (takes_none call.result call.ensures.takes.parts old.lanes new.lanes r call.ensures.takes.none call.ensures.takes.taken is)
+    (keeps_none call.result call.ensures.takes.parts old.kept new.kept (disk old.medium).blocks (disk new.medium).blocks r call.ensures.takes.none call.ensures.takes.own is) refl (or_either lacks) tt tt (λ left. left) tt (have_given call.ensures.takes.parts old.lanes new.lanes call.ensures.takes.taken))
     c.stopped.ensures

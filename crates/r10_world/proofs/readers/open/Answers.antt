@@ -1,4 +1,4 @@
-use Rattle.r10_world.proofs.Answering.{or_either, refused_call}
+use Rattle.r10_world.proofs.Answering.{or_either, own_same, refused_call}
 use Rattle.r10_world.proofs.OnTable.{opens_slot, refused_memory}
 use Rattle.r10_control.specs.Reading.{IsReadFileRefusal}
 use Rattle.std.proofs.Common.{ap, refl, ◌∙◌}
@@ -102,4 +102,5 @@ returns-in-Err-open_cursor-clause-answers g c =
     let old = a.recorder.now in
     let call = c.check_file in
     refused_memory g.M.BlockMedium.disk (recorder_refusal old.kept (events.Cursor a.file a.channels.now a.from a.to)) old call.new.self a.cursors.now.slots c.open_cursor.new.cursors.slots (events.Cursor a.file a.channels.now a.from a.to)
-    (c.in-Ok.ensures.passed a.channels.now) tt (c.in-Ok.ensures.reads.kept, call.ensures.reads.same) call.ensures.reads.lanes c.in-Err-open_cursor.ensures.kept
+    (c.in-Ok.ensures.passed a.channels.now) tt (c.in-Ok.ensures.reads.kept, call.ensures.reads.same)
+    (own_same old.kept call.new.self.kept (g.M.BlockMedium.disk old.medium).blocks (g.M.BlockMedium.disk call.new.self.medium).blocks c.in-Ok.ensures.reads.kept call.ensures.reads.same.reads) call.ensures.reads.lanes c.in-Err-open_cursor.ensures.kept
