@@ -1,9 +1,10 @@
 -- Two words ask for a run, or for a list, exactly where the second says so; and words that give an option its value.
-use Rattle.std.proofs.Common.{◌≡◌, ℕ, ◌+◌, ◌-◌, Bool, false, IsTrue, map, string_bytes, ◌<◌, ◌≤◌, length, List, [], ◌∷◌, ◌++◌, get_or, codes, String, Global, inl, inr, arith, ap, sym, ◌∙◌}
-use Rattle.std.proofs.lemmas.Bool.{cases_lt}
-use Rattle.std.proofs.lemmas.List.{get_or-map, length-map}
+use Rattle.std.proofs.Common.{◌≡◌, ℕ, Bool, IsTrue, map, string_bytes, ◌<◌, ◌≤◌, drop, take, length, ◌-◌, List, [], ◌∷◌, get_or, codes, String, Global, arith, ap, sym, subst, ◌∙◌}
+use Rattle.std.proofs.lemmas.List.{get_or-map, length-drop, nil_from_length, take_all}
 use Rattle.std.specs.Bool.{Decides}
-use Rattle.r10_words.specs.Words.{AsksSim, AsksOnly, GivesOption, IsLeftOut, begins, word_at}
+use Rattle.std.specs.List.{Contains}
+use Rattle.r10_words.specs.Options.{BeginsWithOptions, OptionWords}
+use Rattle.r10_words.specs.Words.{AsksCommand, AsksHelpWord, AsksOnly, AsksSim, commands, word_at}
 
 pub second_word : (words : List (String Global)) (word : String Global) (r : Bool) → word ≡ get_or words 1 word → 2 ≤ length words → length words < 3
     → Decides r (string_bytes word ≡ codes "sim") → (IsTrue r → AsksSim (map string_bytes words)) × (AsksSim (map string_bytes words) → IsTrue r)
@@ -23,38 +24,32 @@ only_word (name ∷ other ∷ []) word command r is two within decides =
     (λ yes. sym same ∙ decides.0 yes, λ asks. decides.1 (same ∙ asks))
 only_word (name ∷ other ∷ third ∷ words) word command r is two within decides = absurd (omega (arith, within))
 
-word_is : (words : List (String Global)) (j : ℕ) (word : String Global) → j < length words → word ≡ get_or words j word → word_at (map string_bytes words) j ≡ string_bytes word
+pub word_is : (words : List (String Global)) (j : ℕ) (word : String Global) → j < length words → word ≡ get_or words j word → word_at (map string_bytes words) j ≡ string_bytes word
 word_is words j word lt is = get_or-map string_bytes words j word [] lt ∙ ap string_bytes (sym is)
 
--- one word with the option and its value
-pub given_joined : (words : List (String Global)) (i : ℕ) (word : String Global) (option value : List ℕ) → 1 ≤ i → i < length words → word ≡ get_or words i word
-    → string_bytes word ≡ option ++ 61 ∷ value → GivesOption (map string_bytes words) option value
-given_joined words i word option value some lt is spelled =
-    let at : i ≡ i - 1 + 1 = omega (arith, some) in
-    let inside : i - 1 + 1 < length (map string_bytes words) = omega (arith, some, lt, length-map words string_bytes) in
-    let here : word_at (map string_bytes words) (i - 1 + 1) ≡ option ++ 61 ∷ value = ap (λ (k : ℕ). word_at (map string_bytes words) k) (sym at) ∙ word_is words i word lt is ∙ spelled in
-    (i - 1, inside, inl here)
+-- two words are `help`, and three `help` and a command
+pub help_alone : (words : List (String Global)) (word : String Global) → word ≡ get_or words 1 word → 2 ≤ length words → length words < 3 → string_bytes word ≡ codes "help" → AsksHelpWord (map string_bytes words)
+help_alone [] word is two within says = absurd (omega (arith, two))
+help_alone (name ∷ []) word is two within says = absurd (omega (arith, two))
+help_alone (name ∷ other ∷ []) word is two within says = ap string_bytes (sym is) ∙ says
+help_alone (name ∷ other ∷ third ∷ words) word is two within says = absurd (omega (arith, within))
 
--- two words in a row
-pub given_apart : (words : List (String Global)) (i : ℕ) (first second : String Global) (option value : List ℕ) → 1 ≤ i → i < length words → first ≡ get_or words (i - 1) first
-    → second ≡ get_or words i second → string_bytes first ≡ option → string_bytes second ≡ value → GivesOption (map string_bytes words) option value
-given_apart words i first second option value some lt is next named spelled =
-    let at : i ≡ i - 1 + 1 = omega (arith, some) in
-    let before : i - 1 < length words = omega (arith, lt) in
-    let inside : i - 1 + 1 < length (map string_bytes words) = omega (arith, some, lt, length-map words string_bytes) in
-    let here : word_at (map string_bytes words) (i - 1 + 1) ≡ value = ap (λ (k : ℕ). word_at (map string_bytes words) k) (sym at) ∙ word_is words i second lt next ∙ spelled in
-    (i - 1, inside, inr (word_is words (i - 1) first before is ∙ named, here))
+pub help_of : (words : List (String Global)) (word command : String Global) → word ≡ get_or words 1 word → command ≡ get_or words 2 command → 3 ≤ length words → length words < 4 → string_bytes word ≡ codes "help"
+    → Contains commands (string_bytes command) → AsksHelpWord (map string_bytes words)
+help_of [] word command is next three within says one = absurd (omega (arith, three))
+help_of (name ∷ []) word command is next three within says one = absurd (omega (arith, three))
+help_of (name ∷ other ∷ []) word command is next three within says one = absurd (omega (arith, three))
+help_of (name ∷ other ∷ third ∷ []) word command is next three within says one = (ap string_bytes (sym is) ∙ says, subst (λ (w : String Global). Contains commands (string_bytes w)) next one)
+help_of (name ∷ other ∷ third ∷ fourth ∷ words) word command is next three within says one = absurd (omega (arith, within))
 
--- words without an option, and one more
-pub left_out_more : (words : List (String Global)) (i : ℕ) (word : String Global) (option : List ℕ) → i < length words → word ≡ get_or words i word → begins (string_bytes word) option ≡ false
-    → ((k : ℕ) → 1 ≤ k → k < i → begins (word_at (map string_bytes words) k) option ≡ false) → (k : ℕ) → 1 ≤ k → k < i + 1 → begins (word_at (map string_bytes words) k) option ≡ false
-left_out_more words i word option lt is without before k some less = elim (cases_lt k i) [
-  | inl earlier ↦ before k some earlier
-  | inr later ↦
-      let same : k ≡ i = omega (arith, less, later) in
-      ap (λ (n : ℕ). begins (word_at (map string_bytes words) n) option) same ∙ ap (λ (w : List ℕ). begins w option) (word_is words i word lt is) ∙ without
-]
+-- all that stands behind the first ones of a list
+pub all_behind : {X : Type 0} (n : ℕ) (xs : List X) → take (length xs - n) (drop n xs) ≡ drop n xs
+all_behind n xs = take_all (length xs - n) (drop n xs) (omega (arith, length-drop n xs))
 
-pub left_out_all : (words : List (String Global)) (n : ℕ) (option : List ℕ) → length words ≤ n → ((k : ℕ) → 1 ≤ k → k < n → begins (word_at (map string_bytes words) k) option ≡ false)
-    → IsLeftOut (map string_bytes words) option
-left_out_all words n option all without k some less = without k some (omega (arith, less, all, length-map words string_bytes))
+-- behind a command its options and nothing else
+pub only_these : (words rest : List (String Global)) (word : String Global) (command : List ℕ) (known : List (List ℕ)) (given : List OptionWords) → word ≡ get_or words 1 word → 2 ≤ length words → string_bytes word ≡ command
+    → BeginsWithOptions known (map string_bytes (drop 2 words)) given (map string_bytes rest) → length rest ≡ 0 → AsksCommand command (map string_bytes words) × BeginsWithOptions known (drop 2 (map string_bytes words)) given []
+only_these [] rest word command known given is two says begins none = absurd (omega (arith, two))
+only_these (name ∷ []) rest word command known given is two says begins none = absurd (omega (arith, two))
+only_these (name ∷ other ∷ words) rest word command known given is two says begins none =
+    (ap string_bytes (sym is) ∙ says, subst (λ (r : List (String Global)). BeginsWithOptions known (map string_bytes words) given (map string_bytes r)) (nil_from_length rest none) begins)

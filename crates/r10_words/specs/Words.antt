@@ -1,7 +1,8 @@
 -- What words ask for.
-use Rattle.std.specs.Prelude.{◌≡◌, ◌⊎◌, ℕ, ◌+◌, ◌<◌, ◌≤◌, ◌==◌, Bool, true, false, List, [], ◌∷◌, ◌++◌, codes, length, slice_index_or, string_bytes}
-use Rattle.std.specs.List.{starts_with}
+use Rattle.std.specs.Prelude.{◌≡◌, ◌⊎◌, ℕ, List, [], ◌∷◌, codes, drop, slice_index_or, string_bytes}
+use Rattle.std.specs.List.{Contains}
 use Rattle.std.specs.Fmt.{decimal}
+use Rattle.r10_words.specs.Options.{BeginsWithOptions, GivesOption, GivesOr, HasOnlyOptions, OptionWords}
 use Rattle.r10_words.specs.declared.asked.Asked.{Asked}
 use Rattle.r10_words.specs.declared.asked.Asked.TheVariants.{Sim, Image, Files, Check, Play, Format, Text}
 use Rattle.r10_words.specs.declared.asked.FormatWords.{FormatWords}
@@ -42,47 +43,81 @@ AsksRun words = AsksOnly (codes "run") words
 abbrev pub word_at : List (List ℕ) → ℕ → List ℕ
 word_at words i = slice_index_or words i []
 
--- behind the program's own name an option and its value: two words in a row, or one with `=` between them
-abbrev pub GivesOption : List (List ℕ) → List ℕ → List ℕ → Type 0
-GivesOption words option value = (i : ℕ) × (i + 1 < length words)
-    × ((word_at words (i + 1) ≡ option ++ 61 ∷ value) ⊎ ((word_at words i ≡ option) × (word_at words (i + 1) ≡ value)))
+-- the options that `format` knows
+abbrev pub format_options : List (List ℕ)
+format_options = codes "--blocks" ∷ codes "--directory" ∷ codes "--volume" ∷ []
 
--- the options of `format`, numbers in decimal
+-- the options give these values, numbers in decimal: each stands once
+pub record OptionsOfFormat (given : List OptionWords) (format : FormatWords) : Type 0 where
+  pub blocks : GivesOption given (codes "--blocks") (decimal format.blocks)
+  pub directory : GivesOption given (codes "--directory") (decimal format.directory)
+  pub volume : GivesOption given (codes "--volume") (string_bytes format.volume)
+
+-- the options of `format`, and no other word
 pub record GivesAll (words : List (List ℕ)) (format : FormatWords) : Type 0 where
-  pub blocks : GivesOption words (codes "--blocks") (decimal format.blocks)
-  pub directory : GivesOption words (codes "--directory") (decimal format.directory)
-  pub volume : GivesOption words (codes "--volume") (string_bytes format.volume)
+  pub given : List OptionWords
+  pub only : HasOnlyOptions format_options words given
+  pub gives : OptionsOfFormat given format
 
--- a word begins with an option
-abbrev pub begins : List ℕ → List ℕ → Bool
-begins word option = starts_with (λ a b. a == b) word option
+-- the options that `play` knows
+abbrev pub play_options : List (List ℕ)
+play_options = codes "--file" ∷ codes "--channel" ∷ codes "--from" ∷ codes "--to" ∷ []
 
--- no word behind the program's own name begins with the option
-abbrev pub IsLeftOut : List (List ℕ) → List ℕ → Type 0
-IsLeftOut words option = (i : ℕ) → 1 ≤ i → i < length words → begins (word_at words i) option ≡ false
+-- the options give these values, each standing at most once: the first file, all channels and all counts go without saying
+pub record OptionsOfPlay (given : List OptionWords) (play : PlayWords) : Type 0 where
+  pub file : GivesOr given (codes "--file") play.file 0
+  pub channel : GivesOr given (codes "--channel") play.channel 0
+  pub from : GivesOr given (codes "--from") play.from 0
+  pub to : GivesOr given (codes "--to") play.to 281474976710655
 
--- the option has this number, in decimal, or is left out where the number goes without saying
-abbrev pub GivesOr : List (List ℕ) → List ℕ → ℕ → ℕ → Type 0
-GivesOr words option number otherwise = GivesOption words option (decimal number) ⊎ ((number ≡ otherwise) × IsLeftOut words option)
-
--- the options of `play`: the first file, all channels and all counts go without saying
+-- the options of `play`, and no other word
 pub record GivesSelection (words : List (List ℕ)) (play : PlayWords) : Type 0 where
-  pub file : GivesOr words (codes "--file") play.file 0
-  pub channel : GivesOr words (codes "--channel") play.channel 0
-  pub from : GivesOr words (codes "--from") play.from 0
-  pub to : GivesOr words (codes "--to") play.to 281474976710655
+  pub given : List OptionWords
+  pub only : HasOnlyOptions play_options words given
+  pub gives : OptionsOfPlay given play
 
 -- the first word behind the program's own name
 abbrev pub AsksCommand : List ℕ → List (List ℕ) → Type 0
 AsksCommand command words = word_at words 1 ≡ command
 
--- a word behind the program's own name begins with this one
-abbrev pub HasWord : List (List ℕ) → List ℕ → Type 0
-HasWord words option = (i : ℕ) × (1 ≤ i) × (i < length words) × (begins (word_at words i) option ≡ true)
+abbrev pub IsHelp : List ℕ → Type 0
+IsHelp word = (word ≡ codes "-h") ⊎ (word ≡ codes "--help")
 
--- the words ask for help or the version
-abbrev pub AsksText : List (List ℕ) → Type 0
-AsksText words = AsksCommand (codes "help") words ⊎ (HasWord words (codes "-h") ⊎ (HasWord words (codes "--help") ⊎ (HasWord words (codes "-V") ⊎ HasWord words (codes "--version"))))
+abbrev pub IsVersion : List ℕ → Type 0
+IsVersion word = (word ≡ codes "-V") ⊎ (word ≡ codes "--version")
+
+-- the commands without options that have values
+abbrev pub plain_commands : List (List ℕ)
+plain_commands = codes "sim" ∷ codes "run" ∷ codes "files" ∷ codes "check" ∷ []
+
+-- the commands that `help` explains, itself among them
+abbrev pub commands : List (List ℕ)
+commands = codes "format" ∷ codes "play" ∷ codes "help" ∷ plain_commands
+
+-- behind the program's own name `help`, alone or with one command
+abbrev pub AsksHelpWord : List (List ℕ) → Type 0
+AsksHelpWord [] = ⊥
+AsksHelpWord (name ∷ []) = ⊥
+AsksHelpWord (name ∷ word ∷ []) = word ≡ codes "help"
+AsksHelpWord (name ∷ word ∷ command ∷ []) = (word ≡ codes "help") × Contains commands command
+AsksHelpWord (name ∷ word ∷ command ∷ more ∷ words) = ⊥
+
+-- behind options of the command, each with its value, help is asked for
+pub record AsksHelpBehind (known words : List (List ℕ)) : Type 0 where
+  pub given : List OptionWords
+  pub rest : List (List ℕ)
+  pub begins : BeginsWithOptions known (drop 2 words) given rest
+  pub asks : IsHelp (word_at rest 0)
+
+-- The words ask for help or the version: `help`, or an option that asks, with nothing before it but a command and options of it.
+pub data AsksText (words : List (List ℕ)) : Type 0 where
+  by_word : AsksHelpWord words → AsksText words
+  version : IsVersion (word_at words 1) → AsksText words
+  help : IsHelp (word_at words 1) → AsksText words
+  behind_plain : Contains plain_commands (word_at words 1) → IsHelp (word_at words 2) → AsksText words
+  behind_image : AsksCommand (codes "sim") words → word_at words 2 ≡ codes "--image" → IsHelp (word_at words 3) → AsksText words
+  behind_format : AsksCommand (codes "format") words → AsksHelpBehind format_options words → AsksText words
+  behind_play : AsksCommand (codes "play") words → AsksHelpBehind play_options words → AsksText words
 
 -- a formatted medium or entries as the options say, each by its own command; or help or the version, where the words ask for that
 abbrev pub AsksOther : List (List ℕ) → Asked → Type 0

@@ -1,11 +1,15 @@
 //! What the words of a call ask for.
 
-ghost use Rattle.std.specs.Prelude.{◌≡◌, ◌↔◌, IsTrue, Ok, IfOk, codes, map, string_bytes};
+ghost use Rattle.std.specs.Prelude.{◌≡◌, ◌↔◌, IsTrue, Ok, IfOk, IfSome, codes, map, string_bytes};
 ghost use Rattle.std.specs.Fmt.{decimal};
-ghost use Rattle.r10_words.specs.Words.{AsksSim, AsksImage, AsksFiles, AsksCheck, AsksRun, AsksOnly, AsksCommand, AsksOther, AsksText, GivesOption, GivesAll, GivesOr, GivesSelection, HasWord, IsLeftOut, begins};
+ghost use Rattle.std.specs.List.{Contains};
+ghost use Rattle.r10_words.specs.Found.{found_words};
+ghost use Rattle.r10_words.specs.Options.{GivesOption, GivesOr, HasOnlyOptions};
+ghost use Rattle.r10_words.specs.Words.{AsksSim, AsksImage, AsksFiles, AsksCheck, AsksRun, AsksOnly, AsksCommand, AsksOther, AsksText, AsksHelpBehind, AsksHelpWord, IsHelp, IsVersion, OptionsOfFormat, OptionsOfPlay, plain_commands, word_at};
 ghost use Rattle.r10_words.specs.declared.asked.Asked.TheVariants.{Sim, Image, Files, Check};
 
-use crate::usage::{ASK_NOTHING, Called, command_line, help_hint, usage_line};
+use crate::options::{FoundOption, front_options, gives_option, is_left_out, is_one_of};
+use crate::usage::{ASK_NOTHING, Called, called_by, command_line, help_hint, usage_line};
 use clap::ArgMatches;
 use clap::error::ErrorKind;
 use std::alloc::{AllocError, Global};
@@ -53,6 +57,18 @@ pub struct PlayWords {
     /// The last count.
     pub to: u64,
 }
+
+/// The options of `format`, which must all be given.
+const FORMAT_OPTIONS: [&str; 3] = ["--blocks", "--directory", "--volume"];
+
+/// The options of `play`, which may all be left out.
+const PLAY_OPTIONS: [&str; 4] = ["--file", "--channel", "--from", "--to"];
+
+/// The commands without options that have values.
+const PLAIN_COMMANDS: [&str; 4] = ["sim", "run", "files", "check"];
+
+/// The commands that `help` explains.
+const COMMANDS: [&str; 7] = ["format", "play", "help", "sim", "run", "files", "check"];
 
 /// Where a call doesn't say the last count: the largest that 48 bits hold.
 const LAST_COUNT: u64 = 281_474_976_710_655;
@@ -148,8 +164,12 @@ fn read_other(alloc: Global, words: &[String]) -> Result<Asked, WordsFault>
         Ok(matches) => read_matches(alloc, words, &matches),
         Err(error) => match error.kind() {
             ErrorKind::OutOfMemory => Err(WordsFault::Memory(AllocError)),
-            ErrorKind::DisplayHelp | ErrorKind::DisplayVersion if asks_text(words) => {
-                Ok(Asked::Text(error.to_string(alloc)?))
+            ErrorKind::DisplayHelp | ErrorKind::DisplayVersion => {
+                if asks_text(alloc, words)? {
+                    Ok(Asked::Text(error.to_string(alloc)?))
+                } else {
+                    Err(wrong(alloc, ASK_NOTHING, called_by(words))?)
+                }
             }
             _ => Err(WordsFault::Wrong(usage_line(alloc, words)?)),
         },
@@ -172,7 +192,7 @@ fn read_matches(
     }
 }
 
-/// What the options of `format` say. They are looked up among the words once more.
+/// What the options of `format` say. They are looked up among the words once more, where nothing else may stand.
 fn read_format(alloc: Global, words: &[String], found: &ArgMatches<'_>) -> Result<Asked, WordsFault>
     ensures { IfOk result (AsksOther (map string_bytes words.now)) }
 {
@@ -183,34 +203,63 @@ fn read_format(alloc: Global, words: &[String], found: &ArgMatches<'_>) -> Resul
     ) else {
         return Err(wrong(alloc, ASK_NOTHING, Called::Format)?);
     };
+    let Some(given) = only_options(alloc, words, "format", &FORMAT_OPTIONS)? else {
+        return Err(wrong(alloc, ASK_NOTHING, Called::Format)?);
+    };
     let volume = String::from_str(alloc, volume)?;
     let format = FormatWords {
         blocks,
         directory,
         volume,
     };
-    if asks_command(words, "format") && gives_all(alloc, words, &format)? {
+    if gives_all(alloc, given.as_slice(), &format)? {
         Ok(Asked::Format(format))
     } else {
         Err(wrong(alloc, NUMBERS, Called::Format)?)
     }
 }
 
-/// What the options of `play` say, each looked up among the words once more, and for those that are left out what goes without
-/// saying: the first file, all its channels and all counts.
+/// What the options of `play` say, each looked up among the words once more, where nothing else may stand, and for those that are left
+/// out what goes without saying: the first file, all its channels and all counts.
 fn read_play(alloc: Global, words: &[String], found: &ArgMatches<'_>) -> Result<Asked, WordsFault>
     ensures { IfOk result (AsksOther (map string_bytes words.now)) }
 {
+    let Some(given) = only_options(alloc, words, "play", &PLAY_OPTIONS)? else {
+        return Err(wrong(alloc, ASK_NOTHING, Called::Play)?);
+    };
     let play = PlayWords {
         file: found.get_one::<usize>("file").unwrap_or(0),
         channel: found.get_one::<u16>("channel").unwrap_or(0),
         from: found.get_one::<u64>("from").unwrap_or(0),
         to: found.get_one::<u64>("to").unwrap_or(LAST_COUNT),
     };
-    if asks_command(words, "play") && gives_selection(alloc, words, &play)? {
+    if gives_selection(alloc, given.as_slice(), &play)? {
         Ok(Asked::Play(play))
     } else {
         Err(wrong(alloc, NUMBERS, Called::Play)?)
+    }
+}
+
+/// The options behind the program's own name and this command, if nothing else stands there.
+fn only_options<'a>(
+    alloc: Global,
+    words: &'a [String],
+    command: &str,
+    known: &[&str],
+) -> Result<Option<Vec<FoundOption<'a>>>, AllocError>
+    ensures { IfOk result (λ r. IfSome r (λ given. AsksCommand command.now (map string_bytes words.now) × HasOnlyOptions (map (λ k. k.now) known.now) (map string_bytes words.now) (map found_words given.items))) }
+{
+    let [_, word, behind @ ..] = words else {
+        return Ok(None);
+    };
+    if word.as_str() != command {
+        return Ok(None);
+    }
+    let front = front_options(alloc, behind, known)?;
+    if front.rest.is_empty() {
+        Ok(Some(front.given))
+    } else {
+        Ok(None)
     }
 }
 
@@ -224,137 +273,145 @@ fn wrong(alloc: Global, line: &str, called: Called) -> Result<WordsFault, AllocE
     Ok(WordsFault::Wrong(line))
 }
 
-/// Whether this command is the first word behind the program's own name.
-fn asks_command(words: &[String], command: &str) -> bool
-    ensures { IsTrue result → AsksCommand command.now (map string_bytes words.now) }
+/// Whether this word stands at the place among them.
+fn has_at(words: &[String], place: usize, text: &str) -> bool
+    ensures { IsTrue result → word_at (map string_bytes words.now) place ≡ text.now }
 {
-    words.len() > 1 && is_text(&words[1], command)
+    place < words.len() && words[place].as_str() == text
 }
 
 /// Whether the words ask for help or the version.
-fn asks_text(words: &[String]) -> bool
-    ensures { IsTrue result → AsksText (map string_bytes words.now) }
+fn asks_text(alloc: Global, words: &[String]) -> Result<bool, AllocError>
+    ensures { IfOk result (λ r. IsTrue r → AsksText (map string_bytes words.now)) }
 {
-    if asks_command(words, "help") {
-        return true;
-    }
-    if has_word(words, "-h") || has_word(words, "--help") {
-        return true;
-    }
-    has_word(words, "-V") || has_word(words, "--version")
-}
-
-/// Whether a word behind the program's own name begins with the option.
-fn has_word(words: &[String], option: &str) -> bool
-    ensures { IsTrue result → HasWord (map string_bytes words.now) option.now }
-{
-    for i in 1..words.len() {
-        if begins_with(&words[i], option) {
-            return true;
-        }
-    }
-    false
-}
-
-/// Whether the words give these values.
-fn gives_all(alloc: Global, words: &[String], format: &FormatWords) -> Result<bool, AllocError>
-    ensures { IfOk result (λ r. IsTrue r → GivesAll (map string_bytes words.now) format.now) }
-{
-    if !gives_number(alloc, words, "--blocks", format.blocks)? {
-        return Ok(false);
-    }
-    if !gives_number(alloc, words, "--directory", format.directory)? {
-        return Ok(false);
-    }
-    gives_option(alloc, words, "--volume", format.volume.as_str())
-}
-
-/// Whether the words give these values, or leave out those that go without saying.
-fn gives_selection(alloc: Global, words: &[String], play: &PlayWords) -> Result<bool, AllocError>
-    ensures { IfOk result (λ r. IsTrue r → GivesSelection (map string_bytes words.now) play.now) }
-{
-    if !gives_or(alloc, words, "--file", play.file as u64, 0)? {
-        return Ok(false);
-    }
-    if !gives_or(alloc, words, "--channel", u64::from(play.channel), 0)? {
-        return Ok(false);
-    }
-    if !gives_or(alloc, words, "--from", play.from, 0)? {
-        return Ok(false);
-    }
-    gives_or(alloc, words, "--to", play.to, LAST_COUNT)
-}
-
-/// Whether the words give the option this number, or leave it out where the number goes without saying.
-fn gives_or(
-    alloc: Global,
-    words: &[String],
-    option: &str,
-    number: u64,
-    otherwise: u64,
-) -> Result<bool, AllocError>
-    ensures { IfOk result (λ r. IsTrue r → GivesOr (map string_bytes words.now) option.now number otherwise) }
-{
-    if number == otherwise && is_left_out(words, option) {
+    if asks_help_word(words) || is_version_at(words, 1) {
         return Ok(true);
     }
-    let text = format!(in alloc; "{number}")?;
-    gives_option(alloc, words, option, text.as_str())
-}
-
-/// Whether no word behind the program's own name begins with the option.
-fn is_left_out(words: &[String], option: &str) -> bool
-    ensures { IsTrue result → IsLeftOut (map string_bytes words.now) option.now }
-{
-    for i in 1..words.len() {
-        if begins_with(&words[i], option) {
-            return false;
-        }
+    if is_help_at(words, 1) || asks_help_of_plain(words) || asks_help_of_image(words) {
+        return Ok(true);
     }
-    true
-}
-
-fn begins_with(word: &String, option: &str) -> bool
-    ensures { result ≡ begins (string_bytes word.now) option.now }
-{
-    word.as_bytes().starts_with(option.as_bytes())
-}
-
-fn gives_number(
-    alloc: Global,
-    words: &[String],
-    option: &str,
-    number: usize,
-) -> Result<bool, AllocError>
-    ensures { IfOk result (λ r. IsTrue r → GivesOption (map string_bytes words.now) option.now (decimal number)) }
-{
-    let text = format!(in alloc; "{number}")?;
-    gives_option(alloc, words, option, text.as_str())
-}
-
-/// Whether the words give the option this value: behind it, or in one word with it.
-fn gives_option(
-    alloc: Global,
-    words: &[String],
-    option: &str,
-    value: &str,
-) -> Result<bool, AllocError>
-    ensures { IfOk result (λ r. IsTrue r → GivesOption (map string_bytes words.now) option.now value.now) }
-{
-    let joined = format!(in alloc; "{option}={value}")?;
-    for i in 1..words.len() {
-        if is_text(&words[i], joined.as_str()) {
-            return Ok(true);
-        }
-        if is_text(&words[i - 1], option) && is_text(&words[i], value) {
-            return Ok(true);
-        }
+    if has_at(words, 1, "format") {
+        return asks_help_behind(alloc, words, &FORMAT_OPTIONS);
+    }
+    if has_at(words, 1, "play") {
+        return asks_help_behind(alloc, words, &PLAY_OPTIONS);
     }
     Ok(false)
 }
 
-fn is_text(word: &String, text: &str) -> bool
-    ensures { IsTrue result → string_bytes word.now ≡ text.now }
+/// Whether the words are `help`, alone or with a command.
+fn asks_help_word(words: &[String]) -> bool
+    ensures { IsTrue result → AsksHelpWord (map string_bytes words.now) }
 {
-    word.as_str() == text
+    match words {
+        [_, word] => word.as_str() == "help",
+        [_, word, command] => { word.as_str() == "help" && is_one_of(command.as_str(), &COMMANDS) }
+        _ => false,
+    }
+}
+
+fn is_version_at(words: &[String], place: usize) -> bool
+    ensures { IsTrue result → IsVersion (word_at (map string_bytes words.now) place) }
+{
+    has_at(words, place, "-V") || has_at(words, place, "--version")
+}
+
+fn is_help_at(words: &[String], place: usize) -> bool
+    ensures { IsTrue result → IsHelp (word_at (map string_bytes words.now) place) }
+{
+    has_at(words, place, "-h") || has_at(words, place, "--help")
+}
+
+/// Whether help is asked for behind a command without options that have values.
+fn asks_help_of_plain(words: &[String]) -> bool
+    ensures { IsTrue result → Contains plain_commands (word_at (map string_bytes words.now) 1) × IsHelp (word_at (map string_bytes words.now) 2) }
+{
+    match words {
+        [_, word, ..] => is_one_of(word.as_str(), &PLAIN_COMMANDS) && is_help_at(words, 2),
+        _ => false,
+    }
+}
+
+/// Whether help is asked for behind `sim --image`.
+fn asks_help_of_image(words: &[String]) -> bool
+    ensures { IsTrue result → AsksCommand (codes "sim") (map string_bytes words.now) × (word_at (map string_bytes words.now) 2 ≡ codes "--image") × IsHelp (word_at (map string_bytes words.now) 3) }
+{
+    has_at(words, 1, "sim") && has_at(words, 2, "--image") && is_help_at(words, 3)
+}
+
+/// Whether help is asked for behind options of a command that are known.
+fn asks_help_behind(alloc: Global, words: &[String], known: &[&str]) -> Result<bool, AllocError>
+    ensures { IfOk result (λ r. IsTrue r → AsksHelpBehind (map (λ k. k.now) known.now) (map string_bytes words.now)) }
+{
+    let [_, _, behind @ ..] = words else {
+        return Ok(false);
+    };
+    let front = front_options(alloc, behind, known)?;
+    Ok(is_help_at(front.rest, 0))
+}
+
+/// Whether the options give these values.
+fn gives_all(
+    alloc: Global,
+    given: &[FoundOption<'_>],
+    format: &FormatWords,
+) -> Result<bool, AllocError>
+    ensures { IfOk result (λ r. IsTrue r → OptionsOfFormat (map found_words given.now) format.now) }
+{
+    if !gives_number(alloc, given, "--blocks", format.blocks)? {
+        return Ok(false);
+    }
+    if !gives_number(alloc, given, "--directory", format.directory)? {
+        return Ok(false);
+    }
+    Ok(gives_option(given, "--volume", format.volume.as_str()))
+}
+
+/// Whether the options give these values, or leave out those that go without saying.
+fn gives_selection(
+    alloc: Global,
+    given: &[FoundOption<'_>],
+    play: &PlayWords,
+) -> Result<bool, AllocError>
+    ensures { IfOk result (λ r. IsTrue r → OptionsOfPlay (map found_words given.now) play.now) }
+{
+    if !gives_or(alloc, given, "--file", play.file as u64, 0)? {
+        return Ok(false);
+    }
+    if !gives_or(alloc, given, "--channel", u64::from(play.channel), 0)? {
+        return Ok(false);
+    }
+    if !gives_or(alloc, given, "--from", play.from, 0)? {
+        return Ok(false);
+    }
+    gives_or(alloc, given, "--to", play.to, LAST_COUNT)
+}
+
+/// Whether an option gives this number, or is left out where the number goes without saying.
+fn gives_or(
+    alloc: Global,
+    given: &[FoundOption<'_>],
+    option: &str,
+    number: u64,
+    otherwise: u64,
+) -> Result<bool, AllocError>
+    ensures { IfOk result (λ r. IsTrue r → GivesOr (map found_words given.now) option.now number otherwise) }
+{
+    if number == otherwise && is_left_out(given, option) {
+        return Ok(true);
+    }
+    let text = format!(in alloc; "{number}")?;
+    Ok(gives_option(given, option, text.as_str()))
+}
+
+fn gives_number(
+    alloc: Global,
+    given: &[FoundOption<'_>],
+    option: &str,
+    number: usize,
+) -> Result<bool, AllocError>
+    ensures { IfOk result (λ r. IsTrue r → GivesOption (map found_words given.now) option.now (decimal number)) }
+{
+    let text = format!(in alloc; "{number}")?;
+    Ok(gives_option(given, option, text.as_str()))
 }

@@ -2,6 +2,7 @@
 #![tactic(auto)]
 
 mod asked;
+mod options;
 mod usage;
 
 pub use asked::{Asked, FormatWords, PlayWords, WordsFault, asks_run, read_words};

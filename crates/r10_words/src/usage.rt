@@ -232,7 +232,8 @@ pub(crate) enum Called {
     Check,
 }
 
-fn called_by(words: &[String]) -> Called {
+/// Which command the words call.
+pub(crate) fn called_by(words: &[String]) -> Called {
     match words {
         [_, word, ..] => command_of(word),
         _ => Called::Program,
