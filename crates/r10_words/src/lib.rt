@@ -6,3 +6,4 @@ mod options;
 mod usage;
 
 pub use asked::{Asked, FormatWords, PlayWords, WordsFault, asks_run, read_words};
+pub use options::options_are_told;

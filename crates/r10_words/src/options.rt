@@ -1,8 +1,9 @@
 //! The options of a command among its words, each with its value.
 
-ghost use Rattle.std.specs.Prelude.{◌≡◌, ◌<◌, [], ◌∷◌, IsTrue, IfOk, IfSome, length, map, string_bytes};
+ghost use Rattle.std.specs.Prelude.{◌≡◌, ◌<◌, ℕ, List, IsTrue, IfOk, IfSome, length, map, string_bytes};
 ghost use Rattle.std.specs.List.{Contains};
-ghost use Rattle.r10_words.specs.Options.{BeginsWithOptions, GivesOption, IsLeftOut};
+ghost use Rattle.r10_words.specs.Options.{BeginsWithOptions, GivesOption, HasOnlyOptions, IsLeftOut, OptionWords};
+ghost use Rattle.r10_words.specs.Words.{format_options, play_options};
 ghost use Rattle.r10_words.specs.Found.{StandsFirst, found_words};
 
 use std::alloc::{AllocError, Global};
@@ -134,3 +135,9 @@ pub(crate) fn is_left_out(given: &[FoundOption<'_>], option: &str) -> bool
         }
     }
 }
+
+/// The words behind a command tell in one way alone which options are given: what is read of them is what they say.
+pub fn options_are_told()
+    ensures format { (words : List (List ℕ)) (given other : List OptionWords) → HasOnlyOptions format_options words given → HasOnlyOptions format_options words other → given ≡ other }
+    ensures play { (words : List (List ℕ)) (given other : List OptionWords) → HasOnlyOptions play_options words given → HasOnlyOptions play_options words other → given ≡ other }
+{}
