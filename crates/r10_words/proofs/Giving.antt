@@ -6,8 +6,8 @@ use Rattle.std.proofs.lemmas.List.Elements.{All-append, All-cons, All-nil}
 use Rattle.std.proofs.lemmas.Slice.Eq.{bytes_eq-Decides}
 use Rattle.std.specs.List.{All, Contains, flat_map}
 use Rattle.std.specs.Str.{bytes_eq}
-use Rattle.r10_words.specs.Options.{BeginsWithOptions, GivesOption, IsLeftOut, OptionWords, words_of}
-use Rattle.r10_words.specs.Found.{StandsFirst, found_words}
+use Rattle.r10_words.specs.Options.{BeginsWithOptions, GivesOption, IsLeftOut, OptionWords, as_words}
+use Rattle.r10_words.specs.Found.{IsFrontOption, found_words}
 use Rattle.r10_words.specs.declared.options.FoundOption.{FoundOption}
 
 pub one_of : (texts : List (Bor (List ℕ))) (i : ℕ) (d : Bor (List ℕ)) (text : List ℕ) → i < length texts → bytes_eq (get_or texts i d).now text ≡ true → Contains (map (λ (k : Bor (List ℕ)). k.now) texts) text
@@ -19,13 +19,13 @@ one_of texts i d text lt equal =
 
 -- words before which some options stand, and one more at their front
 pub one_more : (known words rest behind : List (List ℕ)) (given : List FoundOption) (found : FoundOption) → BeginsWithOptions known words (map found_words given) rest
-    → StandsFirst known rest found behind → BeginsWithOptions known words (map found_words (given ++ found ∷ [])) behind
+    → IsFrontOption known rest found behind → BeginsWithOptions known words (map found_words (given ++ found ∷ [])) behind
 one_more known words rest behind given found begins stands =
     let so_far = map found_words given in
     let more : map found_words (given ++ found ∷ []) ≡ so_far ++ found_words found ∷ [] = map-append found_words given (found ∷ []) in
-    let front : words ≡ flat_map words_of (so_far ++ found_words found ∷ []) ++ behind =
-    begins.front ∙ ap (λ r. flat_map words_of so_far ++ r) stands.front ∙ sym (append_assoc (flat_map words_of so_far) (words_of (found_words found)) behind)
-    ∙ ap (λ w. flat_map words_of so_far ++ w ++ behind) (sym (append-nil (words_of (found_words found)))) ∙ ap (λ w. w ++ behind) (sym (flat_map-append words_of so_far (found_words found ∷ []))) in
+    let front : words ≡ flat_map as_words (so_far ++ found_words found ∷ []) ++ behind =
+    begins.front ∙ ap (λ r. flat_map as_words so_far ++ r) stands.front ∙ sym (append_assoc (flat_map as_words so_far) (as_words (found_words found)) behind)
+    ∙ ap (λ w. flat_map as_words so_far ++ w ++ behind) (sym (append-nil (as_words (found_words found)))) ∙ ap (λ w. w ++ behind) (sym (flat_map-append as_words so_far (found_words found ∷ []))) in
     let is_known : Contains known (found_words found).option = stands.is_known in
     let are_known : All (λ (g : OptionWords). Contains known g.option) (so_far ++ found_words found ∷ []) =
     All-append (λ (g : OptionWords). Contains known g.option) so_far (found_words found ∷ []) begins.are_known

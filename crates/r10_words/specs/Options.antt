@@ -10,12 +10,12 @@ pub record OptionWords : Type 0 where
   pub value : List ℕ
   pub is_joined : Bool
 
-abbrev pub words_of : OptionWords → List (List ℕ)
-words_of given = if given.is_joined then (given.option ++ 61 ∷ given.value) ∷ [] else given.option ∷ given.value ∷ []
+abbrev pub as_words : OptionWords → List (List ℕ)
+as_words given = if given.is_joined then (given.option ++ 61 ∷ given.value) ∷ [] else given.option ∷ given.value ∷ []
 
 -- these options, each with its value and each one of those that are known, stand at the front of the words, and the rest behind them
 pub record BeginsWithOptions (known words : List (List ℕ)) (given : List OptionWords) (rest : List (List ℕ)) : Type 0 where
-  pub front : words ≡ flat_map words_of given ++ rest
+  pub front : words ≡ flat_map as_words given ++ rest
   pub are_known : All (λ (g : OptionWords). Contains known g.option) given
 
 -- behind the program's own name and the command stand these options, each one that the command knows, and nothing else

@@ -9,7 +9,7 @@ use Rattle.std.proofs.lemmas.List.{append-nil, append_assoc, take_at}
 use Rattle.std.proofs.lemmas.List.Elements.{All-cons, All-head, All-nil}
 use Rattle.std.proofs.lemmas.List.Sums.{AllPass-from_list_all}
 use Rattle.std.proofs.lemmas.Slice.Eq.{bytes_eq-Decides}
-use Rattle.r10_words.specs.Options.{BeginsWithOptions, HasOnlyOptions, OptionWords, values_of, words_of}
+use Rattle.r10_words.specs.Options.{BeginsWithOptions, HasOnlyOptions, OptionWords, values_of, as_words}
 use Rattle.r10_words.specs.Words.{GivesSelection, play_options}
 
 -- an option whose value is the next word, and one with its value behind `=`
@@ -46,7 +46,7 @@ not_first known word option behind others (k, lt, is) front =
     false≢true (ap not (sym ((bytes_eq-Decides (take (length option) word) option).1 begins)) ∙ other)
 
 not_so_first : (known words : List (List ℕ)) (word : List ℕ) (b : Bool) (option value : List ℕ) (rest : List (List ℕ)) → list_all (is_other word) known ≡ true → Contains known option
-    → word ∷ words ≡ words_of (record { option = option; value = value; is_joined = b }) ++ rest → ⊥
+    → word ∷ words ≡ as_words (record { option = option; value = value; is_joined = b }) ++ rest → ⊥
 not_so_first known words word true option value rest others one front = not_first known word option (61 ∷ value) others one (ap (λ (l : List (List ℕ)). slice_index_or l 0 []) front)
 not_so_first known words word false option value rest others one front =
     not_first known word option [] others one (ap (λ (l : List (List ℕ)). slice_index_or l 0 []) front ∙ sym (append-nil option))
@@ -55,8 +55,8 @@ not_so_first known words word false option value rest others one front =
 begins_not : (known words : List (List ℕ)) (word : List ℕ) → list_all (is_other word) known ≡ true → (given : List OptionWords) → BeginsWithOptions known (word ∷ words) given [] → ⊥
 begins_not known words word others [] begins = omega (arith, ap length begins.front)
 begins_not known words word others (g ∷ given) begins =
-    let behind : word ∷ words ≡ words_of g ++ (flat_map words_of given ++ []) = begins.front ∙ append_assoc (words_of g) (flat_map words_of given) [] in
-    not_so_first known words word g.is_joined g.option g.value (flat_map words_of given ++ []) others (All-head (λ (k : OptionWords). Contains known k.option) g given begins.are_known) behind
+    let behind : word ∷ words ≡ as_words g ++ (flat_map as_words given ++ []) = begins.front ∙ append_assoc (as_words g) (flat_map as_words given) [] in
+    not_so_first known words word g.is_joined g.option g.value (flat_map as_words given ++ []) others (All-head (λ (k : OptionWords). Contains known k.option) g given begins.are_known) behind
 
 pub misspelled : (given : List OptionWords) → HasOnlyOptions play_options (codes "r10" ∷ codes "play" ∷ codes "--chanel" ∷ codes "5" ∷ []) given → ⊥
 misspelled given = begins_not play_options (codes "5" ∷ []) (codes "--chanel") refl given

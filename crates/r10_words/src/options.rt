@@ -4,7 +4,7 @@ ghost use Rattle.std.specs.Prelude.{◌≡◌, ◌<◌, ℕ, List, IsTrue, IfOk,
 ghost use Rattle.std.specs.List.{Contains};
 ghost use Rattle.r10_words.specs.Options.{BeginsWithOptions, GivesOption, HasOnlyOptions, IsLeftOut, OptionWords};
 ghost use Rattle.r10_words.specs.Words.{format_options, play_options};
-ghost use Rattle.r10_words.specs.Found.{StandsFirst, found_words};
+ghost use Rattle.r10_words.specs.Found.{IsFrontOption, found_words};
 
 use std::alloc::{AllocError, Global};
 
@@ -50,7 +50,7 @@ pub(crate) fn front_options<'a>(
 
 /// The option at the front of the words, if it is a known one and has a value.
 fn first_option<'a>(words: &'a [String], known: &[&str]) -> Option<FirstOption<'a>>
-    ensures stands { IfSome result (λ first. StandsFirst (map (λ k. k.now) known.now) (map string_bytes words.now) first.found (map string_bytes first.rest.now)) }
+    ensures stands { IfSome result (λ first. IsFrontOption (map (λ k. k.now) known.now) (map string_bytes words.now) first.found (map string_bytes first.rest.now)) }
     ensures shorter { IfSome result (λ first. length first.rest.now < length words.now) }
 {
     let [word, rest @ ..] = words else {
