@@ -1,5 +1,5 @@
 -- Calls of the recorder and on the table, answered whatever files the medium has.
-use Rattle.std.proofs.Common.{◌≡◌, ◌<◌, ℕ, zero, suc, ◌==◌, ⊎_elim, inr, Bool, true, false, cond, List, [], ◌∷◌, ◌++◌, length, drop, set, Option, Some, None, Result, Ok, Err, refl, sym, ap, ◌∙◌, subst, arith}
+use Rattle.std.proofs.Common.{◌≡◌, ◌<◌, ℕ, zero, suc, ◌==◌, ⊎_elim, inr, Bool, true, false, cond, List, [], ◌∷◌, ◌++◌, length, drop, map, set, Option, Some, None, Result, Ok, Err, refl, sym, ap, ◌∙◌, subst, arith}
 use Rattle.std.specs.Prelude.{◌⊎◌, IfErr, IfOk, MatchResult, OnOk}
 use Rattle.std.specs.List.{AllByRecursion}
 use Rattle.std.proofs.Math.Seq.{drop-append_seam}
@@ -29,7 +29,7 @@ use Rattle.r10_control.specs.Refused.{IsSameKept, IsSameWork, RefusesCall, Refus
 use Rattle.r10_control.specs.Own.{AreOwn, OwnGrow, OwnStay}
 use Rattle.r10_control.specs.Reading.{OnlyReads}
 use Rattle.r10_control.specs.State.{RecorderState}
-use Rattle.r10_control.specs.Taking.{RefusesReadied, StepsByTaking}
+use Rattle.r10_control.specs.Taking.{GoesInto, RefusesReadied, StepsByTaking}
 use Rattle.r10_world.specs.Answering.{AnswersSo, ChangesNothing, EitherOr, HaveGiven, IsLacking, KeepsOwn, LeavesAll, LeavesLanes, LeavesRead, MayLack, MediumOr, MemoryOr, OnlyRead, RefusesSo, TakesParts, first_refusal, lanes_counted}
 
 -- ---- what a call answered
@@ -184,11 +184,12 @@ pub takes_parts : {T : Type 0} (order : List ℕ) (most : ℕ → ℕ) (says : T
     → StepsByTaking TookWaiting (λ (lane : Lane). Some lane.waiting) (λ (lane : Lane). lane.spec) order most says bare k old.blocks old.failures event reply result later new.blocks new.failures lanes lanes' → (v : T) → result ≡ Ok v
     → TakesParts order most (says v) k old lanes later new lanes'
 takes_parts {T} order most says bare k old event reply result later new lanes lanes' takes v is =
+    let whole : takes.passed ≡ [] = subst (λ (r : Result T Refusal). OnOk r (takes.passed ≡ [])) is takes.whole in
     let known : takes.known ≡ takes.parts = ⊎_elim (λ same. same) (λ none. absurd (apart result v refusals.Medium is none.1)) takes.told in
     record {
       parts = takes.parts;
-      passed = takes.passed;
-      order_is = takes.order_is;
+      order_is = sym (append-nil (map (λ (p : Part). p.channel) takes.parts)) ∙ subst (λ (xs : List ℕ). map (λ (p : Part). p.channel) takes.parts ++ xs ≡ order) whole takes.order_is;
+      through = subst (λ (r : Result T Refusal). OnOk r (GoesInto most k.config k.work takes.parts)) is takes.through;
       within = takes.within;
       taken = takes.taken;
       waits = subst (λ (ps : List Part). AllByRecursion (TellsWaiting (λ (lane : Lane). Some lane.waiting) (λ (lane : Lane). lane.spec) lanes) ps) known takes.waits;

@@ -36,7 +36,7 @@ use Rattle.r10_control.specs.Refused.{IsMountRefusal, IsSameKept, nothing_lacks}
 use Rattle.r10_control.specs.SealRefusals.{IsSealRefusal, IsSealed}
 use Rattle.r10_control.specs.Started.{IsStartRefusal}
 use Rattle.r10_control.specs.State.{RecorderState}
-use Rattle.r10_control.specs.Taking.{CountsMoved, FirstLacks, IsStopped}
+use Rattle.r10_control.specs.Taking.{CountsMoved, FirstLacks, GoesInto, IsStopped}
 use Rattle.r10_control.specs.Told.{status_in}
 use Rattle.r10_world.specs.Joined.{begun_world}
 use Rattle.r10_world.specs.State.{WorldState}
@@ -186,11 +186,11 @@ pub record SealsSo {M : Type 0} (disk : M → Disk) (old new : RecorderState M L
   pub sure : IsSynced (disk new.medium)
   pub rest : new.kept ≡ record old.kept { work = new.kept.work }
 
--- Channel by channel in this order, these samples were taken from the lanes, no more of a channel than may be; they and the rests are all that waited. They are counted, and whatever entries the recorder's own files had, these are behind them then.
+-- Channel by channel in this order, these samples were taken from the lanes, no more of a channel than may be: all that may, up to the first that has no room; they and the rests are all that waited. They are counted, and whatever entries the recorder's own files had, these are behind them then.
 pub record TakesParts (order : List ℕ) (most : ℕ → ℕ) (says : List Part → Type 0) (k : Kept) (old : Disk) (lanes : List Lane) (later : Kept) (new : Disk) (lanes' : List Lane) : Type 0 where
   pub parts : List Part
-  pub passed : List ℕ
-  pub order_is : map (λ (p : Part). p.channel) parts ++ passed ≡ order
+  pub order_is : map (λ (p : Part). p.channel) parts ≡ order
+  pub through : GoesInto most k.config k.work parts
   pub within : AllByRecursion (λ (p : Part). length p.samples ≤ most p.channel) parts
   pub taken : TookAll TookWaiting (λ (lane : Lane). lane.spec) parts lanes lanes'
   pub waits : AllByRecursion (TellsWaiting (λ (lane : Lane). Some lane.waiting) (λ (lane : Lane). lane.spec) lanes) parts
