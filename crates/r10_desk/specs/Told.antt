@@ -8,6 +8,7 @@ use Rattle.r10_machine.specs.declared.event.Event.{Event as EventValue}
 use Rattle.r10_machine.specs.declared.mode.Stopped.{Stopped as StoppedValue}
 use Rattle.r10_machine.specs.declared.reply.Reply.{Reply as ReplyValue}
 use Rattle.r10_machine.specs.declared.reply.Reply.TheVariants.{Done, Moved, Stopped, Files, Status, Cursor, Advanced, Next, Found, CountAt, Refused}
+use Rattle.r10_world.specs.Answering.{AnswersEach}
 use Rattle.r10_world.specs.State.{WorldState}
 use Rattle.r10_world.specs.Stopping.{RunsSafely}
 use Rattle.r10_world.specs.Telling.{WorldRuns}
@@ -17,6 +18,7 @@ use Rattle.r10_world.specs.Telling.{WorldRuns}
 pub record StepsToReply {M : Type 0} (disk : M → Disk) (old : WorldState M) (event : EventValue) (reply : ReplyValue) (new : WorldState M) : Type 0 where
   pub runs : WorldRuns disk old (event ∷ []) (reply ∷ []) new
   pub safely : RunsSafely disk old (event ∷ []) (reply ∷ []) new
+  pub answers : AnswersEach disk old (event ∷ []) (reply ∷ []) new
 
 -- Where memory was refused before it was done, nothing changed.
 abbrev pub Told : {M : Type 0} → (M → Disk) → WorldState M → EventValue → ReplyValue → WorldState M → Type 0
