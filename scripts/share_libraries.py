@@ -1,8 +1,8 @@
 #!/usr/bin/env python3
 """share_libraries.py TOP SOURCE: gives the checkout TOP the libraries that stand built in the checkout SOURCE, also those of a gate's run that goes on there.
 
-A library is given where all files of its crate and of those below are the same, and those below are the very same libraries; with a stamp, so that
-`rt check` and `rt lib` take it as built. It proves nothing: no verdict of `rt ci` rests on it. Prints how many were given.
+A library is given where it was built of SOURCE's files as they stand, where all files of its crate and of those below are the same, and those below are the very same
+libraries; with a stamp, so that `rt check` and `rt lib` take it as built. It proves nothing: no verdict of `rt ci` rests on it. Prints how many were given.
 """
 import importlib.machinery
 import importlib.util
@@ -52,6 +52,14 @@ def main():
     def is_same(one, other):
         return rtlib.sum_of(f"{one.rlib}/format") == rtlib.sum_of(f"{other.rlib}/format")
 
+    def is_current(crate):
+        # (what a gate's run made has no stamp)
+        made_for = f"{os.path.dirname(crate.rlib)}/stamp"
+        if os.path.isfile(made_for):
+            with open(made_for, encoding="utf-8") as it:
+                return it.read() == stamp(crate)
+        return max(os.path.getmtime(it) for it in rtlib.files_of(crate.folder)) <= os.path.getmtime(f"{crate.rlib}/format")
+
     # (both before the folder changes: else a TOP such as '.' would be SOURCE, whose libraries would be removed)
     top, source = os.path.realpath(sys.argv[1]), os.path.realpath(sys.argv[2])
     if top == source:
@@ -59,7 +67,7 @@ def main():
     theirs, given = crates(source), 0
     for name, crate in crates(top).items():
         other = theirs.get(name)
-        if other is None or crate.is_program or crate.is_built() or not os.path.isfile(f"{other.rlib}/format") or stamp(crate) != stamp(other):
+        if other is None or crate.is_program or crate.is_built() or not os.path.isfile(f"{other.rlib}/format") or stamp(crate) != stamp(other) or not is_current(other):
             continue
         if any(not it.is_built() or not is_same(it, theirs[it.name]) for it in crate.below()):
             continue
@@ -68,8 +76,10 @@ def main():
         shutil.rmtree(f"{out}/rlib", ignore_errors=True)
         shutil.rmtree(f"{out}/given", ignore_errors=True)
         shutil.copytree(os.path.dirname(other.rlib), f"{out}/given", copy_function=link)
-        with open(f"{out}/given/stamp", "w", encoding="utf-8") as it:
+        # (a stamp that is linked from SOURCE is not written through)
+        with open(f"{out}/stamp", "w", encoding="utf-8") as it:
             it.write(stamp(crate))
+        os.replace(f"{out}/stamp", f"{out}/given/stamp")
         os.rename(f"{out}/given", f"{out}/rlib")
         given += 1
     print(f"{given} libraries given")
