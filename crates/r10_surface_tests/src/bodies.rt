@@ -1,5 +1,5 @@
 //! The bodies of each kind of packet: `r10_timebody`, `r10_b1553`, `r10_a429`, `r10_uart`, `r10_discrete`, `r10_message`, `r10_event`,
-//! `r10_setup`.
+//! `r10_setup`, `r10_lossbody`.
 
 use crate::made::{count, leap_day};
 use r10_a429::{ArincBody, ArincEntry};
@@ -7,6 +7,7 @@ use r10_b1553::{BusBody, BusEntry};
 use r10_count::{Count, Reading};
 use r10_discrete::{DiscreteBody, DiscreteEntry};
 use r10_event::{EventBody, EventEntry};
+use r10_lossbody::LossBody;
 use r10_message::{MessageBody, MessageEntry};
 use r10_setup::SetupBody;
 use r10_timebody::TimeBody;
@@ -43,6 +44,11 @@ const SETUP: [u8; 8] = [0x0C, 0, 0, 0, 0x41, 0x42, 0x43, 0x44];
 
 /// The second event of number 3 at 1000.
 const EVENT: [u8; 16] = [1, 0, 0, 0, 0xE8, 3, 0, 0, 0, 0, 0, 0, 3, 0x10, 0, 0x10];
+
+/// One message of channel 5 was lost.
+const LOSS: [u8; 20] = [
+    0, 0, 0, 0, 0x4C, 0x4F, 0x53, 0x53, 5, 0, 0, 0, 1, 0, 0, 0, 0, 0, 0, 0,
+];
 
 /// The bytes that are written of what is read of a UART message, their size, and the message's count.
 fn uart(alloc: Global) -> Result<(Vec<u8>, usize, u64), AllocError> {
@@ -218,6 +224,20 @@ fn a_time_is_written_and_read(rt: HostRuntime) -> Result<(), Fail> {
         (true, 12, TIME.as_slice())
     );
     assert!(rt; TimeBody::decode(&TIME) == Reading::Strict(civil));
+    Ok(())
+}
+
+#[test]
+fn a_loss_report_is_written_and_read(rt: HostRuntime) -> Result<(), Fail> {
+    let body = LossBody {
+        channel: 5,
+        reserved: 0,
+        lost: 1,
+    };
+    let mut out = Vec::new(rt.alloc());
+    body.encode_into(&mut out)?;
+    assert_eq!(rt; (body.size(), out.as_slice()), (20, LOSS.as_slice()));
+    assert!(rt; LossBody::decode(&LOSS) == Some(body));
     Ok(())
 }
 

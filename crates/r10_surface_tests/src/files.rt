@@ -6,7 +6,7 @@ use r10_count::{Count, Items, Reading};
 use r10_index::IndexBook;
 use r10_indexbody::{NodeBody, RootBody, RootEntry};
 use r10_medium::{BlockMedium, MediumFault, Memory};
-use std::alloc::Global;
+use std::alloc::{AllocError, Global};
 use std::process::Abort;
 use std::test::Fail;
 
@@ -67,5 +67,27 @@ fn nodes_and_roots_are_read(rt: HostRuntime) -> Result<(), Fail> {
     );
     let entries = Items::of(Vec::from_slice(alloc, &roots)?);
     assert!(rt; RootBody::decode(alloc, &FIRST[236..])? == Reading::Strict(RootBody { entries }));
+    Ok(())
+}
+
+/// The body of a root that names a node and itself.
+fn root_bytes(alloc: Global, counter: Count) -> Result<Vec<u8>, AllocError> {
+    let mut out = Vec::new(alloc);
+    let node = RootEntry {
+        counter,
+        offset: 124,
+    };
+    let root = RootEntry {
+        counter,
+        offset: 212,
+    };
+    RootBody::write(&[node, root], &mut out)?;
+    Ok(out)
+}
+
+#[test]
+fn a_root_is_written(rt: HostRuntime) -> Result<(), Fail> {
+    let out = root_bytes(rt.alloc(), count(1000)?)?;
+    assert_eq!(rt; FIRST.get(236..), Some(out.as_slice()));
     Ok(())
 }
