@@ -8,7 +8,7 @@ use Rattle.r10_body.specs.declared.spec.ChannelSpec.{ChannelSpec}
 use Rattle.r10_machine.specs.declared.event.Event.{Event}
 use Rattle.r10_machine.specs.declared.event.Event.TheVariants as events
 use Rattle.r10_session.specs.Lanes.{HaveChannels}
-use Rattle.r10_script.specs.Script.{EachAsks}
+use Rattle.r10_script.specs.Script.{EachAsks, ItemsAsk}
 use Rattle.r10_script.specs.Session.{IsFeed, IsOrder, is_order}
 use Rattle.r10_script.specs.declared.session.FeedTable.{FeedTable}
 use Rattle.r10_shared.specs.Orders.{order_of}
@@ -37,15 +37,20 @@ module _ (channels : List ChannelSpec) where
   by_table [] (e ∷ events') each = absurd each
   by_table (d ∷ items) [] each = absurd each
 
-  pub all_orders : (items : List Data) (events' : List Event) → EachAsks (IsOrder channels) items events' → All (λ (event : Event). IsSome (order_of event)) events'
-  all_orders items events' each = All-from_recursion (λ (event : Event). IsSome (order_of event)) events' (by_table items events' each)
+  pub all_orders : (items : Option (List Data)) (events' : List Event) → ItemsAsk (IsOrder channels) items events' → All (λ (event : Event). IsSome (order_of event)) events'
+  all_orders (Some items) events' each = All-from_recursion (λ (event : Event). IsSome (order_of event)) events' (by_table items events' each)
+  all_orders None events' none = absurd none
 
   found : (channel : ℕ) (spec : ChannelSpec) → find (λ (c : ChannelSpec). c.id == channel) channels ≡ Some spec → IsSome (find (λ (c : ChannelSpec). c.id == channel) channels)
   found channel spec there = subst (λ (o : Option ChannelSpec). IsSome o) (sym there) refl
 
-  pub all_channels : (items : List Data) (tables : List FeedTable) → EachAsks (IsFeed channels) items tables → HaveChannels channels tables
-  all_channels [] [] each = tt
-  all_channels (d ∷ items) (t ∷ tables) each =
-      (asked_for (IsFeed channels) (λ (table : FeedTable). IsSome (find (λ (c : ChannelSpec). c.id == table.channel) channels)) t (as_table d) (λ table asks. found t.channel asks.2.0 asks.2.1) each.0, all_channels items tables each.1)
-  all_channels [] (t ∷ tables) each = absurd each
-  all_channels (d ∷ items) [] each = absurd each
+  by_feed : (items : List Data) (tables : List FeedTable) → EachAsks (IsFeed channels) items tables → HaveChannels channels tables
+  by_feed [] [] each = tt
+  by_feed (d ∷ items) (t ∷ tables) each =
+      (asked_for (IsFeed channels) (λ (table : FeedTable). IsSome (find (λ (c : ChannelSpec). c.id == table.channel) channels)) t (as_table d) (λ table asks. found t.channel asks.2.0 asks.2.1) each.0, by_feed items tables each.1)
+  by_feed [] (t ∷ tables) each = absurd each
+  by_feed (d ∷ items) [] each = absurd each
+
+  pub all_channels : (items : Option (List Data)) (tables : List FeedTable) → ItemsAsk (IsFeed channels) items tables → HaveChannels channels tables
+  all_channels (Some items) tables each = by_feed items tables each
+  all_channels None tables none = absurd none

@@ -10,7 +10,7 @@ use Rattle.r10_session.specs.declared.ended.Ended.{Ended}
 use Rattle.r10_images.specs.declared.listing.Outcome.{Outcome}
 use Rattle.r10_images.specs.declared.listing.Outcome.TheVariants as outcomes
 use Rattle.r10_script.specs.Keys.{items_or_none_at, HasOnly}
-use Rattle.r10_script.specs.Script.{AreScriptSettings, EachAsks}
+use Rattle.r10_script.specs.Script.{AreScriptSettings, ItemsAsk}
 use Rattle.r10_script.specs.Session.{AreOrders, IsFeed, IsReader, session_keys}
 use Rattle.r10_script.specs.declared.session.SessionScript.{SessionScript}
 use Rattle.r10_session.specs.Came.{CameOf}
