@@ -1,12 +1,12 @@
 -- What the recorder under the lock answered to orders.
-use Rattle.std.specs.Prelude.{◌≡◌, List, [], ◌∷◌, None, OnOk, Result, Ok, Err}
+use Rattle.std.specs.Prelude.{◌≡◌, List, [], ◌∷◌, None, IfErr, OnOk, Result, Ok, Err}
 use Rattle.r10_body.specs.declared.refusal.Refusal.{Refusal}
 use Rattle.r10_control.specs.Checks.{recorder_refusal}
 use Rattle.r10_held.specs.State.{HeldState}
 use Rattle.r10_machine.specs.declared.reply.Reply.{Reply}
 use Rattle.r10_machine.specs.declared.reply.Reply.TheVariants as replies
 use Rattle.r10_medium.specs.Disk.{Disk}
-use Rattle.r10_shared.specs.Orders.{Performs, PublishesAs, event_of}
+use Rattle.r10_shared.specs.Orders.{HasDone, LanesStayBut, OwnsAs, Performs, PublishesAs, RefusesAs, event_of}
 use Rattle.r10_shared.specs.declared.order.Order.{Order}
 
 -- the answer of a call as a reply
@@ -14,11 +14,15 @@ abbrev pub reply_of : Result Reply Refusal → Reply
 reply_of (Ok reply) = reply
 reply_of (Err r) = replies.Refused r
 
--- the recorder was asked an order, did it or refused it, and this is its reply
+-- the recorder was asked an order, did it or refused it as its own call says, whatever files the medium has, and this is its reply
 pub record Answers {M : Type 0} (disk : M → Disk) (old : HeldState M) (order : Order) (reply : Reply) (new : HeldState M) : Type 0 where
   pub answer : Result Reply Refusal
   pub told : reply ≡ reply_of answer
   pub passed : OnOk answer (recorder_refusal old.recorder.kept (event_of order) ≡ None)
+  pub refused : IfErr answer (RefusesAs disk order old new)
+  pub effect : OnOk answer (HasDone disk order old new)
+  pub lanes : LanesStayBut order old new
+  pub owned : OwnsAs disk order old new answer
   pub performs : Performs disk order old new answer
   pub publishes : PublishesAs order old new answer
 
