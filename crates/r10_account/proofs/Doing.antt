@@ -3,7 +3,7 @@ use Rattle.std.proofs.Common.{◌≡◌, ◌≤◌, ℕ, ◌+◌, Bool, true, fa
 use Rattle.std.specs.List.{IsDistinct, last_or}
 use Rattle.std.proofs.lemmas.Bool.{eqb-true}
 use Rattle.std.proofs.lemmas.List.{append-nil, take-append-drop, take_all, take-map, drop-map, map-append, length-map}
-use Rattle.r10_count.specs.Checks.{first_broken}
+use Rattle.r10_machine.specs.Checks.{first_broken, is_recording, is_sealed, idle_checks, recording_checks, channel_checks, begin_checks, is_taken}
 use Rattle.r10_body.specs.Files.{on_channel}
 use Rattle.r10_body.specs.Gaps.{gap_after}
 use Rattle.r10_body.specs.Rules.{is_entry_on}
@@ -13,7 +13,6 @@ use Rattle.r10_body.specs.declared.message.Message.{Message}
 use Rattle.r10_machine.specs.declared.mode.Mode.{Mode}
 use Rattle.r10_machine.specs.Config.{Config}
 use Rattle.r10_machine.specs.Machine.{Machine, Lane, File, lane_in, lane_of, last_size, with_entries, change_first, change_last, is_channel, entry_of, waiting_entries, saturated, cursor_of}
-use Rattle.r10_machine.specs.Checks.{is_recording, is_sealed, idle_checks, recording_checks, channel_checks, begin_checks, is_taken}
 use Rattle.r10_machine.specs.Calls.{accepted, without, time_entry, empty_file, shown_whole, closed_whole, all_waiting, lanes_without, TicksIn}
 use Rattle.r10_machine.specs.ControlCalls.{own_entries, event_entry, closed_in, erased_with}
 use Rattle.r10_machine.specs.declared.event.Event.{Event as EventValue}

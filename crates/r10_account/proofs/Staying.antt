@@ -2,7 +2,7 @@
 use Rattle.std.proofs.Common.{◌≡◌, ◌≤◌, ◌⊎◌, inl, inr, ℕ, Bool, true, false, ◌||◌, List, [], ◌∷◌, ◌++◌, map, take, length, zip, Option, Some, None, is_none, cond, refl, sym, ap, ◌∙◌, subst, arith, IsSomeAnd, slice_get, true≢false}
 use Rattle.std.specs.List.{AllByRecursion, last_or, list_any}
 use Rattle.std.proofs.lemmas.List.{take_all}
-use Rattle.r10_count.specs.Checks.{first_broken}
+use Rattle.r10_machine.specs.Checks.{first_broken, is_recording, offer_checks, recording_checks, channel_checks}
 use Rattle.r10_body.specs.declared.refusal.Refusal.{Refusal}
 use Rattle.r10_body.specs.declared.refusal.Refusal.TheVariants as refusals
 use Rattle.r10_medium.specs.Disk.{Image}
@@ -10,7 +10,6 @@ use Rattle.r10_machine.specs.Config.{Config}
 use Rattle.r10_machine.specs.Limits.{IsConfig}
 use Rattle.r10_machine.specs.Machine.{Machine, File, cursor_of, fresh, lane_of, last_size, change_last, waiting_entries, with_entries, with_lane}
 use Rattle.r10_machine.specs.Needs.{shown_part}
-use Rattle.r10_machine.specs.Checks.{is_recording, offer_checks, recording_checks, channel_checks}
 use Rattle.r10_machine.specs.Calls.{all_waiting, closed_whole, empty_file, overflowed, shown_whole, time_entry, TicksIn}
 use Rattle.r10_machine.specs.ControlCalls.{closed_in, event_entry}
 use Rattle.r10_machine.specs.Sound.{IsFoundFile, IsSound}

@@ -2,7 +2,7 @@
 use Rattle.std.proofs.Common.{◌≡◌, ◌≤◌, ℕ, ◌+◌, ◌-◌, ◌^◌, ◌⊎◌, inl, inr, Bool, true, false, not, cond, List, [], ◌∷◌, ◌++◌, take, length, Option, Some, None, option_map, is_none, refl, sym, ap, ◌∙◌, subst, IsSomeAnd, true≢false, ◌==◌}
 use Rattle.std.specs.List.{AllByRecursion}
 use Rattle.std.proofs.lemmas.List.{append_assoc, append-nil}
-use Rattle.r10_count.specs.Checks.{first_broken}
+use Rattle.r10_machine.specs.Checks.{first_broken, Check, is_working, is_full, offer_checks, room_checks}
 use Rattle.r10_body.specs.declared.entry.Entry.{Entry}
 use Rattle.r10_body.specs.declared.message.Message.{Message}
 use Rattle.r10_body.specs.declared.refusal.Refusal.{Refusal}
@@ -10,7 +10,6 @@ use Rattle.r10_body.specs.declared.refusal.Refusal.TheVariants as refusals
 use Rattle.r10_machine.specs.declared.mode.Mode.{Mode}
 use Rattle.r10_machine.specs.Config.{Config}
 use Rattle.r10_machine.specs.Machine.{Machine, Lane, File, lane_in, lane_of, with_lane, change_first, is_channel, waiting_entries, saturated, cursor_of}
-use Rattle.r10_machine.specs.Checks.{Check, is_working, is_full, offer_checks, room_checks}
 use Rattle.r10_machine.specs.Calls.{accepted, overflowed}
 use Rattle.r10_machine.specs.ControlCalls.{own_entries}
 use Rattle.r10_machine.specs.declared.event.Event.{Event as EventValue}
@@ -25,7 +24,7 @@ use Rattle.r10_account.specs.Account.{waiting_in, waiting_of, missed_in, missed_
 use Rattle.r10_account.proofs.Accounting.{StepAccounts, WaitsMore, IsApart, same_waits, waits_accounts}
 use Rattle.r10_account.proofs.Doing.{Known, does_accounts, front_moves, offer_waits, waits_at}
 use Rattle.r10_account.proofs.Files.{AllBehind, shown_front, shown_same}
-use Rattle.r10_account.proofs.Lanes.{lane_changed, lane_stays, lost_front}
+use Rattle.r10_account.proofs.Lanes.{lane_changed, lane_stays, lost_front, some_same as some_is}
 
 -- ---- exchanges apart
 
@@ -65,9 +64,6 @@ first_behind : {F : Type 0} (xs ys : List (Bool × F)) → first_broken xs ≡ N
 first_behind [] ys none = refl
 first_behind ((true, g) ∷ xs) ys none = first_behind xs ys none
 first_behind ((false, g) ∷ xs) ys none = cc
-
-some_is : {X : Type 0} {a b : X} → Some a ≡ Some b → a ≡ b
-some_is is = cc
 
 no_overflow : (xs : List Check) (f : Refusal) → AllByRecursion (λ x. is_overflow x.1 ≡ false) xs → first_broken xs ≡ Some f → is_overflow f ≡ false
 no_overflow [] f all is = cc

@@ -7,8 +7,8 @@ use Rattle.r10_count.specs.Civil.{IsCivil}
 use Rattle.r10_count.proofs.Fronts.{same_u16, same_u32, same_u64, same_stamp}
 use Rattle.r10_count.specs.declared.civil.Parts.{Parts}
 use Rattle.r10_count.specs.Padding.{padding}
-use Rattle.r10_lossbody.specs.Loss.{loss_body, FitsLoss}
-use Rattle.r10_lossbody.specs.declared.body.LossBody.{LossBody}
+use Rattle.r10_indexbody.specs.Loss.{loss_body, FitsLoss}
+use Rattle.r10_indexbody.specs.declared.loss.LossBody.{LossBody}
 use Rattle.r10_uart.specs.Uart.{FitsUart, uart_entry, uart_header, uart_body}
 use Rattle.r10_uart.specs.declared.entry.UartEntry.{UartEntry}
 use Rattle.r10_timebody.specs.Time.{two_packed_digits, digits_word, time_body}

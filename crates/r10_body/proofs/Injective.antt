@@ -10,7 +10,7 @@ use Rattle.r10_packet.proofs.Fields.{header_again}
 use Rattle.r10_packet.proofs.Lengths.{header_length}
 use Rattle.r10_packet.specs.declared.header.Header.{Header}
 use Rattle.r10_body.proofs.Lone.{packet-length}
-use Rattle.r10_lossbody.specs.declared.body.LossBody.{LossBody}
+use Rattle.r10_indexbody.specs.declared.loss.LossBody.{LossBody}
 use Rattle.r10_body.specs.Gaps.{told_lost}
 use Rattle.r10_body.specs.Rules.{MayFollow, EachFollows, IsGapTold, last_report}
 use Rattle.r10_body.specs.Packets.{Packet, FitsPacket, flagged, packet_body, packet_rest, packet_bytes, header_of, file_bytes}

@@ -17,7 +17,7 @@ use Rattle.r10_message.proofs.Bodies.{body-length as message_length}
 use Rattle.r10_body.proofs.Lone.{packet-length}
 use Rattle.r10_body.specs.Content.{Content, setup, time, event, uart, bus, arinc, discrete, message, node, root, report, type_of, body_of, FitsContent, timed, messages_of}
 use Rattle.r10_packet.specs.Header.{checksum_bits}
-use Rattle.r10_lossbody.specs.declared.body.LossBody.{LossBody}
+use Rattle.r10_indexbody.specs.declared.loss.LossBody.{LossBody}
 use Rattle.r10_body.specs.Cost.{each_file, message_cost, lost_cost, owed, entry_cost, file_cost}
 use Rattle.r10_body.specs.Files.{FileSays}
 use Rattle.r10_body.specs.Packets.{Packet, FitsPacket, packet_body, packet_bytes, packet_entries, with_gaps, file_bytes, file_entries}

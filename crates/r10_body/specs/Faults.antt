@@ -8,7 +8,7 @@ use Rattle.r10_packet.specs.declared.fault.PacketFault.TheVariants as packet_fau
 use Rattle.r10_body.specs.Packets.{Packet, FitsPacket, packet_bytes, file_bytes}
 use Rattle.r10_body.specs.Rules.{KeepsChecksums, KeepsStart, KeepsChannels, KeepsSequence, KeepsCounts, KeepsIndex, KeepsCounters, KeepsEvents, EachFollows, IsSoundReport, is_index, last_report, has_whole_index}
 use Rattle.r10_body.specs.Content.{report}
-use Rattle.r10_lossbody.specs.declared.body.LossBody.{LossBody}
+use Rattle.r10_indexbody.specs.declared.loss.LossBody.{LossBody}
 use Rattle.r10_count.specs.Bytes.{bit_of}
 use Rattle.r10_body.specs.Foreign.{opaque_at, IsForeignBody, IsForeignPacket}
 use Rattle.r10_body.specs.declared.fault.FileFault.{FileFault}

@@ -4,7 +4,7 @@ use Rattle.std.specs.List.{AllByRecursion, concat, list_any}
 use Rattle.r10_count.specs.Bytes.{bit_of}
 use Rattle.r10_packet.specs.Framing.{framing_fault, header_at, body_at, has_data_checksum}
 use Rattle.r10_packet.specs.declared.header.Header.{Header}
-use Rattle.r10_lossbody.specs.Loss as loss_bodies
+use Rattle.r10_indexbody.specs.Loss as loss_bodies
 use Rattle.r10_setup.specs.Setup as setup_bodies
 use Rattle.r10_timebody.specs.Time as time_bodies
 use Rattle.r10_event.specs.Event as event_bodies

@@ -1,7 +1,7 @@
 //! What was lost before a message.
 
 ghost use Rattle.std.specs.Prelude.{◌≡◌, ◌↔◌, IsTrue};
-ghost use Rattle.r10_body.specs.Gaps.{IsSoundGap, gap_after, gap_of_flag, is_gap};
+ghost use Rattle.r10_body.specs.Gaps.{IsSoundGap, gap_after, is_gap};
 
 /// Whether messages of a channel were refused between a message and the one before it, because the channel's lane was full.
 #[derive(Clone, Copy, Debug, PartialEq, Eq)]
@@ -25,13 +25,6 @@ impl Gap {
         } else {
             Gap::Lost(missed)
         }
-    }
-
-    /// The gap that a packet's flag alone tells.
-    pub fn of_flag(flagged: bool) -> Gap
-        ensures { result ≡ gap_of_flag flagged }
-    {
-        if flagged { Gap::Unknown } else { Gap::Whole }
     }
 
     /// Whether a packet that begins behind it is flagged.

@@ -17,6 +17,7 @@ mod message;
 mod one_spelling;
 mod opaque;
 mod refusal;
+mod same;
 mod spec;
 mod spelling;
 
@@ -32,5 +33,6 @@ pub use message::{Kind, Message};
 pub use one_spelling::{one_list_of_packets, one_meaning, one_packet, packet_sentence};
 pub use opaque::is_opaque;
 pub use refusal::{Glance, Refusal};
+pub use same::are_same;
 pub use spec::ChannelSpec;
 pub use spelling::encode;

@@ -5,7 +5,7 @@ ghost use Rattle.std.specs.List.{list_any};
 ghost use Rattle.r10_body.specs.Foreign.{is_loss_report as loss_reports, known_types, selects_other as word_selects, is_opaque_packet as opaque};
 
 use r10_event::EventBody;
-use r10_lossbody::LossBody;
+use r10_indexbody::LossBody;
 use r10_message::MessageBody;
 use r10_packet::Header;
 use r10_setup::SetupBody;

@@ -11,6 +11,7 @@ abbrev pub fault_status : Fault → ℕ
 fault_status command_faults.NotText = 2
 fault_status (command_faults.Usage said) = 2
 fault_status (command_faults.Limit limit) = 2
+fault_status command_faults.Empty = 2
 fault_status (command_faults.Script (script_faults.Wrong place wrong)) = 2
 fault_status (command_faults.Script (script_faults.OutOfMemory error)) = 3
 fault_status (command_faults.Memory error) = 3

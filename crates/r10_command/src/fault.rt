@@ -43,6 +43,9 @@ pub enum Fault {
     /// The script is wrong.
     #[error("{0}")]
     Script(ScriptFault),
+    /// The script has nothing in it.
+    #[error("the script is empty: r10 --help has a whole one")]
+    Empty,
 }
 
 impl From<AllocError> for Fault {
@@ -73,6 +76,20 @@ impl From<StreamFault> for Fault {
 }
 
 impl Fault {
+    /// Why a text is no script: for this reason, or since nothing is in it.
+    pub fn of_script(text: &[u8], fault: ScriptFault) -> Fault {
+        match fault {
+            ScriptFault::OutOfMemory(error) => Fault::Memory(error),
+            wrong => {
+                if is_blank(text) {
+                    Fault::Empty
+                } else {
+                    Fault::Script(wrong)
+                }
+            }
+        }
+    }
+
     /// Why the words of the command line can't be had. They are blamed only where one of them is not UTF-8.
     pub fn of_words(error: io::Error) -> Fault
         ensures not_text { error_kind error ≡ ErrorKind.InvalidData → result ≡ NotText }
@@ -91,11 +108,21 @@ impl Fault {
         ensures range { IsFailure result }
     {
         match self {
-            Fault::NotText | Fault::Usage(_) | Fault::Limit(_) => 2,
+            Fault::NotText | Fault::Usage(_) | Fault::Limit(_) | Fault::Empty => 2,
             Fault::Script(ScriptFault::Wrong { .. }) => 2,
             Fault::Script(ScriptFault::OutOfMemory(_)) => 3,
             Fault::Memory(_) | Fault::Read(_) | Fault::Endless => 3,
             Fault::Write(_) | Fault::Format(_) => 3,
         }
     }
+}
+
+/// Whether there is nothing in a text but spaces and ends of lines.
+fn is_blank(text: &[u8]) -> bool {
+    for byte in text {
+        if !byte.is_ascii_whitespace() {
+            return false;
+        }
+    }
+    true
 }

@@ -46,7 +46,7 @@ pub(crate) fn script_of(alloc: Global, text: &[u8]) -> Result<Script, Fault>
 {
     match read_script(alloc, text) {
         Ok(script) => Ok(script),
-        Err(fault) => Err(Fault::Script(fault)),
+        Err(fault) => Err(Fault::of_script(text, fault)),
     }
 }
 

@@ -1,12 +1,11 @@
 -- From machines that stand for lanes of any kind to the one in whose lanes what was taken waits.
 use Rattle.std.proofs.Common.{◌≡◌, ℕ, ◌+◌, ◌≤◌, Bool, true, false, cond, ◌==◌, List, [], ◌∷◌, ◌++◌, length, map, drop, count_by, Option, None, Some, Result, Ok, Err, ◌⊎◌, inl, inr, refl, sym, ap, subst, ◌∙◌, arith}
-use Rattle.std.specs.Prelude.{IfSome, MatchOption, MatchResult}
+use Rattle.std.specs.Prelude.{IfSome, MatchResult}
 use Rattle.std.specs.List.{AllByRecursion, sum_by}
 use Rattle.std.proofs.lemmas.Bool.{eq-eqb, ne_eqb}
 use Rattle.std.proofs.lemmas.Grind.{flat_map-append}
 use Rattle.std.proofs.lemmas.List.{append-nil, append_assoc, map-append}
 use Rattle.std.proofs.lemmas.List.Sums.{sum_by-append, sum_by-cons}
-use Rattle.r10_count.specs.Count.{IsCount}
 use Rattle.r10_count.specs.Checks.{first_broken}
 use Rattle.r10_body.specs.declared.entry.Sample.{Sample}
 use Rattle.r10_body.specs.declared.refusal.Refusal.{Refusal}
@@ -18,7 +17,7 @@ use Rattle.r10_machine.specs.Checks.{message_checks}
 use Rattle.r10_machine.specs.Config.{Config}
 use Rattle.r10_machine.specs.Limits.{IsConfig}
 use Rattle.r10_machine.specs.Machine.{File, Lane, Machine, fresh_lane}
-use Rattle.r10_machine.specs.Sound.{IsSound, IsSoundWork, SoundWork}
+use Rattle.r10_machine.specs.Sound.{IsSoundWork, SoundWork}
 use Rattle.r10_machine.specs.SoundParts.{Climbs, IsSoundLane, LaneClimbs, count_or_0, counts_on}
 use Rattle.r10_machine.specs.declared.mode.Mode.{Mode}
 use Rattle.r10_machine.specs.declared.mode.Mode.TheVariants as modes
@@ -28,11 +27,11 @@ use Rattle.r10_machine.specs.declared.reply.Reply.TheVariants.{Refused}
 use Rattle.r10_means.specs.Kept.{Kept, Work, unmounted, idle, recording, failed}
 use Rattle.r10_means.specs.Means.{KeptStandsFor, LaneIsCounted, LanesAreCounted, NumbersAre}
 use Rattle.r10_medium.specs.Disk.{Image}
-use Rattle.r10_pump.specs.Machines.{HasWaiting}
-use Rattle.r10_pump.specs.Stopping.{ChannelsAreApart, Part, TellsWaiting, TookAll, most_of, samples_on}
-use Rattle.r10_pump.proofs.AllLanes.{none_of}
-use Rattle.r10_pump.proofs.Fitting.{drop_front}
-use Rattle.r10_pump.proofs.Stops.{few_on}
+use Rattle.r10_openfile.specs.Machines.{HasWaiting}
+use Rattle.r10_openfile.specs.Stopping.{ChannelsAreApart, Part, TellsWaiting, TookAll, most_of, samples_on}
+use Rattle.r10_openfile.proofs.AllLanes.{none_of}
+use Rattle.r10_openfile.proofs.Fitting.{drop_front}
+use Rattle.r10_openfile.proofs.Stops.{few_on}
 use Rattle.r10_control.specs.Leading.{AreLeft, KeptStepsTaking, none_taken}
 use Rattle.r10_control.specs.Standing.{IsReachedBy, StandFor, StaysShared, StepsAlike, StepsWith, last_behind, lanes_with, with_lanes, with_taken}
 use Rattle.r10_control.specs.Taking.{NoneBehind, StepsByTaking, taken_of}
@@ -354,23 +353,3 @@ module _ {L : Type 0} (took : L → List Sample → L → Type 0) (quiet : L →
         leads = leads;
         stands = stand_after shared takes.parts lanes lanes' m.lanes leads.machine.lanes stands takes.taken leads.lanes;
       }
-
--- where a caller goes on from: a machine that is meant behind the call and stands for the lanes as they are then
-pub goes_on_alike : {L T : Type 0} (took : L → List Sample → L → Type 0) (quiet : L → Option (List Sample)) (reached : L → ℕ) (spec_of : L → ChannelSpec) (bare : Result T Refusal → Type 0) (k : Kept) (old : Image) (before : ℕ) (event : EventValue) (reply : T → ReplyValue)
-    (result : Result T Refusal) (later : Kept) (new : Image) (now : ℕ) (lanes lanes' : List L) → StepsAlike took quiet reached spec_of bare k old before event reply result later new now lanes lanes' → bare result → StaysShared took quiet
-    → (m : Machine) → KeptStandsFor k old before m → StandFor quiet reached spec_of lanes m.lanes → (n : Machine) × KeptStandsFor later new now n × StandFor quiet reached spec_of lanes' n.lanes
-goes_on_alike took quiet reached spec_of bare k old before event reply (Ok v) later new now lanes lanes' alike is_bare shared m means stands =
-    let so = alike is_bare shared m means stands in
-    (so.leads.machine, so.leads.led.means, so.stands)
-goes_on_alike took quiet reached spec_of bare k old before event reply (Err r) later new now lanes lanes' alike is_bare shared m means stands =
-    let so = alike is_bare shared m means stands in
-    (so.leads.machine, so.leads.led.means, so.stands)
-
--- two calls in a row, over the same lanes
-pub twice_alike : {L T U : Type 0} (took : L → List Sample → L → Type 0) (quiet : L → Option (List Sample)) (reached : L → ℕ) (spec_of : L → ChannelSpec) (bare : Result T Refusal → Type 0) (bare' : Result U Refusal → Type 0) (a b c : Kept) (old mid new : Image) (x y z : ℕ)
-    (event event' : EventValue) (reply : T → ReplyValue) (reply' : U → ReplyValue) (result : Result T Refusal) (result' : Result U Refusal) (lanes lanes' lanes'' : List L)
-    → StepsAlike took quiet reached spec_of bare a old x event reply result b mid y lanes lanes' → StepsAlike took quiet reached spec_of bare' b mid y event' reply' result' c new z lanes' lanes'' → bare result → bare' result' → StaysShared took quiet
-    → (m : Machine) → KeptStandsFor a old x m → StandFor quiet reached spec_of lanes m.lanes → (n : Machine) × KeptStandsFor c new z n × StandFor quiet reached spec_of lanes'' n.lanes
-twice_alike took quiet reached spec_of bare bare' a b c old mid new x y z event event' reply reply' result result' lanes lanes' lanes'' first second is_bare is_bare' shared m means stands =
-    let (n, led, stand) = goes_on_alike took quiet reached spec_of bare a old x event reply result b mid y lanes lanes' first is_bare shared m means stands in
-    goes_on_alike took quiet reached spec_of bare' b mid y event' reply' result' c new z lanes' lanes'' second is_bare' shared n led stand

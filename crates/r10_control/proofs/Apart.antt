@@ -6,7 +6,7 @@ use Rattle.r10_body.specs.declared.spec.ChannelSpec.{ChannelSpec}
 use Rattle.r10_machine.specs.Config.{Config}
 use Rattle.r10_machine.specs.Limits.{IsConfig, channel_ids}
 use Rattle.r10_machine.proofs.Ranges.{ids_distinct, parts_of}
-use Rattle.r10_pump.specs.Stopping.{ChannelsAreApart}
+use Rattle.r10_openfile.specs.Stopping.{ChannelsAreApart}
 
 others : (n : ℕ) (specs : List ChannelSpec) → AllByRecursion (λ (id : ℕ). (n == id) ≡ false) (channel_ids specs) → AllByRecursion (λ (other : ChannelSpec). other.id ≡ n → ⊥) specs
 others n [] all = tt

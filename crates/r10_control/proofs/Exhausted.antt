@@ -10,7 +10,7 @@ use Rattle.r10_machine.proofs.Growing.{all_joined}
 use Rattle.r10_means.specs.Kept.{Kept}
 use Rattle.r10_medium.specs.Disk.{Image}
 use Rattle.r10_cursor.specs.declared.books.Books.{Books}
-use Rattle.r10_pump.specs.Stopping.{AllEnd}
+use Rattle.r10_openfile.specs.Stopping.{AllEnd}
 use Rattle.r10_control.specs.Owns.{Owns}
 use Rattle.r10_control.proofs.Looked.{work_still}
 

@@ -23,6 +23,7 @@ use Rattle.r10_volume.specs.Listing.{block_behind}
 use Rattle.r10_volume.specs.Mounting.{IsUnusable, IsUsable}
 use Rattle.r10_control.specs.Fronts.{MountSpares, SealSpares, WritesFrom, begun_from, recorded_from}
 use Rattle.r10_control.proofs.Owning.{sealed_front}
+pub use Rattle.r10_dirchain.proofs.Turning.{same_in as same_but_none}
 
 -- nothing was written
 pub writes_none : (reserved : ℕ) (from : Option ℕ) (image : Image) → WritesFrom reserved from image image
@@ -38,10 +39,6 @@ writes_recorded reserved k old new chain o at front = subst (λ (w : Work). Writ
 pub writes_begun : (k : Kept) (old new : Image) (chain : List ChainBlock) → k.work ≡ idle chain → KeepsFront k.config.directory (block_behind k.config.directory (listed_files chain)) old new
     → WritesFrom k.config.directory (begun_from k.config.directory k.work) old new
 writes_begun k old new chain at front = subst (λ (w : Work). WritesFrom k.config.directory (begun_from k.config.directory w) old new) (sym at) front
-
--- block 1 alone was written
-pub same_but_none : (numbers : List ℕ) (image : Image) → SameButIn numbers image image
-same_but_none numbers image = record { size = refl; others = λ k other. refl }
 
 pub turned_alone : {T E : Type 0} (chain made : List ChainBlock) (old new : Disk) (result : Result T E) → Turns chain made [] (1 ∷ []) old new result → SameButIn (1 ∷ []) old.blocks new.blocks
 turned_alone chain made old new result turns =

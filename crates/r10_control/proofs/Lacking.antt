@@ -1,22 +1,20 @@
 -- Steps that are refused because room is lacking.
-use Rattle.std.proofs.Common.{◌≡◌, ◌≤◌, ℕ, false, Option, None, refl, sym, ◌∙◌, subst, Some}
-use Rattle.r10_body.specs.declared.refusal.Refusal.{Refusal}
+use Rattle.std.proofs.Common.{◌≡◌, ◌≤◌, ℕ, false, None, refl, ◌∙◌}
 use Rattle.r10_body.specs.declared.refusal.Refusal.TheVariants.{MediumFull}
 use Rattle.r10_machine.specs.Config.{Config}
 use Rattle.r10_machine.specs.Limits.{IsConfig}
 use Rattle.r10_machine.specs.Machine.{Machine}
 use Rattle.r10_means.specs.Kept.{Kept}
 use Rattle.r10_means.specs.Means.{KeptStandsFor}
-use Rattle.r10_means.proofs.Leading.{StepsStaySound, failing, no_fewer, same_refusal, still_means}
+use Rattle.r10_means.proofs.Leading.{StepsStaySound, failing}
 use Rattle.r10_medium.specs.Disk.{Image}
-use Rattle.r10_cursor.proofs.Sizes.{none_shrinks}
 use Rattle.r10_control.specs.Leading.{KeptStepsTaking, none_taken}
-use Rattle.r10_control.proofs.Leading.{none_left}
 use Rattle.r10_machine.specs.EventChecks.{refusal}
-use Rattle.r10_machine.specs.Step.{GivesUp, Refuses, Step, has_room}
+use Rattle.r10_machine.specs.Step.{has_room}
 use Rattle.r10_machine.specs.declared.event.Event.{Event as EventValue}
 use Rattle.r10_machine.specs.declared.event.Event.TheVariants.{Mount, Dismount, Tick, Start, Offer, Pump, Event, Commit, Stop, Seal, Erase, Files, Status, Cursor, Advance, Next, Close, Find, CountAt}
 use Rattle.r10_machine.specs.declared.reply.Reply.TheVariants as replies
+use Rattle.r10_control.proofs.Seals.{lack_leads as gives_up}
 
 -- ---- failures that are counted change no room
 
@@ -42,21 +40,6 @@ same_room s m n (Find file channel count) = refl
 same_room s m n (CountAt file parts) = refl
 
 -- ---- the steps
-
-gives_up : StepsStaySound → (k : Kept) (old new : Image) (before now : ℕ) (m : Machine) (event : EventValue) (r : Refusal) → IsConfig k.config → KeptStandsFor k old before m → new ≡ old → before ≤ now
-    → refusal k.config m event ≡ None → GivesUp k.config m.failures (failing now m) event r (failing now m) → KeptStepsTaking none_taken k m event (replies.Refused r) k new now
-gives_up law k old new before now m event r limits means same more fine gives =
-    let step : Step k.config m event (replies.Refused r) (failing now m) = (
-      no_fewer k old before now m means more,
-      subst (λ (o : Option Refusal). Refuses o k.config m.failures (failing now m) event r (failing now m)) (sym (same_refusal k.config m now event ∙ fine)) gives,
-    ) in
-    record {
-      machine = failing now m;
-      led = record { step = step; means = still_means k old new before now m means same (law k.config m event (replies.Refused r) (failing now m) limits means.sound step) };
-      lanes = none_left m.lanes;
-      cursors = refl;
-      sizes = λ again. none_shrinks m.files;
-    }
 
 -- the medium has no room for what the call puts there
 pub medium_full_leads : StepsStaySound → (k : Kept) (old new : Image) (before now : ℕ) (m : Machine) (event : EventValue) → IsConfig k.config → KeptStandsFor k old before m → new ≡ old → before ≤ now

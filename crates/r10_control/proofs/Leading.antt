@@ -1,5 +1,5 @@
 -- Steps of a recorder that keeps its lanes and cursors as they are.
-use Rattle.std.proofs.Common.{◌≡◌, ◌≤◌, ℕ, zero, suc, true, List, [], ◌∷◌, Option, Some, None, refl, sym, ap, ◌∙◌, subst, arith}
+use Rattle.std.proofs.Common.{◌≡◌, ◌≤◌, ℕ, true, List, [], ◌∷◌, Option, Some, None, refl, sym, subst, arith}
 use Rattle.r10_body.specs.declared.refusal.Refusal.{Refusal}
 use Rattle.r10_body.specs.declared.refusal.Refusal.TheVariants.{BadDirectory, Medium, OutOfMemory}
 use Rattle.r10_machine.specs.Limits.{IsConfig}
@@ -14,9 +14,10 @@ use Rattle.r10_control.specs.Leading.{AreLeft, KeptStepsTaking, none_taken}
 use Rattle.r10_control.specs.Refused.{RefusesCall}
 use Rattle.r10_machine.specs.EventChecks.{refusal}
 use Rattle.r10_machine.specs.Says.{MediumSays}
-use Rattle.r10_machine.specs.Step.{LanesAfter, after_refusal, asks_memory, entry_has_room, may_take, uses_medium}
+use Rattle.r10_machine.specs.Step.{after_refusal, asks_memory, entry_has_room, uses_medium}
 use Rattle.r10_machine.specs.declared.event.Event.{Event as EventValue}
 use Rattle.r10_machine.specs.declared.reply.Reply.TheVariants as replies
+pub use Rattle.r10_openfile.proofs.Fitting.{still_there}
 
 pub none_left : (lanes : List Lane) → AreLeft none_taken lanes lanes
 none_left [] = tt
@@ -43,10 +44,6 @@ memory_leads law k old new before now m event limits means same more fine asks r
   cursors = refl;
   sizes = λ again. none_shrinks m.files;
 }
-
-pub still_there : (event : EventValue) (lanes : List Lane) → LanesAfter event lanes lanes lanes
-still_there event [] = tt
-still_there event (l ∷ lanes) = ((0, omega arith, refl), still_there event lanes)
 
 -- the medium fails, and says the files that it said
 pub failed_leads : StepsStaySound → (k : Kept) (old new : Image) (before now : ℕ) (m : Machine) (event : EventValue) → IsConfig k.config → KeptStandsFor k old before m → before ≤ now → Rose before now

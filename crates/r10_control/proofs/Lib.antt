@@ -12,6 +12,7 @@ mod Offers
 mod Statuses
 mod Looked
 mod Exhausted
+mod Writing
 mod Readings
 mod Finds
 mod Intakes

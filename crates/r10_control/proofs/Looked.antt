@@ -1,7 +1,7 @@
 -- A look at each lane, by which nothing is taken, and what is told by it.
-use Rattle.std.proofs.Common.{◌≡◌, ◌≤◌, ◌<◌, ◌+◌, ◌^◌, ℕ, zero, suc, List, [], ◌∷◌, ◌++◌, length, map, set, take, min, get_or, Option, Some, None, refl, sym, ap, ◌∙◌, subst, arith}
+use Rattle.std.proofs.Common.{◌≡◌, ◌≤◌, ◌<◌, ◌+◌, ℕ, zero, suc, List, [], ◌∷◌, ◌++◌, length, map, set, take, get_or, Option, Some, None, refl, sym, ap, ◌∙◌, subst, arith}
 use Rattle.std.specs.Prelude.{IfSome, if◌then◌else◌, slice_index_or}
-use Rattle.std.proofs.lemmas.List.{length-map, take_all}
+use Rattle.std.proofs.lemmas.List.{length-map}
 use Rattle.r10_body.specs.Files.{on_channel}
 use Rattle.r10_body.specs.Sequence.{last_count}
 use Rattle.r10_body.specs.declared.entry.Entry.{Entry}
@@ -17,36 +17,24 @@ use Rattle.r10_machine.specs.Machine.{File, Lane, Machine, Tick}
 use Rattle.r10_machine.specs.declared.event.Event.TheVariants as events
 use Rattle.r10_machine.specs.declared.mode.Mode.{Mode}
 use Rattle.r10_machine.specs.declared.mode.Mode.TheVariants as modes
-use Rattle.r10_machine.specs.declared.reply.ChannelStatus.{ChannelStatus}
 use Rattle.r10_machine.specs.declared.reply.Reply.TheVariants as replies
 use Rattle.r10_means.specs.Kept.{Kept, Work, mode_of, unmounted, idle, recording, failed}
 use Rattle.r10_means.specs.Means.{LanesAreCounted, HasFiles, KeptStandsFor, NumbersAre}
-use Rattle.r10_means.proofs.Leading.{StepsStaySound, lacks_memory}
 use Rattle.r10_medium.specs.Disk.{Image}
-use Rattle.r10_pump.specs.Stopping.{AllEnd, TookAll}
+use Rattle.r10_openfile.specs.Stopping.{AllEnd, TookAll}
 use Rattle.r10_cursor.specs.declared.books.Books.{Books}
 use Rattle.r10_cursor.proofs.Sizes.{none_shrinks}
-use Rattle.r10_control.specs.Checks.{files_of}
 use Rattle.r10_control.specs.Lanes.{WaitQuietly}
 use Rattle.r10_control.specs.Leading.{KeptStepsTaking, none_taken}
-use Rattle.r10_control.specs.Owns.{IsRecorded, Owns, OwnsWork, tick_count}
+use Rattle.r10_control.specs.Owns.{IsRecorded, Owns, OwnsWork}
 use Rattle.r10_control.specs.Told.{TellsLane, TellsLanes, TellsRecorder, erased_told, free_in, held_of, without_lost}
 use Rattle.r10_control.specs.declared.status.LaneStatus.{LaneStatus}
 use Rattle.r10_control.specs.declared.status.RecorderStatus.{RecorderStatus}
-use Rattle.r10_control.proofs.Leading.{memory_leads, none_left}
+use Rattle.r10_control.proofs.Leading.{none_left}
 use Rattle.r10_control.proofs.Statuses.{StatusIsTold, files_told, tick_told}
+pub use Rattle.r10_openfile.proofs.AllLanes.{none_yet as none_took}
 
 -- ---- lane by lane
-
-pub none_took : {L : Type 0} (took : L → List Sample → L → Type 0) (spec_of : L → ChannelSpec) (lanes : List L) → ((a : L) → took a [] a) → TookAll took spec_of [] lanes lanes
-none_took took spec_of [] stays = tt
-none_took took spec_of (a ∷ lanes) stays = (stays a, none_took took spec_of lanes stays)
-
-pub took_long : {L : Type 0} (took : L → List Sample → L → Type 0) (spec_of : L → ChannelSpec) (lanes now : List L) → TookAll took spec_of [] lanes now → length now ≡ length lanes
-took_long took spec_of [] [] all = refl
-took_long took spec_of [] (b ∷ now) all = absurd all
-took_long took spec_of (a ∷ lanes) [] all = absurd all
-took_long took spec_of (a ∷ lanes) (b ∷ now) all = omega (arith, took_long took spec_of lanes now all.1)
 
 took_at : {L : Type 0} (took : L → List Sample → L → Type 0) (spec_of : L → ChannelSpec) (lanes now : List L) (i : ℕ) (d e : L) → i < length lanes → TookAll took spec_of [] lanes now → took (get_or lanes i d) [] (get_or now i e)
 took_at took spec_of [] now i d e lt all = absurd (omega (arith, lt))
@@ -103,12 +91,6 @@ one_further took quiet spec_of mode lanes now erased told i one x t keeps stays 
       tells = subst (λ (n : ℕ). TellsLanes quiet spec_of mode (take n lanes) (take n erased) (told ++ t ∷ [])) more
           (tells_next quiet spec_of mode lanes erased told i one t lt same (told_before took quiet spec_of mode first one (slice_index_or erased i 0) t keeps stays before told_one) far.tells);
     }
-
-pub all_told : {L : Type 0} (quiet : L → Option (List Sample)) (spec_of : L → ChannelSpec) (mode : Mode) (lanes : List L) (erased : List ℕ) (told : List LaneStatus) (n : ℕ) → length lanes ≤ n → length erased ≡ length lanes
-    → TellsLanes quiet spec_of mode (take n lanes) (take n erased) told → TellsLanes quiet spec_of mode lanes erased told
-all_told quiet spec_of mode lanes erased told n all same tells =
-    subst (λ ls. TellsLanes quiet spec_of mode ls erased told) (take_all n lanes all)
-    (subst (λ (es : List ℕ). TellsLanes quiet spec_of mode (take n lanes) es told) (take_all n erased (omega (arith, all, same))) tells)
 
 -- ---- what a recorder is known to be stays
 

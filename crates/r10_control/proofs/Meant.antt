@@ -1,5 +1,5 @@
 -- The entries of the recorder's own files, as those of the machine's own files.
-use Rattle.std.proofs.Common.{◌≡◌, ℕ, suc, ◌-◌, inl, inr, Bool, true, false, ◌&&◌, cond, List, [], ◌∷◌, ◌++◌, length, take, Option, None, Some, refl, sym, ap, subst, ◌∙◌, arith, append_assoc}
+use Rattle.std.proofs.Common.{◌≡◌, ℕ, ◌-◌, inl, inr, Bool, true, false, ◌&&◌, cond, List, [], ◌∷◌, ◌++◌, length, take, Option, None, Some, refl, sym, ap, subst, ◌∙◌, arith, append_assoc}
 use Rattle.std.specs.Prelude.{IsSomeAnd, not}
 use Rattle.std.specs.List.{All, AllByRecursion, flat_map, last_or}
 use Rattle.std.proofs.lemmas.Bool.{false≢true}
@@ -30,6 +30,7 @@ use Rattle.r10_openfile.specs.Keeping.{ended_in}
 use Rattle.r10_volume.specs.Holding.{IsWritten}
 use Rattle.r10_volume.proofs.Carried.{carried_of}
 use Rattle.r10_control.specs.Own.{AreAmong, AreOwn}
+use Rattle.r10_openfile.proofs.BackToBack.{but_last}
 
 abbrev entries_in : List File → List Entry
 entries_in files = flat_map (λ (f : File). f.entries) (own_files files)
@@ -72,13 +73,6 @@ all_among image (e ∷ listed) (f ∷ files) each whole = one_among image e f li
 none_left : (image : Image) (files : List File) (f : File) → SaysEach image [] (files ++ f ∷ []) → ⊥
 none_left image [] f each = each
 none_left image (g ∷ files) f each = each
-
-but_last : (e d : DirectoryEntry) (listed : List DirectoryEntry) → take (length (e ∷ d ∷ listed) - 1) (e ∷ d ∷ listed) ≡ e ∷ take (length (d ∷ listed) - 1) (d ∷ listed)
-but_last e d listed =
-    ap (λ (k : ℕ). take k (e ∷ d ∷ listed)) one_more
-  where
-    one_more : length (e ∷ d ∷ listed) - 1 ≡ suc (length (d ∷ listed) - 1)
-    one_more = omega arith
 
 -- of all files but the last
 front_among : (image : Image) (listed : List DirectoryEntry) (files : List File) (f : File) → SaysEach image listed (files ++ f ∷ []) → AllByRecursion IsWhole files → AreAmong image (take (length listed - 1) listed) (entries_in files)

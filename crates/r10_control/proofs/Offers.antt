@@ -25,7 +25,7 @@ use Rattle.r10_machine.proofs.Places.{changed_at, found_at, found_nowhere}
 use Rattle.r10_means.specs.Kept.{Kept, Work, unmounted, idle, recording, failed}
 use Rattle.r10_means.specs.Means.{KeptStepsTo, KeptStandsFor}
 use Rattle.r10_medium.specs.Disk.{Image}
-use Rattle.r10_pump.specs.Stopping.{AllEnd}
+use Rattle.r10_openfile.specs.Stopping.{AllEnd}
 use Rattle.r10_cursor.specs.declared.books.Books.{Books}
 use Rattle.r10_control.specs.Owns.{IsRecorded, Owns, OwnsWork}
 use Rattle.r10_control.specs.Lanes.{AnswersWith, AreLanes, HaveRisen, LeadsWith, OffersTo, unerased}

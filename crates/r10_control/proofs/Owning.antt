@@ -26,7 +26,7 @@ use Rattle.r10_medium.specs.Disk.{Image, IsWhole}
 use Rattle.r10_openfile.specs.Carrying.{EndsLast, IsEnded, IsShown}
 use Rattle.r10_openfile.specs.Keeping.{ListsLast, ended_in}
 use Rattle.r10_openfile.proofs.Grown.{carries_one}
-use Rattle.r10_pump.specs.Stopping.{AllEnd}
+use Rattle.r10_openfile.specs.Stopping.{AllEnd}
 use Rattle.r10_volume.specs.Front.{KeepsFront}
 use Rattle.r10_volume.specs.Holding.{Open}
 use Rattle.r10_volume.specs.Listing.{block_behind, is_last_closed}

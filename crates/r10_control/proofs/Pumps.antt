@@ -1,15 +1,14 @@
 -- A pump, as a step of the machine.
-use Rattle.std.proofs.Common.{◌≡◌, ◌≤◌, ◌<◌, ◌+◌, ℕ, zero, suc, Bool, true, false, cond, ◌==◌, List, [], ◌∷◌, ◌++◌, length, map, take, drop, find, nat_le, Option, Some, None, refl, sym, ap, ◌∙◌, subst, arith}
+use Rattle.std.proofs.Common.{◌≡◌, ◌≤◌, ◌+◌, ℕ, zero, suc, Bool, true, false, cond, ◌==◌, List, [], ◌∷◌, ◌++◌, length, map, take, find, Some, None, refl, sym, ap, ◌∙◌, subst, arith}
 use Rattle.std.specs.Prelude.{IfSome, IsSomeAnd, is_some, slice_get}
 use Rattle.std.specs.List.{AllByRecursion, last_or}
 use Rattle.std.proofs.lemmas.Bool.{eq-eqb, eqb-true, le-leb, ne_eqb}
-use Rattle.std.proofs.lemmas.List.{append-nil, nil_from_length}
+use Rattle.std.proofs.lemmas.List.{append-nil}
 use Rattle.r10_openfile.specs.Entering.{IsAskedFor}
 use Rattle.r10_body.specs.Cost.{entry_cost}
 use Rattle.r10_body.specs.declared.entry.Entry.{Entry}
 use Rattle.r10_body.specs.declared.entry.Sample.{Sample}
-use Rattle.r10_body.specs.declared.refusal.Refusal.{Refusal}
-use Rattle.r10_body.specs.declared.refusal.Refusal.TheVariants.{Medium, MediumFull, NoSuchChannel, OutOfMemory}
+use Rattle.r10_body.specs.declared.refusal.Refusal.TheVariants.{Medium, NoSuchChannel, OutOfMemory}
 use Rattle.r10_body.specs.declared.spec.ChannelSpec.{ChannelSpec}
 use Rattle.r10_builder.specs.Packing.{entry_on}
 use Rattle.r10_count.specs.Checks.{first_broken}
@@ -20,7 +19,7 @@ use Rattle.r10_machine.specs.Checks.{recording_checks}
 use Rattle.r10_machine.specs.Config.{Config}
 use Rattle.r10_machine.specs.Limits.{IsConfig}
 use Rattle.r10_machine.specs.Machine.{File, Lane, Machine, change_first, change_last, is_channel, lane_in, lane_of, last_file, with_entries, with_lane, with_last}
-use Rattle.r10_machine.specs.Room.{area as area_of, area_from, cost_of}
+use Rattle.r10_machine.specs.Room.{area as area_of, cost_of}
 use Rattle.r10_machine.specs.declared.mode.Mode.TheVariants as modes
 use Rattle.r10_means.specs.Grown.{AreGrown}
 use Rattle.r10_means.specs.Kept.{Kept, Work, mode_of, recording, failed}
@@ -30,11 +29,10 @@ use Rattle.r10_medium.specs.Disk.{Image, Rose}
 use Rattle.r10_mux.specs.declared.fault.Full.{Full}
 use Rattle.r10_mux.specs.declared.fault.Full.TheVariants as lacking
 use Rattle.r10_openfile.proofs.Ends.{last_is}
-use Rattle.r10_openfile.proofs.Written.{written_of}
-use Rattle.r10_pump.specs.Machines.{HasWaiting, IsPumpedInto, refusal_of_full}
-use Rattle.r10_pump.specs.Pumping.{entries_on}
-use Rattle.r10_pump.specs.Stopping.{ChannelsAreApart, Part, samples_on}
-use Rattle.r10_pump.proofs.Fitting.{lacks_first, pump_fails, pumps_in}
+use Rattle.r10_openfile.specs.Machines.{HasWaiting, refusal_of_full}
+use Rattle.r10_openfile.specs.Pumping.{entries_on}
+use Rattle.r10_openfile.specs.Stopping.{ChannelsAreApart}
+use Rattle.r10_openfile.proofs.Fitting.{lacks_first, pump_fails, pumps_in}
 use Rattle.r10_cursor.proofs.Sizes.{last_grows, none_shrinks}
 use Rattle.r10_cursor.specs.Staying.{NoneShrinks}
 use Rattle.r10_control.specs.Checks.{recorder_refusal}
@@ -45,11 +43,12 @@ use Rattle.r10_control.proofs.Lacking.{medium_full_leads}
 use Rattle.r10_control.proofs.Leading.{memory_leads}
 use Rattle.r10_machine.specs.EventChecks.{refusal}
 use Rattle.r10_machine.specs.Says.{MediumSays}
-use Rattle.r10_machine.specs.Step.{Lacks, LanesAfter, entry_has_room, has_room, needed}
+use Rattle.r10_machine.specs.Step.{Lacks, entry_has_room, needed}
 use Rattle.r10_machine.specs.declared.event.Event.{Event as EventValue}
 use Rattle.r10_machine.specs.declared.event.Event.TheVariants.{Pump}
 use Rattle.r10_machine.specs.declared.reply.Reply.{Reply as ReplyValue}
 use Rattle.r10_machine.specs.declared.reply.Reply.TheVariants as replies
+pub use Rattle.r10_means.proofs.Lasting.{last_changes}
 
 -- the law of pumps
 abbrev pub PumpsAreLed : Type 0
@@ -58,11 +57,6 @@ PumpsAreLed = (k : Kept) (old new : Image) (n later : ℕ) (m : Machine) (chain 
     → Pumps k.config (record m { failures = later }) channel most moved (record m { lanes = change_first (is_channel channel) (without moved) m.lanes; files = files ++ with_entries more f ∷ []; failures = later })
     → AreGrown more k.config.channels k.taken grown → HoldsFiles k.config new chain (Some after) (files ++ with_entries more f ∷ []) → n ≤ later
     → KeptStepsTo k m (Pump channel most) (replies.Moved moved) (record k { work = recording chain after; taken = grown }) new later (record m { lanes = change_first (is_channel channel) (without moved) m.lanes; files = files ++ with_entries more f ∷ []; failures = later })
-
-pub last_changes : (change : File → File) (files : List File) (f : File) → change_last change (files ++ f ∷ []) ≡ files ++ change f ∷ []
-last_changes change [] f = refl
-last_changes change (x ∷ []) f = refl
-last_changes change (x ∷ y ∷ files) f = ap (λ (l : List File). x ∷ l) (last_changes change (y ∷ files) f)
 
 -- ---- the channel's lane
 

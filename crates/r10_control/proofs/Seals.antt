@@ -42,6 +42,7 @@ use Rattle.r10_machine.specs.declared.event.Event.TheVariants.{Seal}
 use Rattle.r10_machine.specs.declared.reply.Reply.TheVariants as replies
 use Rattle.r10_volume.specs.Listing.{is_last_closed}
 use Rattle.r10_volume.proofs.Listed.{closed_told}
+use Rattle.r10_means.proofs.Lasting.{last_changes}
 
 -- ---- checks
 
@@ -176,11 +177,6 @@ pub memory_lacks : StepsStaySound → (k : Kept) (old new : Image) (before now :
 memory_lacks law k old new before now m limits means same more fine = memory_leads law k old new before now m Seal limits means same more (same_check k old before m means ∙ fine) refl refl
 
 -- ---- where the medium fails, it says the files with the last one open, or closed
-
-last_changes : (change : File → File) (files : List File) (f : File) → change_last change (files ++ f ∷ []) ≡ files ++ change f ∷ []
-last_changes change [] f = refl
-last_changes change (x ∷ []) f = refl
-last_changes change (x ∷ y ∷ files) f = ap (λ (l : List File). x ∷ l) (last_changes change (y ∷ files) f)
 
 pub seals_so : (k : Kept) (old : Image) (now : ℕ) (m : Machine) (chain : List ChainBlock) (nodes : ℕ) (l : Left k old chain nodes m) (size : ℕ) → cost_of l.f ≤ area k.config l.f
     → Seals k.config (failing now m) (record m { files = l.files ++ closed_in size l.f ∷ []; failures = now })

@@ -18,8 +18,8 @@ use Rattle.r10_machine.specs.declared.mode.Mode.TheVariants as modes
 use Rattle.r10_means.specs.Kept.{Kept}
 use Rattle.r10_means.specs.Means.{KeptStandsFor}
 use Rattle.r10_medium.specs.Disk.{Image}
-use Rattle.r10_pump.specs.Machines.{HasWaiting}
-use Rattle.r10_pump.specs.Stopping.{Part, TellsWaiting, TookAll, samples_on}
+use Rattle.r10_openfile.specs.Machines.{HasWaiting}
+use Rattle.r10_openfile.specs.Stopping.{Part, TellsWaiting, TookAll, samples_on}
 use Rattle.r10_control.specs.Standing.{IsReachedBy, MayGive, StandFor, StaysShared, WhereNoRoom, lanes_showing, with_lanes, with_taken}
 use Rattle.r10_control.specs.Taking.{one_part}
 use Rattle.r10_control.proofs.Alike.{climbs_lane, counted_all, numbers_stay, once_alone, own_parts, sound_lane, specs_stay, work_sound}

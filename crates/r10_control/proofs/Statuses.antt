@@ -3,7 +3,6 @@ use Rattle.std.proofs.Common.{◌≡◌, ◌≤◌, ◌<◌, ◌+◌, ◌-◌, �
 use Rattle.std.specs.Prelude.{IsSomeAnd, if◌then◌else◌, slice_index_or}
 use Rattle.std.specs.List.{last_or}
 use Rattle.std.proofs.lemmas.List.{length-map}
-use Rattle.r10_body.specs.declared.refusal.Refusal.TheVariants.{OutOfMemory}
 use Rattle.r10_body.specs.declared.spec.ChannelSpec.{ChannelSpec}
 use Rattle.r10_dirblock.specs.declared.entry.Entry.{Entry as DirectoryEntry}
 use Rattle.r10_dirchain.specs.Chain.{listed_files}
@@ -21,7 +20,6 @@ use Rattle.r10_machine.specs.declared.mode.Mode.TheVariants as modes
 use Rattle.r10_machine.proofs.Growing.{append_last}
 use Rattle.r10_means.specs.Kept.{Kept, Work, mode_of, unmounted, idle, recording, failed}
 use Rattle.r10_means.specs.Means.{LanesAreCounted, HasFiles, KeptStepsTo, KeptStandsFor, NumbersAre}
-use Rattle.r10_means.proofs.Leading.{StepsStaySound, lacks_memory}
 use Rattle.r10_medium.specs.Disk.{Image}
 use Rattle.r10_cursor.specs.declared.books.Books.{Books}
 use Rattle.r10_control.specs.Checks.{files_of}
@@ -183,16 +181,6 @@ pub status_leads : StatusIsTold → (k : Kept) (image : Image) (n : ℕ) (m : Ma
 status_leads law k image n m lanes status limits means are same free is = record {
   machine = record m { failures = n };
   led = subst (λ (x : Status). KeptStepsTo k m events.Status (replies.Status x) k image n (record m { failures = n })) (sym (is ∙ status_told k image n m lanes means are same free)) (law k image image n n m limits means refl (omega arith));
-  lanes_are = are;
-  files = refl;
-  cursors = refl;
-}
-
--- memory that is lacking refuses, and all stays
-pub status_lacks : StepsStaySound → (k : Kept) (image : Image) (n : ℕ) (m : Machine) (lanes : List Lane) → IsConfig k.config → KeptStandsFor k image n m → AreLanes lanes m → LeadsWith k m events.Status (replies.Refused OutOfMemory) image n lanes
-status_lacks law k image n m lanes limits means are = record {
-  machine = record m { failures = n };
-  led = lacks_memory law k image image n n m events.Status limits means refl (omega arith) refl refl refl;
   lanes_are = are;
   files = refl;
   cursors = refl;

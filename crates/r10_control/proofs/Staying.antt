@@ -126,11 +126,3 @@ pub started_stays : (reserved : ℕ) (old new : Image) (chain made : List ChainB
     → ended_in made ≡ listed_files chain → OwnsBooks (idle chain) old books → OwnsBooks (recording made file) new books
 started_stays reserved old new chain made file books whole usable same ended are =
     subst (λ (l : List DirectoryEntry). AreJudged l new books.kept.items) (append-nil (listed_files chain) ∙ sym ended) (listed_stay reserved old new chain [] books.kept.items whole usable same are)
-
--- a seal, which lists the last one anew: of that nothing may be kept
-pub sealed_stays : (reserved first : ℕ) (old new : Image) (chain made : List ChainBlock) (books : Books) → IsWhole old → IsUsable reserved old chain → ListsLast first chain → KeepsFront reserved first old new
-    → ended_in made ≡ ended_in chain → AreJudged (ended_in chain) old books.kept.items → OwnsBooks (idle made) new books
-sealed_stays reserved first old new chain made books whole usable last same ended are =
-    let behind : List DirectoryEntry = drop (length (listed_files made) - 1) (listed_files made) in
-    subst (λ (l : List DirectoryEntry). AreJudged l new books.kept.items) (ap (λ (l : List DirectoryEntry). l ++ behind) (sym ended) ∙ take-append-drop (length (listed_files made) - 1) (listed_files made))
-    (ended_stay reserved first old new chain behind books.kept.items whole usable last same are)

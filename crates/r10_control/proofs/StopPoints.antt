@@ -1,5 +1,5 @@
 -- What a stop leaves of a recorder's files, by what its calls leave of the medium.
-use Rattle.std.proofs.Common.{◌≡◌, ◌⊎◌, ⊎_elim, false, List, [], ◌∷◌, ◌++◌, None, Option, Some, refl, sym, subst, inl, inr}
+use Rattle.std.proofs.Common.{◌≡◌, ◌⊎◌, ⊎_elim, false, List, [], ◌∷◌, ◌++◌, None, Option, Some, sym, subst, inl, inr}
 use Rattle.std.specs.Prelude.{IfSome}
 use Rattle.std.specs.List.{last_or}
 use Rattle.r10_blockout.specs.Blocks.{bytes_from}
@@ -7,7 +7,6 @@ use Rattle.r10_dirchain.specs.declared.chain.ChainBlock.{ChainBlock}
 use Rattle.r10_volume.specs.Holding.{HoldsFiles, Open}
 use Rattle.r10_machine.proofs.Growing.{append_last}
 use Rattle.r10_machine.specs.Config.{Config}
-use Rattle.r10_machine.specs.Bytes.{KeepBytes}
 use Rattle.r10_machine.specs.Machine.{File, Machine}
 use Rattle.r10_machine.specs.declared.event.Event.{Event as EventValue}
 use Rattle.r10_machine.specs.declared.reply.Reply.{Reply as ReplyValue}
@@ -28,6 +27,7 @@ use Rattle.r10_means.proofs.Keeping.{safe_says}
 use Rattle.r10_means.specs.Left.{IsEither, Makes, StaysSafe}
 use Rattle.r10_means.specs.Quiet.{IsNoFailure, may_make}
 use Rattle.r10_means.specs.Safe.{IsSafe, SaysLast}
+use Rattle.r10_volume.proofs.Turning.{own_bytes}
 
 -- ---- by the files that a call makes
 
@@ -156,10 +156,6 @@ goes_on_safely known k later event reply old new chain made o p at then config p
     (λ image. ⊎_elim (λ is. last_says k.config chain o m.files old.blocks image is) (λ none. absurd none)) left)
 
 -- ---- a seal
-
-own_bytes : (image : Image) (files : List File) → KeepBytes image image files
-own_bytes image [] = tt
-own_bytes image (f ∷ files) = (refl, own_bytes image files)
 
 pub settled_idle : (s : Config) (chain : List ChainBlock) (files : List File) (disk : Disk) → IsSafe s (idle chain) files disk → IsSettled s files disk
 settled_idle s chain files disk (synced, says) = λ image may. subst (SaysAs s files disk.blocks) (sym (one_image disk synced image may)) (record { says = says; bytes = own_bytes disk.blocks files })

@@ -21,9 +21,9 @@ use Rattle.r10_control.specs.Effects.{closed_listing}
 use Rattle.r10_openfile.specs.Carrying.{EndsLast, IsShown}
 use Rattle.r10_index.specs.Written.{IsGroup}
 use Rattle.r10_openfile.specs.Keeping.{ListsLast, MayGoOn, ended_in}
-use Rattle.r10_pump.specs.Pumping.{IsReadyFor, packets_at_most}
+use Rattle.r10_openfile.specs.Pumping.{IsReadyFor, packets_at_most}
 use Rattle.r10_openfile.specs.Intake.{AreMovedIn}
-use Rattle.r10_pump.specs.Stopping.{AllEnd, FailsAll, GoesThrough, IsOpenToAll, Part, TellsWaiting, TookAll, entries_of, most_of, room_of}
+use Rattle.r10_openfile.specs.Stopping.{AllEnd, FailsAll, GoesThrough, IsOpenToAll, Part, TellsWaiting, TookAll, entries_of, most_of, room_of}
 use Rattle.r10_machine.specs.Says.{MediumSays}
 
 -- what the close of a file behind a stop's samples asks: groups of index packets of a size that there is, each channel once in the order, a number for each, memory for all that may be put, and a file that is open to the lanes and may go on

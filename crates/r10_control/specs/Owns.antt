@@ -17,8 +17,8 @@ use Rattle.r10_means.specs.Kept.{Kept, Work, unmounted, idle, recording, failed}
 use Rattle.r10_medium.specs.Disk.{Image}
 use Rattle.r10_openfile.specs.Carrying.{IsShown}
 use Rattle.r10_openfile.specs.Keeping.{MayGoOn}
-use Rattle.r10_pump.specs.Pumping.{EndsBy, HasBuilder}
-use Rattle.r10_pump.specs.Stopping.{AllEnd}
+use Rattle.r10_openfile.specs.Pumping.{EndsBy, HasBuilder}
+use Rattle.r10_openfile.specs.Stopping.{AllEnd}
 use Rattle.r10_cursor.specs.Knowing.{IsUnder}
 use Rattle.r10_cursor.specs.declared.books.Books.{Books}
 use Rattle.r10_cursor.specs.declared.kept.Kept.{Kept as CursorKept}

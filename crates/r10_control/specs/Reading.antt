@@ -11,12 +11,11 @@ use Rattle.r10_dirblock.specs.declared.entry.Entry.{Entry as DirectoryEntry}
 use Rattle.r10_dirchain.specs.declared.chain.ChainBlock.{ChainBlock}
 use Rattle.r10_volume.specs.Holding.{Open}
 use Rattle.r10_index.specs.Book.{Book}
-use Rattle.r10_judge.specs.Judged.{SaysClosed}
+use Rattle.r10_cursor.specs.Knowing.{SaysClosed}
 use Rattle.r10_machine.specs.Machine.{Machine}
 use Rattle.r10_means.specs.Kept.{Kept, Work, unmounted, idle, recording, failed}
 use Rattle.r10_medium.specs.Disk.{Disk, Image, Unchanged}
 use Rattle.r10_cursor.specs.Files.{HasDataPackets, IsShownWith, bytes_in}
-use Rattle.r10_cursor.specs.Held.{IsToldOf}
 use Rattle.r10_cursor.specs.declared.refusal.ReadRefusal.{ReadRefusal}
 use Rattle.r10_cursor.specs.declared.refusal.ReadRefusal.TheVariants as read_refusals
 use Rattle.r10_cursor.specs.declared.written.Written.{Written}
@@ -47,6 +46,13 @@ open_of failed = None
 pub record ListsRecordedLast (work : Work) : Type 0 where
   pub few : length (files_of work) < 2 ^ 64
   pub last : IfSome (open_of work) (λ o. IsSomeAnd (last_or None (files_of work)) (λ (e : DirectoryEntry). e.first_block ≡ first_of o.recording.out.blocks))
+
+-- this is told of a file that is held as the one that is written: its first block, and what the index will say of the packets that the medium shows, and of all
+pub record IsToldOf (o : Open) (w : Written) : Type 0 where
+  pub first : w.first ≡ first_of o.recording.out.blocks
+  pub named : w.named.now ≡ take o.shown o.recording.out.entries
+  pub entries : w.book.now.entries ≡ o.recording.out.entries
+  pub counted : w.book.now.counted ≡ o.recording.out.counted
 
 -- this is told of the file that is recorded, where one is: it is the last of so many
 abbrev pub TellsWritten : ℕ → Option Open → Option Written → Type 0

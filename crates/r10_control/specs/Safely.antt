@@ -14,8 +14,8 @@ use Rattle.r10_means.specs.Kept.{Kept}
 use Rattle.r10_means.specs.Means.{KeptStandsFor}
 use Rattle.r10_medium.specs.Disk.{Disk, Image}
 use Rattle.r10_medium.specs.Stop.{Leaves}
-use Rattle.r10_pump.specs.Machines.{HasWaiting}
-use Rattle.r10_pump.specs.Stopping.{Part, TellsWaiting, TookAll}
+use Rattle.r10_openfile.specs.Machines.{HasWaiting}
+use Rattle.r10_openfile.specs.Stopping.{Part, TellsWaiting, TookAll}
 use Rattle.r10_means.specs.Left.{Makes, StaysSafe}
 use Rattle.r10_means.specs.Safe.{IsSafe}
 use Rattle.r10_control.specs.Standing.{StandFor, lanes_with, unknown, with_lanes}

@@ -15,8 +15,8 @@ use Rattle.r10_means.specs.Kept.{Kept, Work, recording}
 use Rattle.r10_means.specs.Means.{KeptStandsFor}
 use Rattle.r10_medium.specs.Disk.{Image}
 use Rattle.r10_mux.specs.declared.fault.Full.TheVariants as lacking
-use Rattle.r10_pump.specs.Pumping.{SampleLacks}
-use Rattle.r10_pump.specs.Stopping.{Part, TookAll, samples_on}
+use Rattle.r10_openfile.specs.Pumping.{SampleLacks}
+use Rattle.r10_openfile.specs.Stopping.{Part, TookAll, samples_on}
 use Rattle.r10_control.specs.Leading.{KeptStepsTaking, none_taken}
 use Rattle.r10_control.specs.Taking.{one_part, taken_of}
 use Rattle.r10_machine.specs.declared.event.Event.{Event as EventValue}

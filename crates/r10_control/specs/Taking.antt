@@ -23,16 +23,18 @@ use Rattle.r10_means.specs.Grown.{AreGrown}
 use Rattle.r10_means.specs.Kept.{Kept, Work, recording, failed}
 use Rattle.r10_means.specs.Means.{KeptStandsFor}
 use Rattle.r10_medium.specs.Disk.{Disk, Image, Rose}
-use Rattle.r10_mux.specs.Writes.{IsSame, IsSameFile}
+use Rattle.r10_mux.specs.Writes.{IsSameFile}
 use Rattle.r10_mux.specs.declared.fault.Full.{Full}
 use Rattle.r10_mux.specs.declared.fault.Full.TheVariants as lacking
 use Rattle.r10_openfile.specs.Carrying.{IsShown}
 use Rattle.r10_openfile.specs.Intake.{IsMovedIn}
 use Rattle.r10_openfile.specs.Keeping.{MayGoOn}
-use Rattle.r10_pump.specs.Machines.{HasWaiting}
+pub use Rattle.r10_openfile.specs.Machines.{HasWaiting}
 use Rattle.r10_packetout.specs.Carries.{Recording}
-use Rattle.r10_pump.specs.Pumping.{Begins, PumpEnds, SampleHasRoom, entries_on}
-use Rattle.r10_pump.specs.Stopping.{GoesThrough, Part, TellsWaiting, TookAll, entries_of, most_of, samples_on}
+pub use Rattle.r10_openfile.specs.Pumping.{entries_on}
+use Rattle.r10_openfile.specs.Pumping.{Begins, PumpEnds, SampleHasRoom}
+pub use Rattle.r10_openfile.specs.Stopping.{Part, TellsWaiting, TookAll, entries_of, most_of, samples_on}
+use Rattle.r10_openfile.specs.Stopping.{GoesThrough}
 use Rattle.r10_control.specs.Leading.{KeptStepsTaking}
 use Rattle.r10_control.specs.declared.pumping.PumpFault.{PumpFault}
 use Rattle.r10_control.specs.declared.pumping.PumpFault.TheVariants as pump_faults
@@ -40,6 +42,7 @@ use Rattle.r10_machine.specs.Says.{MediumSays}
 use Rattle.r10_machine.specs.declared.event.Event.{Event as EventValue}
 use Rattle.r10_machine.specs.declared.reply.Reply.{Reply as ReplyValue}
 use Rattle.r10_machine.specs.declared.reply.Reply.TheVariants.{Refused}
+pub use Rattle.r10_builder.specs.Packing.{entry_on}
 
 -- ---- steps
 

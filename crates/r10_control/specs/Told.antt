@@ -22,6 +22,7 @@ use Rattle.r10_machine.specs.declared.reply.Status.{Status}
 use Rattle.r10_volume.specs.Listing.{block_behind}
 use Rattle.r10_control.specs.declared.status.LaneStatus.{LaneStatus}
 use Rattle.r10_control.specs.declared.status.RecorderStatus.{RecorderStatus}
+pub use Rattle.r10_volume.specs.Listing.{info_in}
 
 -- the bytes that the file that is recorded has left: from its first block on, without what it costs
 abbrev pub left_in : Config → List ChainBlock → Open → ℕ

@@ -20,6 +20,7 @@ mod status;
 mod stopping;
 mod telling;
 mod work;
+mod written_laws;
 
 pub use lanes::lanes_stay_the_machines;
 pub use own_laws::{own_entries_are_meant, own_entries_stay};
@@ -28,3 +29,4 @@ pub use r10_machine::{
 };
 pub use recorder::Recorder;
 pub use status::{LaneStatus, RecorderStatus};
+pub use written_laws::what_is_written_is_shown;

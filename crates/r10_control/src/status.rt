@@ -1,7 +1,7 @@
 //! How a recorder is.
 
 ghost use Rattle.std.specs.Prelude.{◌≡◌, ◌-◌, ◌^◌, ◌++◌, ◌∷◌, [], List, Some, length, min, IfErr, IfOk, MatchResult};
-ghost use Rattle.r10_pump.specs.Stopping.{TookAll};
+ghost use Rattle.r10_openfile.specs.Stopping.{TookAll};
 ghost use Rattle.r10_body.specs.declared.refusal.Refusal.TheVariants as refusals;
 ghost use Rattle.r10_volume.specs.Holding.{HoldsFiles};
 ghost use Rattle.r10_machine.specs.Machine.{File, Machine};

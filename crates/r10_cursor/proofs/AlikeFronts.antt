@@ -1,16 +1,16 @@
 -- Files whose bytes begin alike.
-use Rattle.std.proofs.Common.{◌≡◌, ℕ, zero, suc, ◌≤◌, Bool, true, false, List, [], ◌∷◌, ◌++◌, length, take, drop, refl, sym, ap, ◌∙◌, arith}
+use Rattle.std.proofs.Common.{◌≡◌, ℕ, zero, suc, ◌+◌, ◌≤◌, Bool, true, false, List, [], ◌∷◌, ◌++◌, length, take, drop, refl, sym, ap, ◌∙◌, arith}
 use Rattle.std.specs.Prelude.{count_by, filter, nat_le}
 use Rattle.std.proofs.lemmas.Bool.{leb-true, leb-false}
 use Rattle.std.proofs.lemmas.List.{append-nil, length-append, nil_from_length, take-append-drop, take-take}
 use Rattle.r10_medium.specs.Disk.{Image}
 use Rattle.r10_blockout.specs.Blocks.{bytes_from}
 use Rattle.r10_indexbody.specs.declared.entry.NodeEntry.{NodeEntry}
-use Rattle.r10_body.specs.Packets.{Packet, file_bytes}
-use Rattle.r10_body.specs.Rules.{EachFollows, is_data, is_index}
+use Rattle.r10_body.specs.Packets.{Packet, file_bytes, packet_bytes}
+use Rattle.r10_body.specs.Rules.{EachFollows, is_data, is_index, node_entry_of, node_entries}
 use Rattle.r10_body.proofs.Indexes.{counted_first, counted_yes}
 use Rattle.r10_body.proofs.Injective.{one_beginning, one_file}
-use Rattle.r10_packetout.proofs.Closing.{named_length}
+use Rattle.r10_index.proofs.Counting.{named_length}
 use Rattle.r10_cursor.specs.Shown.{ShowsPackets}
 use Rattle.r10_cursor.specs.Files.{HasDataPackets}
 
@@ -60,3 +60,10 @@ plain (suc n) (p ∷ ps) none = by (is_index p) refl (plain n ps)
     by : (b : Bool) → is_index p ≡ b → (count_by is_index ps ≡ 0 → filter is_data (take n ps) ≡ take n ps) → filter is_data (p ∷ take n ps) ≡ p ∷ take n ps
     by true i rest = absurd (omega (arith, none, counted_first is_index p ps, counted_yes is_index p i))
     by false i rest = rw i (ap (λ (l : List Packet). p ∷ l) (rest (omega (arith, none, counted_first is_index p ps))))
+
+-- ---- names of the first packets
+
+pub named_first : (n offset : ℕ) (packets : List Packet) → take n (node_entries offset packets) ≡ node_entries offset (take n packets)
+named_first zero offset packets = refl
+named_first (suc n) offset [] = refl
+named_first (suc n) offset (p ∷ packets) = ap (λ (es : List NodeEntry). node_entry_of offset p ∷ es) (named_first n (offset + length (packet_bytes p)) packets)

@@ -1,5 +1,5 @@
 -- How far cursors have come in the files that a medium shows.
-use Rattle.std.proofs.Common.{◌≡◌, ℕ, zero, suc, ◌≤◌, ◌<◌, List, [], ◌∷◌, ◌++◌, length, take, Option, None, Some, IsSomeAnd, refl, sym, ap, subst, ◌∙◌, arith}
+use Rattle.std.proofs.Common.{◌≡◌, ℕ, zero, suc, ◌≤◌, ◌<◌, List, [], ◌∷◌, ◌++◌, take, Option, None, Some, IsSomeAnd, refl, sym, ap, subst, ◌∙◌, arith}
 use Rattle.std.specs.Prelude.{IfSome, filter, slice_get}
 use Rattle.std.proofs.lemmas.List.{length-append, take-append-le, take-take}
 use Rattle.std.proofs.lemmas.List.Elements.{filter-append}
@@ -11,22 +11,18 @@ use Rattle.r10_machine.specs.Cuts.{Agree}
 use Rattle.r10_dirblock.specs.declared.entry.Entry.{Entry as DirectoryEntry}
 use Rattle.r10_dirchain.specs.Chain.{IsDirectory, listed_files}
 use Rattle.r10_dirchain.specs.declared.chain.ChainBlock.{ChainBlock}
-use Rattle.r10_volume.specs.Holding.{IsWritten, Open}
-use Rattle.r10_volume.proofs.Carried.{carried_of}
 use Rattle.r10_machine.specs.Config.{Config}
 use Rattle.r10_machine.specs.Machine.{File, Cursor as MachineCursor, cursor_at, shown_entries}
-use Rattle.r10_cursor.specs.Shown.{ShowsPackets}
 use Rattle.r10_machine.specs.Says.{MediumSays}
 use Rattle.r10_cursor.specs.Files.{HasDataPackets, ShowsFile, in_writing, in_directory, bytes_in, finished_file}
-use Rattle.r10_cursor.specs.Held.{IsCovered, IsHeldFile, IsToldOf}
+use Rattle.r10_cursor.specs.Held.{IsCovered, IsHeldFile}
 use Rattle.r10_cursor.specs.declared.cursor.Cursor.{Cursor}
 use Rattle.r10_cursor.specs.declared.written.Written.{Written}
 use Rattle.r10_cursor.proofs.Said.{listed_by, says_each, same_bytes, found_entry}
-use Rattle.r10_cursor.proofs.Writing.{shown}
 use Rattle.r10_cursor.specs.Read.{IsReadTo, HasRead, HaveRead, ShowsMore, ShowMore, KeepsShown, KeepsBytes, GrowsShown, bytes_shown}
 use Rattle.r10_cursor.specs.Staying.{NoneShrinks}
 use Rattle.r10_cursor.specs.Standing.{SlotStandsFor, SlotsStandFor, slot_at}
-use Rattle.r10_cursor.proofs.AlikeFronts.{shown_front, one_had, one_shown, plain}
+use Rattle.r10_cursor.proofs.AlikeFronts.{shown_front, one_had}
 
 -- ---- a file that goes on
 
@@ -158,7 +154,7 @@ grows old new (f ∷ files) (g ∷ later) more none bytes = (record { more = mor
 
 -- ---- the packets by which a file is read
 
-covered_so : (image : Image) (f : File) (count n : ℕ) (packets : List Packet) → HasDataPackets (bytes_shown image f) packets → IsReadTo image f count n → HasDataPackets (bytes_shown image f) packets × IsCovered packets f count n
+pub covered_so : (image : Image) (f : File) (count n : ℕ) (packets : List Packet) → HasDataPackets (bytes_shown image f) packets → IsReadTo image f count n → HasDataPackets (bytes_shown image f) packets × IsCovered packets f count n
 covered_so image f count n packets has read =
     (has, subst (λ (l : List Packet). IsCovered l f count n) (one_had (bytes_shown image f) read.packets packets read.has has) read.covered)
 
@@ -176,31 +172,3 @@ listed s image machine chain written file f count n says directory before at hel
         let entry = listed_by image (listed_files chain) machine file f (says_each s image machine chain says directory) at in
         let here : e ≡ entry.0 = one e entry.0 found (found_entry written chain file entry.0 before entry.1) in
         subst (λ (l : List ℕ). HasDataPackets l held.packets) (ap (bytes_in image) here ∙ sym (same_bytes image entry.0 f entry.2.lists)) has
-
-pub written : (s : Config) (image : Image) (chain : List ChainBlock) (o : Open) (f : File) (w : Written) (count n : ℕ) → IsWritten s image o f → IsToldOf o w → (held : IsHeldFile image chain (Some w) w.file f)
-    → IsReadTo image f count n → HasDataPackets (bytes_shown image f) held.packets × IsCovered held.packets f count n
-written s image chain o f w count n is told held read = covered_so image f count n held.packets (by held.shows) read
-  where
-    had : HasDataPackets (bytes_shown image f) (take o.shown is.carries.packets)
-    had =
-        let packets = is.carries.packets in
-        let long : length (file_bytes (take o.shown packets)) ≡ f.size = sym (is.cut.size_is ∙ ap (λ (k : ℕ). length (file_bytes (take k packets))) is.shown) in
-        let shows = (shown image o f.setup f.entries w (carried_of s image o f is) told).shown in
-        record {
-          all = take o.shown packets;
-          bytes_are = ap (λ (k : ℕ). bytes_from image f.first_block k) (sym long) ∙ is.stands;
-          each = shows.each;
-          packets_are = sym (plain o.shown packets is.carries.says.packed.growing.unindexed);
-        }
-
-    by : ShowsFile image chain (Some w) w.file held.packets → HasDataPackets (bytes_shown image f) held.packets
-    by (in_writing v same number shows) =
-        let here : v ≡ w = cc (same) in
-        let known : ShowsPackets image w.first w.named.now held.packets = subst (λ (x : Written). ShowsPackets image x.first x.named.now held.packets) here shows.shown in
-        subst (HasDataPackets (bytes_shown image f)) (one_shown image w.first w.named.now (take o.shown is.carries.packets) held.packets (shown image o f.setup f.entries w (carried_of s image o f is) told).shown known) had
-    by (in_directory e found has) = absurd (beyond w.file (listed_files chain) e found)
-      where
-        beyond : (k : ℕ) (entries : List DirectoryEntry) (e : DirectoryEntry) → slice_get (take k entries) k ≡ Some e → ⊥
-        beyond zero entries e found = absurd (cc (found))
-        beyond (suc k) [] e found = absurd (cc (found))
-        beyond (suc k) (x ∷ entries) e found = beyond k entries e found

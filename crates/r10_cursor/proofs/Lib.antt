@@ -6,7 +6,6 @@ mod Learned
 pub mod Said
 mod Staying
 mod Times
-pub mod Writing
 pub mod Sizes
 pub mod Places
 pub mod Searching
@@ -16,9 +15,9 @@ pub mod Ticks
 pub mod Wanting
 pub mod Starting
 pub mod BeforeIndex
-mod AlikeFronts
+pub mod AlikeFronts
 pub mod HowFar
-mod Slots
+pub mod Slots
 mod Stepping
 mod FirstPackets
 mod Lower

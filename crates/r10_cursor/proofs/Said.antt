@@ -73,7 +73,7 @@ not_at_fault s image fs chain file e offset fault says directory at wrong =
 
 -- ---- a file's packets without its index
 
-no_entries : (p : Packet) → is_index p ≡ true → packet_entries p ≡ []
+pub no_entries : (p : Packet) → is_index p ≡ true → packet_entries p ≡ []
 no_entries p i = by p.content refl
   where
     unlike : false ≡ true → ⊥
@@ -92,7 +92,7 @@ no_entries p i = by p.content refl
     by (node es) e = rw e refl
     by (root es) e = rw e refl
 
-data_entries : (ps : List Packet) → file_entries (filter is_data ps) ≡ file_entries ps
+pub data_entries : (ps : List Packet) → file_entries (filter is_data ps) ≡ file_entries ps
 data_entries [] = refl
 data_entries (p ∷ ps) = by (is_index p) refl (data_entries ps)
   where

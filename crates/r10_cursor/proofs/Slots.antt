@@ -140,7 +140,7 @@ closes image m slots later id stand puts = leads (λ new. SetsCursor m new id No
 
 -- ---- what the code tells
 
-set_puts : (slots : List (Option Cursor)) (id : ℕ) (c new : Cursor) → slot_at slots id ≡ Some c → PutsSlot slots (set slots id (Some new)) id (Some new)
+pub set_puts : (slots : List (Option Cursor)) (id : ℕ) (c new : Cursor) → slot_at slots id ≡ Some c → PutsSlot slots (set slots id (Some new)) id (Some new)
 set_puts slots id c new is = record {
   changed = get_or-set_same slots id (Some new) None (within slots id c is);
   others = λ other differs. get_or-set_other slots id other (Some new) None differs;

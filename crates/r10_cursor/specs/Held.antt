@@ -1,7 +1,5 @@
 -- Files of the recorder's small machine, as a medium shows them, and how far a cursor has come in one.
 use Rattle.std.specs.Prelude.{◌≡◌, ℕ, ◌≤◌, List, length, take, drop, Option}
-use Rattle.r10_blockout.specs.Output.{first_of}
-use Rattle.r10_volume.specs.Holding.{Open}
 use Rattle.r10_medium.specs.Disk.{Image}
 use Rattle.r10_dirchain.specs.declared.chain.ChainBlock.{ChainBlock}
 use Rattle.r10_body.specs.Packets.{Packet, file_entries}
@@ -32,10 +30,3 @@ pub record ReadingGoesOn (packets : List Packet) (f : File) (n : ℕ) (old new :
   pub rest : new ≡ record old { covered = length packets; queue = new.queue }
   pub queue : Ordered (wanted old.channels old.from old.to (drop n (shown_entries f))) new.queue
   pub covered : IsCovered packets f new.covered f.shown
-
--- this is told of a file that is held as the one that is written: its first block, and what the index will say of the packets that the medium shows, and of all
-pub record IsToldOf (o : Open) (w : Written) : Type 0 where
-  pub first : w.first ≡ first_of o.recording.out.blocks
-  pub named : w.named.now ≡ take o.shown o.recording.out.entries
-  pub entries : w.book.now.entries ≡ o.recording.out.entries
-  pub counted : w.book.now.counted ≡ o.recording.out.counted

@@ -8,8 +8,8 @@ use Rattle.r10_dirchain.specs.declared.chain.ChainBlock.{ChainBlock}
 use Rattle.r10_body.specs.Packets.{Packet, file_bytes}
 use Rattle.r10_body.specs.Rules.{is_data}
 use Rattle.r10_index.specs.Counted.{IsBookOf}
-use Rattle.r10_judge.specs.Judged.{TracksStrictFile, SaysClosed}
-use Rattle.r10_tracks.specs.Tracks.{IsTracked}
+pub use Rattle.r10_judge.specs.Judged.{SaysClosed}
+use Rattle.r10_judge.specs.Judged.{TracksStrictFile, IsTracked}
 use Rattle.r10_cursor.specs.Files.{IsShownWith, bytes_in, finished_file}
 use Rattle.r10_cursor.specs.declared.books.Books.{Books}
 use Rattle.r10_cursor.specs.declared.kept.Kept.{Kept}

@@ -20,9 +20,8 @@ use crate::refusal::{ReadRefusal, of_judging};
 use crate::written::{Shown, Written};
 use r10_dirblock::Entry;
 use r10_dirchain::Directory;
-use r10_judge::{Extent, Judgement, judge_file};
+use r10_judge::{Extent, Judgement, Tracks, judge_file};
 use r10_medium::BlockMedium;
-use r10_tracks::Tracks;
 use std::alloc::Global;
 
 /// What is kept of the files that were judged.

@@ -1,6 +1,6 @@
 //! A file that was judged.
 
-use r10_tracks::Tracks;
+use r10_judge::Tracks;
 
 /// What is kept of a file that was judged.
 #[derive(Drop)]

@@ -1,6 +1,6 @@
 //! What is known of files, as calls that do nothing.
 
-ghost use Rattle.std.specs.Prelude.{◌≡◌, ◌+◌, ◌^◌, ◌≤◌, ◌<◌, ℕ, Option, None, Some, List, [], ◌++◌, length, slice_get, IfSome, All};
+ghost use Rattle.std.specs.Prelude.{◌≡◌, ◌+◌, ◌≤◌, ◌<◌, ℕ, Option, None, Some, List, [], ◌++◌, length, slice_get, IfSome, All};
 ghost use Rattle.std.specs.List.{AllByRecursion};
 ghost use Rattle.r10_count.specs.Checks.{first_broken};
 ghost use Rattle.r10_medium.specs.Disk.{Image, IsWhole};
@@ -16,13 +16,12 @@ ghost use Rattle.r10_body.specs.Packets.{Packet, file_entries};
 ghost use Rattle.r10_body.specs.declared.entry.Entry.{Entry};
 ghost use Rattle.r10_body.specs.declared.fault.FileFault.{FileFault};
 ghost use Rattle.r10_machine.specs.Cuts.{Agree};
-ghost use Rattle.r10_volume.specs.Holding.{IsCarried, IsWritten, Open};
 ghost use Rattle.r10_machine.specs.Config.{Config};
 ghost use Rattle.r10_machine.specs.Machine.{File, shown_entries};
 ghost use Rattle.r10_machine.specs.Says.{IsFound, MediumSays};
 ghost use Rattle.r10_machine.specs.Sound.{IsEntry};
 ghost use Rattle.r10_cursor.specs.Files.{IsShownWith, bytes_in, finished};
-ghost use Rattle.r10_cursor.specs.Held.{IsCovered, IsHeldFile, IsToldOf};
+ghost use Rattle.r10_cursor.specs.Held.{IsCovered, IsHeldFile};
 ghost use Rattle.r10_cursor.specs.Knowing.{IsWriting, Knows};
 ghost use Rattle.r10_cursor.specs.Staying.{KeepListed, Stay};
 ghost use Rattle.r10_cursor.specs.declared.books.Books.{Books};
@@ -43,13 +42,6 @@ pub fn listed_files_keep_their_bytes()
         → SameBelow n kept old new → reserved + 1 + blocks_in (finished written (listed_files chain)) ≤ n → KeepListed old new (finished written (listed_files chain)) }
     ensures directory { (reserved : ℕ) (old : Image) (new : Image) (chain : List ChainBlock) (written : Option Written) (numbers : List ℕ) → IsWhole old → first_broken (mount_rules reserved (length old) chain) ≡ None
         → SameButIn numbers old new → All (λ k. k ≤ reserved) numbers → KeepListed old new (finished written (listed_files chain)) }
-{}
-
-/// Of the file that a recorder holds as the one that is written, the packets are shown of which it tells, whatever files the medium has; and
-/// where they are a machine's, they are its.
-pub fn what_is_written_is_shown()
-    ensures writing { (image : Image) (o : Open) (text : List ℕ) (entries : List Entry) (w : Written) → IsCarried image o text entries → IsToldOf o w → IsWhole image → length image ≤ 2 ^ 53 → IsWriting image (Some w) }
-    ensures held { (s : Config) (image : Image) (chain : List ChainBlock) (o : Open) (f : File) (w : Written) → IsWritten s image o f → IsToldOf o w → AllByRecursion (IsEntry s) f.entries → IsHeldFile image chain (Some w) w.file f }
 {}
 
 /// A cursor that has covered nothing has covered no packet and no entry; and what it has covered, it still has where packets and entries

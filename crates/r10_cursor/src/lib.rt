@@ -27,7 +27,6 @@ pub use cursor::Cursor;
 pub use fault::ReplayFault;
 pub use laws::{
     files_that_are_said, listed_files_keep_their_bytes, what_is_covered_stays, what_is_known_stays,
-    what_is_written_is_shown,
 };
 pub use listing::entry_at;
 pub use packet::read_packet;

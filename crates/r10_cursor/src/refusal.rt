@@ -9,18 +9,23 @@ use crate::ReplayFault;
 use r10_blockout::ReadFault;
 use r10_body::FileFault;
 use r10_strict::Fault;
+use thiserror::Error;
 
 /// A file wasn't read.
-#[derive(Clone, Copy, Debug, PartialEq, Eq, Drop)]
+#[derive(Clone, Copy, Debug, PartialEq, Eq, Drop, Error)]
 pub enum ReadRefusal {
     /// No file has this number.
+    #[error("no file has this number")]
     NoSuchFile,
     /// The file isn't strict, or its closing isn't that of its directory entry: the packet at this offset is at fault, the
     /// first one that is.
+    #[error("{0}")]
     BadFile(Fault),
     /// The medium failed in a read.
+    #[error("a read of the medium failed")]
     Medium,
     /// A growth was refused, or the medium has more than 2^62 bytes of the file.
+    #[error("out of memory")]
     OutOfMemory,
 }
 

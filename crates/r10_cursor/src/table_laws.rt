@@ -1,11 +1,10 @@
 //! Cursors while a recorder goes on, as calls that do nothing.
 
-ghost use Rattle.std.specs.Prelude.{◌≡◌, ℕ, ◌<◌, ◌≤◌, List, [], Option, Some, None, IfSome, length, slice_get, slice_set};
+ghost use Rattle.std.specs.Prelude.{◌≡◌, ℕ, ◌<◌, ◌≤◌, List, [], Option, Some, IfSome, length, slice_get, slice_set};
 ghost use Rattle.std.specs.List.{AllByRecursion};
 ghost use Rattle.r10_medium.specs.Disk.{Image};
 ghost use Rattle.r10_dirchain.specs.Chain.{IsDirectory};
 ghost use Rattle.r10_dirchain.specs.declared.chain.ChainBlock.{ChainBlock};
-ghost use Rattle.r10_volume.specs.Holding.{IsWritten, Open};
 ghost use Rattle.r10_machine.specs.Calls.{Advances};
 ghost use Rattle.r10_machine.specs.Config.{Config};
 ghost use Rattle.r10_machine.specs.Machine.{Cursor as MachineCursor, File, Machine, cursor_at, cursor_of};
@@ -15,7 +14,7 @@ ghost use Rattle.r10_machine.specs.Step.{Step};
 ghost use Rattle.r10_machine.specs.declared.event.Event.{Event as EventValue};
 ghost use Rattle.r10_machine.specs.declared.reply.Reply.{Reply as ReplyValue};
 ghost use Rattle.r10_cursor.specs.Files.{HasDataPackets};
-ghost use Rattle.r10_cursor.specs.Held.{IsCovered, IsHeldFile, IsToldOf};
+ghost use Rattle.r10_cursor.specs.Held.{IsCovered, IsHeldFile};
 ghost use Rattle.r10_cursor.specs.declared.cursor.Cursor.{Cursor};
 ghost use Rattle.r10_cursor.specs.declared.written.Written.{Written};
 ghost use Rattle.r10_cursor.specs.Read.{GrowsShown, HaveRead, IsReadTo, KeepsBytes, ShowMore, TakesNext, bytes_shown};
@@ -53,14 +52,11 @@ pub fn cursors_stay_over_steps()
         → HaveRead old m.files m.generation slots m.cursors → SlotsStandFor slots later.cursors × HaveRead new later.files later.generation slots later.cursors }
 {}
 
-/// What a cursor has read of a file is covered of the packets by which the file is read: of a file in the directory, and of the one that is
-/// written.
+/// What a cursor has read of a file in the directory is covered of the packets by which the file is read.
 pub fn what_is_held_was_read()
-    ensures listed { (s : Config) (image : Image) (machine : List File) (chain : List ChainBlock) (written : Option Written) (file : ℕ) (f : File) (count : ℕ) (n : ℕ) → MediumSays s image machine
+    ensures { (s : Config) (image : Image) (machine : List File) (chain : List ChainBlock) (written : Option Written) (file : ℕ) (f : File) (count : ℕ) (n : ℕ) → MediumSays s image machine
         → IsDirectory image chain → IfSome written (λ w. file < w.file) → slice_get machine file ≡ Some f → (held : IsHeldFile image chain written file f) → IsReadTo image f count n
         → HasDataPackets (bytes_shown image f) held.packets × IsCovered held.packets f count n }
-    ensures written { (s : Config) (image : Image) (chain : List ChainBlock) (o : Open) (f : File) (w : Written) (count : ℕ) (n : ℕ) → IsWritten s image o f → IsToldOf o w
-        → (held : IsHeldFile image chain (Some w) w.file f) → IsReadTo image f count n → HasDataPackets (bytes_shown image f) held.packets × IsCovered held.packets f count n }
 {}
 
 /// A cursor that took its next instalment is the machine's that advanced.

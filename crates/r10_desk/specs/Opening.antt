@@ -5,8 +5,9 @@ use Rattle.toml.specs.Parse.{parse_document}
 use Rattle.r10_machine.specs.Config.{Config}
 use Rattle.r10_machine.specs.Machine.{File, fresh}
 use Rattle.r10_machine.specs.Says.{MediumHas, MediumSays}
-use Rattle.r10_medium.specs.Disk.{Disk, IsSynced}
+use Rattle.r10_medium.specs.Disk.{Disk, Image, IsSynced}
 use Rattle.r10_medium.specs.Stop.{Settled}
+use Rattle.r10_volume.specs.Formatted.{IsFormatted}
 use Rattle.r10_script.specs.Keys.{HasOnly}
 use Rattle.r10_script.specs.Script.{AreScriptSettings, script_keys}
 use Rattle.r10_means.specs.Safe.{IsSafe}
@@ -25,6 +26,10 @@ HasOtherBlocks text blocks = (s : Config) × IsSettings text s × (blocks ≢ s.
 -- a new recorder of the script's settings finds no files on it, and this is sure
 abbrev pub FormatsByScript : List ℕ → Disk → Type 0
 FormatsByScript text disk = (s : Config) × IsSettings text s × MediumHas s disk.blocks [] × IsSynced disk
+
+-- what a stop leaves of it is what it read before, formatted by the script's settings
+abbrev pub FormatsOver : List ℕ → Image → Disk → Type 0
+FormatsOver text old disk = (s : Config) × IsSettings text s × Settled (IsFormatted s old) disk
 
 -- A recorder of the script's settings over the medium, and no readers. Over a medium that has files it stands for a machine that has them; over
 -- what a stop left of one that said files it finds these again, and they are safe.

@@ -2,7 +2,7 @@
 
 ghost use Rattle.std.specs.Prelude.{◌≡◌, ◌⊎◌, IfErr, IfOk, length};
 ghost use Rattle.r10_medium.specs.Disk.{Rose};
-ghost use Rattle.r10_desk.specs.Opening.{FormatsByScript, HasOtherBlocks, IsSettings, OpensRecorder};
+ghost use Rattle.r10_desk.specs.Opening.{FormatsByScript, FormatsOver, HasOtherBlocks, IsSettings, OpensRecorder};
 
 use crate::desk::Desk;
 use crate::told::{BLOCKS, MEDIUM, OUT_OF_MEMORY, SCRIPT};
@@ -36,6 +36,7 @@ fn settings_of(alloc: Global, script: &[u8], blocks: usize) -> Result<Settings, 
 /// can't be taken, or 41 where the medium has another number of blocks.
 pub fn format<M: BlockMedium>(alloc: Global, medium: &mut M, script: &[u8]) -> u32
     ensures formats { result ≡ 0 → FormatsByScript script.now (M.disk medium.new) }
+    ensures over { result ≡ 0 → FormatsOver script.now (M.disk medium.old).blocks (M.disk medium.new) }
     ensures untouched { (result ≡ 30) ⊎ (result ≡ 40) ⊎ (result ≡ 41) → medium.new ≡ medium.old }
     ensures failed { result ≡ 28 → Rose (M.disk medium.old).failures (M.disk medium.new).failures }
     ensures other { result ≡ 41 → HasOtherBlocks script.now (length (M.disk medium.old).blocks) }

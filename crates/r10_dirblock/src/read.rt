@@ -6,17 +6,22 @@ ghost use Rattle.r10_dirblock.specs.Block.{part, big_endian_u64_at, entry_count,
 ghost use Rattle.r10_dirblock.specs.declared.block.DirBlock.{DirBlock};
 
 use crate::{DirBlock, Entries, Entry};
+use thiserror::Error;
 
 /// What is wrong in a directory block, in the order in which it is looked for.
-#[derive(Clone, Copy, Debug, PartialEq, Eq)]
+#[derive(Clone, Copy, Debug, PartialEq, Eq, Error)]
 pub enum DirFault {
     /// It does not begin with the format's name.
+    #[error("the block does not begin with FORTYtwo")]
     Magic,
     /// It counts over four entries.
+    #[error("the block counts more than four entries")]
     Count,
     /// Its block size is not 512.
+    #[error("the block size is not 512")]
     BlockSize,
     /// The entry at this place, from 0 on, has a size over its blocks' bytes.
+    #[error("the size in entry {0} is over its blocks' bytes")]
     Entry(u8),
 }
 

@@ -15,13 +15,16 @@ use crate::put::put_block;
 use r10_count::is_volume;
 use r10_dirblock::{DirBlock, Entries, pad};
 use r10_medium::BlockMedium;
+use thiserror::Error;
 
 /// Why a medium was not formatted.
-#[derive(Clone, Copy, Debug, PartialEq, Eq, Drop)]
+#[derive(Clone, Copy, Debug, PartialEq, Eq, Drop, Error)]
 pub enum FormatError {
     /// The volume's name is not 1 to 32 letters, digits, `.`, `_` or `-`.
+    #[error("the volume's name is not 1 to 32 letters, digits, '.', '_' or '-'")]
     BadName,
     /// A call of the medium failed.
+    #[error("a call of the medium failed")]
     Medium,
 }
 

@@ -9,15 +9,19 @@ use crate::{ChainBlock, Directory};
 use r10_dirblock::{DirBlock, decode};
 use r10_medium::{BlockMedium, MediumFault};
 use std::alloc::{AllocError, Global};
+use thiserror::Error;
 
 /// Why a directory was not read.
-#[derive(Clone, Copy, Debug, PartialEq, Eq, Drop)]
+#[derive(Clone, Copy, Debug, PartialEq, Eq, Drop, Error)]
 pub enum ChainError {
     /// The first block that the chain reaches and can't take, or that a recorder can't use.
+    #[error("directory block {0} can't be used")]
     BadDirectory(u64),
     /// A call of the medium failed.
+    #[error("a call of the medium failed")]
     Medium,
     /// The memory for the blocks was refused.
+    #[error("out of memory")]
     OutOfMemory,
 }
 

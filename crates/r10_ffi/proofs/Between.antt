@@ -1,7 +1,7 @@
 -- What is between what a handle held and what it holds.
 use Rattle.std.proofs.Common.{◌≡◌, ℕ, List, Option, Some, sym, subst, ◌∙◌, ap}
 use Rattle.r10_medium.specs.Disk.{Image}
-use Rattle.r10_ffi.specs.Calls.{IsOpened, OpensOver}
+use Rattle.r10_ffi.specs.Calls.{FormatsHeld, IsFormattedRegion, IsOpened, OpensOver}
 use Rattle.r10_ffi.specs.Owning.{Between}
 use Rattle.r10_ffi.specs.declared.held.Held.{Held}
 
@@ -11,3 +11,6 @@ between {X = X} old new is a m b e s f p = subst (λ (x : Option X). Between x n
 
 pub opened : (text : List ℕ) (image : Image) (room : ℕ) (new : Option Held) (x y : Held) → new ≡ Some x → x ≡ y → OpensOver text image room y → IsOpened text image room new
 opened text image room new x y e f p = subst (IsOpened text image room) (sym (e ∙ ap (λ (h : Held). Some h) f)) p
+
+pub formatted : (text : List ℕ) (image : Image) (new : Option Held) (x y : Held) → new ≡ Some x → x ≡ y → FormatsHeld text image y → IsFormattedRegion text image new
+formatted text image new x y e f p = subst (IsFormattedRegion text image) (sym (e ∙ ap (λ (h : Held). Some h) f)) p

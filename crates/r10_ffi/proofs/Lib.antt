@@ -1,3 +1,4 @@
 pub mod Words
 mod Handles
 mod Between
+mod There

@@ -1,24 +1,29 @@
 -- What a call makes of what a handle holds.
-use Rattle.std.specs.Prelude.{◌≡◌, ℕ, List, [], Option, None, Some}
-use Rattle.rtrb.specs.Ring.{IsPair}
+use Rattle.std.specs.Prelude.{◌≡◌, ℕ, List, [], Option, None, Some, true, false}
 use Rattle.r10_medium.specs.Disk.{Image}
 use Rattle.r10_world.specs.State.{WorldState}
-use Rattle.r10_desk.specs.Opening.{FormatsByScript, OpensRecorder}
-use Rattle.r10_region.specs.Orders.{taken}
+use Rattle.r10_desk.specs.Opening.{FormatsByScript, FormatsOver, OpensRecorder}
+use Rattle.r10_region.specs.Orders.{IsOtherEnd}
 use Rattle.r10_region.specs.Queue.{queue_room, places_known}
 use Rattle.r10_region.specs.RegionDisk.{region_disk, lent_to, asked}
 use Rattle.r10_region.specs.declared.region.Region.{Region}
 use Rattle.r10_ffi.specs.declared.held.Held.{Held}
+use Rattle.r10_ffi.specs.declared.recorder.Recorder.{Recorder}
 use Rattle.r10_ffi.specs.Owning.{Between}
 
--- between the recorder before and behind it is so, and its disk has still to do what it had, and what the call adds
-abbrev pub Calls : Option Held → Option Held → (WorldState Region → WorldState Region → Type 0) → Type 0
-Calls before behind is = Between before behind (λ old new. is old.desk.world new.desk.world × (new.orders ≡ old.orders))
+abbrev pub IsOpen : Recorder → Type 0
+IsOpen r = r.opened ≡ true
 
--- a region's medium is formatted by the script
-pub record IsFormattedRegion (text : List ℕ) : Type 0 where
-  pub medium : Region
-  pub formats : FormatsByScript text (region_disk medium)
+abbrev pub IsClosed : Recorder → Type 0
+IsClosed r = r.opened ≡ false
+
+-- it is open then, and between what it held and what it holds it is so
+abbrev pub Goes : Recorder → Recorder → (Held → Held → Type 0) → Type 0
+Goes before behind is = IsOpen behind × Between before.handle.held behind.handle.held is
+
+-- between the recorder before and behind it is so, and its disk has still to do what it had, and what the call adds
+abbrev pub Does : Recorder → Recorder → (WorldState Region → WorldState Region → Type 0) → Type 0
+Does before behind is = Goes before behind (λ old new. is old.desk.world new.desk.world × (new.orders ≡ old.orders))
 
 -- A recorder by the script over memory that held this, of whose disk nothing was asked yet, and beside it the other end of its disk's queue, out of which
 -- nothing was handed yet. So many operations may wait in it, and it is known that there is a place for each.
@@ -26,8 +31,7 @@ pub record OpensOver (text : List ℕ) (image : Image) (room : ℕ) (h : Held) :
   pub medium : Region
   pub lent : lent_to medium ≡ image
   pub none_yet : asked medium ≡ []
-  pub none_out : taken h.orders ≡ []
-  pub queue : IsPair medium.device h.orders.device
+  pub queue : IsOtherEnd medium h.orders
   pub room_is : queue_room medium ≡ room
   pub places : places_known medium ≡ room
   pub opens : OpensRecorder region_disk text medium h.desk.world
@@ -35,3 +39,14 @@ pub record OpensOver (text : List ℕ) (image : Image) (room : ℕ) (h : Held) :
 abbrev pub IsOpened : List ℕ → Image → ℕ → Option Held → Type 0
 IsOpened text image room None = ⊥
 IsOpened text image room (Some h) = OpensOver text image room h
+
+-- A recorder by the script over a medium which it finds without files. What a stop leaves of it is what was lent, with the directory of a medium without files in it.
+pub record FormatsHeld (text : List ℕ) (image : Image) (h : Held) : Type 0 where
+  pub medium : Region
+  pub formats : FormatsByScript text (region_disk medium)
+  pub over : FormatsOver text image (region_disk medium)
+  pub opens : OpensRecorder region_disk text medium h.desk.world
+
+abbrev pub IsFormattedRegion : List ℕ → Image → Option Held → Type 0
+IsFormattedRegion text image None = ⊥
+IsFormattedRegion text image (Some h) = FormatsHeld text image h

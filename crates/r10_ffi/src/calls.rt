@@ -1,6 +1,6 @@
 //! The calls of the library.
 
-ghost use Rattle.std.specs.Prelude.{◌≡◌, ◌⊎◌, ◌≤◌, ◌<◌, None, length};
+ghost use Rattle.std.specs.Prelude.{◌≡◌, ◌≢◌, ◌⊎◌, ◌↔◌, ◌≤◌, ◌<◌, None, length};
 ghost use Rattle.r10_body.specs.declared.message.Message.TheVariants as messages;
 ghost use Rattle.r10_machine.specs.declared.event.Event.TheVariants as events;
 ghost use Rattle.r10_desk.specs.Listing.{file_in, files_in, channel_given, lane_place, name_in, file_place, status_given};
@@ -8,50 +8,95 @@ ghost use Rattle.r10_desk.specs.Opening.{HasOtherBlocks};
 ghost use Rattle.r10_desk.specs.Outs.{cursor_in, left_out, moved_in, queued_in, taken_out};
 ghost use Rattle.r10_desk.specs.Reading.{count_in, found_in, is_count_in, lent, next_out, place_in};
 ghost use Rattle.r10_desk.specs.Told.{DoesEvent, number_of};
-ghost use Rattle.r10_region.specs.Orders.{HandsOrderOut};
+ghost use Rattle.r10_region.specs.Orders.{CountsQueue, HandsOrderOut, HandsRunOut, HasTold};
 ghost use Rattle.r10_region.specs.RegionDisk.{region_disk};
-ghost use Rattle.r10_ffi.specs.Calls.{Calls, IsFormattedRegion, IsOpened};
+ghost use Rattle.r10_ffi.specs.Calls.{Does, Goes, IsClosed, IsFormattedRegion, IsOpen, IsOpened};
 ghost use Rattle.r10_ffi.specs.Civil.{parts_of};
-ghost use Rattle.r10_ffi.specs.Owning.{Between, IsThere};
 
 use crate::civil::{Civil, parts_of};
-use crate::handle::Handle;
 use crate::held::Held;
+use crate::recorder::Recorder;
 use r10_desk::{ChannelOut, EntryOut, FileOut, StatusOut};
-use r10_region::{OrderOut, Region, Strip};
+use r10_region::{OrderOut, QueueOut, Region, RunOut, Strip};
 use std::alloc::Global;
 
 const OUT_OF_MEMORY: u32 = 30;
 
 const ROOM: u32 = 42;
 
-/// Writes the directory of a medium without files into its memory: 0, or 28, 30, 40, 41. `room` is how many operations that may be.
+/// The handle is not open.
+const CLOSED: u32 = 44;
+
+/// The handle is open already.
+const OPEN: u32 = 45;
+
+/// The library's version: three numbers of two digits.
+const VERSION: u32 = 200;
+
+/// The version of the library: 200 for 0.2.0.
 #[unsafe(no_mangle)]
-pub extern "C" fn r10_format(alloc: Global, region: Strip, room: usize, script: &[u8]) -> u32
-    ensures formats { result ≡ 0 → IsFormattedRegion script.now }
-    ensures other { result ≡ 41 → HasOtherBlocks script.now (length region.held) }
-    ensures numbers { (result ≡ 0) ⊎ (result ≡ 28) ⊎ (result ≡ 30) ⊎ (result ≡ 40) ⊎ (result ≡ 41) }
+pub extern "C" fn r10_version() -> u32
+    ensures { result ≡ 200 }
 {
-    match Region::over(alloc, region, room) {
-        Ok((mut medium, _)) => r10_desk::format(alloc, &mut medium, script),
+    VERSION
+}
+
+/// Writes the directory of a medium without files into its memory, and opens a recorder over it, which is not mounted: 0, or 28, 30, 40, 41, 45.
+#[unsafe(no_mangle)]
+pub extern "C" fn r10_format(
+    alloc: Global,
+    region: Strip,
+    room: usize,
+    script: &[u8],
+    recorder: &mut Recorder,
+) -> u32
+    ensures formats { result ≡ 0 → IsOpen recorder.new × IsFormattedRegion script.now region.held recorder.new.handle.held }
+    ensures untouched { result ≢ 0 → recorder.new ≡ recorder.old }
+    ensures other { result ≡ 41 → HasOtherBlocks script.now (length region.held) }
+    ensures opened { (result ≡ 45) ↔ IsOpen recorder.old }
+    ensures numbers { (result ≡ 0) ⊎ (result ≡ 28) ⊎ (result ≡ 30) ⊎ (result ≡ 40) ⊎ (result ≡ 41) ⊎ (result ≡ 45) }
+{
+    if recorder.is_open() {
+        return OPEN;
+    }
+    let Ok((mut medium, orders)) = Region::over(alloc, region, room) else {
+        return OUT_OF_MEMORY;
+    };
+    let number = r10_desk::format(alloc, &mut medium, script);
+    if number != 0 {
+        return number;
+    }
+    let desk = match r10_desk::open(alloc, medium, script) {
+        Ok(desk) => desk,
+        Err(number) => return number,
+    };
+    match Box::new(alloc, Held { desk, orders }) {
+        Ok(held) => {
+            recorder.put(held);
+            0
+        }
         Err(_) => OUT_OF_MEMORY,
     }
 }
 
-/// Opens a recorder, which is not mounted, and of whose operations as many as `room` may wait: 0, or 30, 40, 41.
+/// Opens a recorder, which is not mounted, and of whose operations as many as `room` may wait before more memory is asked for: 0, or 30, 40, 41, 45.
 #[unsafe(no_mangle)]
 pub extern "C" fn r10_open(
     alloc: Global,
     region: Strip,
     room: usize,
     script: &[u8],
-    recorder: &mut Handle,
+    recorder: &mut Recorder,
 ) -> u32
-    ensures opens { result ≡ 0 → IsOpened script.now region.held room recorder.new.held }
-    ensures untouched { (result ≡ 30) ⊎ (result ≡ 40) ⊎ (result ≡ 41) → recorder.new ≡ recorder.old }
+    ensures opens { result ≡ 0 → IsOpen recorder.new × IsOpened script.now region.held room recorder.new.handle.held }
+    ensures untouched { result ≢ 0 → recorder.new ≡ recorder.old }
     ensures other { result ≡ 41 → HasOtherBlocks script.now (length region.held) }
-    ensures numbers { (result ≡ 0) ⊎ (result ≡ 30) ⊎ (result ≡ 40) ⊎ (result ≡ 41) }
+    ensures opened { (result ≡ 45) ↔ IsOpen recorder.old }
+    ensures numbers { (result ≡ 0) ⊎ (result ≡ 30) ⊎ (result ≡ 40) ⊎ (result ≡ 41) ⊎ (result ≡ 45) }
 {
+    if recorder.is_open() {
+        return OPEN;
+    }
     let Ok((medium, orders)) = Region::over(alloc, region, room) else {
         return OUT_OF_MEMORY;
     };
@@ -68,18 +113,21 @@ pub extern "C" fn r10_open(
     }
 }
 
-/// Hands out the next operation that the device has to do, or says that there is none: 0, or 42 where fewer than 512 bytes were lent.
+/// Hands out the next operation that the device has to do, or says that there is none: 0, or 42 where fewer than 512 bytes were lent, 44.
 #[unsafe(no_mangle)]
 pub extern "C" fn r10_order(
     alloc: Global,
-    recorder: &mut Handle,
+    recorder: &mut Recorder,
     out: &mut OrderOut,
     bytes: &mut [u8],
 ) -> u32
-    requires { IsThere recorder.old.held }
-    ensures hands { 512 ≤ length bytes.old → Between recorder.old.held recorder.new.held (λ old new. (result ≡ 0) × (new.desk ≡ old.desk) × HandsOrderOut old.orders new.orders out.new bytes.old bytes.new) }
-    ensures room { length bytes.old < 512 → (result ≡ 42) × (recorder.new ≡ recorder.old) × (out.new ≡ out.old) × (bytes.new ≡ bytes.old) }
+    ensures hands { 512 ≤ length bytes.old → IsOpen recorder.old → Goes recorder.old recorder.new (λ old new. (result ≡ 0) × (new.desk ≡ old.desk) × HandsOrderOut old.orders new.orders out.new bytes.old bytes.new) }
+    ensures room { length bytes.old < 512 → IsOpen recorder.old → (result ≡ 42) × (recorder.new ≡ recorder.old) × (out.new ≡ out.old) × (bytes.new ≡ bytes.old) }
+    ensures closed { IsClosed recorder.old → (result ≡ 44) × (recorder.new ≡ recorder.old) × (out.new ≡ out.old) × (bytes.new ≡ bytes.old) }
 {
+    if !recorder.is_open() {
+        return CLOSED;
+    }
     if bytes.len() < 512 {
         return ROOM;
     }
@@ -89,21 +137,82 @@ pub extern "C" fn r10_order(
     0
 }
 
-/// Closes a recorder: its memory is given back, the region's to its caller. What was not committed is lost.
+/// Hands out the next operations that the device may do at once, or says that there are none: 0, or 42 where fewer than 512 bytes were lent, 44.
 #[unsafe(no_mangle)]
-pub extern "C" fn r10_close(alloc: Global, recorder: &mut Handle)
-    requires { IsThere recorder.old.held }
-    ensures { recorder.new.held ≡ None }
+pub extern "C" fn r10_orders(
+    alloc: Global,
+    recorder: &mut Recorder,
+    out: &mut RunOut,
+    bytes: &mut [u8],
+) -> u32
+    ensures hands { 512 ≤ length bytes.old → IsOpen recorder.old → Goes recorder.old recorder.new (λ old new. (result ≡ 0) × (new.desk ≡ old.desk) × HandsRunOut old.orders new.orders out.new bytes.old bytes.new) }
+    ensures room { length bytes.old < 512 → IsOpen recorder.old → (result ≡ 42) × (recorder.new ≡ recorder.old) × (out.new ≡ out.old) × (bytes.new ≡ bytes.old) }
+    ensures closed { IsClosed recorder.old → (result ≡ 44) × (recorder.new ≡ recorder.old) × (out.new ≡ out.old) × (bytes.new ≡ bytes.old) }
 {
+    if !recorder.is_open() {
+        return CLOSED;
+    }
+    if bytes.len() < 512 {
+        return ROOM;
+    }
+    let mut held = recorder.take(alloc);
+    held.orders.hand_out_run(out, bytes);
+    recorder.put(held);
+    0
+}
+
+/// How many operations wait. 0, or 44.
+#[unsafe(no_mangle)]
+pub extern "C" fn r10_queue(alloc: Global, recorder: &mut Recorder, out: &mut QueueOut) -> u32
+    ensures counts { IsOpen recorder.old → Goes recorder.old recorder.new (λ old new. (result ≡ 0) × (new.desk ≡ old.desk) × CountsQueue old.orders new.orders out.new) }
+    ensures closed { IsClosed recorder.old → (result ≡ 44) × (recorder.new ≡ recorder.old) × (out.new ≡ out.old) }
+{
+    if !recorder.is_open() {
+        return CLOSED;
+    }
+    let mut held = recorder.take(alloc);
+    *out = held.orders.count();
+    recorder.put(held);
+    0
+}
+
+/// The program's disk failed: from now on each write and each sync of the recorder fails. 0, or 44.
+#[unsafe(no_mangle)]
+pub extern "C" fn r10_disk_failed(alloc: Global, recorder: &mut Recorder) -> u32
+    ensures told { IsOpen recorder.old → Goes recorder.old recorder.new (λ old new. (result ≡ 0) × (new.desk ≡ old.desk) × HasTold old.orders new.orders) }
+    ensures closed { IsClosed recorder.old → (result ≡ 44) × (recorder.new ≡ recorder.old) }
+{
+    if !recorder.is_open() {
+        return CLOSED;
+    }
+    let mut held = recorder.take(alloc);
+    held.orders.disk_failed();
+    recorder.put(held);
+    0
+}
+
+/// Closes a recorder: its memory is given back, the region's to its caller. What was not committed is lost. A closed one stays closed.
+#[unsafe(no_mangle)]
+pub extern "C" fn r10_close(alloc: Global, recorder: &mut Recorder)
+    ensures closes { IsClosed recorder.new }
+    ensures gone { IsOpen recorder.old → recorder.new.handle.held ≡ None }
+    ensures closed { IsClosed recorder.old → recorder.new ≡ recorder.old }
+{
+    if !recorder.is_open() {
+        return;
+    }
     let _held = recorder.take(alloc);
 }
 
 /// Begins to use the medium. 0, or 1, 3, 26, 28, 30.
 #[unsafe(no_mangle)]
-pub extern "C" fn r10_mount(alloc: Global, recorder: &mut Handle) -> u32
-    requires { IsThere recorder.old.held }
-    ensures { Calls recorder.old.held recorder.new.held (λ old new. DoesEvent region_disk old events.Mount (λ reply. result ≡ number_of reply) new) }
+pub extern "C" fn r10_mount(alloc: Global, recorder: &mut Recorder) -> u32
+    ensures does { IsOpen recorder.old → Does recorder.old recorder.new (λ old new. DoesEvent region_disk old events.Mount (λ reply. result ≡ number_of reply) new) }
+    ensures closed { IsClosed recorder.old → (result ≡ 44) × (recorder.new ≡ recorder.old) }
 {
+    if !recorder.is_open() {
+        return CLOSED;
+    }
     let mut held = recorder.take(alloc);
     let answer = held.desk.mount();
     recorder.put(held);
@@ -112,10 +221,13 @@ pub extern "C" fn r10_mount(alloc: Global, recorder: &mut Handle) -> u32
 
 /// Ends the use of the medium. 0, or 1, 2, 4, 28, 30.
 #[unsafe(no_mangle)]
-pub extern "C" fn r10_dismount(alloc: Global, recorder: &mut Handle) -> u32
-    requires { IsThere recorder.old.held }
-    ensures { Calls recorder.old.held recorder.new.held (λ old new. DoesEvent region_disk old events.Dismount (λ reply. result ≡ number_of reply) new) }
+pub extern "C" fn r10_dismount(alloc: Global, recorder: &mut Recorder) -> u32
+    ensures does { IsOpen recorder.old → Does recorder.old recorder.new (λ old new. DoesEvent region_disk old events.Dismount (λ reply. result ≡ number_of reply) new) }
+    ensures closed { IsClosed recorder.old → (result ≡ 44) × (recorder.new ≡ recorder.old) }
 {
+    if !recorder.is_open() {
+        return CLOSED;
+    }
     let mut held = recorder.take(alloc);
     let answer = held.desk.dismount();
     recorder.put(held);
@@ -124,10 +236,13 @@ pub extern "C" fn r10_dismount(alloc: Global, recorder: &mut Handle) -> u32
 
 /// The clock: a count and the civil time at it. 0, or 1, 2, 10, 11, 13, 25, 28, 30.
 #[unsafe(no_mangle)]
-pub extern "C" fn r10_tick(alloc: Global, recorder: &mut Handle, count: u64, civil: &Civil) -> u32
-    requires { IsThere recorder.old.held }
-    ensures { Calls recorder.old.held recorder.new.held (λ old new. DoesEvent region_disk old (events.Tick count (parts_of civil.now)) (λ reply. result ≡ number_of reply) new) }
+pub extern "C" fn r10_tick(alloc: Global, recorder: &mut Recorder, count: u64, civil: &Civil) -> u32
+    ensures does { IsOpen recorder.old → Does recorder.old recorder.new (λ old new. DoesEvent region_disk old (events.Tick count (parts_of civil.now)) (λ reply. result ≡ number_of reply) new) }
+    ensures closed { IsClosed recorder.old → (result ≡ 44) × (recorder.new ≡ recorder.old) }
 {
+    if !recorder.is_open() {
+        return CLOSED;
+    }
     let mut held = recorder.take(alloc);
     let answer = held.desk.tick(count, parts_of(civil));
     recorder.put(held);
@@ -136,10 +251,18 @@ pub extern "C" fn r10_tick(alloc: Global, recorder: &mut Handle, count: u64, civ
 
 /// Begins a file of this name and setup text. 0, or 1, 2, 4, 9, 14, 15, 16, 18, 23, 25, 28, 30.
 #[unsafe(no_mangle)]
-pub extern "C" fn r10_start(alloc: Global, recorder: &mut Handle, name: &[u8], setup: &[u8]) -> u32
-    requires { IsThere recorder.old.held }
-    ensures { Calls recorder.old.held recorder.new.held (λ old new. DoesEvent region_disk old (events.Start name.now setup.now) (λ reply. result ≡ number_of reply) new) }
+pub extern "C" fn r10_start(
+    alloc: Global,
+    recorder: &mut Recorder,
+    name: &[u8],
+    setup: &[u8],
+) -> u32
+    ensures does { IsOpen recorder.old → Does recorder.old recorder.new (λ old new. DoesEvent region_disk old (events.Start name.now setup.now) (λ reply. result ≡ number_of reply) new) }
+    ensures closed { IsClosed recorder.old → (result ≡ 44) × (recorder.new ≡ recorder.old) }
 {
+    if !recorder.is_open() {
+        return CLOSED;
+    }
     let mut held = recorder.take(alloc);
     let answer = held.desk.start(name, setup);
     recorder.put(held);
@@ -150,16 +273,19 @@ pub extern "C" fn r10_start(alloc: Global, recorder: &mut Handle, name: &[u8], s
 #[unsafe(no_mangle)]
 pub extern "C" fn r10_offer_uart(
     alloc: Global,
-    recorder: &mut Handle,
+    recorder: &mut Recorder,
     channel: u16,
     count: u64,
     parity: bool,
     sub: u16,
     bytes: &[u8],
 ) -> u32
-    requires { IsThere recorder.old.held }
-    ensures { Calls recorder.old.held recorder.new.held (λ old new. DoesEvent region_disk old (events.Offer channel count (messages.Uart parity sub bytes.now)) (λ reply. result ≡ number_of reply) new) }
+    ensures does { IsOpen recorder.old → Does recorder.old recorder.new (λ old new. DoesEvent region_disk old (events.Offer channel count (messages.Uart parity sub bytes.now)) (λ reply. result ≡ number_of reply) new) }
+    ensures closed { IsClosed recorder.old → (result ≡ 44) × (recorder.new ≡ recorder.old) }
 {
+    if !recorder.is_open() {
+        return CLOSED;
+    }
     let mut held = recorder.take(alloc);
     let answer = held.desk.offer_uart(channel, count, parity, sub, bytes);
     recorder.put(held);
@@ -170,16 +296,19 @@ pub extern "C" fn r10_offer_uart(
 #[unsafe(no_mangle)]
 pub extern "C" fn r10_offer_1553(
     alloc: Global,
-    recorder: &mut Handle,
+    recorder: &mut Recorder,
     channel: u16,
     count: u64,
     status: u16,
     gap: u16,
     words: &[u16],
 ) -> u32
-    requires { IsThere recorder.old.held }
-    ensures { Calls recorder.old.held recorder.new.held (λ old new. DoesEvent region_disk old (events.Offer channel count (messages.Bus1553 status gap words.now)) (λ reply. result ≡ number_of reply) new) }
+    ensures does { IsOpen recorder.old → Does recorder.old recorder.new (λ old new. DoesEvent region_disk old (events.Offer channel count (messages.Bus1553 status gap words.now)) (λ reply. result ≡ number_of reply) new) }
+    ensures closed { IsClosed recorder.old → (result ≡ 44) × (recorder.new ≡ recorder.old) }
 {
+    if !recorder.is_open() {
+        return CLOSED;
+    }
     let mut held = recorder.take(alloc);
     let answer = held.desk.offer_1553(channel, count, status, gap, words);
     recorder.put(held);
@@ -190,7 +319,7 @@ pub extern "C" fn r10_offer_1553(
 #[unsafe(no_mangle)]
 pub extern "C" fn r10_offer_arinc(
     alloc: Global,
-    recorder: &mut Handle,
+    recorder: &mut Recorder,
     channel: u16,
     count: u64,
     bus: u8,
@@ -199,9 +328,12 @@ pub extern "C" fn r10_offer_arinc(
     high: bool,
     word: u32,
 ) -> u32
-    requires { IsThere recorder.old.held }
-    ensures { Calls recorder.old.held recorder.new.held (λ old new. DoesEvent region_disk old (events.Offer channel count (messages.Arinc bus format parity high word)) (λ reply. result ≡ number_of reply) new) }
+    ensures does { IsOpen recorder.old → Does recorder.old recorder.new (λ old new. DoesEvent region_disk old (events.Offer channel count (messages.Arinc bus format parity high word)) (λ reply. result ≡ number_of reply) new) }
+    ensures closed { IsClosed recorder.old → (result ≡ 44) × (recorder.new ≡ recorder.old) }
 {
+    if !recorder.is_open() {
+        return CLOSED;
+    }
     let mut held = recorder.take(alloc);
     let answer = held
         .desk
@@ -214,14 +346,17 @@ pub extern "C" fn r10_offer_arinc(
 #[unsafe(no_mangle)]
 pub extern "C" fn r10_offer_discrete(
     alloc: Global,
-    recorder: &mut Handle,
+    recorder: &mut Recorder,
     channel: u16,
     count: u64,
     states: u32,
 ) -> u32
-    requires { IsThere recorder.old.held }
-    ensures { Calls recorder.old.held recorder.new.held (λ old new. DoesEvent region_disk old (events.Offer channel count (messages.Discrete states)) (λ reply. result ≡ number_of reply) new) }
+    ensures does { IsOpen recorder.old → Does recorder.old recorder.new (λ old new. DoesEvent region_disk old (events.Offer channel count (messages.Discrete states)) (λ reply. result ≡ number_of reply) new) }
+    ensures closed { IsClosed recorder.old → (result ≡ 44) × (recorder.new ≡ recorder.old) }
 {
+    if !recorder.is_open() {
+        return CLOSED;
+    }
     let mut held = recorder.take(alloc);
     let answer = held.desk.offer_discrete(channel, count, states);
     recorder.put(held);
@@ -232,7 +367,7 @@ pub extern "C" fn r10_offer_discrete(
 #[unsafe(no_mangle)]
 pub extern "C" fn r10_offer_message(
     alloc: Global,
-    recorder: &mut Handle,
+    recorder: &mut Recorder,
     channel: u16,
     count: u64,
     data_error: bool,
@@ -240,9 +375,12 @@ pub extern "C" fn r10_offer_message(
     sub: u16,
     bytes: &[u8],
 ) -> u32
-    requires { IsThere recorder.old.held }
-    ensures { Calls recorder.old.held recorder.new.held (λ old new. DoesEvent region_disk old (events.Offer channel count (messages.Message data_error format sub bytes.now)) (λ reply. result ≡ number_of reply) new) }
+    ensures does { IsOpen recorder.old → Does recorder.old recorder.new (λ old new. DoesEvent region_disk old (events.Offer channel count (messages.Message data_error format sub bytes.now)) (λ reply. result ≡ number_of reply) new) }
+    ensures closed { IsClosed recorder.old → (result ≡ 44) × (recorder.new ≡ recorder.old) }
 {
+    if !recorder.is_open() {
+        return CLOSED;
+    }
     let mut held = recorder.take(alloc);
     let answer = held
         .desk
@@ -255,14 +393,17 @@ pub extern "C" fn r10_offer_message(
 #[unsafe(no_mangle)]
 pub extern "C" fn r10_pump(
     alloc: Global,
-    recorder: &mut Handle,
+    recorder: &mut Recorder,
     channel: u16,
     most: usize,
     moved: &mut usize,
 ) -> u32
-    requires { IsThere recorder.old.held }
-    ensures { Calls recorder.old.held recorder.new.held (λ old new. DoesEvent region_disk old (events.Pump channel most) (λ reply. (result ≡ number_of reply) × (moved.new ≡ moved_in reply moved.old)) new) }
+    ensures does { IsOpen recorder.old → Does recorder.old recorder.new (λ old new. DoesEvent region_disk old (events.Pump channel most) (λ reply. (result ≡ number_of reply) × (moved.new ≡ moved_in reply moved.old)) new) }
+    ensures closed { IsClosed recorder.old → (result ≡ 44) × (recorder.new ≡ recorder.old) × (moved.new ≡ moved.old) }
 {
+    if !recorder.is_open() {
+        return CLOSED;
+    }
     let mut held = recorder.take(alloc);
     let answer = held.desk.pump(channel, most, moved);
     recorder.put(held);
@@ -271,10 +412,13 @@ pub extern "C" fn r10_pump(
 
 /// A recording event. 0, or 1, 2, 5, 10, 11, 17, 25, 28, 30.
 #[unsafe(no_mangle)]
-pub extern "C" fn r10_event(alloc: Global, recorder: &mut Handle, number: u16, count: u64) -> u32
-    requires { IsThere recorder.old.held }
-    ensures { Calls recorder.old.held recorder.new.held (λ old new. DoesEvent region_disk old (events.Event number count) (λ reply. result ≡ number_of reply) new) }
+pub extern "C" fn r10_event(alloc: Global, recorder: &mut Recorder, number: u16, count: u64) -> u32
+    ensures does { IsOpen recorder.old → Does recorder.old recorder.new (λ old new. DoesEvent region_disk old (events.Event number count) (λ reply. result ≡ number_of reply) new) }
+    ensures closed { IsClosed recorder.old → (result ≡ 44) × (recorder.new ≡ recorder.old) }
 {
+    if !recorder.is_open() {
+        return CLOSED;
+    }
     let mut held = recorder.take(alloc);
     let answer = held.desk.event(number, count);
     recorder.put(held);
@@ -283,10 +427,13 @@ pub extern "C" fn r10_event(alloc: Global, recorder: &mut Handle, number: u16, c
 
 /// Shows on the medium all that the file has. 0, or 1, 2, 5, 28, 30.
 #[unsafe(no_mangle)]
-pub extern "C" fn r10_commit(alloc: Global, recorder: &mut Handle) -> u32
-    requires { IsThere recorder.old.held }
-    ensures { Calls recorder.old.held recorder.new.held (λ old new. DoesEvent region_disk old events.Commit (λ reply. result ≡ number_of reply) new) }
+pub extern "C" fn r10_commit(alloc: Global, recorder: &mut Recorder) -> u32
+    ensures does { IsOpen recorder.old → Does recorder.old recorder.new (λ old new. DoesEvent region_disk old events.Commit (λ reply. result ≡ number_of reply) new) }
+    ensures closed { IsClosed recorder.old → (result ≡ 44) × (recorder.new ≡ recorder.old) }
 {
+    if !recorder.is_open() {
+        return CLOSED;
+    }
     let mut held = recorder.take(alloc);
     let answer = held.desk.commit();
     recorder.put(held);
@@ -297,13 +444,16 @@ pub extern "C" fn r10_commit(alloc: Global, recorder: &mut Handle) -> u32
 #[unsafe(no_mangle)]
 pub extern "C" fn r10_stop(
     alloc: Global,
-    recorder: &mut Handle,
+    recorder: &mut Recorder,
     taken: &mut usize,
     left: &mut usize,
 ) -> u32
-    requires { IsThere recorder.old.held }
-    ensures { Calls recorder.old.held recorder.new.held (λ old new. DoesEvent region_disk old events.Stop (λ reply. (result ≡ number_of reply) × (taken.new ≡ taken_out reply taken.old) × (left.new ≡ left_out reply left.old)) new) }
+    ensures does { IsOpen recorder.old → Does recorder.old recorder.new (λ old new. DoesEvent region_disk old events.Stop (λ reply. (result ≡ number_of reply) × (taken.new ≡ taken_out reply taken.old) × (left.new ≡ left_out reply left.old)) new) }
+    ensures closed { IsClosed recorder.old → (result ≡ 44) × (recorder.new ≡ recorder.old) × (taken.new ≡ taken.old) × (left.new ≡ left.old) }
 {
+    if !recorder.is_open() {
+        return CLOSED;
+    }
     let mut held = recorder.take(alloc);
     let answer = held.desk.stop(taken, left);
     recorder.put(held);
@@ -312,10 +462,13 @@ pub extern "C" fn r10_stop(
 
 /// Closes the last file, which was left open. 0, or 1, 2, 4, 19, 25, 27, 28, 30.
 #[unsafe(no_mangle)]
-pub extern "C" fn r10_seal(alloc: Global, recorder: &mut Handle) -> u32
-    requires { IsThere recorder.old.held }
-    ensures { Calls recorder.old.held recorder.new.held (λ old new. DoesEvent region_disk old events.Seal (λ reply. result ≡ number_of reply) new) }
+pub extern "C" fn r10_seal(alloc: Global, recorder: &mut Recorder) -> u32
+    ensures does { IsOpen recorder.old → Does recorder.old recorder.new (λ old new. DoesEvent region_disk old events.Seal (λ reply. result ≡ number_of reply) new) }
+    ensures closed { IsClosed recorder.old → (result ≡ 44) × (recorder.new ≡ recorder.old) }
 {
+    if !recorder.is_open() {
+        return CLOSED;
+    }
     let mut held = recorder.take(alloc);
     let answer = held.desk.seal();
     recorder.put(held);
@@ -324,10 +477,13 @@ pub extern "C" fn r10_seal(alloc: Global, recorder: &mut Handle) -> u32
 
 /// Takes all files from the medium. 0, or 1, 2, 4, 20, 28, 30.
 #[unsafe(no_mangle)]
-pub extern "C" fn r10_erase(alloc: Global, recorder: &mut Handle) -> u32
-    requires { IsThere recorder.old.held }
-    ensures { Calls recorder.old.held recorder.new.held (λ old new. DoesEvent region_disk old events.Erase (λ reply. result ≡ number_of reply) new) }
+pub extern "C" fn r10_erase(alloc: Global, recorder: &mut Recorder) -> u32
+    ensures does { IsOpen recorder.old → Does recorder.old recorder.new (λ old new. DoesEvent region_disk old events.Erase (λ reply. result ≡ number_of reply) new) }
+    ensures closed { IsClosed recorder.old → (result ≡ 44) × (recorder.new ≡ recorder.old) }
 {
+    if !recorder.is_open() {
+        return CLOSED;
+    }
     let mut held = recorder.take(alloc);
     let answer = held.desk.erase();
     recorder.put(held);
@@ -336,10 +492,13 @@ pub extern "C" fn r10_erase(alloc: Global, recorder: &mut Handle) -> u32
 
 /// How many files the medium has. 0, or 1, 2, 30.
 #[unsafe(no_mangle)]
-pub extern "C" fn r10_files(alloc: Global, recorder: &mut Handle, count: &mut usize) -> u32
-    requires { IsThere recorder.old.held }
-    ensures { Calls recorder.old.held recorder.new.held (λ old new. DoesEvent region_disk old events.Files (λ reply. (result ≡ number_of reply) × (count.new ≡ files_in reply count.old)) new) }
+pub extern "C" fn r10_files(alloc: Global, recorder: &mut Recorder, count: &mut usize) -> u32
+    ensures does { IsOpen recorder.old → Does recorder.old recorder.new (λ old new. DoesEvent region_disk old events.Files (λ reply. (result ≡ number_of reply) × (count.new ≡ files_in reply count.old)) new) }
+    ensures closed { IsClosed recorder.old → (result ≡ 44) × (recorder.new ≡ recorder.old) × (count.new ≡ count.old) }
 {
+    if !recorder.is_open() {
+        return CLOSED;
+    }
     let mut held = recorder.take(alloc);
     let answer = held.desk.files(count);
     recorder.put(held);
@@ -350,14 +509,17 @@ pub extern "C" fn r10_files(alloc: Global, recorder: &mut Handle, count: &mut us
 #[unsafe(no_mangle)]
 pub extern "C" fn r10_file(
     alloc: Global,
-    recorder: &mut Handle,
+    recorder: &mut Recorder,
     number: usize,
     out: &mut FileOut,
     name: &mut [u8],
 ) -> u32
-    requires { IsThere recorder.old.held }
-    ensures { Calls recorder.old.held recorder.new.held (λ old new. DoesEvent region_disk old events.Files (λ reply. (result ≡ file_place reply number) × (out.new ≡ file_in reply number out.old) × (name.new ≡ name_in reply number name.old)) new) }
+    ensures does { IsOpen recorder.old → Does recorder.old recorder.new (λ old new. DoesEvent region_disk old events.Files (λ reply. (result ≡ file_place reply number) × (out.new ≡ file_in reply number out.old) × (name.new ≡ name_in reply number name.old)) new) }
+    ensures closed { IsClosed recorder.old → (result ≡ 44) × (recorder.new ≡ recorder.old) × (out.new ≡ out.old) × (name.new ≡ name.old) }
 {
+    if !recorder.is_open() {
+        return CLOSED;
+    }
     let mut held = recorder.take(alloc);
     let answer = held.desk.file(number, out, name);
     recorder.put(held);
@@ -366,10 +528,13 @@ pub extern "C" fn r10_file(
 
 /// How the recorder is. 0, or 30.
 #[unsafe(no_mangle)]
-pub extern "C" fn r10_status(alloc: Global, recorder: &mut Handle, out: &mut StatusOut) -> u32
-    requires { IsThere recorder.old.held }
-    ensures { Calls recorder.old.held recorder.new.held (λ old new. DoesEvent region_disk old events.Status (λ reply. (result ≡ number_of reply) × (out.new ≡ status_given reply out.old)) new) }
+pub extern "C" fn r10_status(alloc: Global, recorder: &mut Recorder, out: &mut StatusOut) -> u32
+    ensures does { IsOpen recorder.old → Does recorder.old recorder.new (λ old new. DoesEvent region_disk old events.Status (λ reply. (result ≡ number_of reply) × (out.new ≡ status_given reply out.old)) new) }
+    ensures closed { IsClosed recorder.old → (result ≡ 44) × (recorder.new ≡ recorder.old) × (out.new ≡ out.old) }
 {
+    if !recorder.is_open() {
+        return CLOSED;
+    }
     let mut held = recorder.take(alloc);
     let answer = held.desk.status(out);
     recorder.put(held);
@@ -380,13 +545,16 @@ pub extern "C" fn r10_status(alloc: Global, recorder: &mut Handle, out: &mut Sta
 #[unsafe(no_mangle)]
 pub extern "C" fn r10_channel(
     alloc: Global,
-    recorder: &mut Handle,
+    recorder: &mut Recorder,
     place: usize,
     out: &mut ChannelOut,
 ) -> u32
-    requires { IsThere recorder.old.held }
-    ensures { Calls recorder.old.held recorder.new.held (λ old new. DoesEvent region_disk old events.Status (λ reply. (result ≡ lane_place reply place) × (out.new ≡ channel_given reply place out.old)) new) }
+    ensures does { IsOpen recorder.old → Does recorder.old recorder.new (λ old new. DoesEvent region_disk old events.Status (λ reply. (result ≡ lane_place reply place) × (out.new ≡ channel_given reply place out.old)) new) }
+    ensures closed { IsClosed recorder.old → (result ≡ 44) × (recorder.new ≡ recorder.old) × (out.new ≡ out.old) }
 {
+    if !recorder.is_open() {
+        return CLOSED;
+    }
     let mut held = recorder.take(alloc);
     let answer = held.desk.channel(place, out);
     recorder.put(held);
@@ -397,16 +565,19 @@ pub extern "C" fn r10_channel(
 #[unsafe(no_mangle)]
 pub extern "C" fn r10_cursor(
     alloc: Global,
-    recorder: &mut Handle,
+    recorder: &mut Recorder,
     file: usize,
     channels: &[u16],
     from: u64,
     to: u64,
     id: &mut usize,
 ) -> u32
-    requires { IsThere recorder.old.held }
-    ensures { Calls recorder.old.held recorder.new.held (λ old new. DoesEvent region_disk old (events.Cursor file channels.now from to) (λ reply. (result ≡ number_of reply) × (id.new ≡ cursor_in reply id.old)) new) }
+    ensures does { IsOpen recorder.old → Does recorder.old recorder.new (λ old new. DoesEvent region_disk old (events.Cursor file channels.now from to) (λ reply. (result ≡ number_of reply) × (id.new ≡ cursor_in reply id.old)) new) }
+    ensures closed { IsClosed recorder.old → (result ≡ 44) × (recorder.new ≡ recorder.old) × (id.new ≡ id.old) }
 {
+    if !recorder.is_open() {
+        return CLOSED;
+    }
     let mut held = recorder.take(alloc);
     let answer = held.desk.cursor(file, channels, from, to, id);
     recorder.put(held);
@@ -417,13 +588,16 @@ pub extern "C" fn r10_cursor(
 #[unsafe(no_mangle)]
 pub extern "C" fn r10_advance(
     alloc: Global,
-    recorder: &mut Handle,
+    recorder: &mut Recorder,
     id: usize,
     queued: &mut usize,
 ) -> u32
-    requires { IsThere recorder.old.held }
-    ensures { Calls recorder.old.held recorder.new.held (λ old new. DoesEvent region_disk old (events.Advance id) (λ reply. (result ≡ number_of reply) × (queued.new ≡ queued_in reply queued.old)) new) }
+    ensures does { IsOpen recorder.old → Does recorder.old recorder.new (λ old new. DoesEvent region_disk old (events.Advance id) (λ reply. (result ≡ number_of reply) × (queued.new ≡ queued_in reply queued.old)) new) }
+    ensures closed { IsClosed recorder.old → (result ≡ 44) × (recorder.new ≡ recorder.old) × (queued.new ≡ queued.old) }
 {
+    if !recorder.is_open() {
+        return CLOSED;
+    }
     let mut held = recorder.take(alloc);
     let answer = held.desk.advance(id, queued);
     recorder.put(held);
@@ -434,18 +608,21 @@ pub extern "C" fn r10_advance(
 #[unsafe(no_mangle)]
 pub extern "C" fn r10_next(
     alloc: Global,
-    recorder: &mut Handle,
+    recorder: &mut Recorder,
     id: usize,
     there: &mut bool,
     out: &mut EntryOut,
     bytes: &mut [u8],
     words: &mut [u16],
 ) -> u32
-    requires { IsThere recorder.old.held }
-    ensures does { 65_535 ≤ length bytes.old → 36 ≤ length words.old → Calls recorder.old.held recorder.new.held (λ old new. DoesEvent region_disk old (events.Next id) (λ reply. (result ≡ number_of reply) × (lent there.new out.new bytes.new words.new ≡ next_out reply (lent there.old out.old bytes.old words.old))) new) }
-    ensures room { (length bytes.old < 65_535) ⊎ (length words.old < 36) → Between recorder.old.held recorder.new.held (λ old new. (result ≡ 42) × (new.desk ≡ old.desk) × (new.orders ≡ old.orders)
+    ensures does { 65_535 ≤ length bytes.old → 36 ≤ length words.old → IsOpen recorder.old → Does recorder.old recorder.new (λ old new. DoesEvent region_disk old (events.Next id) (λ reply. (result ≡ number_of reply) × (lent there.new out.new bytes.new words.new ≡ next_out reply (lent there.old out.old bytes.old words.old))) new) }
+    ensures room { (length bytes.old < 65_535) ⊎ (length words.old < 36) → IsOpen recorder.old → Goes recorder.old recorder.new (λ old new. (result ≡ 42) × (new.desk ≡ old.desk) × (new.orders ≡ old.orders)
         × (lent there.new out.new bytes.new words.new ≡ lent there.old out.old bytes.old words.old)) }
+    ensures closed { IsClosed recorder.old → (result ≡ 44) × (recorder.new ≡ recorder.old) × (there.new ≡ there.old) × (out.new ≡ out.old) × (bytes.new ≡ bytes.old) × (words.new ≡ words.old) }
 {
+    if !recorder.is_open() {
+        return CLOSED;
+    }
     let mut held = recorder.take(alloc);
     let answer = held.desk.next(id, there, out, bytes, words);
     recorder.put(held);
@@ -454,10 +631,13 @@ pub extern "C" fn r10_next(
 
 /// Closes a cursor. 0, or 21, 30.
 #[unsafe(no_mangle)]
-pub extern "C" fn r10_close_cursor(alloc: Global, recorder: &mut Handle, id: usize) -> u32
-    requires { IsThere recorder.old.held }
-    ensures { Calls recorder.old.held recorder.new.held (λ old new. DoesEvent region_disk old (events.Close id) (λ reply. result ≡ number_of reply) new) }
+pub extern "C" fn r10_close_cursor(alloc: Global, recorder: &mut Recorder, id: usize) -> u32
+    ensures does { IsOpen recorder.old → Does recorder.old recorder.new (λ old new. DoesEvent region_disk old (events.Close id) (λ reply. result ≡ number_of reply) new) }
+    ensures closed { IsClosed recorder.old → (result ≡ 44) × (recorder.new ≡ recorder.old) }
 {
+    if !recorder.is_open() {
+        return CLOSED;
+    }
     let mut held = recorder.take(alloc);
     let answer = held.desk.close_cursor(id);
     recorder.put(held);
@@ -468,7 +648,7 @@ pub extern "C" fn r10_close_cursor(alloc: Global, recorder: &mut Handle, id: usi
 #[unsafe(no_mangle)]
 pub extern "C" fn r10_find(
     alloc: Global,
-    recorder: &mut Handle,
+    recorder: &mut Recorder,
     file: usize,
     channel: u16,
     count: u64,
@@ -478,11 +658,14 @@ pub extern "C" fn r10_find(
     bytes: &mut [u8],
     words: &mut [u16],
 ) -> u32
-    requires { IsThere recorder.old.held }
-    ensures does { 65_535 ≤ length bytes.old → 36 ≤ length words.old → Calls recorder.old.held recorder.new.held (λ old new. DoesEvent region_disk old (events.Find file channel count) (λ reply. (result ≡ number_of reply) × (number.new ≡ place_in reply number.old) × (lent there.new out.new bytes.new words.new ≡ found_in reply (lent there.old out.old bytes.old words.old))) new) }
-    ensures room { (length bytes.old < 65_535) ⊎ (length words.old < 36) → Between recorder.old.held recorder.new.held (λ old new. (result ≡ 42) × (new.desk ≡ old.desk) × (new.orders ≡ old.orders)
+    ensures does { 65_535 ≤ length bytes.old → 36 ≤ length words.old → IsOpen recorder.old → Does recorder.old recorder.new (λ old new. DoesEvent region_disk old (events.Find file channel count) (λ reply. (result ≡ number_of reply) × (number.new ≡ place_in reply number.old) × (lent there.new out.new bytes.new words.new ≡ found_in reply (lent there.old out.old bytes.old words.old))) new) }
+    ensures room { (length bytes.old < 65_535) ⊎ (length words.old < 36) → IsOpen recorder.old → Goes recorder.old recorder.new (λ old new. (result ≡ 42) × (new.desk ≡ old.desk) × (new.orders ≡ old.orders)
         × (number.new ≡ number.old) × (lent there.new out.new bytes.new words.new ≡ lent there.old out.old bytes.old words.old)) }
+    ensures closed { IsClosed recorder.old → (result ≡ 44) × (recorder.new ≡ recorder.old) × (there.new ≡ there.old) × (number.new ≡ number.old) × (out.new ≡ out.old) × (bytes.new ≡ bytes.old) × (words.new ≡ words.old) }
 {
+    if !recorder.is_open() {
+        return CLOSED;
+    }
     let mut held = recorder.take(alloc);
     let answer = held
         .desk
@@ -495,15 +678,18 @@ pub extern "C" fn r10_find(
 #[unsafe(no_mangle)]
 pub extern "C" fn r10_count_at(
     alloc: Global,
-    recorder: &mut Handle,
+    recorder: &mut Recorder,
     file: usize,
     civil: &Civil,
     there: &mut bool,
     count: &mut u64,
 ) -> u32
-    requires { IsThere recorder.old.held }
-    ensures { Calls recorder.old.held recorder.new.held (λ old new. DoesEvent region_disk old (events.CountAt file (parts_of civil.now)) (λ reply. (result ≡ number_of reply) × (there.new ≡ is_count_in reply there.old) × (count.new ≡ count_in reply count.old)) new) }
+    ensures does { IsOpen recorder.old → Does recorder.old recorder.new (λ old new. DoesEvent region_disk old (events.CountAt file (parts_of civil.now)) (λ reply. (result ≡ number_of reply) × (there.new ≡ is_count_in reply there.old) × (count.new ≡ count_in reply count.old)) new) }
+    ensures closed { IsClosed recorder.old → (result ≡ 44) × (recorder.new ≡ recorder.old) × (there.new ≡ there.old) × (count.new ≡ count.old) }
 {
+    if !recorder.is_open() {
+        return CLOSED;
+    }
     let mut held = recorder.take(alloc);
     let answer = held.desk.count_at(file, parts_of(civil), there, count);
     recorder.put(held);

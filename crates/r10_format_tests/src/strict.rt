@@ -1,7 +1,7 @@
 // Packets as this recorder writes them.
 
 use r10_count::{Civil, Count, Parts};
-use r10_lossbody::LossBody;
+use r10_indexbody::LossBody;
 use r10_strict::{Facts, PacketKind, Spread, StrictReading, read_strict};
 use std::test::Fail;
 

@@ -1,6 +1,6 @@
 // What is kept of a file's packets.
 use r10_count::{Civil, Count, Parts};
-use r10_lossbody::LossBody;
+use r10_indexbody::LossBody;
 use r10_strict::{Facts, PacketKind, Spread};
 use r10_tracks::Tracks;
 use std::test::Fail;

@@ -9,11 +9,9 @@ use Rattle.r10_body.specs.Rules.{is_entry_on}
 use Rattle.r10_body.specs.declared.entry.Entry.{Entry}
 use Rattle.r10_body.specs.declared.entry.Sample.{Sample}
 use Rattle.r10_body.specs.declared.spec.ChannelSpec.{ChannelSpec}
-use Rattle.r10_builder.specs.Packing.{entry_on}
+use Rattle.r10_control.specs.Taking.{entry_on, entries_on, Part, TookAll, entries_of, samples_on}
 use Rattle.r10_machine.specs.Machine.{saturated}
 use Rattle.r10_means.specs.Grown.{AreGrown}
-use Rattle.r10_pump.specs.Pumping.{entries_on}
-use Rattle.r10_pump.specs.Stopping.{Part, TookAll, entries_of, samples_on}
 use Rattle.r10_held.specs.Account.{ChannelAccount, ChannelAccounts}
 
 -- ---- what was taken, on one channel

@@ -12,7 +12,7 @@ use Rattle.r10_cursor.specs.Files.{HasDataPackets, bytes_in}
 use Rattle.r10_cursor.specs.Standing.{fresh_slot}
 use Rattle.r10_cursor.specs.declared.cursor.Cursor.{Cursor}
 use Rattle.r10_dirchain.specs.Chain.{listed_files}
-use Rattle.r10_judge.specs.Judged.{SaysClosed}
+use Rattle.r10_cursor.specs.Knowing.{SaysClosed}
 use Rattle.r10_means.specs.Kept.{Work, unmounted, idle, recording, failed}
 use Rattle.r10_medium.specs.Disk.{Image}
 use Rattle.r10_held.specs.Auditing.{GoOn, at_place}
@@ -38,7 +38,7 @@ pub shown_there : (work : Work) (image : Image) (file : ℕ) (packets : List Pac
 shown_there work image file packets (of_ended e at has) = omega (arith, within (ended_files work) file e at, ended_few work)
 shown_there work image file packets (of_recorded o is last shows) = omega (arith, last)
 
-has_packets : (bytes : List ℕ) (closed : Bool) → SaysClosed bytes closed → (packets : List Packet) × HasDataPackets bytes packets
+pub has_packets : (bytes : List ℕ) (closed : Bool) → SaysClosed bytes closed → (packets : List Packet) × HasDataPackets bytes packets
 has_packets bytes closed (text, entries, (packets, bytes_are, says)) = (filter is_data packets, record { all = packets; bytes_are = bytes_are; each = says.file.each; packets_are = refl })
 
 -- what is read is shown

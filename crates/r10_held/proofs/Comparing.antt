@@ -1,5 +1,5 @@
 -- One instalment that is read again, and several one behind the other.
-use Rattle.std.proofs.Common.{◌≡◌, ◌≤◌, ◌<◌, ◌+◌, ℕ, Bool, List, [], ◌∷◌, length, take, drop, get_or, min, refl, sym, ap, ◌∙◌, subst, arith}
+use Rattle.std.proofs.Common.{◌≡◌, ◌≤◌, ◌<◌, ◌+◌, ℕ, Bool, List, [], ◌∷◌, length, take, drop, get_or, min, sym, ap, ◌∙◌, subst, arith}
 use Rattle.std.specs.Prelude.{max, IsTrue}
 use Rattle.std.proofs.lemmas.List.{drop_more, length-take}
 use Rattle.r10_body.specs.Packets.{Packet, file_entries}
@@ -57,9 +57,6 @@ pub record Came (packets : List Packet) (old now : Cursor) (all rest : List Inst
   pub within : at ≤ length packets
   pub ahead : GoOn packets old.reading.channels old.reading.from old.reading.to old.reading.covered all → GoOn packets old.reading.channels old.reading.from old.reading.to at rest
   pub back : GoOn packets old.reading.channels old.reading.from old.reading.to at rest → GoOn packets old.reading.channels old.reading.from old.reading.to old.reading.covered all
-
-pub first_came : (packets : List Packet) (old : Cursor) (all : List Instalment) → old.reading.covered ≤ length packets → Came packets old old all all
-first_came packets old all within = record { at = old.reading.covered; cursor_is = refl; within = within; ahead = λ on. on; back = λ on. on }
 
 -- what is known of the next instalment at the cursor as it is
 next_at : (packets : List Packet) (old now : Cursor) (at : ℕ) (i : Instalment) → now ≡ at_place at old → IsNext packets now.reading.channels now.reading.from now.reading.to now.reading.covered i

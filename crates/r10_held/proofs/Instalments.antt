@@ -1,34 +1,23 @@
 -- What an advance gives a cursor.
 use Rattle.std.proofs.Common.{◌≡◌, ℕ, Bool, true, false, List, [], ◌∷◌, length, None, refl, arith}
-use Rattle.std.specs.Prelude.{◌==◌, filter, Result, Ok, Err, IfOk}
+use Rattle.std.specs.Prelude.{◌==◌, Result, Ok, Err, IfOk}
 use Rattle.std.proofs.lemmas.Bool.Decides.{nat_tests}
-use Rattle.r10_body.specs.Packets.{Packet}
-use Rattle.r10_body.specs.Rules.{is_data}
 use Rattle.r10_body.specs.declared.refusal.Glance.{Glance}
 use Rattle.r10_body.specs.declared.refusal.Refusal.{Refusal}
 use Rattle.r10_body.specs.declared.refusal.Refusal.TheVariants.{Failed, NotMounted, Stale, Unread}
 use Rattle.r10_control.specs.Checks.{advancing_checks}
-use Rattle.r10_control.specs.Reading.{IsReadAt, ShowsAt, is_ended, is_recorded, of_ended, of_recorded}
 use Rattle.r10_control.specs.State.{RecorderState}
 use Rattle.r10_count.specs.Checks.{first_broken}
-use Rattle.r10_cursor.specs.Files.{HasDataPackets, bytes_in}
 use Rattle.r10_cursor.specs.declared.cursor.Cursor.{Cursor}
 use Rattle.r10_held.specs.State.{HeldState}
-use Rattle.r10_judge.specs.Judged.{SaysClosed}
 use Rattle.r10_machine.specs.Checks.{is_mounted, is_working}
 use Rattle.r10_machine.specs.declared.mode.Mode.{Mode}
-use Rattle.r10_means.specs.Kept.{Work, mode_of}
-use Rattle.r10_medium.specs.Disk.{Disk, Image}
+use Rattle.r10_means.specs.Kept.{mode_of}
+use Rattle.r10_medium.specs.Disk.{Disk}
 use Rattle.r10_held.specs.Advancing.{AdvancesHeld, AdvancesRecorder, TakesInstalment}
+use Rattle.r10_held.proofs.Agreeing.{read_shows as shows}
 
 -- ---- a file that is there shows packets
-
-has_packets : (bytes : List ℕ) (closed : Bool) → SaysClosed bytes closed → (packets : List Packet) × HasDataPackets bytes packets
-has_packets bytes closed (text, entries, (packets, bytes_are, says)) = (filter is_data packets, record { all = packets; bytes_are = bytes_are; each = says.file.each; packets_are = refl })
-
-shows : (work : Work) (image : Image) (file : ℕ) → IsReadAt work image file → (packets : List Packet) × ShowsAt work image file packets
-shows work image file (is_ended e at says) = let has = has_packets (bytes_in image e) _ says in (has.0, of_ended e at has.1)
-shows work image file (is_recorded o packets is last shown) = (packets, of_recorded o is last shown)
 
 -- ---- a cursor that goes on was read to the end
 

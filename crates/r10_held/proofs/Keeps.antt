@@ -14,9 +14,9 @@ use Rattle.r10_control.specs.Effects.{CommitEffect, EraseEffect, PumpEffect, Sta
 use Rattle.r10_control.specs.Own.{AreOwn, OwnGrow, OwnStay}
 use Rattle.r10_control.specs.Refused.{RefusesCall, RefusesOpen}
 use Rattle.r10_control.specs.State.{RecorderState}
-use Rattle.r10_control.specs.Taking.{RefusesReadied, StepsByTaking}
+use Rattle.r10_control.specs.Taking.{RefusesReadied, StepsByTaking, Part, TookAll, entries_of}
 use Rattle.r10_control.specs.Told.{last_shown}
-use Rattle.r10_gauge.specs.Published.{commits_of, last_triple}
+use Rattle.r10_gauge.specs.Published.{commits_of}
 use Rattle.r10_machine.specs.declared.event.Event.{Event as EventValue}
 use Rattle.r10_machine.specs.declared.event.Event.TheVariants as events
 use Rattle.r10_machine.specs.declared.mode.Stopped.{Stopped}
@@ -25,13 +25,13 @@ use Rattle.r10_means.specs.Grown.{AreGrown}
 use Rattle.r10_means.specs.Kept.{Kept, Work, unmounted, idle, recording, failed}
 use Rattle.r10_medium.specs.Disk.{Disk, Image, Unchanged}
 use Rattle.r10_port.specs.Ends.{Receiving, TookReceived}
-use Rattle.r10_pump.specs.Stopping.{Part, TookAll, entries_of}
 use Rattle.r10_held.specs.Account.{Accounted, ChannelAccounts}
 use Rattle.r10_held.specs.LockFact.{LanesAccounted, LockFact, outlet_received, outlet_spec}
 use Rattle.r10_held.specs.Naming.{AreNamed, ChannelRing, ring_for}
 use Rattle.r10_held.specs.Publishing.{LastIsShown, next_triple, triple_of}
 use Rattle.r10_held.proofs.Accounts.{all_erased, all_stay, all_take, none_grown, nothing_in}
 use Rattle.r10_held.proofs.Leavings.{FailedOrSettles, KeepsNumbers, SameOrFailed, Settles, TellsStill, answered, call_tells, commit_left, erase_turns, open_tells, pump_refused, pump_tells, refused_left, settles_so, start_left, stop_refused, tells_after, where_done, where_refused, works}
+use Rattle.r10_gauge.proofs.Steps.{last_triple_push as last_behind}
 
 -- ---- the account, whatever the lanes
 
@@ -164,11 +164,6 @@ last_stays (recording made p) (recording chain o) published still was = λ some.
 last_stays (recording made p) unmounted published still was = absurd still
 last_stays (recording made p) (idle chain) published still was = absurd still
 last_stays (recording made p) failed published still was = absurd still
-
-last_behind : (published : List Glance) (x : Glance) → last_triple (published ++ x ∷ []) ≡ x
-last_behind [] x = refl
-last_behind (y ∷ []) x = refl
-last_behind (y ∷ z ∷ published) x = last_behind (z ∷ published) x
 
 one_more : (published : List Glance) (x : Glance) → commits_of (published ++ x ∷ []) ≡ min (length published) (2 ^ 64 - 1)
 one_more published x = let longer : length (published ++ x ∷ []) ≡ length published + 1 = length-append published (x ∷ []) in omega (arith, longer)

@@ -9,11 +9,6 @@ use Rattle.r10_held.specs.Auditing.{AreAbsentOrRead, IsAbsentOrRead, IsAuditRefu
 use Rattle.r10_held.specs.Transcripts.{Agrees, AllAgree}
 use Rattle.r10_held.specs.declared.transcript.Transcript.{Transcript}
 
--- what is in the midst of a list
-midst : {X : Type 0} (P : X → Type 0) (front : List X) (x : X) (rest : List X) → AllByRecursion P (front ++ x ∷ rest) → P x
-midst P [] x rest all = all.0
-midst P (y ∷ front) x rest all = midst P front x rest all.1
-
 one_more : {X : Type 0} (P : X → Type 0) (front : List X) (x : X) → AllByRecursion P front → P x → AllByRecursion P (front ++ x ∷ [])
 one_more P [] x all is = (is, tt)
 one_more P (y ∷ front) x all is = (all.0, one_more P front x all.1 is)
@@ -25,14 +20,6 @@ split_at xs i d lt = sym (take-append-drop i xs) ∙ ap (λ (l : List _). take i
 pub agree_further : (work : Work) (image : Image) (ts : List Transcript) (i : ℕ) (t : Transcript) → i < length ts → t ≡ get_or ts i t → AllAgree work image (take i ts) → Agrees work image t → AllAgree work image (take (i + 1) ts)
 agree_further work image ts i t lt is all agrees =
     subst (AllAgree work image) (sym (take_more ts i t lt)) (one_more (Agrees work image) (take i ts) (get_or ts i t) all (subst (Agrees work image) is agrees))
-
--- where all agree, each does
-pub each_agrees : (work : Work) (image : Image) (ts : List Transcript) (i : ℕ) (t : Transcript) → i < length ts → t ≡ get_or ts i t → AllAgree work image ts → Agrees work image t
-each_agrees work image ts i t lt is all =
-    subst (Agrees work image) (sym is) (midst (Agrees work image) (take i ts) (get_or ts i t) (drop (i + 1) ts) (subst (AllAgree work image) (split_at ts i t lt) all))
-
-pub all_agree : (work : Work) (image : Image) (ts : List Transcript) (i : ℕ) → length ts ≤ i → AllAgree work image (take i ts) → AllAgree work image ts
-all_agree work image ts i long all = subst (AllAgree work image) (take_all i ts long) all
 
 -- the first that is refused
 pub first_refused : (work : Work) (image : Image) (ts : List Transcript) (i : ℕ) (t : Transcript) (r : Refusal) → i < length ts → t ≡ get_or ts i t → AllAgree work image (take i ts) → IsAuditRefusal work image t.file r

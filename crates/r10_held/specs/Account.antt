@@ -10,7 +10,7 @@ use Rattle.r10_control.specs.State.{RecorderState}
 use Rattle.r10_machine.specs.Machine.{saturated}
 use Rattle.r10_means.specs.Kept.{failed}
 use Rattle.r10_medium.specs.Disk.{Disk}
-use Rattle.r10_pump.specs.Pumping.{entries_on}
+use Rattle.r10_control.specs.Taking.{entries_on}
 
 -- A channel's part, of its own lane alone: what the lane received is what erases took, and then what the recorder's own files have of the channel. Their numbers are kept, each up to 2^64 - 1.
 pub record ChannelAccount {L : Type 0} (spec_of : L → ChannelSpec) (received_of : L → List Sample) (own : List Entry) (spec : ChannelSpec) (taken erased : ℕ) (lane : L) : Type 0 where

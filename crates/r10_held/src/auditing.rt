@@ -11,9 +11,8 @@ ghost use Rattle.r10_machine.specs.declared.event.Event.TheVariants as events;
 ghost use Rattle.r10_held.specs.Auditing.{AreAbsentOrRead, GoOn, IsAbsentOrRead, IsAuditRefusal, IsFirstRefused, IsNext, MayReadOn, at_place, audit_refusal, is_absence as told_absence};
 ghost use Rattle.r10_held.specs.Transcripts.{Agrees, AllAgree, beginning};
 
-use crate::same::are_same;
 use crate::transcript::{Instalment, Transcript};
-use r10_body::Refusal;
+use r10_body::{Refusal, are_same};
 use r10_control::Recorder;
 use r10_cursor::Cursor;
 use r10_lane::LaneOut;

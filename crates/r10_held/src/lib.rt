@@ -13,7 +13,6 @@ mod publishing;
 mod reading;
 mod recording;
 mod rings;
-mod same;
 mod taking;
 mod telling;
 mod transcript;

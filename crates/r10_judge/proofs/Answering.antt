@@ -3,7 +3,7 @@ use Rattle.std.proofs.Common.{◌≡◌, ◌↔◌, ℕ, ◌+◌, ◌/◌, ◌%�
 use Rattle.std.proofs.lemmas.Bool.{eq-eqb}
 use Rattle.std.proofs.lemmas.List.{append_cancel_left}
 use Rattle.r10_count.specs.Bytes.{bit_of, flag_at}
-use Rattle.r10_lossbody.specs.declared.body.LossBody.{LossBody}
+use Rattle.r10_indexbody.specs.declared.loss.LossBody.{LossBody}
 use Rattle.r10_packet.specs.Framing.{framing_fault, header_at}
 use Rattle.r10_packet.specs.declared.fault.PacketFault.{PacketFault}
 use Rattle.r10_packet.specs.declared.fault.PacketFault.TheVariants as packet_faults

@@ -22,7 +22,7 @@ use Rattle.r10_body.proofs.Indexes.{counted, no_nodes}
 use Rattle.r10_body.proofs.Lengths.{last_with}
 use Rattle.r10_body.proofs.Rules.{follows_more, follows_fit, bytes_more, entries_more}
 use Rattle.r10_body.proofs.Sentences.{rest_length}
-use Rattle.r10_index.proofs.Behind.{entries_fit, entries_length}
+use Rattle.r10_tracks.proofs.OnIndex.{entries_fit, entries_length}
 use Rattle.r10_tracks.specs.Broken as broken_later
 use Rattle.r10_judge.specs.Judged.{KeepRules, BreaksIn, broken_rule, in_open_file, stopped_at}
 use Rattle.r10_judge.specs.Copies.{copy, copies, node_of_99}

@@ -1,7 +1,7 @@
 -- Reports that break rule 11 and none below it.
 use Rattle.std.proofs.Common.{◌≡◌, ℕ, ◌-◌, Bool, List, [], ◌∷◌, ◌++◌, length, refl, ap, subst, arith, lit<, lit≤}
 use Rattle.r10_packet.specs.Header.{header_bytes}
-use Rattle.r10_lossbody.specs.declared.body.LossBody.{LossBody}
+use Rattle.r10_indexbody.specs.declared.loss.LossBody.{LossBody}
 use Rattle.r10_body.proofs.Recording.{setup-first, time-second, uart-third, no}
 use Rattle.r10_body.specs.Faults.{IsAnswered, IsAtFault}
 use Rattle.r10_body.specs.Packets.{Packet, packet_bytes, file_bytes}

@@ -8,7 +8,7 @@ use Rattle.r10_packet.specs.declared.header.Header.{Header}
 use Rattle.r10_body.proofs.Lone.{packet-length}
 use Rattle.r10_body.specs.Foreign.{IsForeignPacket}
 use Rattle.r10_body.specs.Packets.{Packet, packet_bytes, file_bytes, file_entries}
-use Rattle.r10_lossbody.specs.declared.body.LossBody.{LossBody}
+use Rattle.r10_indexbody.specs.declared.loss.LossBody.{LossBody}
 use Rattle.r10_body.specs.Rules.{EndsReports, last_report}
 use Rattle.r10_body.specs.Faults.{HasFault, IsAnswered, IsReportAnswered, KeepsHeader, KeepsFiller, ReadsPacket, BreaksRule, IsWrongHere, IsAtFault, first_packet}
 use Rattle.r10_body.specs.Faults as broken_rules

@@ -10,7 +10,7 @@ use Rattle.r10_body.specs.declared.fault.FileFault.{FileFault}
 use Rattle.r10_body.specs.declared.fault.FileFault.TheVariants.{Rule}
 use Rattle.r10_strict.specs.declared.file.Fault.{Fault}
 use Rattle.r10_tracks.specs.Broken.{Breaks}
-use Rattle.r10_tracks.specs.Tracks.{IsTracked}
+pub use Rattle.r10_tracks.specs.Tracks.{IsTracked}
 use Rattle.r10_tracks.specs.declared.tracks.Tracks.{Tracks}
 use Rattle.r10_judge.specs.declared.judge.Judge.{Judge}
 

@@ -15,7 +15,7 @@ ghost use Rattle.r10_strict.specs.Tracks.{IsFirst};
 ghost use Rattle.r10_tracks.specs.Tracks.{IsTracked};
 
 use r10_body::FileFault;
-use r10_lossbody::LossBody;
+use r10_indexbody::LossBody;
 use r10_strict::{
     AnyPacket, Facts, Fault, ForeignPacket, PacketKind, StrictReading, read_any, read_checked,
     read_foreign,

@@ -6,13 +6,12 @@ use Rattle.r10_blockout.specs.Blocks.{bytes_from}
 use Rattle.r10_body.specs.Files.{FileSays, on_channel}
 use Rattle.r10_body.specs.Packets.{file_entries}
 use Rattle.r10_body.specs.declared.entry.Entry.{Entry}
-use Rattle.r10_dirblock.specs.declared.entry.Entry.{Entry as DirectoryEntry}
 use Rattle.r10_machine.specs.Config.{Config}
 use Rattle.r10_machine.specs.Machine.{File, shown_entries}
 use Rattle.r10_machine.specs.Room.{blocks_of}
 use Rattle.r10_machine.specs.Needs.{shown_part}
 use Rattle.r10_medium.specs.Disk.{Image}
-use Rattle.r10_machine.specs.Says.{AreFound, IsFound, Lists, MediumSays, SaysEach, SaysFile}
+use Rattle.r10_machine.specs.Says.{DirectoryEntry, AreFound, IsFound, Lists, MediumSays, SaysEach, SaysFile}
 use Rattle.r10_means.specs.Again.{AreAgain, FindsAgain, IsAgain}
 
 abbrev found_of : (f : File) → List Entry → File

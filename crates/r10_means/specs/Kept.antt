@@ -1,7 +1,7 @@
 -- What a recorder keeps beside its lanes and its medium: its settings, its clock, and what it does.
 use Rattle.std.specs.Prelude.{ℕ, List, Option}
 use Rattle.r10_dirchain.specs.declared.chain.ChainBlock.{ChainBlock}
-use Rattle.r10_volume.specs.Holding.{Open}
+pub use Rattle.r10_volume.specs.Holding.{Open}
 use Rattle.r10_machine.specs.Config.{Config}
 use Rattle.r10_machine.specs.Machine.{Tick}
 use Rattle.r10_machine.specs.declared.mode.Mode.{Mode}

@@ -45,6 +45,8 @@ AnswersSafely k old event reply result later new =
 -- ---- a run
 
 -- Where a machine got these replies to these events: the image says the files that it comes to by some first events and their replies, or those that the next event makes of them.
+-- Which events these are is left open, and may be none at any moment of the run: nobody is told a reply before the run returns. What a stop leaves after each single event is said by
+-- a run of that event alone, and by each call of a recorder (`StaysSafe`).
 pub record IsLeft (s : Config) (m : Machine) (events : List EventValue) (given : List ReplyValue) (image : Image) : Type 0 where
   pub done : ℕ
   pub told : done ≤ length events

@@ -2,7 +2,8 @@
 use Rattle.std.specs.Prelude.{◌≡◌, ℕ, ◌+◌, List, [], ◌∷◌, None, Some, length}
 use Rattle.r10_medium.specs.Disk.{Image}
 use Rattle.r10_body.specs.declared.spec.ChannelSpec.{ChannelSpec}
-use Rattle.r10_volume.specs.Holding.{HoldsFiles, OthersAreFound}
+pub use Rattle.r10_volume.specs.Holding.{OthersAreFound}
+use Rattle.r10_volume.specs.Holding.{HoldsFiles}
 use Rattle.r10_machine.specs.Config.{Config}
 use Rattle.r10_machine.specs.Machine.{File, Lane, Machine, saturated}
 use Rattle.r10_machine.specs.ControlCalls.{own_entries}

@@ -2,22 +2,27 @@
 
 use r10_builder::Builders;
 use r10_medium::MediumFault;
+use thiserror::Error;
 
 /// Why a file was not begun.
-#[derive(Debug, Drop)]
+#[derive(Debug, Drop, Error)]
 pub enum BeginFault {
     /// There is no memory for it. The builders come back, and nothing has changed.
+    #[error("out of memory")]
     Memory(Builders),
     /// The medium failed.
+    #[error("{0}")]
     Medium(MediumFault),
 }
 
 /// Why a sample or an event was not taken in.
-#[derive(Clone, Copy, Debug, PartialEq, Eq)]
+#[derive(Clone, Copy, Debug, PartialEq, Eq, Error)]
 pub enum TakeFault {
     /// There is no memory for it, and the file is as it was.
+    #[error("out of memory")]
     Memory,
     /// The medium failed. The file can't go on.
+    #[error("{0}")]
     Medium(MediumFault),
 }
 

@@ -1,5 +1,5 @@
 -- Where files stand that lie back to back, and where the next one begins.
-use Rattle.std.proofs.Common.{◌≡◌, ℕ, suc, ◌+◌, ◌-◌, ◌/◌, ◌<◌, ◌≤◌, Bool, true, false, ◌&&◌, List, [], ◌∷◌, length, take, drop, Option, None, Some, refl, sym, ap, subst, ◌∙◌, arith, ext_get_or, get_or-drop}
+use Rattle.std.proofs.Common.{◌≡◌, ℕ, suc, ◌+◌, ◌-◌, ◌/◌, ◌<◌, Bool, true, false, ◌&&◌, List, [], ◌∷◌, length, take, drop, Option, None, Some, refl, sym, ap, subst, ◌∙◌, arith, ext_get_or, get_or-drop}
 use Rattle.std.specs.Prelude.{nat_lt, nat_le, ◌==◌}
 use Rattle.std.specs.List.{All, concat, last_or}
 use Rattle.std.proofs.lemmas.Bool.{eqb-true}
@@ -17,6 +17,7 @@ use Rattle.r10_machine.specs.Config.{Config}
 use Rattle.r10_machine.specs.Machine.{File}
 use Rattle.r10_machine.specs.Room.{blocks_of}
 use Rattle.r10_machine.specs.Says.{SaysEach}
+pub use Rattle.r10_volume.proofs.Staying.{bytes_behind}
 
 -- ---- where the next file begins
 
@@ -50,7 +51,7 @@ each_length image [] (f ∷ files) each = absurd each
 each_length image (e ∷ entries) [] each = absurd each
 each_length image (e ∷ entries) (f ∷ files) each = omega (arith, each_length image entries files each.2)
 
-but_last : (e d : DirectoryEntry) (entries : List DirectoryEntry) → take (length (e ∷ d ∷ entries) - 1) (e ∷ d ∷ entries) ≡ e ∷ take (length (d ∷ entries) - 1) (d ∷ entries)
+pub but_last : (e d : DirectoryEntry) (entries : List DirectoryEntry) → take (length (e ∷ d ∷ entries) - 1) (e ∷ d ∷ entries) ≡ e ∷ take (length (d ∷ entries) - 1) (d ∷ entries)
 but_last e d entries = ap (λ (k : ℕ). take k (e ∷ d ∷ entries)) one_more
   where
     one_more : length (e ∷ d ∷ entries) - 1 ≡ suc (length (d ∷ entries) - 1)
@@ -77,6 +78,3 @@ same_from old new first size numbers same all =
     ap (λ (l : Image). take size (concat l))
     (ext_get_or [] (drop first new) (drop first old) (omega (arith, same.size, length-drop first new, length-drop first old))
     (λ k lt. get_or-drop first new k [] ∙ same.others (first + k) (λ i d lt is. omega (arith, is, all i d lt)) ∙ sym (get_or-drop first old k [])))
-
-pub bytes_behind : (old new : Image) (reserved first size : ℕ) (numbers : List ℕ) → SameButIn numbers old new → All (λ (n : ℕ). n ≤ reserved) numbers → reserved < first → bytes_from new first size ≡ bytes_from old first size
-bytes_behind old new reserved first size numbers same all less = same_from old new first size numbers same (λ i d lt. omega (arith, less, all i d lt))

@@ -11,7 +11,7 @@ mod Going
 mod Closed
 mod Pumped
 mod AllPumped
-mod Fronting
+pub mod Fronting
 pub mod Others
 mod Names
 mod Places
@@ -25,3 +25,13 @@ pub mod Listing
 pub mod ListedTurning
 pub mod Calls
 mod Parts
+pub mod SamplesComing
+pub mod Together
+pub mod SoFar
+pub mod Before
+pub mod Fitting
+pub mod Leaving
+pub mod Lanes
+pub mod AllLanes
+pub mod Stops
+pub mod Rests

@@ -1,7 +1,7 @@
 -- A file that was written behind all others is listed.
 use Rattle.std.proofs.Common.{◌≡◌, ℕ, ◌+◌, ◌*◌, ◌/◌, ◌<◌, ◌≤◌, Bool, true, false, ◌&&◌, List, [], ◌∷◌, ◌++◌, length, take, Option, None, Some, refl, sym, ap, subst, ◌∙◌, arith, length-append}
 use Rattle.std.specs.Prelude.{slice_set, nat_lt, nat_le, ◌==◌, IsSomeAnd, if◌then◌else◌}
-use Rattle.std.specs.List.{All, AllByRecursion, last_or}
+use Rattle.std.specs.List.{All}
 use Rattle.std.proofs.lemmas.Bool.{eq-eqb, lt-ltb, le-leb, false≢true}
 use Rattle.std.proofs.lemmas.List.{append-nil, length-set, take_all}
 use Rattle.std.proofs.lemmas.List.Elements.{All-nil, All-cons}
@@ -41,6 +41,7 @@ use Rattle.r10_machine.specs.Says.{IsFound, Lists, MediumSays, SaysEach, SaysFil
 use Rattle.r10_openfile.specs.Begun.{IsBegun}
 use Rattle.r10_openfile.proofs.BehindAll.{held_mounts, stand_from}
 use Rattle.r10_openfile.proofs.BackToBack.{all_closed, behind_all, bytes_behind, each_length}
+use Rattle.r10_openfile.proofs.Ends.{last_is, all_with}
 
 longer : (chain : List ChainBlock) (i : ℕ) (b c : ChainBlock) → length (slice_set chain i b ++ c ∷ []) ≡ length chain + 1
 longer chain i b c = omega (arith, length-append (slice_set chain i b) (c ∷ []), length-set chain i b)
@@ -72,14 +73,6 @@ written_some reserved blocks chain some mounts =
     by : (b : Bool) → All (λ (n : ℕ). 1 ≤ n) (if b then next_number chain ∷ [] else [])
     by false = All-nil (λ (n : ℕ). 1 ≤ n)
     by true = All-cons (λ (n : ℕ). 1 ≤ n) (next_number chain) [] (omega arith) (All-nil (λ (n : ℕ). 1 ≤ n))
-
-last_is : (o : Option File) (files : List File) (f : File) → last_or o (files ++ f ∷ []) ≡ Some f
-last_is o [] f = refl
-last_is o (g ∷ files) f = last_is (Some g) files f
-
-all_with : (P : File → Type 0) (files : List File) (f : File) → AllByRecursion P files → P f → AllByRecursion P (files ++ f ∷ [])
-all_with P [] f all here = (here, tt)
-all_with P (g ∷ files) f all here = (all.0, all_with P files f all.1 here)
 
 module _ (s : Config) (old : Image) (chain : List ChainBlock) (files : List File) (r : Recording) (f : File) (e : DirectoryEntry) (whole : IsWhole old) (held : HoldsFiles s old chain None files) (begun : IsBegun s old files r f)
     (closed : is_sealed files ≡ true) (few : length files < most_files s) (lists : Lists f e) where

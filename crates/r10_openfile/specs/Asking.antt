@@ -20,8 +20,8 @@ use Rattle.r10_machine.specs.Config.{Config}
 use Rattle.r10_machine.specs.EventChecks.{most_files}
 use Rattle.r10_medium.specs.Disk.{Image}
 use Rattle.r10_packetout.specs.Carries.{Records, Recording, time_entry_at}
-use Rattle.r10_pump.specs.Pumping.{IsOpenTo, IsReadyFor, packets_at_most}
-use Rattle.r10_pump.specs.Stopping.{IsOpenToAll, room_of}
+use Rattle.r10_openfile.specs.Pumping.{IsOpenTo, IsReadyFor, packets_at_most}
+use Rattle.r10_openfile.specs.Stopping.{IsOpenToAll, room_of}
 use Rattle.r10_volume.specs.Listing.{is_last_closed}
 use Rattle.r10_volume.specs.Mounting.{IsUsable}
 

@@ -10,3 +10,6 @@ pub mod Relisting
 pub mod Begins
 pub mod Asking
 pub mod ByParts
+pub mod Pumping
+pub mod Machines
+pub mod Stopping

@@ -4,7 +4,7 @@ ghost use Rattle.std.specs.Prelude.{◌≡◌, ◌++◌, ℕ, List};
 ghost use Rattle.std.specs.List.{AllByRecursion};
 ghost use Rattle.r10_body.specs.declared.entry.Entry.{Entry};
 ghost use Rattle.r10_body.specs.declared.entry.Sample.{Sample as SampleValue};
-ghost use Rattle.r10_pump.specs.Pumping.{EndsBy, entries_on};
+ghost use Rattle.r10_openfile.specs.Pumping.{EndsBy, entries_on};
 
 /// Entries of other channels leave where a channel ends, so that its lane goes on: single ones, as times and
 /// events, and samples of another lane.

@@ -61,6 +61,7 @@ pub fn list_file<M: BlockMedium>(
     if let Err(fault) = mux.commit_blocks(medium) {
         return Err(fault);
     }
+    // A sync of its own: `add` makes sure of all once more, but an image that a stop could leave here might have another chain of blocks for the same files.
     if let Err(fault) = medium.sync() {
         return Err(fault);
     }

@@ -16,3 +16,4 @@ pub use laws::{
     samples_are_no_events, times_are_carried,
 };
 pub use output::PacketOut;
+pub use r10_index::IndexBook;

@@ -4,7 +4,7 @@ use Rattle.std.specs.Prelude.{filter}
 use Rattle.r10_medium.specs.Disk.{Image}
 use Rattle.r10_dirblock.specs.Block.{is_closed}
 use Rattle.r10_dirchain.specs.declared.chain.Listed.{Listed}
-use Rattle.r10_indexbody.specs.declared.entry.NodeEntry.{NodeEntry}
+use Rattle.r10_cursor.specs.Shown.{NodeEntry, ShowsPackets}
 use Rattle.r10_body.specs.Packets.{Packet}
 use Rattle.r10_body.specs.Rules.{is_data, node_entries}
 use Rattle.r10_body.specs.declared.entry.Entry.{Entry}
@@ -12,7 +12,6 @@ use Rattle.r10_judge.specs.Judged.{TracksStrictFile}
 use Rattle.r10_machine.specs.Replay.{wanted, Ordered}
 use Rattle.r10_checker.specs.Place.{bytes_on}
 use Rattle.r10_cursor.specs.Replays.{AdvancesReading, Reading, begun_reading}
-use Rattle.r10_cursor.specs.Shown.{ShowsPackets}
 use Rattle.r10_tracks.specs.Tracks.{IsTracked}
 use Rattle.r10_tracks.specs.declared.tracks.Tracks.{Tracks}
 use Rattle.r10_playback.specs.Played.{channels_of, HasCounts, IsListedInside, IsInstalment}

@@ -11,7 +11,7 @@ use r10_body::{ChannelSpec, Kind, Message, Timed};
 use r10_control::{Recorder, Settings};
 use r10_count::{Bytes, Count, Items, Parts};
 use r10_held::new_recorders_account_for_their_lanes;
-use r10_medium::Memory;
+use r10_medium::{BlockMedium, Memory};
 use r10_port::{Outlet, Port, lane};
 use r10_shared::{Cabinet, Pass, Rings};
 use r10_source::{ChannelSource, Given};
@@ -117,17 +117,36 @@ fn over(
     }
 }
 
-/// A recorder of channel 5 over a formatted medium, of whose lane nothing was received, and the sending end of this lane.
-pub(crate) fn new_recorder(alloc: Global) -> Result<(Recorder<Memory, Outlet>, Port), Fail>
+/// A medium that is formatted for a recorder of channel 5.
+pub(crate) fn formatted(alloc: Global) -> Result<Memory, Fail> {
+    let settings = settings(alloc, CHANNEL)?;
+    medium(alloc, &settings)
+}
+
+/// A recorder of channel 5 over a medium, of whose lane nothing was received, and the sending end of this lane.
+pub(crate) fn recorder_over(
+    alloc: Global,
+    medium: Memory,
+) -> Result<(Recorder<Memory, Outlet>, Port), Fail>
     ensures new { IfOk result (λ r. IsNew memory_disk outlet_spec outlet_received r.0) }
     ensures named { IfOk result (λ r. AreNamed (record { channel = 5; ring = r.1.ring } ∷ []) r.0.lanes) }
 {
     let settings = settings(alloc, CHANNEL)?;
-    let medium = medium(alloc, &settings)?;
+    if medium.blocks() != settings.blocks() {
+        return Err(Fail::new("a medium of other settings"));
+    }
     let (port, outlet) = lane(alloc, CHANNEL)?;
     let lanes = alone(alloc, outlet)?;
     let recorder = over(alloc, settings, medium, lanes)?;
     Ok((recorder, port))
+}
+
+/// The same over a formatted medium.
+pub(crate) fn new_recorder(alloc: Global) -> Result<(Recorder<Memory, Outlet>, Port), Fail>
+    ensures new { IfOk result (λ r. IsNew memory_disk outlet_spec outlet_received r.0) }
+    ensures named { IfOk result (λ r. AreNamed (record { channel = 5; ring = r.1.ring } ∷ []) r.0.lanes) }
+{
+    recorder_over(alloc, formatted(alloc)?)
 }
 
 /// The lock round a recorder, and the first pass.

@@ -5,6 +5,8 @@
 #[cfg(test)]
 mod between;
 #[cfg(test)]
+mod building;
+#[cfg(test)]
 mod feeds;
 #[cfg(test)]
 mod limits;

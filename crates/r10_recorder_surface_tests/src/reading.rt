@@ -58,5 +58,8 @@ fn a_cursor_is_advanced(rt: HostRuntime) -> Result<(), Fail> {
     let counts = [next(&mut cursor), next(&mut cursor), next(&mut cursor)];
     assert_eq!(rt; counts, [Some(1000), Some(1010), None]);
     assert_eq!(rt; recorder.advance(&mut cursor), Ok(0));
+    let mut other = opened(alloc, &mut recorder)?;
+    assert_eq!(rt; recorder.take_instalment(&mut other), Ok(2));
+    assert_eq!(rt; other.rest(alloc).len(), 2);
     Ok(())
 }

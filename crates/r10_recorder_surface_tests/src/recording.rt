@@ -3,6 +3,7 @@
 use crate::made::{Ask, Call, Desk, SHOWN, WAITING, asked, otherwise};
 use r10_body::Refusal;
 use r10_control::{FileInfo, LaneStatus, Mode, RecorderStatus, Stopped};
+use r10_machine::{ChannelStatus, Status};
 use r10_medium::BlockMedium;
 use std::test::Fail;
 
@@ -48,6 +49,14 @@ fn told(recorder: &mut Desk) -> Option<(Mode, Option<u64>, usize, u64, Option<La
     ))
 }
 
+/// What waits of its one channel, and what was lost of it.
+fn lost(recorder: &Desk) -> Option<ChannelStatus> {
+    let Ok(Status { channels, .. }) = recorder.status_with_lost() else {
+        return None;
+    };
+    channels.as_slice().first().copied()
+}
+
 #[test]
 fn a_recorder_says_how_it_is(rt: HostRuntime) -> Result<(), Fail> {
     let mut recorder = asked(rt.alloc(), WAITING, &[])?;
@@ -60,6 +69,13 @@ fn a_recorder_says_how_it_is(rt: HostRuntime) -> Result<(), Fail> {
         told(&mut recorder),
         Some((Mode::Recording, Some(1000), 1, 30_964, Some(lane)))
     );
+    let channel = ChannelStatus {
+        channel: 5,
+        waiting: 2,
+        lost: 1,
+        erased: 0,
+    };
+    assert_eq!(rt; lost(&recorder), Some(channel));
     assert_eq!(rt;
         (recorder.lost(5), recorder.lost(6)),
         (Ok(1), Err(Refusal::NoSuchChannel))

@@ -6,15 +6,15 @@ ghost use Rattle.r10_held.specs.LockFact.{outlet_received, outlet_spec};
 ghost use Rattle.r10_held.specs.Naming.{AreNamed, ring_for};
 ghost use Rattle.r10_medium.specs.MemoryDisk.{memory_disk};
 
-use crate::between::{LAST, LEAP_DAY, locked, new_recorder, text, two};
+use crate::between::{LAST, LEAP_DAY, formatted, locked, new_recorder, recorder_over, text, two};
 use crate::locks::{BEGUN, otherwise};
-use crate::players::reader;
 use r10_control::Recorder;
+use r10_count::Items;
 use r10_medium::Memory;
 use r10_port::{Outlet, Port};
 use r10_shared::{
-    Cabinet, Feed, FeedReport, Instalment, Open, Order, Player, Rings, Session, SessionReport,
-    Transcript, audit, end_session, run_session,
+    Cabinet, Feed, FeedReport, Gate, Instalment, Open, Order, Pass, Player, Rings, Session,
+    SessionReport, Transcript, audit, end_session, run_session,
 };
 use r10_source::ChannelSource;
 use std::alloc::{AllocError, Global};
@@ -23,33 +23,35 @@ use std::sync::Wait;
 use std::test::Fail;
 use std::thread::Threads;
 
-/// A file is begun, closed and erased.
-fn orders(alloc: Global) -> Result<Vec<Order>, AllocError> {
-    let start = Order::Start {
-        name: text(alloc, b"FLT1")?,
-        setup: text(alloc, b"ABCD")?,
-    };
-    let mut orders = Vec::with_capacity(alloc, 9)?;
-    for order in [
-        Order::Mount,
-        Order::Tick {
-            count: 1000,
-            parts: LEAP_DAY,
-        },
-        start,
-        Order::Event {
-            number: 3,
-            count: 1010,
-        },
-        Order::Commit,
-        Order::Stop,
-        Order::Seal,
-        Order::Erase,
-        Order::Dismount,
-    ] {
-        orders.push(order)?;
+/// A gate that lets the worker pass that gives the orders, where there are no feeds: so nobody else commits.
+struct OrdersAlone;
+
+impl Gate for OrdersAlone {
+    fn pass(&self, worker: usize) -> bool {
+        worker == 1
     }
-    Ok(orders)
+}
+
+/// The clock at 1000.
+const TICK: Order = Order::Tick {
+    count: 1000,
+    parts: LEAP_DAY,
+};
+
+/// A file is begun, with setup text `ABCD`.
+fn start(alloc: Global, name: &[u8]) -> Result<Order, AllocError> {
+    Ok(Order::Start {
+        name: text(alloc, name)?,
+        setup: text(alloc, b"ABCD")?,
+    })
+}
+
+/// These orders in a list.
+fn listed<const COUNT: usize>(
+    alloc: Global,
+    orders: [Order; COUNT],
+) -> Result<Vec<Order>, AllocError> {
+    Ok(Vec::from_array(alloc, orders)?)
 }
 
 /// The report of a session that is over.
@@ -70,31 +72,63 @@ fn ordered<N: Rings + Send + Sync, R: Threads + Wait + Sync>(
     alloc: Global,
     recorder: Recorder<Memory, Outlet>,
     port: Port,
+    orders: Vec<Order>,
 ) -> Result<SessionReport<Memory>, Fail>
     requires new { IsNew memory_disk outlet_spec outlet_received recorder }
     requires named { AreNamed N.rings recorder.lanes }
 {
     let _unused = port;
-    let orders = orders(alloc)?;
     let (cabinet, _pass) = locked::<N>(alloc, recorder)?;
     let (feeds, players) = (Vec::new(alloc), Vec::new(alloc));
-    match run_session(rt, alloc, &cabinet, &Open, feeds, orders, players) {
+    match run_session(rt, alloc, &cabinet, &OrdersAlone, feeds, orders, players) {
         Ok(session) => ended(alloc, cabinet, session),
         Err(_) => Err(Fail::new("no memory")),
     }
 }
 
+/// The last file and its shown bytes, and the medium, after a session of these orders over a medium.
+fn left_by<R: Threads + Wait + Sync>(
+    rt: &R,
+    alloc: Global,
+    medium: Memory,
+    orders: Vec<Order>,
+) -> Result<(Option<(usize, u64)>, Memory), Fail> {
+    let (recorder, port) = recorder_over(alloc, medium)?;
+    let report = ordered::<Brand, R>(rt, alloc, recorder, port, orders)?;
+    let recorder = report.recorder;
+    Ok((recorder.last_shown(), recorder.into_medium()))
+}
+
+/// A setup, a time and an event have 32, 36 and 40 bytes, shown by the commit; the file is left open, and sealed by another recorder, which may begin the next one
+/// only after that. Its stop puts a node and a root behind setup and time: 68 and 60 bytes. An order that is not given, or given twice, leaves others.
 #[test]
 fn orders_are_given(rt: HostRuntime) -> Result<(), Fail> {
     let alloc = rt.alloc();
-    let (recorder, port) = new_recorder(alloc)?;
-    let SessionReport {
-        recorder,
-        feeds,
-        transcripts,
-    } = ordered::<Brand, HostRuntime>(&rt, alloc, recorder, port)?;
-    assert_eq!(rt; (feeds.len(), transcripts.len()), (0, 0));
-    assert_eq!(rt; recorder.last_shown(), None);
+    let event = Order::Event {
+        number: 3,
+        count: 1010,
+    };
+    let first = [
+        Order::Mount,
+        TICK,
+        start(alloc, b"FLT1")?,
+        event,
+        Order::Commit,
+    ];
+    let (shown, medium) = left_by(&rt, alloc, formatted(alloc)?, listed(alloc, first)?)?;
+    assert_eq!(rt; shown, Some((0, 108)));
+    let second = [
+        Order::Mount,
+        Order::Seal,
+        TICK,
+        start(alloc, b"FLT2")?,
+        Order::Stop,
+    ];
+    let (shown, medium) = left_by(&rt, alloc, medium, listed(alloc, second)?)?;
+    assert_eq!(rt; shown, Some((1, 196)));
+    let third = [Order::Mount, Order::Erase, Order::Dismount, Order::Mount];
+    let (shown, _medium) = left_by(&rt, alloc, medium, listed(alloc, third)?)?;
+    assert_eq!(rt; shown, None);
     Ok(())
 }
 
@@ -118,6 +152,29 @@ fn players(alloc: Global, player: Player) -> Result<Vec<Player>, AllocError>
     let mut players = Vec::with_capacity(alloc, 1)?;
     players.push_reserved(player);
     Ok(players)
+}
+
+/// A reader of all channels of the first file, which has its first time and has not given it.
+fn reader<N: Rings, R: Wait>(
+    rt: &R,
+    alloc: Global,
+    cabinet: &Cabinet<Memory, N>,
+    pass: Pass,
+) -> Result<Player, Fail>
+    requires { pass.cell ≡ cabinet.now }
+    ensures { IfOk result (λ player. player.pass.cell ≡ cabinet.now) }
+{
+    let opened = cabinet
+        .hold(rt)
+        .cursor(0, Items::of(Vec::new(alloc)), 0, LAST);
+    let Ok(cursor) = opened else {
+        return Err(Fail::new("no cursor"));
+    };
+    let mut player = Player::new(cursor, pass);
+    match player.advance(rt, cabinet) {
+        Ok(1) => Ok(player),
+        _ => Err(Fail::new("the first time is not shown")),
+    }
 }
 
 /// A session of a feed and a reader, of a file that is begun before.
@@ -161,9 +218,9 @@ fn told(feeds: &[FeedReport]) -> Option<(u16, [u64; 4], usize)> {
     Some((*channel, [*accepted, *refused, *erased, *filed], rest.len()))
 }
 
-/// How many entries instalments have that go on from one another, the first from the file's beginning.
+/// How many entries instalments have that go on from one another, the first from behind the setup and the time.
 fn entries_in(instalments: &[Instalment]) -> usize {
-    let (mut given, mut place) = (0usize, 0usize);
+    let (mut given, mut place) = (0usize, 2usize);
     for Instalment { from, to, entries } in instalments {
         if *from == place {
             given = given.wrapping_add(entries.as_slice().len());
@@ -204,7 +261,7 @@ fn a_feed_is_filed_and_read(rt: HostRuntime) -> Result<(), Fail> {
     assert_eq!(rt; told(report.feeds.as_slice()), Some((5, [2, 0, 0, 2], 0)));
     assert_eq!(rt;
         written(report.transcripts.as_slice()),
-        Some((0, 1, [0, LAST], 2))
+        Some((0, 0, [0, LAST], 2))
     );
     assert_eq!(rt; audit(alloc, &mut report), Ok(true));
     Ok(())

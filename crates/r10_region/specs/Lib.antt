@@ -1,4 +1,7 @@
 pub mod Device
+pub mod Line
+pub mod Runs
 pub mod Orders
+pub mod Joining
 pub mod Queue
 pub mod RegionDisk

@@ -1,14 +1,50 @@
 -- What is handed out of the operations that a disk has to do.
-use Rattle.std.specs.Prelude.{◌≡◌, ◌⊎◌, ℕ, List, [], ◌∷◌, ◌++◌, drop}
-use Rattle.rtrb.specs.Ring.{received, known_items, SameConsumer}
+use Rattle.std.specs.Prelude.{◌≡◌, ◌⊎◌, ℕ, ◌/◌, true, List, [], ◌∷◌, ◌++◌, drop, length}
+use Rattle.rtrb.specs.Ring.{sent, received, known_items, known_free, consumer_capacity, IsPair, SameConsumer, SameProducer, ConsumerLooked}
+use Rattle.r10_region.specs.Runs.{AllJoin, grown_by_all, put_all_in_run}
+use Rattle.r10_region.specs.declared.line.Link.{Link}
 use Rattle.r10_region.specs.declared.operation.Operation.{Operation as OperationValue}
 use Rattle.r10_region.specs.declared.operation.Operation.TheVariants.{Write, Sync}
 use Rattle.r10_region.specs.declared.orders.OrderOut.{OrderOut}
+use Rattle.r10_region.specs.declared.orders.QueueOut.{QueueOut}
+use Rattle.r10_region.specs.declared.orders.RunOut.{RunOut}
 use Rattle.r10_region.specs.declared.orders.Orders.{Orders as OrdersValue}
+use Rattle.r10_region.specs.declared.region.Region.{Region}
 
--- those that were handed out, in order
+-- nothing was handed out yet of what the region asks its disk, and all comes out here
+pub record IsOtherEnd (r : Region) (o : OrdersValue) : Type 0 where
+  pub ring : IsPair r.line.ring o.ring
+  pub links : IsPair r.line.links o.links
+  pub news : IsPair o.news r.news
+  pub none_told : sent o.news ≡ []
+  pub none_out : received o.ring ≡ []
+  pub no_links : received o.links ≡ []
+
+-- those that were handed out of the ring in hand, in order
 abbrev pub taken : OrdersValue → List OperationValue
-taken o = received o.device
+taken o = received o.ring
+
+-- ---- which ring is in hand
+
+-- the same
+pub record StaysAtRing (old new : OrdersValue) : Type 0 where
+  pub ring : ConsumerLooked old.ring new.ring
+  pub links : ConsumerLooked old.links new.links
+  pub news : new.news ≡ old.news
+
+-- the next: the one in hand had nothing more
+pub record TakesRing (old new : OrdersValue) : Type 0 where
+  pub link : Link
+  pub none : known_items old.ring ≡ []
+  pub out : received new.links ≡ received old.links ++ link ∷ []
+  pub links : SameConsumer old.links new.links
+  pub ring : new.ring ≡ link.next
+  pub news : new.news ≡ old.news
+
+abbrev pub MovesOn : OrdersValue → OrdersValue → Type 0
+MovesOn old new = StaysAtRing old new ⊎ TakesRing old new
+
+-- ---- one operation
 
 abbrev pub order_out : OperationValue → OrderOut
 order_out (Write n bytes) = record { block = n; kind = 1 }
@@ -29,13 +65,83 @@ pub record Hands (op : OperationValue) (old new : OrdersValue) (out : OrderOut) 
   pub lent : after ≡ written_bytes op before
 
 -- there was none
-pub record HandsNone (old new : OrdersValue) (out : OrderOut) (before after : List ℕ) : Type 0 where
+pub record HandsNone {Out : Type 0} (none_is : Out) (old new : OrdersValue) (out : Out) (before after : List ℕ) : Type 0 where
   pub no_more : taken new ≡ taken old
-  pub none : known_items new.device ≡ []
-  pub told : out ≡ no_order
+  pub none : known_items new.ring ≡ []
+  pub told : out ≡ none_is
   pub lent : after ≡ before
+
+-- the ring in hand had none, and has none
+pub record HasNone (old new : OrdersValue) : Type 0 where
+  pub no_more : taken new ≡ taken old
+  pub none : known_items new.ring ≡ []
+
+-- it is the same queue
+pub record IsSameEnd (old new : OrdersValue) : Type 0 where
+  pub ring : SameConsumer old.ring new.ring
+  pub links : new.links ≡ old.links
+  pub news : new.news ≡ old.news
+
+-- of those that the ring in hand was given the next was handed out, or there was none
+pub record HandsOne (old new : OrdersValue) (out : OrderOut) (before after : List ℕ) : Type 0 where
+  pub queue : IsSameEnd old new
+  pub hands : ((op : OperationValue) × Hands op old new out before after) ⊎ HandsNone no_order old new out before after
 
 -- The next operation was handed out, of those that the other end of this queue was given and in their order, or there was none.
 pub record HandsOrderOut (old new : OrdersValue) (out : OrderOut) (before after : List ℕ) : Type 0 where
-  pub queue : SameConsumer old.device new.device
-  pub hands : ((op : OperationValue) × Hands op old new out before after) ⊎ HandsNone old new out before after
+  pub from : OrdersValue
+  pub moves : MovesOn old from
+  pub hands : HandsOne from new out before after
+
+-- ---- a run
+
+abbrev pub no_run : RunOut
+no_run = record { block = 0; blocks = 0; kind = 0 }
+
+abbrev pub sync_run : RunOut
+sync_run = record { block = 0; blocks = 0; kind = 2 }
+
+-- a write, and as many behind it as join it: what each block of the run has then is what was written there last
+pub record HandsRun (first : ℕ) (bytes : List ℕ) (ops : List OperationValue) (old new : OrdersValue) (out : RunOut) (before after : List ℕ) : Type 0 where
+  pub more : taken new ≡ taken old ++ Write first bytes ∷ ops
+  pub all_join : AllJoin first 1 (length before / 512) ops
+  pub told : out ≡ record { block = first; blocks = grown_by_all first ops 1; kind = 1 }
+  pub lent : after ≡ put_all_in_run first ops (bytes ++ drop 512 before)
+
+-- a sync
+pub record HandsSync (old new : OrdersValue) (out : RunOut) (before after : List ℕ) : Type 0 where
+  pub one_more : taken new ≡ taken old ++ Sync ∷ []
+  pub told : out ≡ sync_run
+  pub lent : after ≡ before
+
+pub data HandsNext (old new : OrdersValue) (out : RunOut) (before after : List ℕ) : Type 0 where
+  run : (first : ℕ) (bytes : List ℕ) (ops : List OperationValue) → HandsRun first bytes ops old new out before after → HandsNext old new out before after
+  sync : HandsSync old new out before after → HandsNext old new out before after
+  none : HandsNone no_run old new out before after → HandsNext old new out before after
+
+-- of the operations that the ring in hand was given the next run was handed out, or a sync, or there was none
+pub record HandsSome (old new : OrdersValue) (out : RunOut) (before after : List ℕ) : Type 0 where
+  pub queue : IsSameEnd old new
+  pub hands : HandsNext old new out before after
+
+-- The next run was handed out, of the operations that the other end of this queue was given and in their order, or a sync, or there was none.
+pub record HandsRunOut (old new : OrdersValue) (out : RunOut) (before after : List ℕ) : Type 0 where
+  pub from : OrdersValue
+  pub moves : MovesOn old from
+  pub hands : HandsSome from new out before after
+
+-- ---- how much waits, and that the disk failed
+
+-- what waits and has a place in the ring in hand, and how many further rings wait
+pub record CountsQueue (old new : OrdersValue) (out : QueueOut) : Type 0 where
+  pub ring : ConsumerLooked old.ring new.ring
+  pub links : ConsumerLooked old.links new.links
+  pub news : new.news ≡ old.news
+  pub told : out ≡ record { waiting = length (known_items new.ring); places = consumer_capacity new.ring; rings = length (known_items new.links) }
+
+-- a failure was told to the region, or one was told before and is not yet heard
+pub record HasTold (old new : OrdersValue) : Type 0 where
+  pub ring : new.ring ≡ old.ring
+  pub links : new.links ≡ old.links
+  pub news : SameProducer old.news new.news
+  pub told : (sent new.news ≡ sent old.news ++ true ∷ []) ⊎ ((sent new.news ≡ sent old.news) × (known_free new.news ≡ 0))

@@ -1,29 +1,28 @@
 -- The queue from a region to its disk: how much may wait in it, and what a call of the medium does to it.
-use Rattle.std.specs.Prelude.{◌≡◌, ℕ, ◌+◌, ◌≤◌, Bool, false, [], ◌∷◌, ◌++◌}
-use Rattle.rtrb.specs.Ring.{known_free, producer_capacity, SameProducer}
-use Rattle.rtrb.specs.declared.producer.Producer.{Producer}
+use Rattle.std.specs.Prelude.{◌≡◌, ◌⊎◌, ℕ, ◌+◌, ◌≤◌, ◌<◌, length, [], ◌∷◌, ◌++◌}
+use Rattle.rtrb.specs.Ring.{known_free, known_items, producer_capacity, SameProducer}
+use Rattle.r10_region.specs.Line.{KeepsRing, BeginsRing}
 use Rattle.r10_region.specs.RegionDisk.{region_disk, lent_to, asked}
 use Rattle.r10_region.specs.declared.operation.Operation.{Operation as OperationValue}
 use Rattle.r10_region.specs.declared.region.Region.{Region}
 
--- It is the same queue behind an operation that was told, which took a place at most; it was not told only where no place was known to be free.
-pub record KeepsQueue {A P : Type 0} (told : Bool) (old new : Producer OperationValue A P) : Type 0 where
-  pub same : SameProducer old new
-  pub places : known_free old ≤ known_free new + 1
-  pub full : told ≡ false → (known_free old ≡ 0) × (known_free new ≡ 0)
-
--- how many operations may wait
+-- how many operations may wait in the ring in use
 abbrev pub queue_room : Region → ℕ
-queue_room r = producer_capacity r.device
+queue_room r = producer_capacity r.line.ring
 
 -- how many more the region knows that there is a place for
 abbrev pub places_known : Region → ℕ
-places_known r = known_free r.device
+places_known r = known_free r.line.ring
+
+-- it is the same queue, in the ring in use or in a further one
+pub record IsSameQueue (old new : Region) : Type 0 where
+  pub links : SameProducer old.line.links new.line.links
+  pub ring : KeepsRing old.line new.line ⊎ BeginsRing old.line new.line
 
 -- The disk was asked this, behind what it was asked before, and it took a place at most of those known.
 pub record AsksDisk (op : OperationValue) (old new : Region) : Type 0 where
   pub lent : lent_to new ≡ lent_to old
-  pub queue : SameProducer old.device new.device
+  pub queue : IsSameQueue old new
   pub one_more : asked new ≡ asked old ++ op ∷ []
   pub places : places_known old ≤ places_known new + 1
   pub failures : (region_disk new).failures ≡ (region_disk old).failures
@@ -33,6 +32,13 @@ pub record FindsNoPlace (old new : Region) : Type 0 where
   pub none_known : places_known old ≡ 0
   pub none_left : places_known new ≡ 0
   pub lent : lent_to new ≡ lent_to old
-  pub queue : SameProducer old.device new.device
+  pub queue : IsSameQueue old new
   pub no_more : asked new ≡ asked old
+  pub blocks : (region_disk new).blocks ≡ (region_disk old).blocks
+
+-- It was told that the disk failed: nothing was written, and the disk was asked nothing.
+pub record HearsFailure (old new : Region) : Type 0 where
+  pub heard : 0 < length (known_items new.news)
+  pub lent : lent_to new ≡ lent_to old
+  pub line : new.line ≡ old.line
   pub blocks : (region_disk new).blocks ≡ (region_disk old).blocks

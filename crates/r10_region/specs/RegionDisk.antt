@@ -2,10 +2,10 @@
 use Rattle.std.specs.Prelude.{◌≡◌, ℕ, ◌-◌, ◌^◌, ◌≤◌, ◌<◌, List, length, min}
 use Rattle.std.proofs.Common.{arith, sym, ap, subst}
 use Rattle.std.proofs.lemmas.List.{take_all}
-use Rattle.rtrb.specs.Ring.{sent}
 use Rattle.r10_medium.specs.Crashing.{stays_in_range}
 use Rattle.r10_medium.specs.Disk.{Disk, Image, Block, IsWhole, PicksEach, block_at}
 use Rattle.r10_region.specs.Device.{device_of, at_rest, MayHold, IsLeftOfDevice, IsStoppedSince, AreWhole, all_sound, all_whole, rest_is_sound, rest_is_whole}
+use Rattle.r10_region.specs.Line.{told_by}
 use Rattle.r10_region.specs.declared.operation.Operation.{Operation as OperationValue}
 use Rattle.r10_region.specs.declared.region.Region.{Region}
 
@@ -15,7 +15,7 @@ lent_to r = r.was.value.held
 
 -- what the disk was told to do, in order
 abbrev pub asked : Region → List OperationValue
-asked r = sent r.device
+asked r = told_by r.line
 
 module _ (start : Image) (ops : List OperationValue) (blocks : Image) (reads : (device_of start ops).reads ≡ blocks) where
   pub read_stands : (n : ℕ) → MayHold (device_of start ops) n (block_at blocks n)

@@ -1,9 +1,11 @@
-//! The operations that a disk has still to do, handed out one by one.
+//! The operations that a disk has still to do, handed out in their order.
 
-ghost use Rattle.std.specs.Prelude.{◌≤◌, length};
+ghost use Rattle.std.specs.Prelude.{◌≡◌, ◌≤◌, ◌*◌, ℕ, true, length};
+ghost use Rattle.r10_region.specs.Runs.{grown_by, joins, put_in_run};
 
+use crate::line::Link;
 use crate::operation::{Operation, has_its_bytes};
-use rtrb::Consumer;
+use rtrb::{Consumer, Producer};
 use std::alloc::Global;
 
 /// An operation, without the bytes of a write.
@@ -16,25 +18,107 @@ pub struct OrderOut {
     pub kind: u8,
 }
 
+/// Operations that a disk may do at once, without the bytes of their writes.
+#[repr(C)]
+#[derive(Clone, Copy, Debug, PartialEq, Eq)]
+pub struct RunOut {
+    /// which block is written first
+    pub block: usize,
+    /// how many blocks are written, side by side
+    pub blocks: usize,
+    /// 0 there is none, 1 blocks are written, 2 what was written so far is made sure
+    pub kind: u8,
+}
+
 /// What the disk under a region has still to do.
 #[derive(Drop)]
 pub struct Orders {
-    pub(crate) device: Consumer<Operation, Global>,
+    pub(crate) ring: Consumer<Operation, Global>,
+    pub(crate) links: Consumer<Link, Global>,
+    pub(crate) news: Producer<bool, Global>,
+}
+
+/// How many operations wait, and how many have a place.
+#[repr(C)]
+#[derive(Clone, Copy, Debug, PartialEq, Eq)]
+pub struct QueueOut {
+    /// how many wait in the ring in hand
+    pub waiting: usize,
+    /// how many it has places for
+    pub places: usize,
+    /// how many further rings wait, each of at least 64 places
+    pub rings: usize,
+}
+
+/// Whether an operation is a write that joins a run of so many blocks, which may have at most so many.
+fn joins(operation: &Operation, first: usize, count: usize, most: usize) -> bool
+    ensures { result ≡ joins first count most operation.now }
+{
+    match operation {
+        Operation::Write { block, .. } => {
+            first <= *block && *block - first <= count && *block - first < most
+        }
+        Operation::Sync => false,
+    }
+}
+
+/// Puts what an operation that joins a run writes to its place, and says how many blocks the run has then.
+fn put_in_run(operation: &Operation, first: usize, count: usize, bytes: &mut [u8]) -> usize
+    requires { (most : ℕ) × (joins first count most operation.now ≡ true) × (512 * most ≤ length bytes.old) }
+    ensures bytes { bytes.new ≡ put_in_run first operation.now bytes.old }
+    ensures count { result ≡ grown_by first operation.now count }
+    ensures size { length bytes.new ≡ length bytes.old }
+{
+    match operation {
+        Operation::Write {
+            block,
+            bytes: contents,
+        } => {
+            has_its_bytes(contents);
+            let place = *block - first;
+            bytes[512 * place..512 * place + 512].copy_from_slice(contents);
+            count.max(place + 1)
+        }
+        Operation::Sync => count,
+    }
 }
 
 impl Orders {
-    ghost use Rattle.r10_region.specs.Orders.{HandsOrderOut};
+    ghost use Rattle.std.specs.Prelude.{◌/◌, [], ◌∷◌, ◌++◌, MatchOption};
+    ghost use Rattle.r10_region.specs.Joining.{JoinsMore, JoinsOne};
+    ghost use Rattle.r10_region.specs.Orders.{taken, CountsQueue, HandsOne, HandsOrderOut, HandsRunOut, HandsSome, HasNone, HasTold, IsSameEnd, MovesOn};
+
+    /// Takes the next ring in hand where the one in hand has nothing more.
+    fn move_on(&mut self)
+        ensures { MovesOn self.old self.new }
+    {
+        if self.links.is_empty() || !self.ring.is_empty() {
+            return;
+        }
+        match self.links.pop() {
+            Ok(link) => {
+                let Link { next, before: _ } = link;
+                self.ring = next;
+            }
+            Err(_) => (),
+        }
+    }
 
     /// Hands out the next operation, and the bytes of a write, if there is one.
     pub fn hand_out(&mut self, out: &mut OrderOut, bytes: &mut [u8])
         requires { 512 ≤ length bytes.old }
         ensures { HandsOrderOut self.old self.new out.new bytes.old bytes.new }
     {
-        let next = match self.device.pop() {
-            Ok(operation) => Some(operation),
-            Err(_) => None,
-        };
-        match next {
+        self.move_on();
+        self.hand_one(out, bytes);
+    }
+
+    // The next operation of the ring in hand.
+    fn hand_one(&mut self, out: &mut OrderOut, bytes: &mut [u8])
+        requires { 512 ≤ length bytes.old }
+        ensures { HandsOne self.old self.new out.new bytes.old bytes.new }
+    {
+        match self.pop() {
             Some(
                 Operation::Write {
                     block,
@@ -47,6 +131,121 @@ impl Orders {
             }
             Some(Operation::Sync) => *out = OrderOut { block: 0, kind: 2 },
             None => *out = OrderOut { block: 0, kind: 0 },
+        }
+    }
+
+    /// Takes the next operation where it joins a run, and says how many blocks the run has then.
+    fn join_one(
+        &mut self,
+        first: usize,
+        count: usize,
+        most: usize,
+        bytes: &mut [u8],
+    ) -> Option<usize>
+        requires { 512 * most ≤ length bytes.old }
+        ensures joins { JoinsOne first count most self.old self.new bytes.old bytes.new result }
+        ensures size { length bytes.new ≡ length bytes.old }
+    {
+        if self.ring.is_empty() {
+            return None;
+        }
+        if !joins(self.ring.peek_known(), first, count, most) {
+            return None;
+        }
+        let operation = self.ring.pop_known();
+        Some(put_in_run(&operation, first, count, bytes))
+    }
+
+    /// Takes the operations that join a run of one block, and says how many blocks it has then.
+    fn join(&mut self, first: usize, bytes: &mut [u8]) -> usize
+        ensures { JoinsMore first (length bytes.old / 512) self.old self.new bytes.old bytes.new result }
+    {
+        let most = bytes.len() / 512;
+        let mut count = 1;
+        for _ in 0..self.ring.slots() {
+            match self.join_one(first, count, most, bytes) {
+                Some(more) => count = more,
+                None => return count,
+            }
+        }
+        count
+    }
+
+    /// Hands out the next operations that a disk may do at once, and the bytes of their writes, if there are some: a sync alone, or a write and those behind it
+    /// that write its block, or blocks side by side with it, as many as there is room for.
+    pub fn hand_out_run(&mut self, out: &mut RunOut, bytes: &mut [u8])
+        requires { 512 ≤ length bytes.old }
+        ensures { HandsRunOut self.old self.new out.new bytes.old bytes.new }
+    {
+        self.move_on();
+        self.hand_some(out, bytes);
+    }
+
+    // The next operation of the ring in hand, by value.
+    fn pop(&mut self) -> Option<Operation>
+        ensures queue { IsSameEnd self.old self.new }
+        ensures takes { MatchOption result (HasNone self.old self.new) (λ op. taken self.new ≡ taken self.old ++ op ∷ []) }
+    {
+        match self.ring.pop() {
+            Ok(operation) => Some(operation),
+            Err(_) => None,
+        }
+    }
+
+    // The next run of the ring in hand, or a sync.
+    fn hand_some(&mut self, out: &mut RunOut, bytes: &mut [u8])
+        requires { 512 ≤ length bytes.old }
+        ensures { HandsSome self.old self.new out.new bytes.old bytes.new }
+    {
+        match self.pop() {
+            Some(
+                Operation::Write {
+                    block,
+                    bytes: contents,
+                },
+            ) => {
+                has_its_bytes(&contents);
+                bytes[..512].copy_from_slice(&contents);
+                let blocks = self.join(block, bytes);
+                *out = RunOut {
+                    block,
+                    blocks,
+                    kind: 1,
+                };
+            }
+            Some(Operation::Sync) => {
+                *out = RunOut {
+                    block: 0,
+                    blocks: 0,
+                    kind: 2,
+                };
+            }
+            None => {
+                *out = RunOut {
+                    block: 0,
+                    blocks: 0,
+                    kind: 0,
+                };
+            }
+        }
+    }
+
+    /// Tells the region that its disk failed: from then on each of its writes and syncs fails.
+    pub fn disk_failed(&mut self)
+        ensures { HasTold self.old self.new }
+    {
+        // What was told before still holds.
+        let _told = self.news.push(true);
+    }
+
+    /// How much waits.
+    pub fn count(&mut self) -> QueueOut
+        ensures { CountsQueue self.old self.new result }
+    {
+        QueueOut {
+            waiting: self.ring.slots(),
+            places: self.ring.capacity(),
+            rings: self.links.slots(),
         }
     }
 }

@@ -1,31 +1,35 @@
 //! A medium over memory that a program lends.
 
 ghost use Rattle.std.specs.Prelude.{◌≡◌, ◌<◌, ◌^◌, length};
-ghost use Rattle.rtrb.specs.Ring.{sent};
 ghost use Rattle.r10_medium.specs.Disk.{IsWhole};
 ghost use Rattle.r10_region.specs.Device.{device_of, AreWhole};
+ghost use Rattle.r10_region.specs.Line.{told_by};
 
+use crate::line::Line;
 use crate::operation::{Operation, has_its_bytes};
 use crate::orders::Orders;
 use crate::strip::Strip;
-use crate::telling::{tell_sync, tell_write};
+use crate::telling::tell_write;
 use r10_medium::{BlockMedium, MediumFault};
-use rtrb::{Producer, RingBuffer};
+use rtrb::{Consumer, RingBuffer};
 use std::alloc::{AllocError, Global};
 use std::snapshot::Snapshot;
 
 /// A medium over memory that a program lends. The memory reads as it was last written. What a stop leaves is what it leaves of a disk that held what
-/// was lent, and does the operations that `Orders` hands out, in order: a write that finds no room among those that wait fails, and so does a sync.
+/// was lent, and does the operations that `Orders` hands out, in order. A write or a sync fails only where memory for one operation more is refused,
+/// or where `Orders` was told that the disk failed.
 #[derive(Drop)]
 pub struct Region {
     blocks: &'static mut [[u8; 512]],
-    device: Producer<Operation, Global>,
+    pub(crate) line: Line,
+    // where the other end tells that the disk failed
+    pub(crate) news: Consumer<bool, Global>,
     // what was lent
     was: Snapshot<Strip>,
     failures: u64,
-    ghost reads: { (device_of was.value.held (sent device)).reads ≡ blocks.now },
+    ghost reads: { (device_of was.value.held (told_by line)).reads ≡ blocks.now },
     ghost whole: { IsWhole was.value.held },
-    ghost each_whole: { AreWhole (sent device) },
+    ghost each_whole: { AreWhole (told_by line) },
     ghost fits: { length blocks.now < 2 ^ 64 },
 }
 
@@ -40,41 +44,48 @@ fn are_whole(blocks: &[[u8; 512]])
 
 impl Region {
     ghost use Rattle.std.specs.Prelude.{[], IfOk};
-    ghost use Rattle.rtrb.specs.Ring.{IsPair};
     ghost use Rattle.r10_medium.specs.Disk.{IsSynced};
-    ghost use Rattle.r10_region.specs.Orders.{taken};
+    ghost use Rattle.r10_region.specs.Orders.{IsOtherEnd};
     ghost use Rattle.r10_region.specs.Queue.{queue_room, places_known};
     ghost use Rattle.r10_region.specs.RegionDisk.{region_disk, lent_to, asked};
 
-    /// The medium of these blocks, and the orders of its disk, of which as many as `room` may wait. The disk holds what the blocks hold.
+    /// The medium of these blocks, and the orders of its disk, of which as many as `room` may wait before more memory is asked for. The disk holds what
+    /// the blocks hold.
     pub fn over(alloc: Global, strip: Strip, room: usize) -> Result<(Region, Orders), AllocError>
         ensures blocks { IfOk result (λ r. (region_disk r.0).blocks ≡ strip.held) }
         ensures lent { IfOk result (λ r. lent_to r.0 ≡ strip.held) }
         ensures sure { IfOk result (λ r. IsSynced (region_disk r.0)) }
         ensures failures { IfOk result (λ r. (region_disk r.0).failures ≡ 0) }
-        ensures none_yet { IfOk result (λ r. (asked r.0 ≡ []) × (taken r.1 ≡ [])) }
-        ensures pair { IfOk result (λ r. IsPair r.0.device r.1.device) }
+        ensures none_yet { IfOk result (λ r. asked r.0 ≡ []) }
+        ensures other_end { IfOk result (λ r. IsOtherEnd r.0 r.1) }
         ensures room { IfOk result (λ r. (queue_room r.0 ≡ room) × (places_known r.0 ≡ room)) }
     {
-        let (producer, consumer) = RingBuffer::new(alloc, room)?;
+        let (line, ring, links) = Line::new(alloc, room)?;
+        let (tell, news) = RingBuffer::new(alloc, 1)?;
         let was = Snapshot::of(&strip);
         let blocks = strip.lent();
         are_whole(blocks);
         let _count = blocks.len();
         let region = Region {
             blocks,
-            device: producer,
+            line,
+            news,
             was,
             failures: 0,
         };
-        Ok((region, Orders { device: consumer }))
+        let orders = Orders {
+            ring,
+            links,
+            news: tell,
+        };
+        Ok((region, orders))
     }
 }
 
 impl BlockMedium for Region {
-    ghost use Rattle.std.specs.Prelude.{slice_set, IsOk, OnErr, OnOk};
+    ghost use Rattle.std.specs.Prelude.{◌⊎◌, slice_set, IsOk, OnErr, OnOk};
     ghost use Rattle.r10_medium.specs.Disk.{block_at, Counts, IsSynced, Unchanged, Wrote};
-    ghost use Rattle.r10_region.specs.Queue.{AsksDisk, FindsNoPlace};
+    ghost use Rattle.r10_region.specs.Queue.{AsksDisk, FindsNoPlace, HearsFailure};
     ghost use Rattle.r10_region.specs.RegionDisk.{region_disk};
     ghost use Rattle.r10_region.specs.declared.operation.Operation.TheVariants.{Write, Sync};
 
@@ -101,9 +112,9 @@ impl BlockMedium for Region {
         ensures wrote { Wrote n block.now (region_disk self.old) (region_disk self.new) }
         ensures counts { Counts (region_disk self.old) (region_disk self.new) result }
         ensures asks { OnOk result (AsksDisk (Write n block.now) self.old self.new) }
-        ensures full { OnErr result (FindsNoPlace self.old self.new) }
+        ensures fails { OnErr result (FindsNoPlace self.old self.new ⊎ HearsFailure self.old self.new) }
     {
-        if tell_write(self.blocks, &mut self.device, n, block) {
+        if self.news.is_empty() && tell_write(self.blocks, &mut self.line, n, block) {
             return Ok(());
         }
         self.failures = self.failures.saturating_add(1);
@@ -115,9 +126,9 @@ impl BlockMedium for Region {
         ensures same { Unchanged (region_disk self.old) (region_disk self.new) }
         ensures counts { Counts (region_disk self.old) (region_disk self.new) result }
         ensures asks { OnOk result (AsksDisk Sync self.old self.new) }
-        ensures full { OnErr result (FindsNoPlace self.old self.new) }
+        ensures fails { OnErr result (FindsNoPlace self.old self.new ⊎ HearsFailure self.old self.new) }
     {
-        if tell_sync(&mut self.device) {
+        if self.news.is_empty() && self.line.ask(Operation::Sync) {
             return Ok(());
         }
         self.failures = self.failures.saturating_add(1);

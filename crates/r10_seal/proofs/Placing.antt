@@ -78,9 +78,6 @@ listing_reserved reserved image chain e usable is =
     let number : (at chain (last_listing chain)).number ≡ 1 + found.0 = ap (λ (i : ℕ). (at chain i).number) (last_listing_is chain found.0 found.1) ∙ place.0 in
     omega (arith, number, place.1)
 
-pub some_listed : (chain : List ChainBlock) (e : Entry) → last_or None (listed_files chain) ≡ Some e → 0 < length (listed_files chain)
-some_listed chain e is = some_files (listed_files chain) e is
-
 pub shown_still : (reserved : ℕ) (before old new : Image) (chain made : List ChainBlock) (e : Entry) (bytes : List ℕ) → IsUsable reserved before chain → last_or None (listed_files chain) ≡ Some e → reserved < e.first_block
     → Turned made ((at chain (last_listing chain)).number ∷ []) old new → Shows old e.first_block bytes → Shows new e.first_block bytes
 shown_still reserved before old new chain made e bytes usable is less turned shows =

@@ -60,7 +60,7 @@ fn session_script(alloc: Global, text: &[u8]) -> Result<SessionScript, Fault>
 {
     match read_session(alloc, text) {
         Ok(script) => Ok(script),
-        Err(fault) => Err(Fault::Script(fault)),
+        Err(fault) => Err(Fault::of_script(text, fault)),
     }
 }
 

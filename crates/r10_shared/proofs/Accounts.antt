@@ -1,5 +1,5 @@
 -- A channel's part of the accounts of all.
-use Rattle.std.proofs.Common.{◌≡◌, ℕ, ◌+◌, ◌-◌, ◌<◌, ◌^◌, ◌==◌, Bool, true, false, List, [], ◌∷◌, ◌++◌, length, take, find, refl, sym, ap, subst, ◌∙◌, arith, append_assoc, length-append, Option, Some, None}
+use Rattle.std.proofs.Common.{◌≡◌, ℕ, ◌+◌, ◌-◌, ◌<◌, ◌^◌, ◌==◌, Bool, true, false, List, [], ◌∷◌, ◌++◌, length, find, refl, sym, ap, ◌∙◌, arith, length-append, Some}
 use Rattle.std.proofs.lemmas.Bool.{eqb-true}
 use Rattle.r10_body.specs.declared.entry.Entry.{Entry}
 use Rattle.r10_body.specs.declared.entry.Sample.{Sample}
@@ -65,7 +65,7 @@ module _ {L : Type 0} (spec_of : L → ChannelSpec) (received_of : L → List Sa
 
 -- ---- numbers
 
-some_number : (m n : ℕ) → Some m ≡ Some n → m ≡ n
+pub some_number : (m n : ℕ) → Some m ≡ Some n → m ≡ n
 some_number m n e = cc
 
 -- where it is known how many were sent, all numbers are known, and there is room for the rest

@@ -1,7 +1,6 @@
 -- What is settled once the recorder is out of the lock and what was left is moved.
-use Rattle.std.proofs.Common.{◌≡◌, ◌⊎◌, ℕ, ◌+◌, ◌-◌, ◌<◌, ◌==◌, List, [], ◌++◌, length, take, drop, refl, sym, ap, subst, ◌∙◌, ⊎_elim, arith, take_all, length-append, Option, Some, None}
+use Rattle.std.proofs.Common.{◌≡◌, ◌⊎◌, ℕ, ◌+◌, ◌-◌, ◌<◌, ◌==◌, List, [], ◌++◌, length, take, drop, sym, ap, subst, ◌∙◌, ⊎_elim, arith, take_all, length-append, Option, Some}
 use Rattle.std.specs.Prelude.{IsSomeAnd, slice_index_or, vec_capacity}
-use Rattle.std.specs.List.{AllByRecursion, find}
 use Rattle.std.proofs.Math.Seq.{drop-append_seam}
 use Rattle.std.proofs.lemmas.Bool.{eqb-true}
 use Rattle.r10_body.specs.Files.{on_channel}
@@ -15,16 +14,13 @@ use Rattle.r10_held.specs.Naming.{AreNamed, ChannelRing, ring_for}
 use Rattle.r10_means.specs.Kept.{Kept, failed}
 use Rattle.r10_medium.specs.Disk.{Disk, Image}
 use Rattle.r10_port.specs.Ends.{Receiving, Ring, sent, unreceived}
-use Rattle.r10_pump.specs.Pumping.{entries_on}
+use Rattle.r10_control.specs.Taking.{entries_on}
 use Rattle.r10_shared.specs.Naming.{SendingLine}
 use Rattle.r10_shared.specs.Settling.{AreReady, Drains, HasDrained, IsReportReady, IsSettledReport, MayDrain, Settles, TellsKept, receiving_of}
 use Rattle.r10_shared.specs.declared.report.FeedReport.{FeedReport}
 use Rattle.r10_shared.specs.declared.source.Tally.{Tally}
-use Rattle.r10_shared.proofs.Accounts.{account_on, counted}
+use Rattle.r10_shared.proofs.Accounts.{account_on, counted, some_number}
 use Rattle.r10_shared.proofs.Looking.{found_has}
-
-some_number : (m n : ℕ) → Some m ≡ Some n → m ≡ n
-some_number m n e = cc
 
 some_ring : (m n : Ring) → Some m ≡ Some n → m ≡ n
 some_ring m n e = cc

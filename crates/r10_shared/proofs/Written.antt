@@ -1,26 +1,20 @@
 -- What a player wrote down, turn by turn.
-use Rattle.std.proofs.Common.{◌≡◌, ℕ, ◌<◌, ◌≤◌, List, [], ◌∷◌, ◌++◌, map, length, get_or, take, drop, refl, sym, ap, subst, ◌∙◌, append_assoc, arith}
+use Rattle.std.proofs.Common.{◌≡◌, ℕ, ◌<◌, List, [], ◌∷◌, ◌++◌, map, length, get_or, take, drop, refl, sym, ap, subst, ◌∙◌, append_assoc, arith}
 use Rattle.std.specs.List.{AllByRecursion}
 use Rattle.atomic_table.specs.Seated.{TableId}
 use Rattle.std.proofs.lemmas.List.{append-nil, drop_all, get_or-map, length-map, map-append, take_all}
-use Rattle.r10_body.specs.Packets.{file_entries}
-use Rattle.r10_body.specs.declared.entry.Entry.{Entry}
 use Rattle.r10_cursor.specs.Replays.{Reading as CursorReading}
 use Rattle.r10_cursor.specs.declared.cursor.Cursor.{Cursor}
-use Rattle.r10_machine.specs.Replay.{Ordered, wanted}
 use Rattle.r10_held.specs.Advancing.{TakesInstalment}
 use Rattle.r10_held.specs.declared.player.Player.{Player}
 use Rattle.r10_shared.specs.Readings.{EachGoesOn, HasReadAll, IsAlike, IsTakenFrom, ReadsFrom, ReadsOn}
 use Rattle.r10_shared.specs.declared.reading.Reading.{Reading}
 use Rattle.r10_held.specs.declared.transcript.Instalment.{Instalment}
+use Rattle.r10_machine.proofs.Growing.{all_joined as all_join}
 
 goes_join : (a b c : ℕ) (xs ys : List Instalment) → EachGoesOn a xs b → EachGoesOn b ys c → EachGoesOn a (xs ++ ys) c
 goes_join a b c [] ys first second = subst (λ (n : ℕ). EachGoesOn n ys c) first second
 goes_join a b c (x ∷ xs) ys first second = (first.0, goes_join x.to b c xs ys first.1 second)
-
-all_join : {X : Type 0} (P : X → Type 0) (xs ys : List X) → AllByRecursion P xs → AllByRecursion P ys → AllByRecursion P (xs ++ ys)
-all_join P [] ys first second = second
-all_join P (x ∷ xs) ys first second = (first.0, all_join P xs ys first.1 second)
 
 alike_stays : (a : Cursor) → IsAlike a a
 alike_stays a = record { file = refl; generation = refl; channels = refl; first = refl; last = refl }

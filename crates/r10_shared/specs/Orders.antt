@@ -10,7 +10,7 @@ use Rattle.r10_control.specs.Refused.{IsMountRefusal, RefusesCall, RefusesOpen, 
 use Rattle.r10_control.specs.Safely.{LeavesTaking, StopsSafely}
 use Rattle.r10_control.specs.SealRefusals.{IsSealRefusal, IsSealed}
 use Rattle.r10_control.specs.Started.{IsStartRefusal}
-use Rattle.r10_control.specs.Taking.{IsStopped, LeftNone, RefusesReadied, StepsByTaking}
+use Rattle.r10_control.specs.Taking.{IsStopped, LeftNone, RefusesReadied, StepsByTaking, most_of}
 use Rattle.r10_held.specs.LockFact.{outlet_quiet, outlet_spec}
 use Rattle.r10_held.specs.Publishing.{Publishes, StaysPublished}
 use Rattle.r10_held.specs.State.{HeldState}
@@ -24,7 +24,6 @@ use Rattle.r10_machine.specs.declared.reply.Reply.TheVariants as replies
 use Rattle.r10_means.specs.Left.{AnswersSafely}
 use Rattle.r10_medium.specs.Disk.{Disk, IsSynced}
 use Rattle.r10_port.specs.Ends.{TookReceived, reached_by_outlet}
-use Rattle.r10_pump.specs.Stopping.{most_of}
 use Rattle.r10_shared.specs.declared.order.Order.{Order}
 use Rattle.r10_shared.specs.declared.order.Order.TheVariants as orders
 

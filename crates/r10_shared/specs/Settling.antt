@@ -12,7 +12,7 @@ use Rattle.r10_machine.specs.Machine.{saturated}
 use Rattle.r10_means.specs.Kept.{Kept, Work, failed}
 use Rattle.r10_medium.specs.Disk.{Image}
 use Rattle.r10_port.specs.Ends.{Receiving, Sending, sent, unreceived}
-use Rattle.r10_pump.specs.Pumping.{entries_on}
+use Rattle.r10_control.specs.Taking.{entries_on}
 use Rattle.r10_shared.specs.Naming.{SendingLine}
 use Rattle.r10_shared.specs.declared.reading.Reading.{Reading}
 use Rattle.r10_shared.specs.declared.report.FeedReport.{FeedReport}

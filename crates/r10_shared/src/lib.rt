@@ -12,6 +12,7 @@ mod room;
 mod running;
 mod session;
 mod source;
+mod waiting;
 mod working;
 
 pub use ending::{end_held, end_session};
@@ -23,6 +24,5 @@ pub use r10_gauge::Pass;
 pub use r10_held::{Cabinet, Held, Instalment, Player, Rings, Transcript};
 pub use reading::Reading;
 pub use report::{FeedReport, SessionReport, audit};
-pub use running::run_feeds;
 pub use session::{Session, run_session};
 pub use source::{AnySource, Tally};

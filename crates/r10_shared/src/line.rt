@@ -8,11 +8,11 @@ ghost use Rattle.r10_held.specs.Naming.{ring_for};
 
 use crate::gate::Gate;
 use crate::source::{AnySource, Tally, feed_port};
+use crate::waiting::Progress;
 use r10_body::Sample;
 use r10_held::Rings;
 use r10_port::{Outlet, Port};
 use std::marker::{Model, PhantomData};
-use std::sync::atomic::AtomicU64;
 
 /// A channel, with the sending end of its lane: that of the ring which `N` names for the channel. Contracts see both.
 #[derive(Drop)]
@@ -74,12 +74,12 @@ impl<N: Rings> Line<N> {
         gate: &G,
         worker: usize,
         source: AnySource,
-        over: &AtomicU64,
+        progress: &Progress,
     ) -> Tally
         ensures channel { self.new.channel ≡ self.old.channel }
         ensures fed { FedFrom (rest source) self.old.port self.new.port result }
     {
-        feed_port(gate, worker, source, &mut self.port, over)
+        feed_port(gate, worker, source, &mut self.port, progress)
     }
 
     /// Moves what is left between the two ends behind what `into` has, as much of it as `into` has room for. It takes no memory.

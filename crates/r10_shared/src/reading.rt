@@ -4,13 +4,13 @@ ghost use Rattle.std.specs.Prelude.{◌≡◌, ◌<◌, ℕ, All, length, slice_
 ghost use Rattle.r10_shared.specs.Readings.{ReadsOn};
 
 use crate::gate::Gate;
-use crate::working::{Progress, is_end};
+use crate::waiting::Progress;
+use crate::working::is_end;
 use r10_count::Items;
 use r10_held::{Cabinet, Instalment, Player, Rings};
 use r10_medium::BlockMedium;
 use std::alloc::Global;
 use std::sync::Wait;
-use std::sync::atomic::Ordering;
 use std::thread;
 use std::thread::Threads;
 
@@ -80,13 +80,19 @@ impl Reading {
     {
         let mut seen = u64::MAX;
         for _ in rt.forever() {
-            let last = progress.written.load(Ordering::SeqCst);
-            let shown = progress.shown.load(Ordering::SeqCst);
-            if !self.read_if_due(rt, alloc, cabinet, last || shown != seen) || last {
+            let wait = progress.await_shown();
+            let last = progress.is_written();
+            let shown = progress.shown();
+            let due = last || shown != seen;
+            if !due {
+                wait.wait(rt);
+            } else {
+                drop(wait);
+            }
+            if !self.read_if_due(rt, alloc, cabinet, due) || last {
                 return;
             }
             seen = shown;
-            progress.wait(rt, shown);
         }
     }
 

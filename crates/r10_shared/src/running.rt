@@ -5,27 +5,28 @@ ghost use Rattle.r10_shared.specs.Feeding.{HasRun};
 
 use crate::feed::Feed;
 use crate::gate::Gate;
+use crate::waiting::Progress;
 use r10_held::Rings;
-use std::sync::atomic::AtomicU64;
 use std::thread;
 use std::thread::Threads;
 
-/// Runs a feed that waits.
-fn work<N: Rings, G: Gate>(gate: &G, worker: usize, feed: &mut Feed<N>, over: &AtomicU64)
+/// Runs a feed that waits. Then one more is over, also if the feed was run before.
+fn work<N: Rings, G: Gate>(gate: &G, worker: usize, feed: &mut Feed<N>, progress: &Progress)
     ensures { HasRun (λ s. rest s) feed.old.source feed.old.line feed.old.tally feed.new.line feed.new.tally }
 {
     if let Some(source) = feed.source.take() {
-        feed.tally = feed.line.feed(gate, worker, source, over);
+        feed.tally = feed.line.feed(gate, worker, source, progress);
     }
+    progress.end_one();
 }
 
 /// Runs all feeds that wait at the same time, each by a worker of its own, as far as threads can be made. This takes no memory but
 /// what the sources take.
-pub fn run_feeds<N: Rings + Send + Sync, R: Threads + Sync, G: Gate + Sync>(
+pub(crate) fn run_feeds<N: Rings + Send + Sync, R: Threads + Sync, G: Gate + Sync>(
     rt: &R,
     gate: &G,
     feeds: &mut [Feed<N>],
-    over: &AtomicU64,
+    progress: &Progress,
 )
     ensures { (i : ℕ) (d : _) → i < length feeds.old → HasRun (λ s. rest s) (slice_index_or feeds.old i d).source (slice_index_or feeds.old i d).line (slice_index_or feeds.old i d).tally (slice_index_or feeds.new i d).line (slice_index_or feeds.new i d).tally }
 {
@@ -37,7 +38,7 @@ pub fn run_feeds<N: Rings + Send + Sync, R: Threads + Sync, G: Gate + Sync>(
             threads,
             &|worker: usize, feed: &mut Feed<N>|
                 ensures { HasRun (λ s. rest s) feed.old.source feed.old.line feed.old.tally feed.new.line feed.new.tally }
-            { work(gate, worker, feed, over) },
+            { work(gate, worker, feed, progress) },
         );
     }
 }

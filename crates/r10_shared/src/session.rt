@@ -9,12 +9,12 @@ use crate::gate::Gate;
 use crate::order::Order;
 use crate::reading::{Reading, read_all};
 use crate::running::run_feeds;
-use crate::working::{Progress, give_orders, write_on};
+use crate::waiting::Progress;
+use crate::working::{give_orders, write_on};
 use r10_held::{Cabinet, Player, Rings};
 use r10_medium::BlockMedium;
 use std::alloc::Global;
 use std::sync::Wait;
-use std::sync::atomic::{AtomicBool, AtomicU64};
 use std::thread;
 use std::thread::Threads;
 
@@ -47,8 +47,8 @@ fn write_and_read<
     let mut writing = || {
         thread::join(
             rt,
-            || give_orders(rt, cabinet, gate, first.wrapping_add(1), orders, progress),
             || write_on(rt, cabinet, gate, first, progress),
+            || give_orders(rt, cabinet, gate, first.wrapping_add(1), orders, progress),
         );
     };
     let mut reading = ||
@@ -65,7 +65,7 @@ fn write_and_read<
             progress,
         )
     };
-    thread::join_mut(rt, &mut writing, &mut reading);
+    thread::join_mut(rt, &mut reading, &mut writing);
 }
 
 /// All workers at the same time.
@@ -83,21 +83,16 @@ fn run_all<M: BlockMedium + Send, N: Rings + Send + Sync, R: Threads + Wait + Sy
     ensures readings { (i : ℕ) (d : _) → i < length readings.old → ReadsOn (slice_index_or readings.old i d) (slice_index_or readings.new i d) }
 {
     let first = feeds.len();
-    let progress = Progress {
-        over: AtomicU64::new(0),
-        shown: AtomicU64::new(0),
-        all: (first as u64).saturating_add(1),
-        written: AtomicBool::new(false),
-    };
+    let progress = Progress::of(first);
     let along = &progress;
     let mut feeding = ||
         ensures { (i : ℕ) (d : _) → i < length feeds.entry.now → HasRun (λ s. rest s) (slice_index_or feeds.entry.now i d).source (slice_index_or feeds.entry.now i d).line (slice_index_or feeds.entry.now i d).tally (slice_index_or feeds.exit.now i d).line (slice_index_or feeds.exit.now i d).tally }
-    { run_feeds(rt, gate, feeds, &along.over) };
+    { run_feeds(rt, gate, feeds, along) };
     let mut others = ||
         requires { All (λ reading. reading.player.pass.cell ≡ cabinet.now) readings.now }
         ensures { (i : ℕ) (d : _) → i < length readings.entry.now → ReadsOn (slice_index_or readings.entry.now i d) (slice_index_or readings.exit.now i d) }
     { write_and_read(rt, alloc, cabinet, gate, first, orders, readings, along) };
-    thread::join_mut(rt, &mut feeding, &mut others);
+    thread::join_mut(rt, &mut others, &mut feeding);
 }
 
 /// The players, that have written down nothing, in room that is there.
@@ -120,8 +115,9 @@ fn unread(alloc: Global, players: Vec<Player>, room: Vec<Reading>) -> Vec<Readin
 /// Runs feeds, orders and players at the same time, beside a writer, each in a worker of its own as far as threads can be made. Each worker passes
 /// the gate first, by its number: the feeds from 0 on, then the writer, then the one that gives the orders, then the players. A feed is
 /// pumped one turn each time until its source ends. The writer goes round the channels, takes in at most 64 messages of each, and commits
-/// behind a round that moved something. A player drops what it has still to give, and then takes instalments and writes them down. When feeds and
-/// orders have ended and a round has moved nothing, the writer commits once more and ends; and then each player takes one more instalment.
+/// after a round that moved something. After one that moved nothing it sleeps until a feed has sent a message or has ended, or an order was asked.
+/// A player drops what it has still to give, and then takes instalments and writes them down. When feeds and orders have ended
+/// and a round has moved nothing, the writer commits once more and ends; and then each player takes one more instalment.
 /// Failed or OutOfMemory ends the worker that meets it; other refusals are passed over.
 ///
 /// Memory is asked for before any worker starts; where it is refused, all come back.

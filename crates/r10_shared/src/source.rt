@@ -3,9 +3,9 @@
 ghost use Rattle.r10_shared.specs.Feeding.{FedFrom};
 
 use crate::gate::Gate;
+use crate::waiting::Progress;
 use r10_port::Port;
 use r10_source::{ChannelSource, pump_source};
-use std::sync::atomic::{AtomicU64, Ordering};
 use std::thread;
 
 /// A source of any kind, that may go to another thread.
@@ -18,14 +18,14 @@ pub struct Tally {
     pub refused: u64,
 }
 
-/// Passes the gate, and then offers to the port what the source gives, one turn each time, until the source ends. At the end one more
-/// worker is over.
+/// Passes the gate, and then offers to the port what the source gives, one turn each time, until the source ends. Each accepted message
+/// wakes the writer.
 pub(crate) fn feed_port<G: Gate>(
     gate: &G,
     worker: usize,
     source: AnySource,
     port: &mut Port,
-    over: &AtomicU64,
+    progress: &Progress,
 ) -> Tally
     ensures { FedFrom (rest source) port.old port.new result }
 {
@@ -40,8 +40,10 @@ pub(crate) fn feed_port<G: Gate>(
         if pumped.ended {
             break;
         }
+        if pumped.accepted > 0 {
+            progress.come();
+        }
         thread::yield_now();
     }
-    over.fetch_add(1, Ordering::SeqCst);
     Tally { accepted, refused }
 }

@@ -2,35 +2,11 @@
 
 use crate::gate::Gate;
 use crate::order::Order;
+use crate::waiting::Progress;
 use r10_body::Refusal;
 use r10_held::{Cabinet, Held, Rings};
 use r10_medium::BlockMedium;
 use std::sync::Wait;
-use std::sync::atomic::{AtomicBool, AtomicU64, Ordering};
-use std::thread;
-
-/// How far the workers of a session are: how many feeds and orders have ended, of so many, how often the writer has shown what the file has, and
-/// whether it has ended.
-#[derive(Drop)]
-pub(crate) struct Progress {
-    pub(crate) over: AtomicU64,
-    pub(crate) all: u64,
-    pub(crate) shown: AtomicU64,
-    pub(crate) written: AtomicBool,
-}
-
-impl Progress {
-    /// Tells the readers that the writer has shown what the file has, or ended.
-    fn tell(&self) {
-        self.shown.fetch_add(1, Ordering::SeqCst);
-        self.shown.wake_all();
-    }
-
-    /// Waits until that is told again, where it was told so often.
-    pub(crate) fn wait<R: Wait>(&self, rt: &R, shown: u64) {
-        self.shown.park(rt, (shown % 0x1_0000_0000) as u32);
-    }
-}
 
 /// Whether a refusal ends the worker that meets it.
 pub(crate) fn is_end(refusal: Refusal) -> bool {
@@ -90,7 +66,7 @@ fn commit<M: BlockMedium, N: Rings, R: Wait>(
     progress: &Progress,
 ) -> bool {
     let committed = held.commit(rt);
-    progress.tell();
+    progress.show();
     match committed {
         Ok(()) => true,
         Err(refusal) => !is_end(refusal),
@@ -115,21 +91,52 @@ fn go_and_show<M: BlockMedium, N: Rings, R: Wait>(
     turn
 }
 
-/// Goes round the channels, and shows what the file has behind a round that moved something. Ends behind a round that moved nothing and
-/// before which all feeds and orders had ended, and shows what the file has once more.
+/// A turn of the writer: it goes round the channels, and commits after a round that moved something. If all feeds and control were over before a round
+/// that moves nothing, it commits once more and is over.
+fn go_on<M: BlockMedium, N: Rings, R: Wait>(
+    rt: &R,
+    cabinet: &Cabinet<M, N>,
+    progress: &Progress,
+) -> Turn {
+    let last = progress.is_over();
+    let turn = go_and_show(rt, cabinet, last, progress);
+    if last && turn == Turn::Idle {
+        return Turn::Over;
+    }
+    turn
+}
+
+/// Announces that it waits, makes one more turn, and sleeps if that moves nothing. Whether the writer goes on.
+fn wait_for_more<M: BlockMedium, N: Rings, R: Wait>(
+    rt: &R,
+    cabinet: &Cabinet<M, N>,
+    progress: &Progress,
+) -> bool {
+    let wait = progress.await_more();
+    match go_on(rt, cabinet, progress) {
+        Turn::Moved => true,
+        Turn::Idle => {
+            wait.wait(rt);
+            true
+        }
+        Turn::Over => false,
+    }
+}
+
+/// Makes turns until they are over, and waits after one that moved nothing.
 fn go_round_and_round<M: BlockMedium, N: Rings, R: Wait>(
     rt: &R,
     cabinet: &Cabinet<M, N>,
     progress: &Progress,
 ) {
     for _ in rt.forever() {
-        let last = progress.over.load(Ordering::SeqCst) >= progress.all;
-        let turn = go_and_show(rt, cabinet, last, progress);
-        if turn == Turn::Over || (last && turn == Turn::Idle) {
+        let goes_on = match go_on(rt, cabinet, progress) {
+            Turn::Moved => true,
+            Turn::Idle => wait_for_more(rt, cabinet, progress),
+            Turn::Over => false,
+        };
+        if !goes_on {
             return;
-        }
-        if turn == Turn::Idle {
-            thread::yield_now();
         }
     }
 }
@@ -145,8 +152,7 @@ pub(crate) fn write_on<M: BlockMedium, N: Rings, R: Wait, G: Gate>(
     if gate.pass(worker) {
         go_round_and_round(rt, cabinet, progress);
     }
-    progress.written.store(true, Ordering::SeqCst);
-    progress.tell();
+    progress.end_writing();
 }
 
 /// Asks an order of the recorder. Whether control goes on.
@@ -169,10 +175,12 @@ pub(crate) fn give_orders<M: BlockMedium, N: Rings, R: Wait, G: Gate>(
 ) {
     if gate.pass(worker) {
         for order in orders {
-            if !ask(rt, cabinet, order) {
+            let goes_on = ask(rt, cabinet, order);
+            progress.come();
+            if !goes_on {
                 break;
             }
         }
     }
-    progress.over.fetch_add(1, Ordering::SeqCst);
+    progress.end_one();
 }

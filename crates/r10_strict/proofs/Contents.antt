@@ -17,8 +17,8 @@ use Rattle.r10_a429.proofs.Bodies.{is_body as is_arinc, body_is as arinc_is}
 use Rattle.r10_discrete.specs.Entry.{discrete_form}
 use Rattle.r10_discrete.specs.declared.entry.DiscreteEntry.{DiscreteEntry}
 use Rattle.r10_discrete.proofs.Bodies.{is_body as is_discrete, told_body}
-use Rattle.r10_lossbody.specs.Loss.{IsLossBody}
-use Rattle.r10_lossbody.specs.declared.body.LossBody.{LossBody}
+use Rattle.r10_indexbody.specs.Loss.{IsLossBody}
+use Rattle.r10_indexbody.specs.declared.loss.LossBody.{LossBody}
 use Rattle.r10_count.specs.declared.civil.Parts.{Parts}
 use Rattle.r10_setup.specs.Setup.{IsSetup}
 use Rattle.r10_timebody.specs.Time.{IsTime}

@@ -1,6 +1,6 @@
 -- What a track says of the bytes so far.
-use Rattle.std.proofs.Common.{◌≡◌, ℕ, ◌+◌, ◌<◌, ◌≤◌, ◌⊎◌, inl, inr, true, false, cond, List, [], ◌∷◌, ◌++◌, length, take, drop, count_by, refl, sym, ap, ◌∙◌, subst, arith, append-nil, append_assoc, take_all, Some, None, ◌-◌}
-use Rattle.std.proofs.lemmas.List.{length-append, length-drop, take-append-drop, length-take-le, nil_from_length}
+use Rattle.std.proofs.Common.{◌≡◌, ℕ, ◌+◌, ◌<◌, ◌≤◌, ◌⊎◌, inl, inr, true, false, cond, List, [], ◌∷◌, ◌++◌, length, take, drop, count_by, refl, sym, ap, ◌∙◌, subst, arith, append-nil, Some, None}
+use Rattle.std.proofs.lemmas.List.{length-append, take-append-drop, length-take-le, nil_from_length}
 use Rattle.std.proofs.lemmas.List.Folds.{concat-append}
 use Rattle.std.proofs.lemmas.List.Sums.{sum_by-append, sum_by-cons}
 use Rattle.std.specs.List.{AllByRecursion, concat}
@@ -92,9 +92,3 @@ pub stands_empty : (track : ForeignTrack) (bytes : List ℕ) → track.offset �
 stands_empty track bytes none so_far =
     let empty : bytes ≡ [] = nil_from_length bytes (omega (arith, none, so_far.offset)) in
     ([], bytes, refl, refl, tt, inr refl, subst (λ t. framing_fault t ≡ Some packet_faults.Truncated) (sym empty) refl)
-
--- a packet further on
-pub walked : (bytes before rest : List ℕ) (n : ℕ) → bytes ≡ before ++ rest → n ≤ length rest → bytes ≡ (before ++ take n rest) ++ take (length rest - n) (drop n rest)
-walked bytes before rest n e inside =
-    let behind : drop n rest ≡ take (length rest - n) (drop n rest) = sym (take_all (length rest - n) (drop n rest) (omega (arith, length-drop n rest))) in
-    e ∙ ap (λ t. before ++ t) (sym (take-append-drop n rest) ∙ ap (λ t. take n rest ++ t) behind) ∙ sym (append_assoc before (take n rest) (take (length rest - n) (drop n rest)))

@@ -1,7 +1,7 @@
 //! What a packet says to the rules of a file.
 
 use r10_count::{Civil, Count};
-use r10_lossbody::LossBody;
+use r10_indexbody::LossBody;
 
 /// What a packet carries, as far as the rules of a file ask.
 #[derive(Clone, Copy, Debug, PartialEq, Eq)]

@@ -6,9 +6,11 @@ ghost use Rattle.r10_body.specs.Faults.{HasFault, IsFaulty};
 
 use crate::packet::{ForeignPacket, read_foreign};
 use r10_body::FileFault;
+use thiserror::Error;
 
 /// The first fault of a file.
-#[derive(Clone, Copy, Debug, PartialEq, Eq)]
+#[derive(Clone, Copy, Debug, PartialEq, Eq, Error)]
+#[error("the packet at byte {offset} is at fault: {fault}")]
 pub struct Fault {
     /// Where the packet at fault stands, in bytes from the start of the file.
     pub offset: u64,
@@ -84,18 +86,4 @@ impl ForeignTrack {
         }
         Ok(self.opaque)
     }
-}
-
-/// Judges a whole file: the number of its opaque packets, or its first fault. It takes no memory.
-pub fn judge_foreign(bytes: &[u8]) -> Result<u64, Fault>
-    ensures file { IfOk result (IsForeignFile bytes.now) }
-    ensures faulty { IfErr result (λ at. IsFaulty bytes.now at.offset at.fault) }
-{
-    let mut track = ForeignTrack::new();
-    let mut rest = bytes;
-    while !rest.is_empty() {
-        let packet = track.take(rest)?;
-        rest = &rest[packet.length..];
-    }
-    track.end()
 }

@@ -24,7 +24,7 @@ mod told;
 
 pub use any::{AnyPacket, read_any};
 pub use facts::{Facts, PacketKind, Spread};
-pub use file::{Fault, ForeignTrack, judge_foreign};
+pub use file::{Fault, ForeignTrack};
 pub use foreign_body::is_foreign_body;
 pub use laws::{
     fault_stays, one_fault, one_verdict, packet_stays, packet_without_fault, strict_is_foreign,

@@ -1,5 +1,5 @@
 //! The bodies of each kind of packet: `r10_timebody`, `r10_b1553`, `r10_a429`, `r10_uart`, `r10_discrete`, `r10_message`, `r10_event`,
-//! `r10_setup`, `r10_lossbody`.
+//! `r10_setup`, `r10_indexbody`.
 
 use crate::made::{count, leap_day};
 use r10_a429::{ArincBody, ArincEntry};
@@ -7,7 +7,7 @@ use r10_b1553::{BusBody, BusEntry};
 use r10_count::{Count, Reading};
 use r10_discrete::{DiscreteBody, DiscreteEntry};
 use r10_event::{EventBody, EventEntry};
-use r10_lossbody::LossBody;
+use r10_indexbody::LossBody;
 use r10_message::{MessageBody, MessageEntry};
 use r10_setup::SetupBody;
 use r10_timebody::TimeBody;

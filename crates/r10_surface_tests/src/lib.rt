@@ -9,7 +9,11 @@ mod builders;
 #[cfg(test)]
 mod directories;
 #[cfg(test)]
+mod faults;
+#[cfg(test)]
 mod files;
+#[cfg(test)]
+mod judging;
 #[cfg(test)]
 mod lanes;
 #[cfg(test)]

@@ -1,15 +1,16 @@
 //! Files that are read and judged: `r10_cursor`, `r10_checker`.
 
 use crate::parts::{FIRST, LATER, count, named};
-use r10_body::{FileFault, Gap};
+use r10_body::{FileFault, Gap, Refusal};
 use r10_checker::{FileVerdict, Verdict, check_file, check_medium};
 use r10_count::{Civil, Items};
-use r10_cursor::{Reading, count_at, find};
+use r10_cursor::{Reading, check_read, close_cursor, count_at, find, next_entry, open_cursor};
 use r10_dirblock::{DirBlock, Entries, Entry, encode, pad};
 use r10_index::IndexBook;
 use r10_indexbody::NodeEntry;
 use r10_machine::Found;
 use r10_medium::{BlockMedium, Memory};
+use slab::Slab;
 use std::alloc::{AllocError, Global};
 use std::process::Abort;
 use std::test::Fail;
@@ -175,5 +176,24 @@ fn told(alloc: Global, medium: &mut Memory) -> Option<(usize, Verdict)> {
 fn files_of_a_medium_are_judged(rt: HostRuntime) -> Result<(), Fail> {
     let mut medium = listed(&rt, rt.alloc())?;
     assert_eq!(rt; told(rt.alloc(), &mut medium), Some((4, Verdict::Strict)));
+    Ok(())
+}
+
+/// Cursors in a table have a number each, which the check of a read knows, and which is free when it is closed.
+#[test]
+fn cursors_have_numbers(rt: HostRuntime) -> Result<(), Fail> {
+    let alloc = rt.alloc();
+    let mut cursors = Slab::new(alloc);
+    let channels = Items::of(Vec::new(alloc));
+    let (from, to) = (count(1000), count(2000));
+    let id = open_cursor(alloc, &mut cursors, 3, 7, &channels, from, to)?;
+    assert_eq!(rt;
+        (check_read(&cursors, 7, id), check_read(&cursors, 8, id)),
+        (Ok(3), Err(Refusal::Stale))
+    );
+    assert_eq!(rt; next_entry(&mut cursors, id), Ok(None));
+    assert_eq!(rt; close_cursor(&mut cursors, id), Ok(()));
+    assert_eq!(rt; close_cursor(&mut cursors, id), Err(Refusal::NoCursor));
+    assert_eq!(rt; check_read(&cursors, 7, id), Err(Refusal::NoCursor));
     Ok(())
 }

@@ -6,6 +6,6 @@ mod OnEvents
 mod OnReports
 mod Fronts
 mod Named
-mod OnIndex
+pub mod OnIndex
 mod Least
 pub mod Joins

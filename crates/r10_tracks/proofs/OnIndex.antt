@@ -21,7 +21,8 @@ use Rattle.r10_body.proofs.Rules.{bytes_more, follows_fit}
 use Rattle.r10_index.specs.Book.{Book}
 use Rattle.r10_index.specs.Counted.{IsBookOf, CountsEntriesUpTo}
 use Rattle.r10_index.specs.Written.{names}
-use Rattle.r10_index.proofs.Behind.{entries_fit, entries_length, part_fits, last_more, no_names, no_link_here}
+pub use Rattle.r10_index.proofs.Behind.{entries_fit, entries_length}
+use Rattle.r10_index.proofs.Behind.{part_fits, last_more, no_names, no_link_here}
 use Rattle.r10_strict.specs.Facts.{AreFactsOf, kind_of}
 use Rattle.r10_strict.specs.declared.facts.Facts.{Facts}
 use Rattle.r10_strict.specs.declared.facts.PacketKind.TheVariants.{Node, Root}

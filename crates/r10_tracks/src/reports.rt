@@ -5,7 +5,7 @@ ghost use Rattle.r10_body.specs.Packets.{Packet};
 ghost use Rattle.r10_body.specs.Rules.{IsSoundReport, report_of};
 ghost use Rattle.r10_strict.specs.Facts.{kind_of};
 
-use r10_lossbody::LossBody;
+use r10_indexbody::LossBody;
 use r10_strict::PacketKind;
 
 /// What a packet reports, if it is a report.

@@ -8,7 +8,7 @@ ghost use Rattle.r10_strict.specs.Facts.{AreFactsOf};
 ghost use Rattle.r10_tracks.specs.Totals.{AreTotals};
 
 use r10_body::LOSS_COST;
-use r10_lossbody::LossBody;
+use r10_indexbody::LossBody;
 use r10_strict::Facts;
 
 #[derive(Clone, Copy, Debug)]

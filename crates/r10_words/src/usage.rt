@@ -12,16 +12,22 @@ const ABOUT: &str = "A solid-state flight recorder that writes IRIG 106-17 Chapt
 const ABOUT_SIM: &str = "Runs a script on a recorder in memory and prints a line for each step";
 
 const MORE_SIM: &str =
-    "Without a word behind it r10 does the same; r10 --help has a whole script. With --image the medium's image is written
-in place of the lines, its blocks of 512 bytes one after the other. An example, which lists the files of a run:
+    "Without a command r10 does the same; r10 --help has a whole script. A step that is refused has a line that says so,
+and the status stays 0. So run a script in this way first. This finds its refused steps, and prints nothing if there are none:
 
-  r10 sim --image < examples/first.toml | r10 files";
+  r10 sim < examples/first.toml | grep ' refused '
+
+With --image the medium's image is written in place of the lines: its blocks of 512 bytes, one after the other. Of a refused
+step nothing is printed then. This keeps the medium, and lists its files:
+
+  r10 sim --image < examples/first.toml > medium.img
+  r10 files < medium.img";
 
 const ABOUT_RUN: &str =
     "Runs a session script on a recorder between threads and prints what came of it";
 
 const MORE_RUN: &str =
-    "A session script is read from standard input: a script, whose steps are done first, in turn. Behind them its
+    "A session script is read from standard input: a script, whose steps are done first, in turn. After them its
 [[feed]], [[order]] and [[reader]] tables go at the same time, each feed and each reader in a thread of its
 own. Printed are a line for each step, a line for each feed and each reader, and whether what the readers
 read is what the files have, all of the channels and counts that they want, in order:
@@ -59,9 +65,9 @@ strict is printed, with status 1. Its entries are printed by count, then by chan
   entry CHANNEL COUNT GAP KIND VALUES
 
 An image without a directory, a number that no file has and a count of more than 48 bits are refused, with
-status 1. An example, of an image with a file that has every kind of channel:
+status 1. r10 files prints the numbers of an image's files. An example:
 
-  scripts/play_cases.py image | r10 play --file 0 --channel 5";
+  r10 sim --image < examples/first.toml | r10 play --file 0 --channel 5";
 
 const ABOUT_CHECK: &str = "Reads a recording and prints the verdict on it";
 
@@ -76,8 +82,18 @@ there. An example, a recording of a setup and a time packet, which is strict:
     xxd -r -p | r10 check";
 
 const MORE: &str =
-    "Without a command r10 does sim. A script is read from standard input, r10 < SCRIPT,
-and a line for each of its steps goes to standard output. A whole script:
+    "Without a command r10 does sim: it reads a script from standard input, and prints a line for each of its steps.
+In the folder of the sources these run as they stand:
+
+  r10 < examples/first.toml
+  r10 sim --image < examples/first.toml > medium.img
+  r10 files < medium.img
+  r10 play --channel 5 < medium.img
+  tail -c +1537 medium.img | head -c 272 | r10 check
+  r10 run < examples/session.toml
+  r10 format --blocks 64 --directory 2 --volume VOL > empty.img
+
+A whole script:
 
   blocks = 16
   directory = 2
@@ -136,13 +152,20 @@ pub(crate) fn command_line<'a>(alloc: Global) -> Result<Command<'a>, AllocError>
         .bin_name("r10")?
         .version(VERSION)
         .about(ABOUT)
+        .override_usage("r10 [COMMAND] < INPUT")
         .after_help(MORE);
     let line = line.subcommand(sim_line(alloc)?)?;
-    let line = line.subcommand(plain_line(alloc, "run", ABOUT_RUN, MORE_RUN))?;
+    let line = line.subcommand(plain_line(alloc, "run", ABOUT_RUN, MORE_RUN).override_usage(
+        "r10 run < SCRIPT",
+    ))?;
     let line = line.subcommand(format_line(alloc)?)?;
-    let line = line.subcommand(plain_line(alloc, "files", ABOUT_FILES, MORE_FILES))?;
+    let line = line.subcommand(plain_line(alloc, "files", ABOUT_FILES, MORE_FILES).override_usage(
+        "r10 files < IMAGE",
+    ))?;
     let line = line.subcommand(play_line(alloc)?)?;
-    line.subcommand(plain_line(alloc, "check", ABOUT_CHECK, MORE_CHECK))
+    line.subcommand(plain_line(alloc, "check", ABOUT_CHECK, MORE_CHECK).override_usage(
+        "r10 check < RECORDING",
+    ))
 }
 
 /// A command without options.
@@ -152,16 +175,19 @@ fn plain_line<'a>(alloc: Global, name: &'a str, about: &'a str, more: &'a str) -
 
 /// The command `sim`.
 fn sim_line<'a>(alloc: Global) -> Result<Command<'a>, AllocError> {
-    plain_line(alloc, "sim", ABOUT_SIM, MORE_SIM).arg(flag(
-        alloc,
-        "image",
-        "Write the medium's image in place of the lines",
-    ))
+    plain_line(alloc, "sim", ABOUT_SIM, MORE_SIM)
+        .override_usage("r10 sim [OPTIONS] < SCRIPT")
+        .arg(flag(
+            alloc,
+            "image",
+            "Write the medium's image in place of the lines",
+        ))
 }
 
 /// The command `format`, whose options must all be given.
 fn format_line<'a>(alloc: Global) -> Result<Command<'a>, AllocError> {
     plain_line(alloc, "format", ABOUT_FORMAT, MORE_FORMAT)
+        .override_usage("r10 format --blocks <N> --directory <N> --volume <NAME> > IMAGE")
         .arg(number(
             alloc,
             "blocks",
@@ -174,6 +200,7 @@ fn format_line<'a>(alloc: Global) -> Result<Command<'a>, AllocError> {
 /// The command `play`, whose options may all be left out.
 fn play_line<'a>(alloc: Global) -> Result<Command<'a>, AllocError> {
     plain_line(alloc, "play", ABOUT_PLAY, MORE_PLAY)
+        .override_usage("r10 play [OPTIONS] < IMAGE")
         .arg(free(alloc, "file", "The file's number [default: 0]").value_parser(value_parser!(
             usize
         )))?
@@ -334,8 +361,8 @@ fn without_quotes(text: &str) -> &str {
     }
 }
 
-/// The first line of what `clap` says, without its first word; behind it the options that are missing, and for a word that looks
-/// like a file where such a file goes.
+/// The first line of what `clap` says, without its first word. After it stand the word that may be meant, the options that are missing, for
+/// a word that looks like a file where such a file goes, and for another word that is no command the commands.
 fn fault_line(alloc: Global, error: &clap::Error, called: Called) -> Result<String, AllocError> {
     if is_memory(error.kind()) {
         return Err(AllocError);
@@ -349,8 +376,14 @@ fn fault_line(alloc: Global, error: &clap::Error, called: Called) -> Result<Stri
         Some(rest) => rest,
         None => line,
     };
-    let mut line = String::from_str(alloc, said)?;
-    if is_file_like(error.kind(), said) {
+    let mut line = String::from_str(alloc, without_digits(said))?;
+    if is_number_wanted(said) {
+        line.push_str(number_hint(said))?;
+    }
+    push_tip(&mut line, text.as_str())?;
+    if is_unknown_command(error.kind(), said) {
+        push_commands(&mut line, said)?;
+    } else if is_file_like(error.kind(), said) {
         line.push_str(stream_hint(called))?;
     }
     if is_missing(error.kind()) {
@@ -365,6 +398,73 @@ fn is_memory(kind: ErrorKind) -> bool {
 
 fn is_missing(kind: ErrorKind) -> bool {
     matches!(kind, ErrorKind::MissingRequiredArgument)
+}
+
+/// How `clap` ends its line on a value that is no number.
+const NO_DIGITS: &str = "invalid digit found in string";
+
+fn is_number_wanted(said: &str) -> bool {
+    said.ends_with(NO_DIGITS)
+}
+
+/// What is said of a value, without what is said of its digits.
+fn without_digits(said: &str) -> &str {
+    match said.strip_suffix(NO_DIGITS) {
+        Some(front) => front,
+        None => said,
+    }
+}
+
+/// What is wanted in place of a value that is no number.
+fn number_hint(said: &str) -> &'static str {
+    if said.contains("'--file <N>'") {
+        "a number is wanted, from 0: r10 files < IMAGE prints the numbers of its files"
+    } else {
+        "a number is wanted"
+    }
+}
+
+/// Whether the first word is no command, and does not look like a file.
+fn is_unknown_command(kind: ErrorKind, said: &str) -> bool {
+    matches!(kind, ErrorKind::InvalidSubcommand) && !said.contains('.') && !said.contains('/')
+}
+
+/// Words that other programs have, each with the command that does the same here.
+const LIKE_OTHERS: [(&str, &str); 8] = [
+    ("'ls'", "; the nearest is 'files'"),
+    ("'list'", "; the nearest is 'files'"),
+    ("'dir'", "; the nearest is 'files'"),
+    ("'cat'", "; the nearest is 'play'"),
+    ("'dump'", "; the nearest is 'play'"),
+    ("'verify'", "; the nearest is 'check'"),
+    ("'record'", "; the nearest is 'sim'"),
+    ("'mkfs'", "; the nearest is 'format'"),
+];
+
+/// The commands, for a word that is none of them.
+const COMMANDS: &str = "; the commands are sim, run, format, files, play, check and help";
+
+/// Adds the command that a word of other programs stands for, if it is one, and all commands.
+fn push_commands(line: &mut String, said: &str) -> Result<(), AllocError> {
+    for (word, nearest) in LIKE_OTHERS {
+        if said.contains(word) {
+            line.push_str(nearest)?;
+        }
+    }
+    line.push_str(COMMANDS)
+}
+
+/// Adds the words that `clap` finds alike.
+fn push_tip(line: &mut String, text: &str) -> Result<(), AllocError> {
+    for part in text.lines() {
+        if let Some(tip) = part.trim_start().strip_prefix("tip: ") {
+            if tip.contains(" similar ") {
+                line.push_str("; ")?;
+                line.push_str(tip)?;
+            }
+        }
+    }
+    Ok(())
 }
 
 /// Adds the lines of the text that are options.

@@ -1,9 +1,9 @@
 -- Calls of the recorder and on the table, answered whatever files the medium has.
-use Rattle.std.proofs.Common.{◌≡◌, ◌<◌, ℕ, zero, suc, ◌==◌, ⊎_elim, inr, Bool, true, false, cond, List, [], ◌∷◌, ◌++◌, length, drop, map, set, Option, Some, None, Result, Ok, Err, refl, sym, ap, ◌∙◌, subst, arith}
+use Rattle.std.proofs.Common.{◌≡◌, ℕ, ◌==◌, ⊎_elim, inr, Bool, true, false, cond, List, [], ◌∷◌, ◌++◌, length, drop, map, Option, Some, None, Result, Ok, Err, refl, sym, ap, ◌∙◌, subst}
 use Rattle.std.specs.Prelude.{◌⊎◌, IfErr, IfOk, MatchResult, OnOk}
 use Rattle.std.specs.List.{AllByRecursion}
 use Rattle.std.proofs.Math.Seq.{drop-append_seam}
-use Rattle.std.proofs.lemmas.List.{append-nil, get_or-set_same, get_or-set_other}
+use Rattle.std.proofs.lemmas.List.{append-nil}
 use Rattle.r10_count.specs.Checks.{first_broken}
 use Rattle.r10_body.specs.Files.{on_channel}
 use Rattle.r10_body.specs.declared.entry.Entry.{Entry}
@@ -19,18 +19,17 @@ use Rattle.r10_machine.specs.declared.event.Event.{Event as EventValue}
 use Rattle.r10_machine.specs.declared.event.Event.TheVariants as events
 use Rattle.r10_machine.specs.declared.reply.Reply.{Reply as ReplyValue}
 use Rattle.r10_machine.specs.declared.reply.Reply.TheVariants as replies
-use Rattle.r10_cursor.specs.Standing.{PutsSlot, slot_at}
 use Rattle.r10_cursor.specs.declared.cursor.Cursor.{Cursor}
 use Rattle.r10_lane.specs.Lanes.{TookWaiting}
-use Rattle.r10_pump.specs.Stopping.{Part, TellsWaiting, TookAll, entries_of, samples_on}
+use Rattle.r10_control.specs.Taking.{Part, TellsWaiting, TookAll, entries_of, samples_on, GoesInto, RefusesReadied, StepsByTaking}
 use Rattle.r10_means.specs.Grown.{AreGrown}
 use Rattle.r10_means.specs.Kept.{Kept, Work, mode_of, unmounted, idle, recording, failed}
 use Rattle.r10_control.specs.Refused.{IsSameKept, IsSameWork, RefusesCall, RefusesOpen}
 use Rattle.r10_control.specs.Own.{AreOwn, OwnGrow, OwnStay}
 use Rattle.r10_control.specs.Reading.{OnlyReads}
 use Rattle.r10_control.specs.State.{RecorderState}
-use Rattle.r10_control.specs.Taking.{GoesInto, RefusesReadied, StepsByTaking}
 use Rattle.r10_world.specs.Answering.{AnswersSo, ChangesNothing, EitherOr, HaveGiven, IsLacking, KeepsOwn, LeavesAll, LeavesLanes, LeavesRead, MayLack, MediumOr, MemoryOr, OnlyRead, RefusesSo, TakesParts, first_refusal, lanes_counted}
+pub use Rattle.r10_cursor.proofs.Slots.{set_puts}
 
 -- ---- what a call answered
 
@@ -234,19 +233,6 @@ none_of_medium ((false, r) ∷ checks) (here, all) is =
 -- a recorder that failed isn't mounted
 pub failed_refuses : (work : Work) → first_broken (mounted_checks (mode_of work)) ≡ None → work ≡ failed → ⊥
 failed_refuses work passed fails = let no : Some refusals.Failed ≡ None = subst (λ (w : Work). first_broken (mounted_checks (mode_of w)) ≡ None) fails passed in cc
-
--- ---- cursors
-
-pub set_puts : (slots : List (Option Cursor)) (id : ℕ) (c new : Cursor) → slot_at slots id ≡ Some c → PutsSlot slots (set slots id (Some new)) id (Some new)
-set_puts slots id c new is = record {
-  changed = get_or-set_same slots id (Some new) None (within slots id c is);
-  others = λ other differs. get_or-set_other slots id other (Some new) None differs;
-}
-  where
-    within : (slots : List (Option Cursor)) (id : ℕ) (c : Cursor) → slot_at slots id ≡ Some c → id < length slots
-    within [] id c e = absurd (cc (e))
-    within (x ∷ slots) zero c e = omega arith
-    within (x ∷ slots) (suc id) c e = omega (arith, within slots id c e)
 
 -- ---- what a refusal leaves
 

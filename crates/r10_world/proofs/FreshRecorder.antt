@@ -2,13 +2,12 @@
 use Rattle.std.proofs.Common.{◌≡◌, ℕ, List, [], ◌∷◌, length, map, replicate, refl}
 use Rattle.std.specs.List.{AllByRecursion}
 use Rattle.r10_body.specs.declared.spec.ChannelSpec.{ChannelSpec}
-use Rattle.r10_volume.specs.Holding.{OthersAreFound}
+use Rattle.r10_means.specs.Means.{OthersAreFound, LanesAreCounted}
 use Rattle.r10_machine.specs.Config.{Config}
 use Rattle.r10_machine.specs.Machine.{File, fresh, fresh_lane}
 use Rattle.r10_machine.specs.SoundParts.{own_files}
 use Rattle.r10_medium.specs.Disk.{Image}
 use Rattle.r10_world.specs.Joined.{KeptAndSlotsStandFor, new_kept}
-use Rattle.r10_means.specs.Means.{LanesAreCounted}
 use Rattle.r10_machine.specs.EventChecks.{most_files}
 use Rattle.r10_machine.specs.Says.{AreFound, MediumHas}
 use Rattle.r10_machine.specs.Sound.{IsFoundFile, IsSound}

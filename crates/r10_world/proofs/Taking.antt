@@ -6,12 +6,10 @@ use Rattle.r10_body.specs.declared.entry.Sample.{Sample}
 use Rattle.r10_body.specs.declared.refusal.Refusal.{Refusal}
 use Rattle.r10_lane.specs.Lanes.{TookWaiting}
 use Rattle.r10_machine.specs.Machine.{Lane}
-use Rattle.r10_pump.specs.Machines.{HasWaiting}
-use Rattle.r10_pump.specs.Stopping.{Part, TellsWaiting, TookAll, samples_on}
+use Rattle.r10_control.specs.Taking.{HasWaiting, StepsByTaking, taken_of, Part, TellsWaiting, TookAll, samples_on}
 use Rattle.r10_control.specs.Lanes.{unerased}
 use Rattle.r10_control.specs.Leading.{AreLeft, MachinesKeepShown, KeptStepsTaking}
 use Rattle.r10_control.specs.State.{RecorderState}
-use Rattle.r10_control.specs.Taking.{StepsByTaking, taken_of}
 use Rattle.r10_world.specs.Telling.{RecorderStepsAlone}
 use Rattle.r10_world.proofs.Telling.{Moves, leads_on, told}
 use Rattle.r10_machine.specs.declared.event.Event.{Event as EventValue}

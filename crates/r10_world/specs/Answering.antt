@@ -19,12 +19,12 @@ use Rattle.r10_machine.specs.declared.event.Event.{Event as EventValue}
 use Rattle.r10_machine.specs.declared.event.Event.TheVariants.{Mount, Dismount, Tick, Start, Offer, Pump, Event, Commit, Stop, Seal, Erase, Files, Status, Cursor, Advance, Next, Close, Find, CountAt}
 use Rattle.r10_machine.specs.declared.reply.Reply.{Reply as ReplyValue}
 use Rattle.r10_machine.specs.declared.reply.Reply.TheVariants as replies
-use Rattle.r10_volume.specs.Listing.{info_in}
+use Rattle.r10_control.specs.Told.{info_in, status_in}
 use Rattle.r10_cursor.specs.Replays.{AdvancesReading}
 use Rattle.r10_cursor.specs.Standing.{PutsSlot, fresh_slot, read_checks, slot_at, with_queue}
 use Rattle.r10_cursor.specs.declared.cursor.Cursor.{Cursor as CursorValue}
 use Rattle.r10_lane.specs.Lanes.{TookWaiting}
-use Rattle.r10_pump.specs.Stopping.{Part, TellsWaiting, TookAll, entries_of, most_of}
+use Rattle.r10_control.specs.Taking.{Part, TellsWaiting, TookAll, entries_of, most_of, CountsMoved, FirstLacks, GoesInto, IsStopped}
 use Rattle.r10_means.specs.Grown.{AreGrown}
 use Rattle.r10_means.specs.Kept.{Kept, failed, mode_of}
 use Rattle.r10_control.specs.Checks.{files_of, recorder_refusal}
@@ -36,8 +36,6 @@ use Rattle.r10_control.specs.Refused.{IsMountRefusal, IsSameKept, nothing_lacks}
 use Rattle.r10_control.specs.SealRefusals.{IsSealRefusal, IsSealed}
 use Rattle.r10_control.specs.Started.{IsStartRefusal}
 use Rattle.r10_control.specs.State.{RecorderState}
-use Rattle.r10_control.specs.Taking.{CountsMoved, FirstLacks, GoesInto, IsStopped}
-use Rattle.r10_control.specs.Told.{status_in}
 use Rattle.r10_world.specs.Joined.{begun_world}
 use Rattle.r10_world.specs.State.{WorldState}
 

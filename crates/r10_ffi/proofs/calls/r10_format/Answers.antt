@@ -1,4 +1,18 @@
+use Rattle.std.proofs.Common.{◌≡◌, rules, subst}
+use Rattle.r10_medium.specs.Disk.{Image}
+use Rattle.r10_desk.specs.Opening.{FormatsOver}
+use Rattle.r10_region.specs.RegionDisk.{region_disk}
+use Rattle.r10_ffi.proofs.Between.{formatted}
 use Rattle.r10_ffi.proofs.calls.r10_format.Goals as goal
 
-pub returns-in-Ok-clause-formats : goal.returns-in-Ok-clause-formats
-returns-in-Ok-clause-formats c zero = record { medium = c.format.new.medium; formats = c.format.ensures.formats zero }
+pub returns-in-Ok-new-clause-formats : goal.returns-in-Ok-new-clause-formats
+returns-in-Ok-new-clause-formats c zero =
+    let done : c.format-number.result ≡ 0 = search rules in (
+      c.put.ensures.1,
+      formatted c.args.script.now c.args.region.held c.put.new.self.handle.held _ _ c.put.ensures.0 c.in-Ok-new.ensures.ok (record {
+        medium = c.format-number.new.medium;
+        formats = c.format-number.ensures.formats done;
+        over = subst (λ (image : Image). FormatsOver c.args.script.now image (region_disk c.format-number.new.medium)) c.in-Ok.ensures.blocks (c.format-number.ensures.over done);
+        opens = c.in-Ok-open.ensures.opens;
+      }),
+    )

@@ -1,6 +1,6 @@
 use Rattle.std.proofs.Common.{IsTrue, subst}
 use Rattle.std.specs.Prelude.{◌↔◌, Option, IfSome}
-use Rattle.r10_lossbody.specs.declared.body.LossBody.{LossBody}
+use Rattle.r10_indexbody.specs.declared.loss.LossBody.{LossBody}
 use Rattle.r10_body.specs.Rules.{IsSoundReport}
 use Rattle.r10_tracks.proofs.reports.keeps_report.Goals as goal
 

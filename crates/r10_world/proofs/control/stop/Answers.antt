@@ -2,11 +2,10 @@ use Rattle.std.proofs.Common.{ap, refl}
 use Rattle.r10_machine.specs.declared.reply.Reply.{Reply}
 use Rattle.r10_world.proofs.Answering.{have_given, matched, none_of_medium, or_either, refused_readied, takes_none, takes_parts, keeps_none}
 use Rattle.r10_world.specs.Answering.{AnswersSo}
-use Rattle.r10_control.specs.Taking.{IsStopped, LeftNone}
+use Rattle.r10_control.specs.Taking.{IsStopped, LeftNone, most_of}
 use Rattle.r10_control.specs.Refused.{nothing_lacks}
 use Rattle.r10_machine.specs.Limits.{channel_ids}
 use Rattle.r10_machine.specs.Machine.{rising}
-use Rattle.r10_pump.specs.Stopping.{most_of}
 use Rattle.r10_world.proofs.Taking.{telling_taken}
 use Rattle.r10_body.specs.declared.refusal.Refusal.TheVariants.{Failed}
 use Rattle.r10_control.specs.Checks.{recorder_checks, recorder_refusal}

@@ -1,6 +1,6 @@
 use Rattle.std.proofs.Common.{◌∙◌, length, sym, subst, ap}
 use Rattle.std.specs.Prelude.{Option, is_some}
-use Rattle.r10_lossbody.specs.declared.body.LossBody.{LossBody}
+use Rattle.r10_indexbody.specs.declared.loss.LossBody.{LossBody}
 use Rattle.r10_body.specs.Faults.{IsAtFault}
 use Rattle.r10_strict.specs.declared.file.Fault.{Fault}
 use Rattle.r10_judge.specs.Judged.{MayMiss}

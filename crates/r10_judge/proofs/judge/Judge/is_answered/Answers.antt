@@ -1,6 +1,6 @@
 use Rattle.std.proofs.Common.{IsTrue, refl, subst, sym, ◌∙◌}
 use Rattle.std.specs.Prelude.{◌↔◌, Option, IfSome, true}
-use Rattle.r10_lossbody.specs.declared.body.LossBody.{LossBody}
+use Rattle.r10_indexbody.specs.declared.loss.LossBody.{LossBody}
 use Rattle.r10_body.specs.Faults.{IsAnswered}
 use Rattle.r10_judge.proofs.judge.Judge.is_answered.Goals as goal
 

@@ -1,5 +1,5 @@
 use Rattle.std.proofs.Common.{◌≤◌, ◌∙◌, length, Option, is_some, ap, sym, arith, true≢false}
-use Rattle.r10_lossbody.specs.declared.body.LossBody.{LossBody}
+use Rattle.r10_indexbody.specs.declared.loss.LossBody.{LossBody}
 use Rattle.r10_judge.proofs.Judging.{no_some}
 use Rattle.r10_judge.proofs.judge.Judge.is_whole.Goals as goal
 

@@ -1,8 +1,0 @@
-use Rattle.r10_cursor.proofs.Writing.{is_shown, is_held}
-use Rattle.r10_cursor.proofs.laws.what_is_written_is_shown.Goals as goal
-
-pub returns-clause-writing : goal.returns-clause-writing
-returns-clause-writing c = is_shown
-
-pub returns-clause-held : goal.returns-clause-held
-returns-clause-held c = is_held

@@ -1,5 +1,0 @@
-use Rattle.r10_pump.proofs.Rests.{stop_made}
-use Rattle.r10_pump.proofs.laws.stops_are_whole_steps.Goals as goal
-
-pub returns : goal.returns
-returns c = stop_made

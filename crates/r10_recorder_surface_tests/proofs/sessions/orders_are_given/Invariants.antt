@@ -1,6 +1,0 @@
-use Rattle.std.specs.Prelude.{[], ◌∷◌}
-use Rattle.r10_recorder_surface_tests.proofs.sessions.orders_are_given.Given as goal
-
--- the one ring is named for the channel
-abbrev pub ghosts-ordered : goal.ghosts-ordered
-ghosts-ordered g a = record { rings = record { channel = 5; ring = a.port.ring } ∷ [] }
