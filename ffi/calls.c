@@ -25,18 +25,32 @@ static r10 recorder;
 static unsigned char disk[64 * 512];
 static bool is_open;
 
-static unsigned long unsure;
+static unsigned long unsure, settles;
 
-/* What a disk does behind each call; then it has to hold what the region holds. */
+/* What a disk does after each call, by single operations and by runs in turn; then it has to hold what the region holds. */
 static void settle(void) {
     r10_order_info order;
-    uint8_t block[512];
-    while (r10_order(&recorder, &order, block, sizeof block) == R10_OK && order.kind != R10_NOTHING) {
-        if (order.kind == R10_SYNC)
-            unsure = 0;
-        else {
-            unsure++;
-            memcpy(disk + 512 * order.block, block, sizeof block);
+    r10_run_info run;
+    uint8_t some[3 * 512 + 100];
+    if (settles++ % 2 == 0) {
+        while (r10_order(&recorder, &order, some, 512) == R10_OK && order.kind != R10_NOTHING) {
+            if (order.kind == R10_SYNC)
+                unsure = 0;
+            else {
+                unsure++;
+                memcpy(disk + 512 * order.block, some, 512);
+            }
+        }
+    } else {
+        while (r10_orders(&recorder, &run, some, sizeof some) == R10_OK && run.kind != R10_NOTHING) {
+            if (run.kind == R10_SYNC)
+                unsure = 0;
+            else {
+                unsure++;
+                if (run.blocks < 1 || run.blocks > 3)
+                    printf("  a run of %zu blocks\n", run.blocks);
+                memcpy(disk + 512 * run.block, some, 512 * run.blocks);
+            }
         }
     }
     if (memcmp(disk, memory, sizeof disk) != 0)
@@ -49,7 +63,7 @@ static void say(const char *what, uint32_t number) {
         settle();
 }
 
-/* Of a call that answers 0 only where it is sure what it did. */
+/* Of a call that answers 0 only where what it did is durable. */
 static void say_sure(const char *what, uint32_t number) {
     say(what, number);
     if (number == R10_OK)
@@ -59,29 +73,17 @@ static void say_sure(const char *what, uint32_t number) {
 static void show(const r10_entry *e) {
     printf("  kind %u channel %u count %" PRIu64 " gap %d lost %" PRIu64, e->kind, e->channel, e->count, e->gap, e->lost);
     switch (e->kind) {
-    case R10_UART:
-        printf(" parity %d sub %u: %.*s", e->parity, e->sub, (int)e->length, (const char *)bytes);
-        break;
+    case R10_UART: printf(" parity %d sub %u: %.*s", e->parity, e->sub, (int)e->length, (const char *)bytes); break;
     case R10_1553:
         printf(" status %04x gap times %04x:", e->status, e->gap_times);
         for (size_t i = 0; i < e->length; i++)
             printf(" %04x", words[i]);
         break;
-    case R10_ARINC:
-        printf(" bus %u format %d parity %d high %d: %08" PRIx32, e->bus, e->format, e->parity, e->high, e->word);
-        break;
-    case R10_DISCRETE:
-        printf(": %08" PRIx32, e->word);
-        break;
-    case R10_MESSAGE:
-        printf(" data error %d format %d sub %u: %.*s", e->data_error, e->format, e->sub, (int)e->length, (const char *)bytes);
-        break;
-    case R10_TIME:
-        printf(": %04u-%02u-%02u %02u:%02u:%02u.%02u", e->year, e->month, e->day, e->hour, e->minute, e->second, e->centi);
-        break;
-    case R10_EVENT:
-        printf(" number %u occurrence %u", e->number, e->occurrence);
-        break;
+    case R10_ARINC: printf(" bus %u format %d parity %d high %d: %08" PRIx32, e->bus, e->format, e->parity, e->high, e->word); break;
+    case R10_DISCRETE: printf(": %08" PRIx32, e->word); break;
+    case R10_MESSAGE: printf(" data error %d format %d sub %u: %.*s", e->data_error, e->format, e->sub, (int)e->length, (const char *)bytes); break;
+    case R10_TIME: printf(": %04u-%02u-%02u %02u:%02u:%02u.%02u", e->year, e->month, e->day, e->hour, e->minute, e->second, e->centi); break;
+    case R10_EVENT: printf(" number %u occurrence %u", e->number, e->occurrence); break;
     }
     printf("\n");
 }
@@ -95,27 +97,42 @@ static void status(void) {
 
 int main(void) {
     r10_region region = {memory, 64};
-    r10_civil civil = {2024, 2, 29, 12, 34, 56, 78}, later = {2024, 2, 29, 12, 34, 57, 0}, earlier = {2024, 2, 29, 12, 34, 56, 77}, none = {2024, 2, 30, 0, 0, 0, 0};
+    r10_civil civil = {2024, 2, 29, 12, 34, 56, 78}, later = {2024, 2, 29, 12, 34, 57, 0}, earlier = {2024, 2, 29, 12, 34, 56, 77},
+              none = {2024, 2, 30, 0, 0, 0, 0};
     const uint16_t bus_words[3] = {0x0821, 0xABCD, 0x0001}, one_channel[1] = {5};
-    size_t moved = 9, taken = 9, left = 9, files = 9, cursor = 9, second = 9, queued = 9, number = 9;
+    size_t moved = 9, taken = 9, left = 9, files = 9, cursor = 9, second = 9, queued = 9, number = 9, got = 9;
+    r10_status_info info;
     uint64_t count = 9;
     bool there = true;
     r10_entry entry;
     r10_file_info file;
     r10_order_info order;
+    r10_run_info run;
+    r10_queue_info queue;
     r10_channel_info channel;
     uint8_t name[56];
     r10_region small = {memory, 63};
 
-    say("format, another size", r10_format(small, 64, script, strlen(script)));
-    say("format, no script", r10_format(region, 64, "blocks", 6));
-    say("format", r10_format(region, 64, script, strlen(script)));
-    say("open, another size", r10_open(small, 64, script, strlen(script), &recorder));
-    memcpy(disk, memory, sizeof disk);
-    say("open", r10_open(region, 64, script, strlen(script), &recorder));
+    say("version", r10_version());
+    say("commit, closed", r10_commit(&recorder));
+    say("pump, closed", r10_pump(&recorder, 3, 9, &moved));
+    printf("  moved %zu\n", moved);
+    say("orders, closed", r10_orders(&recorder, &run, bytes, sizeof bytes));
+    r10_close(&recorder);
+    say("format, another size", r10_format(small, 64, script, strlen(script), &recorder));
+    say("format, no script", r10_format(region, 64, "blocks", 6, &recorder));
     is_open = true;
+    say_sure("format", r10_format(region, 64, script, strlen(script), &recorder));
+    say("format, open", r10_format(region, 64, script, strlen(script), &recorder));
+    say("open, open", r10_open(region, 64, script, strlen(script), &recorder));
+    r10_close(&recorder);
+    is_open = false;
+    say("open, another size", r10_open(small, 64, script, strlen(script), &recorder));
+    is_open = true;
+    say("open", r10_open(region, 1, script, strlen(script), &recorder));
     status();
     say("order, no room", r10_order(&recorder, &order, bytes, 511));
+    say("orders, no room", r10_orders(&recorder, &run, bytes, 511));
     say_sure("commit", r10_commit(&recorder));
     say("mount", r10_mount(&recorder));
     say("mount", r10_mount(&recorder));
@@ -131,6 +148,9 @@ int main(void) {
     say("offer discrete", r10_offer_discrete(&recorder, 6, 1006, 0xA5A));
     say("offer discrete, 13 bits", r10_offer_discrete(&recorder, 6, 1007, 0x1000));
     say("offer message", r10_offer_message(&recorder, 7, 1008, true, false, 77, "another", 7));
+    say("channel of ID 6", r10_channel_of(&recorder, 6, &channel));
+    printf("  %u waiting %zu\n", channel.channel, channel.waiting);
+    say("channel of ID 8", r10_channel_of(&recorder, 8, &channel));
     say("offer to another channel", r10_offer_discrete(&recorder, 8, 1009, 0));
     for (size_t place = 0; place < 6; place++) {
         uint32_t answer = r10_channel(&recorder, place, &channel);
@@ -182,6 +202,18 @@ int main(void) {
     say("file", r10_file(&recorder, 0, &file, name, sizeof name));
     printf("  %.*s size %" PRIu64 " blocks %" PRIu64 " closed %d\n", (int)file.name_length, (const char *)name, file.size, file.blocks, file.closed);
     say("file", r10_file(&recorder, 1, &file, name, sizeof name));
+    say("first block", r10_first_block(&recorder, 2, 0, &count));
+    printf("  %" PRIu64 "\n", count);
+    say("first block, no file", r10_first_block(&recorder, 2, 1, &count));
+    memset(bytes, 'x', sizeof bytes);
+    say("shown", r10_shown(&recorder, region, 2, 0, 0, bytes, 8, &got));
+    printf("  %zu bytes: %02x%02x channel %02x%02x, then %c\n", got, bytes[0], bytes[1], bytes[3], bytes[2], bytes[8]);
+    memset(bytes, 'x', sizeof bytes);
+    say("shown, the last 3", r10_shown(&recorder, region, 2, 0, file.size - 3, bytes, sizeof bytes, &got));
+    printf("  %zu bytes, as in the region %d, then %c\n", got, memcmp(bytes, memory + 512 * 3 + file.size - 3, 3) == 0, bytes[3]);
+    say("shown, behind all", r10_shown(&recorder, region, 2, 0, file.size, bytes, sizeof bytes, &got));
+    printf("  %zu bytes\n", got);
+    say("shown, no file", r10_shown(&recorder, region, 2, 1, 0, bytes, sizeof bytes, &got));
     say("cursor", r10_cursor(&recorder, 0, NULL, 0, 1010, 1010, &second));
     say("advance", r10_advance(&recorder, second, &queued));
     say("next, behind a loss", r10_next(&recorder, second, &there, &entry, bytes, sizeof bytes, words, 36));
@@ -192,7 +224,22 @@ int main(void) {
     status();
     say("dismount", r10_dismount(&recorder));
     say("files", r10_files(&recorder, &files));
+    say("mount", r10_mount(&recorder));
+    say("start", r10_start(&recorder, "FLT2", 4, "", 0));
+    say("offer uart", r10_offer_uart(&recorder, 3, 1020, false, 0, "five", 4));
+    say("pump", r10_pump(&recorder, 3, 1, &moved));
+    say("disk failed", r10_disk_failed(&recorder));
+    is_open = false;
+    say("commit", r10_commit(&recorder));
+    say("commit", r10_commit(&recorder));
+    status();
+    say("queue", r10_queue(&recorder, &queue));
+    printf("  waiting %zu\n", queue.waiting);
     r10_close(&recorder);
-    printf("closed %d\n", recorder.held == NULL);
+    printf("closed %d\n", recorder.held == NULL && !recorder.open);
+    say("status, closed", r10_status(&recorder, &info));
+    for (uint32_t which = 0; which < 50; which++)
+        if (strcmp(r10_strerror(which), r10_strerror(99)) != 0)
+            printf("%u %s\n", which, r10_strerror(which));
     return 0;
 }

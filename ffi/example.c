@@ -1,10 +1,10 @@
-/* Records messages of a serial line into a file that it maps, reads along, and says how many messages are sure.
+/* Records messages of a serial line into a file that it maps, reads along, and says how many messages are durable.
  *
- *     example FILE RUN MESSAGES EACH [LOG]
+ *     example FILE RUN MESSAGES EACH [LOG [BLOCKS]]
  *
  * RUN is a number that stands in names and messages, MESSAGES how many it records (0: until it is killed), EACH how many stand between two
  * commits. The file is made and formatted where it is not there. A recording that was cut off is closed first. Where the medium is full all files
- * are erased. It may be killed at any moment: what it said is sure is there when the file is mapped again.
+ * are erased. It may be killed at any moment: what it said is durable is there when the file is mapped again. Its memory does not grow with what it records.
  *
  *     sealed NAME         a recording that was cut off is closed
  *     started NAME        a recording began
@@ -13,71 +13,87 @@
  *     erasing N           the messages below N, and all of earlier runs, are about to be erased
  *     erased N            they are
  *
- * With LOG, each operation is written there before it is done: a line `write BLOCK` and the block's 512 bytes, or a line `sync`.
+ * With LOG, each operation is written there before it is done: a line `write BLOCK` and the block's 512 bytes, or a line `sync`. A `-` stands for none. The
+ * file has BLOCKS blocks: 2,048 (1 MiB) where that is not said.
  *
  * Status 0, 1 where a call was refused, or 2 where what was read back is not what was recorded.
  */
-#define _POSIX_C_SOURCE 200809L
-#include <fcntl.h>
+#define _GNU_SOURCE
 #include <stdio.h>
 #include <stdlib.h>
 #include <string.h>
-#include <sys/mman.h>
 #include <sys/stat.h>
 #include <unistd.h>
 
 #include "r10.h"
+#include "r10_posix.h"
 
-enum { BLOCKS = 2048, LINE = 5, ROOM = 1024 };
+enum { LINE = 5, ROOM = 1024, GIVE_BACK = 1024 };
 
-static const char script[] = "blocks = 2048\n"
-                             "directory = 2\n"
-                             "volume = \"VOL\"\n"
-                             "nodes = 100\n"
-                             "time = 1\n"
-                             "event = 2\n"
-                             "[[channel]]\n"
-                             "id = 5\n"
-                             "kind = \"uart\"\n"
-                             "capacity = 64\n"
-                             "check = 16\n"
-                             "bytes = 4096\n"
-                             "number = 100\n";
+static char script[512];
+static size_t blocks = 2048;
+
+static void settings(void) {
+    snprintf(script, sizeof script,
+             "blocks = %zu\n"
+             "directory = 2\n"
+             "volume = \"VOL\"\n"
+             "nodes = 100\n"
+             "time = 1\n"
+             "event = 2\n"
+             "[[channel]]\n"
+             "id = %d\n"
+             "kind = \"uart\"\n"
+             "capacity = 64\n"
+             "check = 16\n"
+             "bytes = 4096\n"
+             "number = 100\n",
+             blocks, LINE);
+}
 
 static r10 recorder;
-static int file;
+static r10_disk disk;
 static FILE *trail;
 static unsigned long run, each, operations;
 static unsigned long offered, filed, erased, played;
 static size_t cursor;
 static char name[57];
 
-/* Does on the file what the last call came to, in order. Before that nothing of the call is sure. */
+/* Does on the file what the last call came to, run by run. Before that nothing of the call is durable. Without LOG r10_disk_settle does the same. */
 static void settle(void) {
-    uint8_t bytes[512];
-    r10_order_info order;
+    r10_run_info run;
     for (;;) {
-        uint32_t number = r10_order(&recorder, &order, bytes, sizeof bytes);
+        uint32_t number = r10_orders(&recorder, &run, disk.bytes, sizeof disk.bytes);
         if (number != R10_OK) {
-            printf("order: refused %u\n", number);
+            printf("orders: refused %u, %s\n", number, r10_strerror(number));
             exit(1);
         }
-        if (order.kind == R10_NOTHING)
-            return;
-        if (trail) {
-            if (order.kind == R10_SYNC)
+        if (run.kind == R10_NOTHING)
+            break;
+        if (run.kind == R10_SYNC) {
+            if (trail)
                 fprintf(trail, "sync\n");
-            else {
-                fprintf(trail, "write %lu\n", (unsigned long)order.block);
-                fwrite(bytes, 1, sizeof bytes, trail);
+            if (fdatasync(disk.file) != 0) {
+                perror("sync");
+                exit(1);
             }
+            operations++;
+            continue;
         }
-        if (order.kind == R10_SYNC ? fdatasync(file) != 0 : pwrite(file, bytes, sizeof bytes, (off_t)order.block * 512) != sizeof bytes) {
-            perror("operation");
+        for (size_t n = 0; trail && n < run.blocks; n++) {
+            fprintf(trail, "write %lu\n", (unsigned long)(run.block + n));
+            fwrite(disk.bytes + 512 * n, 1, 512, trail);
+        }
+        if (pwrite(disk.file, disk.bytes, run.blocks * 512, (off_t)run.block * 512) != (ssize_t)(run.blocks * 512)) {
+            perror("write");
             exit(1);
         }
-        operations++;
+        operations += run.blocks;
+        disk.kept += run.blocks;
     }
+    /* Nothing waits: the file holds what the region holds. So the pages of the region can be given back, and are read from the file when they are wanted. */
+    if (disk.kept >= GIVE_BACK)
+        r10_disk_give_back(&disk);
 }
 
 static void must(const char *what, uint32_t number) {
@@ -85,40 +101,8 @@ static void must(const char *what, uint32_t number) {
         settle();
         return;
     }
-    printf("%s: refused %u\n", what, number);
+    printf("%s: refused %u, %s\n", what, number, r10_strerror(number));
     exit(1);
-}
-
-static void *map(const char *path, int how) {
-    void *at = mmap(NULL, (size_t)BLOCKS * 512, PROT_READ | PROT_WRITE, how, file, 0);
-    if (at == MAP_FAILED) {
-        perror(path);
-        exit(1);
-    }
-    return at;
-}
-
-/* Makes the file, formatted, under another name, and gives it its own only then: a file of this name is always whole. */
-static void make(const char *path) {
-    char fresh[4096];
-    snprintf(fresh, sizeof fresh, "%s.new", path);
-    file = open(fresh, O_RDWR | O_CREAT | O_TRUNC, 0644);
-    if (file < 0 || ftruncate(file, (off_t)BLOCKS * 512) != 0) {
-        perror(fresh);
-        exit(1);
-    }
-    r10_region region = {map(fresh, MAP_SHARED), BLOCKS};
-    uint32_t number = r10_format(region, ROOM, script, strlen(script));
-    if (number != R10_OK) {
-        printf("format: refused %u\n", number);
-        exit(1);
-    }
-    if (msync(region.at, (size_t)BLOCKS * 512, MS_SYNC) != 0 || fsync(file) != 0 || rename(fresh, path) != 0) {
-        perror(path);
-        exit(1);
-    }
-    munmap(region.at, (size_t)BLOCKS * 512);
-    close(file);
 }
 
 /* Closes a last file that was cut off. */
@@ -200,24 +184,31 @@ static void stop(void) {
 }
 
 int main(int count, char **words) {
-    if (count != 5 && count != 6) {
-        fprintf(stderr, "usage: %s FILE RUN MESSAGES EACH [LOG]\n", words[0]);
+    if (count < 5 || count > 7) {
+        fprintf(stderr, "usage: %s FILE RUN MESSAGES EACH [LOG [BLOCKS]]\n", words[0]);
         return 1;
     }
     run = strtoul(words[2], NULL, 10);
     unsigned long messages = strtoul(words[3], NULL, 10);
     each = strtoul(words[4], NULL, 10);
-    struct stat found;
-    if (stat(words[1], &found) != 0)
-        make(words[1]);
-    file = open(words[1], O_RDWR);
-    if (file < 0 || (count == 6 && !(trail = fopen(words[5], "wb")))) {
-        perror(file < 0 ? words[1] : words[5]);
+    if (count == 7)
+        blocks = strtoul(words[6], NULL, 10);
+    settings();
+    if (count > 5 && strcmp(words[5], "-") != 0 && !(trail = fopen(words[5], "wb"))) {
+        perror(words[5]);
         return 1;
     }
-    r10_region region = {map(words[1], MAP_PRIVATE), BLOCKS};
+    struct stat found;
+    if (stat(words[1], &found) != 0 && r10_disk_make(words[1], blocks, ROOM, script, strlen(script)) != 0) {
+        perror(words[1]);
+        return 1;
+    }
+    if (r10_disk_open(&disk, words[1], blocks) != 0) {
+        perror(words[1]);
+        return 1;
+    }
     const r10_civil civil = {2024, 2, 29, 12, 34, 56, 78};
-    must("open", r10_open(region, ROOM, script, strlen(script), &recorder));
+    must("open", r10_open(disk.region, ROOM, script, strlen(script), &recorder));
     must("mount", r10_mount(&recorder));
     must("tick", r10_tick(&recorder, 1000, &civil));
     seal();
@@ -247,7 +238,6 @@ int main(int count, char **words) {
     stop();
     must("dismount", r10_dismount(&recorder));
     r10_close(&recorder);
-    munmap(region.at, region.blocks * 512);
-    close(file);
+    r10_disk_close(&disk);
     return 0;
 }

@@ -1,101 +1,15 @@
-//! A thread offers messages of a serial line, and the one that owns the recorder records them, reads along, and says what is sure.
+//! A thread offers messages of a serial line, and the one that owns the recorder records them, reads along, and says what is durable.
 //!
-//!     example MESSAGES EACH
+//!     example MESSAGES EACH [FILE]
 //!
-//! The medium is plain memory, and a second one beside it is the disk, on which each operation is done in order: at the end both hold the same. A recorder is
-//! given to one call at a time, so one thread owns it, and what the other offers comes over a channel. The lane holds 16 messages: they are taken into the
-//! file before there are more, so that none is lost.
-use std::ffi::c_void;
+//! The medium is plain memory, and a second one beside it is the disk, on which each run is done in order: at the end both hold the same. With FILE the medium is that file,
+//! which is made where it is not there. A recorder is used by one thread at a time, so one owns it, and what the other offers comes over a channel. The lane
+//! holds 16 messages: they are taken into the file before there are more, so that none is lost.
+use r10::{ALL_COUNTS, Civil, Content, Cursor, Disk, Gap, Message, Recorder, Region, Run};
+use std::error::Error;
+use std::path::Path;
 use std::sync::mpsc::sync_channel;
 use std::thread;
-
-/// The part of `r10.h` that is called here.
-mod r10 {
-    use std::ffi::c_void;
-
-    #[repr(C)]
-    pub struct Recorder {
-        pub held: *mut c_void,
-    }
-
-    #[repr(C)]
-    pub struct Region {
-        pub at: *mut c_void,
-        pub blocks: usize,
-    }
-
-    #[repr(C)]
-    pub struct Civil {
-        pub year: u16,
-        pub month: u16,
-        pub day: u16,
-        pub hour: u16,
-        pub minute: u16,
-        pub second: u16,
-        pub centi: u16,
-    }
-
-    #[repr(C)]
-    #[derive(Default)]
-    pub struct Entry {
-        pub count: u64,
-        pub lost: u64,
-        pub length: usize,
-        pub word: u32,
-        pub channel: u16,
-        pub sub: u16,
-        pub status: u16,
-        pub gap_times: u16,
-        pub number: u16,
-        pub occurrence: u16,
-        pub civil: [u16; 7],
-        pub kind: u8,
-        pub bus: u8,
-        pub gap: bool,
-        pub parity: bool,
-        pub format: bool,
-        pub data_error: bool,
-        pub high: bool,
-    }
-
-    #[repr(C)]
-    #[derive(Default)]
-    pub struct Order {
-        pub block: usize,
-        pub kind: u8,
-    }
-
-    pub const WRITE: u8 = 1;
-    pub const NOTHING: u8 = 0;
-    pub const UART: u8 = 1;
-
-    unsafe extern "C" {
-        pub fn r10_format(region: Region, room: usize, script: *const u8, length: usize) -> u32;
-        pub fn r10_open(region: Region, room: usize, script: *const u8, length: usize, recorder: *mut Recorder) -> u32;
-        pub fn r10_order(recorder: *mut Recorder, order: *mut Order, bytes: *mut u8, room: usize) -> u32;
-        pub fn r10_close(recorder: *mut Recorder);
-        pub fn r10_mount(recorder: *mut Recorder) -> u32;
-        pub fn r10_dismount(recorder: *mut Recorder) -> u32;
-        pub fn r10_tick(recorder: *mut Recorder, count: u64, civil: *const Civil) -> u32;
-        pub fn r10_start(recorder: *mut Recorder, name: *const u8, name_length: usize, setup: *const u8, setup_length: usize) -> u32;
-        pub fn r10_offer_uart(recorder: *mut Recorder, channel: u16, count: u64, parity: bool, sub: u16, bytes: *const u8, length: usize) -> u32;
-        pub fn r10_pump(recorder: *mut Recorder, channel: u16, most: usize, moved: *mut usize) -> u32;
-        pub fn r10_commit(recorder: *mut Recorder) -> u32;
-        pub fn r10_stop(recorder: *mut Recorder, taken: *mut usize, left: *mut usize) -> u32;
-        pub fn r10_cursor(recorder: *mut Recorder, file: usize, channels: *const u16, count: usize, from: u64, to: u64, cursor: *mut usize) -> u32;
-        pub fn r10_advance(recorder: *mut Recorder, cursor: usize, queued: *mut usize) -> u32;
-        pub fn r10_next(
-            recorder: *mut Recorder,
-            cursor: usize,
-            there: *mut bool,
-            entry: *mut Entry,
-            bytes: *mut u8,
-            byte_room: usize,
-            words: *mut u16,
-            word_room: usize,
-        ) -> u32;
-    }
-}
 
 const BLOCKS: usize = 2048;
 const ROOM: usize = 1024;
@@ -116,130 +30,117 @@ bytes = 4096
 number = 100
 ";
 
-/// A recorder over memory of its own, and a cursor on its file.
+type Done<T> = Result<T, Box<dyn Error>>;
+
+/// A recorder, and a cursor on its file.
 struct Desk {
-    recorder: r10::Recorder,
-    memory: Box<[u8]>,
-    disk: Box<[u8]>,
-    cursor: usize,
+    recorder: Recorder,
+    /// the disk under plain memory
+    disk: Option<Vec<u8>>,
+    cursor: Cursor,
     waiting: usize,
     filed: usize,
     played: usize,
 }
 
-fn must(what: &str, number: u32) {
-    if number != 0 {
-        println!("{what}: refused {number}");
-        std::process::exit(1);
-    }
-}
-
 impl Desk {
     /// A recorder that records.
-    fn new() -> Desk {
-        let mut desk = Desk {
-            recorder: r10::Recorder { held: std::ptr::null_mut() },
-            memory: vec![0; BLOCKS * 512].into_boxed_slice(),
-            disk: Box::new([]),
-            cursor: 0,
-            waiting: 0,
-            filed: 0,
-            played: 0,
+    fn new(file: Option<&str>) -> Done<Desk> {
+        let (mut recorder, mut disk) = match file {
+            Some(path) => {
+                if !Path::new(path).exists() {
+                    Disk::make(path, BLOCKS, SCRIPT)?;
+                }
+                (Recorder::open(Disk::open(path, BLOCKS)?.into(), ROOM, SCRIPT).map_err(|(error, _)| error)?, None)
+            }
+            None => (Recorder::format(Region::memory(BLOCKS), ROOM, SCRIPT).map_err(|(error, _)| error)?, Some(vec![0; 512 * BLOCKS])),
         };
-        let at = desk.memory.as_mut_ptr().cast::<c_void>();
-        let civil = r10::Civil { year: 2024, month: 2, day: 29, hour: 12, minute: 34, second: 56, centi: 78 };
-        // The memory is not touched from here until the recorder is closed.
-        unsafe {
-            must("format", r10::r10_format(r10::Region { at, blocks: BLOCKS }, ROOM, SCRIPT.as_ptr(), SCRIPT.len()));
-            desk.disk = desk.memory.clone();
-            must("open", r10::r10_open(r10::Region { at, blocks: BLOCKS }, ROOM, SCRIPT.as_ptr(), SCRIPT.len(), &mut desk.recorder));
-            must("mount", r10::r10_mount(&mut desk.recorder));
-            must("tick", r10::r10_tick(&mut desk.recorder, 1000, &civil));
-            must("start", r10::r10_start(&mut desk.recorder, b"FLT1".as_ptr(), 4, b"".as_ptr(), 0));
-            let none = std::ptr::NonNull::dangling().as_ptr();
-            must("cursor", r10::r10_cursor(&mut desk.recorder, 0, none, 0, 0, (1 << 48) - 1, &mut desk.cursor));
+        settle(&mut recorder, disk.as_mut())?;
+        recorder.mount()?;
+        let files = recorder.files()?;
+        if files.last().is_some_and(|it| !it.closed) {
+            recorder.seal()?;
         }
-        desk.settle();
-        desk
+        recorder.tick(1000, &Civil { year: 2024, month: 2, day: 29, hour: 12, minute: 34, second: 56, centi: 78 })?;
+        recorder.start(&format!("FLT{}", files.len() + 1), b"")?;
+        let cursor = recorder.cursor(files.len(), &[], ALL_COUNTS)?;
+        let mut desk = Desk { recorder, disk, cursor, waiting: 0, filed: 0, played: 0 };
+        desk.settle()?;
+        Ok(desk)
     }
 
-    /// Does on the disk what the calls so far came to.
-    fn settle(&mut self) {
-        let mut bytes = [0; 512];
-        loop {
-            let mut order = r10::Order::default();
-            must("order", unsafe { r10::r10_order(&mut self.recorder, &mut order, bytes.as_mut_ptr(), bytes.len()) });
-            match order.kind {
-                r10::NOTHING => return,
-                r10::WRITE => self.disk[512 * order.block..512 * order.block + 512].copy_from_slice(&bytes),
-                _ => (),
-            }
-        }
+    fn settle(&mut self) -> Done<()> {
+        settle(&mut self.recorder, self.disk.as_mut())
     }
 
     /// Takes what waits into the file.
-    fn pump(&mut self) {
-        let mut moved = 0;
-        must("pump", unsafe { r10::r10_pump(&mut self.recorder, LINE, usize::MAX, &mut moved) });
+    fn pump(&mut self) -> Done<()> {
+        let moved = self.recorder.pump(LINE, usize::MAX)?;
         self.filed += moved;
         self.waiting -= moved;
-        self.settle();
+        self.settle()
     }
 
-    fn offer(&mut self, count: u64, text: &[u8]) {
-        must("offer", unsafe { r10::r10_offer_uart(&mut self.recorder, LINE, count, false, 0, text.as_ptr(), text.len()) });
+    fn offer(&mut self, count: u64, text: &[u8]) -> Done<()> {
+        self.recorder.offer(LINE, count, Message::Uart { parity: false, sub: 0, bytes: text })?;
         self.waiting += 1;
-        if self.waiting == LANE {
-            self.pump();
-        }
+        if self.waiting == LANE { self.pump() } else { Ok(()) }
     }
 
-    fn commit(&mut self) {
-        self.pump();
-        must("commit", unsafe { r10::r10_commit(&mut self.recorder) });
-        self.settle();
+    fn commit(&mut self) -> Done<()> {
+        self.pump()?;
+        self.recorder.commit()?;
+        self.settle()
     }
 
-    fn stop(&mut self) {
-        let (mut taken, mut left) = (0, 0);
-        must("stop", unsafe { r10::r10_stop(&mut self.recorder, &mut taken, &mut left) });
-        self.filed += taken;
-        self.settle();
+    fn stop(&mut self) -> Done<()> {
+        self.filed += self.recorder.stop()?.taken;
+        self.settle()
     }
 
     /// Reads what was shown since the last time, and compares it with what was offered.
-    fn play(&mut self) {
-        let (mut queued, mut bytes, mut words) = (0, vec![0; 65535], [0; 36]);
-        must("advance", unsafe { r10::r10_advance(&mut self.recorder, self.cursor, &mut queued) });
-        for _ in 0..queued {
-            let (mut there, mut entry) = (false, r10::Entry::default());
-            must("next", unsafe {
-                r10::r10_next(&mut self.recorder, self.cursor, &mut there, &mut entry, bytes.as_mut_ptr(), bytes.len(), words.as_mut_ptr(), words.len())
-            });
-            if there && entry.kind == r10::UART {
+    fn play(&mut self) -> Done<()> {
+        self.recorder.advance(self.cursor)?;
+        while let Some(entry) = self.recorder.next(self.cursor)? {
+            if let Content::Uart { bytes, .. } = entry.content {
                 let wanted = format!("message {}", self.played);
-                if entry.channel != LINE || entry.gap || &bytes[..entry.length] != wanted.as_bytes() {
-                    println!("play: not message {}", self.played);
-                    std::process::exit(2);
+                if entry.channel != LINE || entry.gap != Gap::None || bytes != wanted.as_bytes() {
+                    return Err(format!("play: not message {}", self.played).into());
                 }
                 self.played += 1;
             }
         }
+        Ok(())
     }
 
-    fn close(mut self) {
-        must("dismount", unsafe { r10::r10_dismount(&mut self.recorder) });
-        self.settle();
-        unsafe { r10::r10_close(&mut self.recorder) };
-        println!("the disk holds {}", if self.disk == self.memory { "the same" } else { "something else" });
+    fn close(mut self) -> Done<()> {
+        self.recorder.dismount()?;
+        self.settle()?;
+        if let Some(disk) = &self.disk {
+            println!("the disk holds {}", if disk == self.recorder.region() { "the same" } else { "something else" });
+        }
+        Ok(())
     }
 }
 
-fn main() {
+/// Does on the disk what the calls so far came to.
+fn settle(recorder: &mut Recorder, disk: Option<&mut Vec<u8>>) -> Done<()> {
+    let Some(disk) = disk else {
+        return Ok(recorder.settle()?);
+    };
+    let mut bytes = [0; 512 * 16];
+    while let Some(run) = recorder.next_run(&mut bytes)? {
+        if let Run::Write { block, blocks } = run {
+            disk[512 * block..512 * (block + blocks)].copy_from_slice(&bytes[..512 * blocks]);
+        }
+    }
+    Ok(())
+}
+
+fn main() -> Done<()> {
     let words: Vec<String> = std::env::args().collect();
     let (Some(messages), Some(each)) = (words.get(1).and_then(|it| it.parse::<usize>().ok()), words.get(2).and_then(|it| it.parse::<usize>().ok())) else {
-        eprintln!("usage: example MESSAGES EACH");
-        std::process::exit(1);
+        return Err("usage: example MESSAGES EACH [FILE]".into());
     };
     let (sender, receiver) = sync_channel::<(u64, Vec<u8>)>(64);
     let source = thread::spawn(move || {
@@ -250,20 +151,20 @@ fn main() {
             }
         }
     });
-    let mut desk = Desk::new();
+    let mut desk = Desk::new(words.get(3).map(String::as_str))?;
     let mut offered = 0;
     for (count, text) in receiver {
-        desk.offer(count, &text);
+        desk.offer(count, &text)?;
         offered += 1;
         if offered % each == 0 {
-            desk.commit();
-            desk.play();
+            desk.commit()?;
+            desk.play()?;
             println!("sure {} played {}", desk.filed, desk.played);
         }
     }
-    source.join().unwrap();
-    desk.stop();
-    desk.play();
+    source.join().map_err(|_| "the source stopped")?;
+    desk.stop()?;
+    desk.play()?;
     println!("stopped, sure {} played {}", desk.filed, desk.played);
-    desk.close();
+    desk.close()
 }

@@ -1,29 +1,49 @@
-/* The recorder as a library for programs in C: IRIG 106 chapter 10 recording with record-while-play.
+/* The recorder as a library for programs in C, C++ and Rust: IRIG 106 chapter 10 recording with record-while-play.
  *
  * Each call answers 0, or why it did not do its work: the number of a refusal, 1 to 30, or one of the library's own, from 40 on. A call that answers
- * another number than 0 has changed nothing, but for these two: R10_OVERFLOW is counted; after R10_MEDIUM what the call did may be in the region and on
- * the disk or not, and messages that it took from lanes may be gone; the recorder is failed and answers R10_FAILED from then on (r10_close, and r10_open
- * again). Memory that was lent for an answer is as it was then too. Which numbers a call may answer stands at the call.
+ * another number than 0 has changed nothing, but for these two. R10_OVERFLOW is counted. After R10_MEDIUM what the call did may be in the region or not, and
+ * messages that it took from lanes may be gone: the recorder is failed, and answers R10_FAILED from then on (r10_close, and r10_open again). Memory that
+ * was lent for an answer is as it was then too. Which numbers a call may answer stands at the call; R10_CLOSED stands for all.
  *
- * The library calls nothing of the system but malloc, realloc and free. It reads and writes the region, and what a disk has to do it says: behind
- * each call, r10_order hands out the operations that the call came to, one by one, in order: write this block, or make sure what was written so far.
- * The program does each of them before it takes the next. Only when there is none any more, a commit or a stop that answered 0 is sure, and other
- * threads or machines may be told so. A program may be killed, or the power may fail, at any moment: as long as a block is written whole or not at all,
- * and a block that was made sure stays, what the disk then holds is what the recorder may leave, and it can be opened again.
+ * The library calls nothing of the system but malloc, realloc and free. It reads and writes the region, and says what a disk has to do so that it holds the
+ * same: after each call, r10_orders hands out the operations in their order, as runs of neighbouring blocks and as syncs. The program does a run before it
+ * takes the next one. Once there is none left, a commit or a stop that answered 0 is durable. A pump's messages are durable only after a commit.
+ * A program may be killed, or the power may fail, at any moment: what the disk then holds is what the recorder may leave, and it can be opened again.
  *
- * What the program owes, and what nothing checks:
- *  - A recorder is given to one call at a time. It may go from one thread to another between calls.
- *  - A pointer with a count behind it leads to that many; an out pointer leads to one. Neither may be null, but where the count is 0 it may lead
+ * What the disk must do
+ *  - A block of 512 bytes is written whole or not at all, and its neighbours stay as they were. A disk with sectors of 4,096 bytes may lose eight blocks
+ *    when the power fails amid a write. In a trial of 192 such losses 16 media had no directory left, and 66 lacked messages that a commit had made durable.
+ *    `/sys/block/DISK/queue/physical_block_size` says which sectors a disk has; r10_disk_sector of r10_posix.h reads it. A killed program tears nothing.
+ *  - What a sync made durable stays. After a failed sync (fdatasync) the system's copies may differ from the disk. Close the recorder then, drop the copies, and open it
+ *    again: r10_disk_open of r10_posix.h syncs and drops them before each open. r10_disk_failed tells the recorder that its disk failed.
+ *  - A file is allocated whole (posix_fallocate): a full disk under a sparse file ends a program by a signal, and so does a bad sector under a mapping.
+ *  - One program uses a medium at a time (flock): a second one that mounts it writes block 1.
+ *
+ * What the program owes, and what nothing checks
+ *  - A recorder is given to one call at a time. It may go from one thread to another between calls. Two recorders may run in two threads.
+ *  - A pointer with a count leads to that many; an out pointer leads to one. Neither may be null, but where the count is 0 it may lead
  *    anywhere. A bool is 0 or 1. Memory that is lent is lent for the call alone, but for the region.
- *  - The region is the library's from r10_open to r10_close: nothing else writes it. At r10_open it holds what the disk holds. A file is mapped with
+ *  - An `r10` is all zeros before r10_open or r10_format, and is not copied while it is open. One that is not open is answered R10_CLOSED.
+ *  - The region is the library's from r10_open or r10_format to r10_close: nothing else writes it. At the start it holds what the disk holds. A file is mapped with
  *    MAP_PRIVATE: with MAP_SHARED the system would write blocks before their turn.
- *  - The operations are done in order. Where one fails, the recorder is closed, and the program goes on as after a loss of power.
- *  - r10_close is called where r10_open answered 0, and once; the other calls between the two.
+ *  - The runs are done in order. Where one fails, say so (r10_disk_failed) or close the recorder, and go on as after a loss of power.
  *  - malloc, realloc and free are those of the C library. No call is made from a signal handler.
+ *
+ * Memory
+ *  - Each block that is written becomes a page of the program's own under MAP_PRIVATE. Once no operation waits, the file holds what the region holds.
+ *    So the pages may be given back (madvise with MADV_DONTNEED): a later read takes the same bytes from the file. r10_disk_give_back does it.
+ *  - The queue of operations takes 528 bytes a place. `room` places are there from the start; where more wait it grows. A stop or a seal puts the whole index into it:
+ *    20.4 bytes a packet. A recorder keeps 32 bytes for each packet of the file that is recorded.
+ *  - r10_advance queues all that was shown since the last call. A reader of a long file takes it in parts, by cursors over ranges of counts.
+ *
+ * Time
+ *  - A pump is refused R10_MEDIUM_FULL by the most that its entries may need, which is 104 bytes and more each: see docs/USING.md for how full a medium gets. Stop
+ *    then, and start a new file: it begins right after the last one.
+ *  - The standard wants a time packet each second: call r10_tick so often. A seal reads the whole file: 0.6 GB a second in a trial.
  *
  * Counts are below 2^48, in units of 100 ns. Times are civil. Blocks have 512 bytes.
  *
- * To link: libr10_ffi.a, and behind it liblibc_c.a of the toolchain's kit (`scripts/ffi.sh` shows how).
+ * To link: `pkg-config --cflags --libs r10`, where it is installed. Else libr10_ffi.a and liblibc_c.a of the toolchain's kit (`scripts/ffi.sh` shows how).
  */
 #ifndef R10_H
 #define R10_H
@@ -31,6 +51,13 @@
 #include <stdbool.h>
 #include <stddef.h>
 #include <stdint.h>
+#include <string.h>
+
+/* The version that this header is of. r10_version says that of the library, by the same number. */
+#define R10_VERSION_MAJOR 0
+#define R10_VERSION_MINOR 2
+#define R10_VERSION_PATCH 0
+#define R10_VERSION (R10_VERSION_MAJOR * 10000 + R10_VERSION_MINOR * 100 + R10_VERSION_PATCH)
 
 #ifdef __cplusplus
 extern "C" {
@@ -66,18 +93,23 @@ enum {
     R10_MEDIUM_FULL = 25,
     R10_BAD_DIRECTORY = 26,
     R10_BAD_FILE = 27,      /* the file is not one that this recorder wrote, or does not fit its directory entry */
-    R10_MEDIUM = 28,        /* the medium failed in this call */
+    R10_MEDIUM = 28,        /* the medium failed in this call: the program said so (r10_disk_failed), or memory for one operation more was refused */
     R10_NO_MEMORY = 30,     /* memory was refused */
     R10_SCRIPT = 40,        /* the script can't be taken */
     R10_BLOCKS = 41,        /* the region has another number of blocks than the script says */
     R10_ROOM = 42,          /* less memory was lent than the call needs */
-    R10_PLACE = 43          /* a list has no such place */
+    R10_PLACE = 43,         /* a list has no such place */
+    R10_CLOSED = 44,        /* the handle is not open */
+    R10_OPEN = 45           /* the handle is open already */
 };
 
 /* ---- what is lent and given */
 
-/* A recorder, or none where it is zero. Keep it, and do not read it. */
-typedef struct r10 { void *held; } r10;
+/* A recorder, or none where it is all zeros. Keep it, and do not read it. */
+typedef struct r10 {
+    void *held;
+    bool open;
+} r10;
 
 /* So many blocks of memory, 512 bytes each, side by side: a file or device that is mapped (MAP_PRIVATE), or plain memory. */
 typedef struct r10_region { void *at; size_t blocks; } r10_region;
@@ -138,26 +170,52 @@ enum { R10_NOTHING = 0, R10_WRITE = 1, R10_SYNC = 2 };
 
 typedef struct r10_order_info {
     size_t block;               /* R10_WRITE: which block holds these bytes from now on */
-    uint8_t kind;               /* R10_NOTHING, R10_WRITE, or R10_SYNC: what was written so far is made sure */
+    uint8_t kind;               /* R10_NOTHING, R10_WRITE, or R10_SYNC: what was written so far is made durable */
 } r10_order_info;
+
+typedef struct r10_run_info {
+    size_t block;               /* R10_WRITE: the first block of the run */
+    size_t blocks;              /* how many blocks it has, side by side */
+    uint8_t kind;               /* as in r10_order_info */
+} r10_run_info;
+
+typedef struct r10_queue_info {
+    size_t waiting;             /* the operations that wait in the ring in hand */
+    size_t places;              /* the places that it has */
+    size_t rings;               /* the further rings that wait, each of 64 to 16,384 places; 0 where the first was enough */
+} r10_queue_info;
 
 /* ---- a medium and a recorder over it
  *
  * `script` is the text of a script in TOML (docs/FORMAT.md): its settings and channels are taken, its steps are not done. `room` is how many operations
- * may wait for r10_order: the library asks for 528 bytes for each. A call comes to about one for each 512 bytes that it adds to a file, and to
- * some twenty more; r10_stop takes in all that waits. Where there is no room for one it fails as a disk would (R10_MEDIUM). */
+ * may wait before the library asks for more memory: it asks for 528 bytes for each at the start. A call comes to about one for each 512 bytes that it adds to a file, and to
+ * some twenty more; r10_stop takes in all that waits. Only where memory for more is refused amid a call it answers R10_MEDIUM. */
 
-/* Writes the directory of a medium without files, into the region alone: the program then writes the region to its disk and makes it sure, before a
- * file of this name is there to be opened. R10_MEDIUM, R10_NO_MEMORY, R10_SCRIPT, R10_BLOCKS. */
-uint32_t r10_format(r10_region region, size_t room, const void *script, size_t script_length);
+/* The version of the library, as R10_VERSION. */
+uint32_t r10_version(void);
 
-/* Opens a recorder, not mounted, with empty lanes. `recorder` is zero before. R10_NO_MEMORY, R10_SCRIPT, R10_BLOCKS. */
+/* Writes the directory of a medium without files, and opens a recorder over it, not mounted, with empty lanes. Its operations wait, as after every call. After
+ * R10_MEDIUM or R10_NO_MEMORY the region may have the new directory. R10_MEDIUM, R10_NO_MEMORY, R10_SCRIPT, R10_BLOCKS, R10_OPEN. */
+uint32_t r10_format(r10_region region, size_t room, const void *script, size_t script_length, r10 *recorder);
+
+/* Opens a recorder, not mounted, with empty lanes. R10_NO_MEMORY, R10_SCRIPT, R10_BLOCKS, R10_OPEN. */
 uint32_t r10_open(r10_region region, size_t room, const void *script, size_t script_length, r10 *recorder);
 
-/* Hands out the next operation, and the 512 bytes of an R10_WRITE. R10_ROOM where there is room for fewer than 512 bytes: then nothing is taken. */
+/* Hands out the next run: as many of the next writes as are of one block or of blocks side by side, up to the next sync, or a sync, or none. Copies
+ * 512 * blocks bytes. The blocks of a run may be written at once, and in any order. R10_ROOM where there is room for fewer than 512 bytes: then nothing is taken. */
+uint32_t r10_orders(r10 *recorder, r10_run_info *run, uint8_t *bytes, size_t byte_room);
+
+/* The same for one operation. R10_ROOM as r10_orders. */
 uint32_t r10_order(r10 *recorder, r10_order_info *order, uint8_t *bytes, size_t byte_room);
 
-/* Gives back the recorder's memory, and the region to its owner. Operations that were not handed out, and what was not committed, are lost. */
+/* How many operations wait. */
+uint32_t r10_queue(r10 *recorder, r10_queue_info *info);
+
+/* The program's disk failed: from then on each write and each sync of the recorder fails, so that the next call that needs one answers R10_MEDIUM. */
+uint32_t r10_disk_failed(r10 *recorder);
+
+/* Gives back the recorder's memory, and the region to its owner. Operations that were not handed out, and what was not committed, are lost. One that is
+ * closed stays so. */
 void r10_close(r10 *recorder);
 
 /* ---- control. Each may answer R10_NO_MEMORY, and but for r10_offer_.., r10_status, r10_channel, r10_next and r10_close_cursor R10_FAILED. */
@@ -184,10 +242,10 @@ uint32_t r10_pump(r10 *recorder, uint16_t channel, size_t most, size_t *moved);
  * R10_MEDIUM_FULL, R10_MEDIUM. */
 uint32_t r10_event(r10 *recorder, uint16_t number, uint64_t count);
 
-/* Shows on the medium all that the file has: after a 0 it is sure. R10_NOT_MOUNTED, R10_NOT_RECORDING, R10_MEDIUM. */
+/* Shows on the medium all that the file has: after a 0, and once its operations are done, it is durable. R10_NOT_MOUNTED, R10_NOT_RECORDING, R10_MEDIUM. */
 uint32_t r10_commit(r10 *recorder);
 
-/* Takes in what waits, as far as there is room, ends the file and closes it: after a 0 it is sure. `taken` messages were taken, `left` still wait.
+/* Takes in what waits, as far as there is room, ends the file and closes it: after a 0, and once its operations are done, it is durable. `taken` messages were taken, `left` still wait.
  * R10_NOT_MOUNTED, R10_NOT_RECORDING, R10_MEDIUM. */
 uint32_t r10_stop(r10 *recorder, size_t *taken, size_t *left);
 
@@ -254,8 +312,124 @@ uint32_t r10_find(r10 *recorder, size_t file, uint16_t channel, uint64_t count, 
 /* The count at a civil time, by the last shown time that is not later. R10_NOT_MOUNTED, R10_BAD_CIVIL, R10_NO_FILE, R10_BAD_FILE, R10_MEDIUM. */
 uint32_t r10_count_at(r10 *recorder, size_t file, const r10_civil *civil, bool *there, uint64_t *count);
 
+/* ---- what is made of these calls */
+
+/* A number in words. */
+static inline const char *r10_strerror(uint32_t number) {
+    switch (number) {
+    case R10_OK: return "done";
+    case R10_FAILED: return "the recorder met a failure of the medium before";
+    case R10_NOT_MOUNTED: return "no medium is mounted";
+    case R10_MOUNTED: return "a medium is mounted already";
+    case R10_BUSY: return "a file is being recorded";
+    case R10_NOT_RECORDING: return "no file is being recorded";
+    case R10_NO_CHANNEL: return "no channel has this ID";
+    case R10_WRONG_KIND: return "the message is not of the channel's kind";
+    case R10_BAD_MESSAGE: return "a field of the message is out of its range";
+    case R10_TOO_LONG: return "the message or the setup text is too long";
+    case R10_COUNT_RANGE: return "a count has more than 48 bits";
+    case R10_COUNT_BACK: return "a count is below the last one";
+    case R10_OVERFLOW: return "the channel's lane is full";
+    case R10_BAD_CIVIL: return "there is no such date or time";
+    case R10_NO_TIME: return "there was no tick yet";
+    case R10_BAD_NAME: return "a file's name is 1 to 56 letters, digits, dots, underscores or dashes";
+    case R10_NAME_TAKEN: return "a file has this name";
+    case R10_BAD_EVENT: return "an event number is over 4095";
+    case R10_UNSEALED: return "the last file is not closed: it wants a seal";
+    case R10_NO_FILE: return "there is no such file";
+    case R10_STALE: return "the cursor is older than an erase";
+    case R10_NO_CURSOR: return "there is no such cursor";
+    case R10_UNREAD: return "the cursor's queue is not empty";
+    case R10_DIRECTORY_FULL: return "the directory is full";
+    case R10_MEDIUM_FULL: return "the medium is full";
+    case R10_BAD_DIRECTORY: return "the medium's directory cannot be taken";
+    case R10_BAD_FILE: return "the file is not one that this recorder wrote, or does not fit its directory entry";
+    case R10_MEDIUM: return "the medium failed in this call";
+    case R10_NO_MEMORY: return "memory was refused";
+    case R10_SCRIPT: return "the script cannot be taken";
+    case R10_BLOCKS: return "the region has another number of blocks than the script says";
+    case R10_ROOM: return "less memory was lent than the call needs";
+    case R10_PLACE: return "the list has no such place";
+    case R10_CLOSED: return "the recorder is not open";
+    case R10_OPEN: return "the recorder is open already";
+    default: return "no number of this library";
+    }
+}
+
+/* The first block of a file, where `directory` is how many blocks the script reserves for the directory. Numbers as r10_file. */
+static inline uint32_t r10_first_block(r10 *recorder, size_t directory, size_t file, uint64_t *first) {
+    r10_file_info info;
+    uint64_t block = 1 + (uint64_t)directory;
+    uint8_t name[56];
+    for (size_t number = 0; number <= file; number++) {
+        uint32_t answer = r10_file(recorder, number, &info, name, sizeof name);
+        if (answer != R10_OK)
+            return answer;
+        if (number < file)
+            block += info.blocks;
+    }
+    *first = block;
+    return R10_OK;
+}
+
+/* Copies what the medium shows of a file, from this byte on: what fits, and `got` says how much. It is what stands in the region, which is only read. Numbers as
+ * r10_file; where `from` is not below the file's size, 0 bytes are got. */
+static inline uint32_t r10_shown(r10 *recorder, r10_region region, size_t directory, size_t file, uint64_t from, void *bytes, size_t room, size_t *got) {
+    r10_file_info info;
+    uint8_t name[56];
+    uint64_t first;
+    uint32_t answer = r10_file(recorder, file, &info, name, sizeof name);
+    if (answer != R10_OK)
+        return answer;
+    answer = r10_first_block(recorder, directory, file, &first);
+    if (answer != R10_OK)
+        return answer;
+    uint64_t left = from < info.size ? info.size - from : 0;
+    size_t count = left < room ? (size_t)left : room;
+    if (count > 0)
+        memcpy(bytes, (const uint8_t *)region.at + 512 * first + from, count);
+    *got = count;
+    return R10_OK;
+}
+
+/* The channel of this ID. R10_NO_MEMORY, R10_NO_CHANNEL. */
+static inline uint32_t r10_channel_of(r10 *recorder, uint16_t id, r10_channel_info *info) {
+    r10_channel_info found;
+    for (size_t place = 0;; place++) {
+        uint32_t answer = r10_channel(recorder, place, &found);
+        if (answer == R10_PLACE)
+            return R10_NO_CHANNEL;
+        if (answer != R10_OK)
+            return answer;
+        if (found.channel == id) {
+            *info = found;
+            return R10_OK;
+        }
+    }
+}
+
 #ifdef __cplusplus
 }
 #endif
+
+/* A compiler that lays these out in another way must not use this library. */
+#if defined(__cplusplus)
+#define R10_SIZE(type, size) static_assert(sizeof(type) == (size), #type " has another size here")
+#else
+#define R10_SIZE(type, size) _Static_assert(sizeof(type) == (size), #type " has another size here")
+#endif
+R10_SIZE(size_t, 8);
+R10_SIZE(bool, 1);
+R10_SIZE(r10, 16);
+R10_SIZE(r10_region, 16);
+R10_SIZE(r10_civil, 14);
+R10_SIZE(r10_entry, 64);
+R10_SIZE(r10_file_info, 32);
+R10_SIZE(r10_status_info, 40);
+R10_SIZE(r10_channel_info, 32);
+R10_SIZE(r10_order_info, 16);
+R10_SIZE(r10_run_info, 24);
+R10_SIZE(r10_queue_info, 24);
+#undef R10_SIZE
 
 #endif

@@ -1,0 +1,162 @@
+//! What a recorder lies over: plain memory, or a file or a block device that is mapped.
+use std::ffi::{c_int, c_void};
+use std::fs::{File, OpenOptions, TryLockError};
+use std::io::{self, Seek, SeekFrom};
+use std::os::fd::AsRawFd;
+use std::os::unix::fs::FileExt;
+use std::path::Path;
+
+use crate::Recorder;
+
+const PROT_READ: c_int = 1;
+const PROT_WRITE: c_int = 2;
+const MAP_PRIVATE: c_int = 2;
+const MAP_NORESERVE: c_int = 0x4000;
+const MADV_DONTNEED: c_int = 4;
+const POSIX_FADV_DONTNEED: c_int = 4;
+
+unsafe extern "C" {
+    fn mmap(at: *mut c_void, length: usize, access: c_int, how: c_int, file: c_int, offset: i64) -> *mut c_void;
+    fn munmap(at: *mut c_void, length: usize) -> c_int;
+    fn madvise(at: *mut c_void, length: usize, advice: c_int) -> c_int;
+    fn posix_fallocate(file: c_int, offset: i64, length: i64) -> c_int;
+    fn posix_fadvise(file: c_int, offset: i64, length: i64, advice: c_int) -> c_int;
+}
+
+/// The bytes of a run that is written at once.
+const RUN: usize = 512 * 128;
+
+/// How many bytes are written before pages are given back.
+const GIVE_BACK: usize = 32 << 20;
+
+/// A file or a block device, opened by this program alone, mapped, and synced when the recorder says so.
+pub struct Disk {
+    file: File,
+    at: *mut c_void,
+    length: usize,
+    kept: usize,
+}
+
+// SAFETY: the mapping is this value's own.
+unsafe impl Send for Disk {}
+
+impl Disk {
+    /// Takes a file of at least so many blocks for this program alone, makes sure that what is read is on the disk, and maps it. `WouldBlock` where another program
+    /// has it.
+    pub fn open(path: impl AsRef<Path>, blocks: usize) -> io::Result<Disk> {
+        let mut file = OpenOptions::new().read(true).write(true).open(path)?;
+        file.try_lock().map_err(|error| match error {
+            TryLockError::Error(error) => error,
+            TryLockError::WouldBlock => io::ErrorKind::WouldBlock.into(),
+        })?;
+        let length = 512 * blocks;
+        if length == 0 || file.seek(SeekFrom::End(0))? < length as u64 {
+            return Err(io::Error::new(io::ErrorKind::InvalidInput, "the file has fewer blocks"));
+        }
+        // After a sync that failed the system's copies may read otherwise than the disk.
+        file.sync_data()?;
+        unsafe { posix_fadvise(file.as_raw_fd(), 0, 0, POSIX_FADV_DONTNEED) };
+        let at = unsafe { mmap(std::ptr::null_mut(), length, PROT_READ | PROT_WRITE, MAP_PRIVATE | MAP_NORESERVE, file.as_raw_fd(), 0) };
+        if at as isize == -1 {
+            return Err(io::Error::last_os_error());
+        }
+        Ok(Disk { file, at, length, kept: 0 })
+    }
+
+    /// Makes a file of so many blocks, allocated whole and formatted by the script, under another name, and gives it its own only then.
+    pub fn make(path: impl AsRef<Path>, blocks: usize, script: &str) -> io::Result<()> {
+        let path = path.as_ref();
+        let mut fresh = path.as_os_str().to_owned();
+        fresh.push(".new");
+        let file = OpenOptions::new().read(true).write(true).create(true).truncate(true).open(&fresh)?;
+        let refused = unsafe { posix_fallocate(file.as_raw_fd(), 0, 512 * blocks as i64) };
+        if refused != 0 {
+            return Err(io::Error::from_raw_os_error(refused));
+        }
+        drop(file);
+        let disk = Disk::open(&fresh, blocks)?;
+        let mut recorder = Recorder::format(disk.into(), 64, script).map_err(|(error, _)| io::Error::other(error))?;
+        recorder.settle()?;
+        drop(recorder);
+        std::fs::rename(&fresh, path)?;
+        let folder = path.parent().filter(|it| !it.as_os_str().is_empty()).unwrap_or(Path::new("."));
+        File::open(folder)?.sync_all()
+    }
+}
+
+impl Drop for Disk {
+    fn drop(&mut self) {
+        unsafe { munmap(self.at, self.length) };
+    }
+}
+
+enum Kind {
+    Memory(Box<[u8]>),
+    Disk(Disk),
+}
+
+/// What a recorder lies over.
+pub struct Region {
+    kind: Kind,
+    buffer: Vec<u8>,
+}
+
+impl Region {
+    /// So many blocks of plain memory, all zeros.
+    pub fn memory(blocks: usize) -> Region {
+        Region { kind: Kind::Memory(vec![0; 512 * blocks].into_boxed_slice()), buffer: vec![0; RUN] }
+    }
+
+    /// What its blocks hold.
+    pub fn bytes(&self) -> &[u8] {
+        match &self.kind {
+            Kind::Memory(bytes) => bytes,
+            Kind::Disk(disk) => unsafe { std::slice::from_raw_parts(disk.at.cast(), disk.length) },
+        }
+    }
+
+    pub(crate) fn lend(&mut self) -> r10_sys::r10_region {
+        match &mut self.kind {
+            Kind::Memory(bytes) => r10_sys::r10_region { at: bytes.as_mut_ptr().cast(), blocks: bytes.len() / 512 },
+            Kind::Disk(disk) => r10_sys::r10_region { at: disk.at, blocks: disk.length / 512 },
+        }
+    }
+
+    pub(crate) fn buffer(&mut self) -> &mut Vec<u8> {
+        &mut self.buffer
+    }
+
+    pub(crate) fn write(&mut self, block: usize, bytes: &[u8]) -> io::Result<()> {
+        if let Kind::Disk(disk) = &mut self.kind {
+            disk.file.write_all_at(bytes, 512 * block as u64)?;
+            disk.kept += bytes.len();
+        }
+        Ok(())
+    }
+
+    pub(crate) fn sync(&mut self) -> io::Result<()> {
+        match &self.kind {
+            Kind::Memory(_) => Ok(()),
+            Kind::Disk(disk) => disk.file.sync_data(),
+        }
+    }
+
+    /// Nothing waits: the file holds what the mapping holds, so its pages can be given back, and are read from the file when they are wanted.
+    pub(crate) fn settled(&mut self) -> io::Result<()> {
+        if let Kind::Disk(disk) = &mut self.kind
+            && disk.kept >= GIVE_BACK
+        {
+            disk.kept = 0;
+            if unsafe { madvise(disk.at, disk.length, MADV_DONTNEED) } != 0 {
+                return Err(io::Error::last_os_error());
+            }
+        }
+        Ok(())
+    }
+}
+
+impl From<Disk> for Region {
+    fn from(disk: Disk) -> Region {
+        Region { kind: Kind::Disk(disk), buffer: vec![0; RUN] }
+    }
+}

@@ -1,0 +1,448 @@
+//! A recorder of IRIG 106 chapter 10 files over `libr10`, as a value: its caller writes no `unsafe`.
+//!
+//! A [`Recorder`] owns its [`Region`]: plain memory, or a [`Disk`], which is a file or a block device that this program alone has open. Each call that changes
+//! the medium leaves operations, which [`Recorder::settle`] does on the disk. A commit is durable once it is settled.
+//!
+//! A recorder can be moved to another thread, and is used by one at a time: its calls take `&mut self`.
+
+mod disk;
+mod error;
+
+pub use disk::{Disk, Region};
+pub use error::Error;
+pub use r10_sys::r10_civil as Civil;
+
+use r10_sys as sys;
+use std::io;
+use std::ops::RangeInclusive;
+
+/// Every count.
+pub const ALL_COUNTS: RangeInclusive<u64> = 0..=(1 << 48) - 1;
+
+const MOST_BYTES: usize = 65_535;
+const MOST_WORDS: usize = 36;
+
+/// A message as it is offered.
+#[derive(Clone, Copy, Debug, PartialEq, Eq)]
+pub enum Message<'a> {
+    Uart { parity: bool, sub: u16, bytes: &'a [u8] },
+    Bus1553 { status: u16, gap_times: u16, words: &'a [u16] },
+    Arinc { bus: u8, format: bool, parity: bool, high: bool, word: u32 },
+    Discrete { states: u32 },
+    Message { data_error: bool, format: bool, sub: u16, bytes: &'a [u8] },
+}
+
+/// What an entry of a file says.
+#[derive(Clone, Debug, PartialEq, Eq)]
+pub enum Content {
+    Uart { parity: bool, sub: u16, bytes: Vec<u8> },
+    Bus1553 { status: u16, gap_times: u16, words: Vec<u16> },
+    Arinc { bus: u8, format: bool, parity: bool, high: bool, word: u32 },
+    Discrete { states: u32 },
+    Message { data_error: bool, format: bool, sub: u16, bytes: Vec<u8> },
+    Time { civil: Civil },
+    Event { number: u16, occurrence: u16 },
+}
+
+/// Whether messages were lost right before an entry, on its channel.
+#[derive(Clone, Copy, Debug, PartialEq, Eq)]
+pub enum Gap {
+    None,
+    Lost(u64),
+    /// at least one; the file does not tell how many
+    Unknown,
+}
+
+/// An entry of a file.
+#[derive(Clone, Debug, PartialEq, Eq)]
+pub struct Entry {
+    pub count: u64,
+    pub channel: u16,
+    pub gap: Gap,
+    pub content: Content,
+}
+
+/// What a disk has to do next.
+#[derive(Clone, Copy, Debug, PartialEq, Eq)]
+pub enum Run {
+    /// so many blocks from this one on hold the first bytes of the buffer from now on
+    Write { block: usize, blocks: usize },
+    /// what was written so far is made durable
+    Sync,
+}
+
+/// How many messages a stop took, and how many still wait.
+#[derive(Clone, Copy, Debug, PartialEq, Eq)]
+pub struct Stopped {
+    pub taken: usize,
+    pub left: usize,
+}
+
+/// A file of the medium.
+#[derive(Clone, Debug, PartialEq, Eq)]
+pub struct File {
+    pub name: String,
+    /// the bytes that the medium shows of it
+    pub size: u64,
+    /// the blocks that hold these bytes
+    pub blocks: u64,
+    pub closed: bool,
+}
+
+#[derive(Clone, Copy, Debug, PartialEq, Eq)]
+pub enum Mode {
+    Unmounted,
+    Idle,
+    Recording,
+    Failed,
+}
+
+/// How a recorder is.
+#[derive(Clone, Copy, Debug, PartialEq, Eq)]
+pub struct Status {
+    pub mode: Mode,
+    /// the count of the last tick
+    pub tick: Option<u64>,
+    /// the bytes that are left
+    pub free: u64,
+    pub files: usize,
+    pub channels: usize,
+}
+
+/// How a channel is.
+#[derive(Clone, Copy, Debug, PartialEq, Eq)]
+pub struct Channel {
+    pub id: u16,
+    pub waiting: usize,
+    pub lost: u64,
+    pub erased: u64,
+}
+
+/// How many operations wait.
+#[derive(Clone, Copy, Debug, PartialEq, Eq)]
+pub struct Queue {
+    pub waiting: usize,
+    pub places: usize,
+    pub rings: usize,
+}
+
+/// A reader's place in a file.
+#[derive(Clone, Copy, Debug, PartialEq, Eq)]
+pub struct Cursor(usize);
+
+/// A recorder over a region that it owns.
+pub struct Recorder {
+    raw: sys::r10,
+    // declared behind `raw`: the recorder is closed before its region goes
+    region: Region,
+}
+
+// SAFETY: the library keeps nothing by thread, and a recorder may go from one thread to another between calls.
+unsafe impl Send for Recorder {}
+
+fn answer(number: u32) -> Result<(), Error> {
+    if number == sys::OK { Ok(()) } else { Err(Error::new(number)) }
+}
+
+/// The version of the library: 200 for 0.2.0.
+pub fn version() -> u32 {
+    unsafe { sys::r10_version() }
+}
+
+impl Recorder {
+    fn make(mut region: Region, script: &str, call: impl FnOnce(sys::r10_region, &str, *mut sys::r10) -> u32) -> Result<Recorder, (Error, Region)> {
+        let mut raw = sys::r10 { held: std::ptr::null_mut(), open: false };
+        let number = call(region.lend(), script, &mut raw);
+        match answer(number) {
+            Ok(()) => Ok(Recorder { raw, region }),
+            Err(error) => Err((error, region)),
+        }
+    }
+
+    /// Opens a recorder by the settings of a script, not mounted. As many operations as `room` may wait before it asks for more memory.
+    pub fn open(region: Region, room: usize, script: &str) -> Result<Recorder, (Error, Region)> {
+        Recorder::make(region, script, |at, script, raw| unsafe { sys::r10_open(at, room, script.as_ptr(), script.len(), raw) })
+    }
+
+    /// The same over a medium that is formatted first.
+    pub fn format(region: Region, room: usize, script: &str) -> Result<Recorder, (Error, Region)> {
+        Recorder::make(region, script, |at, script, raw| unsafe { sys::r10_format(at, room, script.as_ptr(), script.len(), raw) })
+    }
+
+    /// Closes the recorder, and gives its region back. What was not committed, and operations that were not done, are lost.
+    pub fn close(mut self) -> Region {
+        unsafe { sys::r10_close(&mut self.raw) };
+        std::mem::replace(&mut self.region, Region::memory(0))
+    }
+
+    /// The blocks of the region, as they read now.
+    pub fn region(&self) -> &[u8] {
+        self.region.bytes()
+    }
+
+    /// The next run of blocks, whose bytes come to the front of the buffer, or the next sync. A buffer has room for a block at least.
+    pub fn next_run(&mut self, bytes: &mut [u8]) -> Result<Option<Run>, Error> {
+        let mut run = sys::r10_run_info::default();
+        answer(unsafe { sys::r10_orders(&mut self.raw, &mut run, bytes.as_mut_ptr(), bytes.len()) })?;
+        Ok(match run.kind {
+            sys::NOTHING => None,
+            sys::WRITE => Some(Run::Write { block: run.block, blocks: run.blocks }),
+            _ => Some(Run::Sync),
+        })
+    }
+
+    /// Does on the disk what waits. Where the disk fails the recorder is told so. Over plain memory there is nothing to do.
+    pub fn settle(&mut self) -> io::Result<()> {
+        let mut bytes = std::mem::take(self.region.buffer());
+        let done = self.settle_by(&mut bytes);
+        *self.region.buffer() = bytes;
+        if done.is_err() {
+            unsafe { sys::r10_disk_failed(&mut self.raw) };
+        }
+        done
+    }
+
+    fn settle_by(&mut self, bytes: &mut [u8]) -> io::Result<()> {
+        while let Some(run) = self.next_run(bytes).map_err(io::Error::other)? {
+            match run {
+                Run::Write { block, blocks } => self.region.write(block, &bytes[..512 * blocks])?,
+                Run::Sync => self.region.sync()?,
+            }
+        }
+        self.region.settled()
+    }
+
+    /// The disk failed: the next call that writes is refused, and the recorder is failed.
+    pub fn disk_failed(&mut self) -> Result<(), Error> {
+        answer(unsafe { sys::r10_disk_failed(&mut self.raw) })
+    }
+
+    /// How many operations wait.
+    pub fn queue(&mut self) -> Result<Queue, Error> {
+        let mut info = sys::r10_queue_info::default();
+        answer(unsafe { sys::r10_queue(&mut self.raw, &mut info) })?;
+        Ok(Queue { waiting: info.waiting, places: info.places, rings: info.rings })
+    }
+
+    pub fn mount(&mut self) -> Result<(), Error> {
+        answer(unsafe { sys::r10_mount(&mut self.raw) })
+    }
+
+    pub fn dismount(&mut self) -> Result<(), Error> {
+        answer(unsafe { sys::r10_dismount(&mut self.raw) })
+    }
+
+    /// The clock: the civil time at a count.
+    pub fn tick(&mut self, count: u64, civil: &Civil) -> Result<(), Error> {
+        answer(unsafe { sys::r10_tick(&mut self.raw, count, civil) })
+    }
+
+    /// Begins a file.
+    pub fn start(&mut self, name: &str, setup: &[u8]) -> Result<(), Error> {
+        answer(unsafe { sys::r10_start(&mut self.raw, name.as_ptr(), name.len(), setup.as_ptr(), setup.len()) })
+    }
+
+    /// Puts a message behind the others in its channel's lane.
+    pub fn offer(&mut self, channel: u16, count: u64, message: Message) -> Result<(), Error> {
+        let raw = &mut self.raw;
+        answer(unsafe {
+            match message {
+                Message::Uart { parity, sub, bytes } => sys::r10_offer_uart(raw, channel, count, parity, sub, bytes.as_ptr(), bytes.len()),
+                Message::Bus1553 { status, gap_times, words } => sys::r10_offer_1553(raw, channel, count, status, gap_times, words.as_ptr(), words.len()),
+                Message::Arinc { bus, format, parity, high, word } => sys::r10_offer_arinc(raw, channel, count, bus, format, parity, high, word),
+                Message::Discrete { states } => sys::r10_offer_discrete(raw, channel, count, states),
+                Message::Message { data_error, format, sub, bytes } => {
+                    sys::r10_offer_message(raw, channel, count, data_error, format, sub, bytes.as_ptr(), bytes.len())
+                }
+            }
+        })
+    }
+
+    /// Takes at most so many of a channel's messages into the file, and says how many.
+    pub fn pump(&mut self, channel: u16, most: usize) -> Result<usize, Error> {
+        let mut moved = 0;
+        answer(unsafe { sys::r10_pump(&mut self.raw, channel, most, &mut moved) })?;
+        Ok(moved)
+    }
+
+    /// A recording event.
+    pub fn event(&mut self, number: u16, count: u64) -> Result<(), Error> {
+        answer(unsafe { sys::r10_event(&mut self.raw, number, count) })
+    }
+
+    /// Shows on the medium all that the file has. It is durable once it is settled.
+    pub fn commit(&mut self) -> Result<(), Error> {
+        answer(unsafe { sys::r10_commit(&mut self.raw) })
+    }
+
+    /// Takes in what waits, and closes the file.
+    pub fn stop(&mut self) -> Result<Stopped, Error> {
+        let mut stopped = Stopped { taken: 0, left: 0 };
+        answer(unsafe { sys::r10_stop(&mut self.raw, &mut stopped.taken, &mut stopped.left) })?;
+        Ok(stopped)
+    }
+
+    /// Closes a last file that was cut off.
+    pub fn seal(&mut self) -> Result<(), Error> {
+        answer(unsafe { sys::r10_seal(&mut self.raw) })
+    }
+
+    /// Takes all files from the medium.
+    pub fn erase(&mut self) -> Result<(), Error> {
+        answer(unsafe { sys::r10_erase(&mut self.raw) })
+    }
+
+    /// The files of the medium.
+    pub fn files(&mut self) -> Result<Vec<File>, Error> {
+        let mut count = 0;
+        answer(unsafe { sys::r10_files(&mut self.raw, &mut count) })?;
+        (0..count).map(|number| self.file(number)).collect()
+    }
+
+    fn file(&mut self, number: usize) -> Result<File, Error> {
+        let mut info = sys::r10_file_info::default();
+        let mut name = [0; 56];
+        answer(unsafe { sys::r10_file(&mut self.raw, number, &mut info, name.as_mut_ptr(), name.len()) })?;
+        let name = String::from_utf8_lossy(&name[..info.name_length.min(name.len())]).into_owned();
+        Ok(File { name, size: info.size, blocks: info.blocks, closed: info.closed })
+    }
+
+    pub fn status(&mut self) -> Result<Status, Error> {
+        let mut info = sys::r10_status_info::default();
+        answer(unsafe { sys::r10_status(&mut self.raw, &mut info) })?;
+        let mode = match info.mode {
+            0 => Mode::Unmounted,
+            1 => Mode::Idle,
+            2 => Mode::Recording,
+            _ => Mode::Failed,
+        };
+        Ok(Status { mode, tick: info.ticked.then_some(info.tick), free: info.free, files: info.files, channels: info.channels })
+    }
+
+    /// The channel at this place of the settings.
+    pub fn channel_at(&mut self, place: usize) -> Result<Channel, Error> {
+        let mut info = sys::r10_channel_info::default();
+        answer(unsafe { sys::r10_channel(&mut self.raw, place, &mut info) })?;
+        Ok(Channel { id: info.channel, waiting: info.waiting, lost: info.lost, erased: info.erased })
+    }
+
+    /// The channel of this ID, if there is one.
+    pub fn channel(&mut self, id: u16) -> Result<Option<Channel>, Error> {
+        for place in 0..self.status()?.channels {
+            let channel = self.channel_at(place)?;
+            if channel.id == id {
+                return Ok(Some(channel));
+            }
+        }
+        Ok(None)
+    }
+
+    /// Opens a cursor on a file, for these channels, or all where there are none.
+    pub fn cursor(&mut self, file: usize, channels: &[u16], counts: RangeInclusive<u64>) -> Result<Cursor, Error> {
+        let mut cursor = 0;
+        answer(unsafe { sys::r10_cursor(&mut self.raw, file, channels.as_ptr(), channels.len(), *counts.start(), *counts.end(), &mut cursor) })?;
+        Ok(Cursor(cursor))
+    }
+
+    /// Queues what was shown since the last time, and says how many entries.
+    pub fn advance(&mut self, cursor: Cursor) -> Result<usize, Error> {
+        let mut queued = 0;
+        answer(unsafe { sys::r10_advance(&mut self.raw, cursor.0, &mut queued) })?;
+        Ok(queued)
+    }
+
+    /// Takes the first entry of a cursor's queue.
+    pub fn next(&mut self, cursor: Cursor) -> Result<Option<Entry>, Error> {
+        let mut lent = Lent::new();
+        let (raw, l) = (&mut self.raw, &mut lent);
+        answer(unsafe { sys::r10_next(raw, cursor.0, &mut l.there, &mut l.entry, l.bytes.as_mut_ptr(), l.bytes.len(), l.words.as_mut_ptr(), l.words.len()) })?;
+        Ok(lent.entry())
+    }
+
+    pub fn close_cursor(&mut self, cursor: Cursor) -> Result<(), Error> {
+        answer(unsafe { sys::r10_close_cursor(&mut self.raw, cursor.0) })
+    }
+
+    /// The first shown entry of a channel with at least this count, and its number on the channel from 0.
+    pub fn find(&mut self, file: usize, channel: u16, count: u64) -> Result<Option<(usize, Entry)>, Error> {
+        let (mut lent, mut number) = (Lent::new(), 0);
+        let (raw, l) = (&mut self.raw, &mut lent);
+        answer(unsafe {
+            sys::r10_find(
+                raw,
+                file,
+                channel,
+                count,
+                &mut l.there,
+                &mut number,
+                &mut l.entry,
+                l.bytes.as_mut_ptr(),
+                l.bytes.len(),
+                l.words.as_mut_ptr(),
+                l.words.len(),
+            )
+        })?;
+        Ok(lent.entry().map(|entry| (number, entry)))
+    }
+
+    /// The count at a civil time, by the last shown time that is not later.
+    pub fn count_at(&mut self, file: usize, civil: &Civil) -> Result<Option<u64>, Error> {
+        let (mut there, mut count) = (false, 0);
+        answer(unsafe { sys::r10_count_at(&mut self.raw, file, civil, &mut there, &mut count) })?;
+        Ok(there.then_some(count))
+    }
+
+    /// What the medium shows of a file, from this byte on, as much as there is. `directory` is how many blocks the script reserves for the directory.
+    pub fn shown(&mut self, directory: usize, file: usize, from: u64) -> Result<&[u8], Error> {
+        let mut first = 1 + directory as u64;
+        for number in 0..file {
+            first += self.file(number)?.blocks;
+        }
+        let size = self.file(file)?.size;
+        let start = (512 * first) as usize;
+        Ok(&self.region.bytes()[start + from.min(size) as usize..start + size as usize])
+    }
+}
+
+impl Drop for Recorder {
+    fn drop(&mut self) {
+        unsafe { sys::r10_close(&mut self.raw) };
+    }
+}
+
+/// Memory that is lent for an entry.
+struct Lent {
+    there: bool,
+    entry: sys::r10_entry,
+    bytes: Box<[u8]>,
+    words: [u16; MOST_WORDS],
+}
+
+impl Lent {
+    fn new() -> Lent {
+        Lent { there: false, entry: sys::r10_entry::default(), bytes: vec![0; MOST_BYTES].into_boxed_slice(), words: [0; MOST_WORDS] }
+    }
+
+    fn entry(self) -> Option<Entry> {
+        if !self.there {
+            return None;
+        }
+        let e = &self.entry;
+        let bytes = || self.bytes[..e.length].to_vec();
+        let content = match e.kind {
+            1 => Content::Uart { parity: e.parity, sub: e.sub, bytes: bytes() },
+            2 => Content::Bus1553 { status: e.status, gap_times: e.gap_times, words: self.words[..e.length].to_vec() },
+            3 => Content::Arinc { bus: e.bus, format: e.format, parity: e.parity, high: e.high, word: e.word },
+            4 => Content::Discrete { states: e.word },
+            5 => Content::Message { data_error: e.data_error, format: e.format, sub: e.sub, bytes: bytes() },
+            6 => Content::Time { civil: e.civil },
+            _ => Content::Event { number: e.number, occurrence: e.occurrence },
+        };
+        let gap = match (e.gap, e.lost) {
+            (false, _) => Gap::None,
+            (true, 0) => Gap::Unknown,
+            (true, lost) => Gap::Lost(lost),
+        };
+        Some(Entry { count: e.count, channel: e.channel, gap, content })
+    }
+}

@@ -1,0 +1,175 @@
+//! The crate's calls once each, by values that the standard and the script say.
+use r10::{ALL_COUNTS, Civil, Content, Disk, Error, Gap, Message, Mode, Recorder, Region, Run};
+use std::io::ErrorKind;
+
+const SCRIPT: &str = "blocks = 64
+directory = 2
+volume = \"VOL\"
+nodes = 100
+time = 1
+event = 2
+[[channel]]
+id = 3
+kind = \"uart\"
+capacity = 2
+check = 0
+bytes = 4096
+number = 100
+[[channel]]
+id = 4
+kind = \"1553\"
+capacity = 2
+check = 8
+bytes = 4096
+number = 100
+[[channel]]
+id = 6
+kind = \"discrete\"
+bits = 12
+capacity = 2
+check = 32
+bytes = 4096
+number = 100
+";
+
+const CIVIL: Civil = Civil { year: 2024, month: 2, day: 29, hour: 12, minute: 34, second: 56, centi: 78 };
+
+fn recording(region: Region) -> Result<Recorder, Error> {
+    let mut recorder = Recorder::format(region, 4, SCRIPT).map_err(|(error, _)| error)?;
+    recorder.mount()?;
+    recorder.tick(1000, &CIVIL)?;
+    recorder.start("FLT1", b"ABCD")?;
+    Ok(recorder)
+}
+
+/// The crate's version as the library gives its own: 10,000 for each major number, 100 for each minor one, 1 for each patch.
+fn version_of_the_crate() -> Result<u32, std::num::ParseIntError> {
+    env!("CARGO_PKG_VERSION").split('.').try_fold(0, |sum, part| Ok(sum * 100 + part.parse::<u32>()?))
+}
+
+#[test]
+fn what_is_committed_is_read() -> Result<(), Error> {
+    let mut recorder = recording(Region::memory(64))?;
+    assert_eq!(Ok(r10::version()), version_of_the_crate());
+    recorder.offer(3, 1001, Message::Uart { parity: true, sub: 7, bytes: b"one" })?;
+    recorder.offer(3, 1002, Message::Uart { parity: false, sub: 7, bytes: b"" })?;
+    assert_eq!(recorder.offer(3, 1003, Message::Uart { parity: false, sub: 7, bytes: b"three" }), Err(Error::OVERFLOW));
+    recorder.offer(4, 1004, Message::Bus1553 { status: 0x2000, gap_times: 0x1234, words: &[0x0821, 0xABCD] })?;
+    recorder.offer(6, 1005, Message::Discrete { states: 0xA5A })?;
+    assert_eq!(recorder.offer(6, 1006, Message::Discrete { states: 0x1000 }), Err(Error::BAD_MESSAGE));
+    assert_eq!(recorder.channel(3)?.map(|it| (it.waiting, it.lost)), Some((2, 1)));
+    assert_eq!(recorder.channel(9)?, None);
+    assert_eq!((recorder.pump(3, 9)?, recorder.pump(4, 9)?, recorder.pump(6, 9)?), (2, 1, 1));
+    recorder.offer(3, 1010, Message::Uart { parity: false, sub: 0, bytes: b"four" })?;
+    recorder.event(4095, 1011)?;
+    assert_eq!(recorder.pump(3, 9)?, 1);
+    recorder.commit()?;
+    assert_eq!(recorder.status()?.mode, Mode::Recording);
+    let cursor = recorder.cursor(0, &[], ALL_COUNTS)?;
+    assert_eq!(recorder.advance(cursor)?, 7);
+    let mut entries = Vec::new();
+    while let Some(entry) = recorder.next(cursor)? {
+        entries.push((entry.channel, entry.count, entry.gap, entry.content));
+    }
+    let uart = |parity, sub, bytes: &[u8]| Content::Uart { parity, sub, bytes: bytes.to_vec() };
+    assert_eq!(
+        entries,
+        [
+            (1, 1000, Gap::None, Content::Time { civil: CIVIL }),
+            (3, 1001, Gap::None, uart(true, 7, b"one")),
+            (3, 1002, Gap::None, uart(false, 7, b"")),
+            (4, 1004, Gap::None, Content::Bus1553 { status: 0x2000, gap_times: 0x1234, words: vec![0x0821, 0xABCD] }),
+            (6, 1005, Gap::None, Content::Discrete { states: 0xA5A }),
+            (3, 1010, Gap::Lost(1), uart(false, 0, b"four")),
+            (2, 1011, Gap::None, Content::Event { number: 4095, occurrence: 0 }),
+        ]
+    );
+    recorder.close_cursor(cursor)?;
+    assert_eq!(recorder.next(cursor), Err(Error::NO_CURSOR));
+    assert_eq!(recorder.find(0, 3, 1002)?.map(|(number, entry)| (number, entry.count)), Some((1, 1002)));
+    assert_eq!(recorder.count_at(0, &CIVIL)?, Some(1000));
+    let stopped = recorder.stop()?;
+    assert_eq!((stopped.taken, stopped.left), (0, 0));
+    let files = recorder.files()?;
+    assert_eq!((files.len(), files[0].name.as_str(), files[0].closed), (1, "FLT1", true));
+    let size = files[0].size as usize;
+    let shown = recorder.shown(2, 0, 0)?;
+    assert_eq!((shown.len(), &shown[..2]), (size, &[0x25, 0xEB][..]));
+    assert_eq!(recorder.shown(2, 0, size as u64 - 3)?.len(), 3);
+    assert_eq!(recorder.shown(2, 0, size as u64 + 9)?.len(), 0);
+    assert_eq!(recorder.shown(2, 1, 0), Err(Error::PLACE));
+    recorder.erase()?;
+    recorder.dismount()?;
+    assert_eq!(recorder.commit(), Err(Error::NOT_MOUNTED));
+    Ok(())
+}
+
+#[test]
+fn runs_make_the_disk_what_the_region_is() -> Result<(), Error> {
+    let mut recorder = recording(Region::memory(64))?;
+    for n in 0..20 {
+        recorder.offer(3, 1001 + n, Message::Uart { parity: false, sub: 0, bytes: &[n as u8; 300] })?;
+        recorder.pump(3, 1)?;
+    }
+    recorder.stop()?;
+    let (mut disk, mut bytes, mut syncs) = (vec![0; 64 * 512], [0; 3 * 512], 0);
+    while let Some(run) = recorder.next_run(&mut bytes)? {
+        match run {
+            Run::Write { block, blocks } => disk[512 * block..512 * (block + blocks)].copy_from_slice(&bytes[..512 * blocks]),
+            Run::Sync => syncs += 1,
+        }
+    }
+    assert_eq!(recorder.queue()?.waiting, 0);
+    assert!(syncs > 0 && disk == recorder.region());
+    assert_eq!(recorder.next_run(&mut [0; 511]), Err(Error::ROOM));
+    Ok(())
+}
+
+#[test]
+fn a_failed_disk_fails_the_recorder() -> Result<(), Error> {
+    let mut recorder = recording(Region::memory(64))?;
+    recorder.offer(3, 1001, Message::Uart { parity: false, sub: 0, bytes: b"one" })?;
+    recorder.pump(3, 1)?;
+    recorder.disk_failed()?;
+    assert_eq!(recorder.commit(), Err(Error::MEDIUM));
+    assert_eq!(recorder.commit(), Err(Error::FAILED));
+    assert_eq!(recorder.status()?.mode, Mode::Failed);
+    Ok(())
+}
+
+#[test]
+fn a_refused_opening_gives_the_region_back() {
+    let Err((error, region)) = Recorder::open(Region::memory(64), 4, "blocks") else {
+        panic!("a script that is none was taken");
+    };
+    assert_eq!(error, Error::SCRIPT);
+    assert_eq!(error.to_string(), "the script cannot be taken");
+    let Err((error, _)) = Recorder::open(Region::memory(63), 4, SCRIPT) else {
+        panic!("a region of another size was taken");
+    };
+    assert_eq!((error, region.bytes().len()), (Error::BLOCKS, 64 * 512));
+}
+
+#[test]
+fn a_file_has_one_program() -> Result<(), Box<dyn std::error::Error>> {
+    let path = std::env::temp_dir().join(format!("r10-crate-{}", std::process::id()));
+    Disk::make(&path, 64, SCRIPT)?;
+    let mut recorder = Recorder::open(Disk::open(&path, 64)?.into(), 4, SCRIPT).map_err(|(error, _)| error)?;
+    assert_eq!(Disk::open(&path, 64).err().map(|error| error.kind()), Some(ErrorKind::WouldBlock));
+    recorder.mount()?;
+    recorder.tick(1000, &CIVIL)?;
+    recorder.start("FLT1", b"")?;
+    recorder.offer(3, 1001, Message::Uart { parity: false, sub: 0, bytes: b"one" })?;
+    recorder.stop()?;
+    recorder.settle()?;
+    drop(recorder);
+    // what is on the disk
+    let mut recorder = Recorder::open(Disk::open(&path, 64)?.into(), 4, SCRIPT).map_err(|(error, _)| error)?;
+    recorder.mount()?;
+    assert_eq!(recorder.find(0, 3, 0)?.map(|(_, entry)| entry.count), Some(1001));
+    assert!(Disk::open(&path, 65).is_err());
+    drop(recorder);
+    assert_eq!(Disk::open(&path, 65).err().map(|error| error.kind()), Some(ErrorKind::InvalidInput));
+    std::fs::remove_file(&path)?;
+    Ok(())
+}
