@@ -1,0 +1,38 @@
+"""Filters over recordings of IRIG 106-17, chapter 10, by any recorder. Python 3.7 and newer; nothing beside it has to be installed.
+
+`scripts/ch10.py` starts it, or `python3 -m ch10` in the folder above. The modules, each standing on those above it:
+
+    standard     numbers in bytes, names of data types, what a fault is
+    medium       the directory of an image, and its files
+    packets      the packets of a recording: headers, checksums, bodies as bytes
+    times        civil times, and the clock that gives each count its civil time
+    bodies       what stands in a packet's body: its entries
+    clocks       what times say of a clock: jumps, steps back, drift
+    tmats        the setup text: attributes, names of channels and buses
+    survey       one pass over a recording: what each channel has, what was passed over, its clocks and setup text
+    replay       the entries of a recording in order, in parts that stand for themselves
+    buses, fields    what entries mean, and the columns that say so
+    recording    the interface for other programs: files, packets and typed entries of an input
+    inputs       what a call reads and writes
+    parallel, vector    lines by several processes, and by numpy
+    table, lines, picture, cuts, database, script    the commands
+    command      the words of a call
+
+Over many recordings, beside the filters:
+
+    store, store_schema, store_sqlite, store_postgres    a database by its DSN, and its tables step by step
+    workers      work in several processes
+    facts        what is kept of a recording: sum, verdict by the program r10, and what one pass finds
+    entry_rows, load   entries as rows of tables, and the command `load`
+    catalogue, find    the commands `catalogue add`, and `catalogue find` and `show`
+    range_words  the words of these commands
+
+For other programs `ch10.recording` is the way in:
+
+    from ch10.recording import recordings
+    for recording in recordings(data):          # the bytes of a recording or of an image, or a map of a file
+        survey = recording.survey()             # rows of channels, damage, clock, setup text
+        for packet in recording.packets():      # headers and bodies
+            for entry in recording.entries_of(packet):
+                print(entry.count, entry.channel, entry.value)
+"""

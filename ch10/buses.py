@@ -1,0 +1,106 @@
+"""What the words of buses mean: MIL-STD-1553 messages, ARINC 429 words, discretes, and text."""
+from typing import Optional, Tuple
+
+# ---- MIL-STD-1553
+
+ERRORS_1553 = ((12, 'message error'), (10, 'format error'), (9, 'response timeout'), (5, 'word count error'), (4, 'sync type error'), (3, 'invalid word'))
+FLAGS_1553 = ((10, 'message error'), (9, 'instrumentation'), (8, 'service request'), (4, 'broadcast received'), (3, 'busy'), (2, 'subsystem flag'),
+              (1, 'dynamic bus control'), (0, 'terminal flag'))
+RT_TO_RT = 1 << 11
+
+
+def named(value: int, names) -> str:
+    """The names of the bits that are set, with a plus between them."""
+    return '+'.join(name for bit, name in names if value >> bit & 1)
+
+
+def block_1553(status: int) -> Tuple[str, str]:
+    """Of a block status word the bus, and the errors by name."""
+    return 'B' if status >> 13 & 1 else 'A', named(status, ERRORS_1553)
+
+
+def command_1553(command: Optional[int]) -> tuple:
+    """Of a command word: RT, R (the terminal receives) or T (it transmits), subaddress, word count (1 to 32), and in place of that a mode code."""
+    if command is None:
+        return None, None, None, None, None
+    rt, sa, low = command >> 11, command >> 5 & 31, command & 31
+    is_mode = sa in (0, 31)
+    return rt, 'T' if command >> 10 & 1 else 'R', sa, None if is_mode else low or 32, low if is_mode else None
+
+
+def layout_1553(command: int, number: int, is_between: bool) -> Tuple[Optional[int], Optional[int], Optional[int]]:
+    """Where, of so many words from a command word on, the second command word and the status words stand, as far as they are there."""
+    rt, sends, sa, low = command >> 11, command >> 10 & 1, command >> 5 & 31, command & 31
+    size = low or 32
+    if is_between and number > 1:  # receive, transmit, status, data, status
+        return 1, 2 if number > 2 else None, 3 + size if number > 3 + size and rt != 31 else None
+    if sa in (0, 31):
+        size = low >> 4  # one data word, or none
+    if rt == 31:  # to all: no terminal answers
+        return None, None, None
+    if sends:
+        return None, 1 if number > 1 else None, None
+    return None, 1 + size if number > 1 + size else None, None
+
+
+def flags_1553(first: Optional[int], second: Optional[int]) -> str:
+    """The flags of the status words by name."""
+    return named((first or 0) | (second or 0), FLAGS_1553)
+
+
+def message_1553(status: int, words: list) -> tuple:
+    """A message as columns: bus, errors, RT, T/R, SA, WC, mode code, RT and SA of a second command, status words, their flags, data words."""
+    bus, errors = block_1553(status)
+    if not words:
+        return (bus, errors) + (None,) * 9 + ('', [])
+    second, first_status, second_status = layout_1553(words[0], len(words), bool(status & RT_TO_RT))
+    places = {0, second, first_status, second_status}
+    one = None if first_status is None else words[first_status]
+    two = None if second_status is None else words[second_status]
+    other = command_1553(None if second is None else words[second])
+    return (bus, errors) + command_1553(words[0]) + (other[0], other[2], one, two, flags_1553(one, two),
+                                                     [word for place, word in enumerate(words) if place not in places])
+
+
+# ---- ARINC 429
+
+ODD = bytes(bin(value).count('1') & 1 for value in range(1 << 16))
+TURNED = bytes(int('{:08b}'.format(value)[::-1], 2) for value in range(256))
+
+
+def errors_429(head: int, word: int) -> str:
+    """What the header says of a word's reception, and whether the word has the odd parity that the bus asks for."""
+    is_odd = ODD[word & 0xFFFF] ^ ODD[word >> 16]
+    return '+'.join(name for held, name in ((head >> 23 & 1, 'format error'), (head >> 22 & 1, 'parity error'), (not is_odd, 'even parity')) if held)
+
+
+def word_429(word: int, turned: bool = False) -> tuple:
+    """A word as columns: label in octal, SDI, the 19 bits of data, SSM, parity bit. The label is bits 7 to 0, or these in the other order."""
+    label = word & 0xFF
+    return '%03o' % (TURNED[label] if turned else label), word >> 8 & 3, word >> 10 & 0x7FFFF, word >> 29 & 3, word >> 31
+
+
+# ---- discretes and text
+
+def bits_of(states: int, number: int) -> str:
+    """So many discretes as digits, number 0 at the right."""
+    return '{:0{}b}'.format(states & ((1 << number) - 1), number)
+
+
+def changed_bits(before: Optional[int], states: int, number: int) -> str:
+    """Which discretes came on (+) and went off (-) since the states before."""
+    if before is None or before == states:
+        return ''
+    return ' '.join('%s%d' % ('+' if states >> bit & 1 else '-', bit) for bit in range(number) if (before ^ states) >> bit & 1)
+
+
+def text_of(data: bytes) -> str:
+    """The bytes as a text where all of them print, else ''. Ends of lines and tabs print as in C, and a backslash is two."""
+    if not data or data.translate(None, PRINTS):
+        return ''
+    said = data.decode('ascii')
+    return said if said.isprintable() and '\\' not in said else said.translate(ESCAPES)
+
+
+PRINTS = bytes(range(0x20, 0x7F)) + b'\t\r\n'
+ESCAPES = {0x09: '\\t', 0x0D: '\\r', 0x0A: '\\n', 0x5C: '\\\\'}

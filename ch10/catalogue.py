@@ -1,0 +1,301 @@
+"""`ch10 catalogue add`: recordings and files of images, each once by its sum, with all that is kept of it in one transaction."""
+from __future__ import annotations
+
+import datetime
+import mmap
+import os
+import stat
+import sys
+import time
+from typing import Any, Dict, Iterable, Iterator, List, NamedTuple, Optional, Sequence, Tuple
+
+from .facts import CHANNEL_COLUMNS, RECORDING_COLUMNS, facts_of, nothing_in, program_of, sum_of, verdict_of_image, version_of
+from .inputs import Output, is_recording, shown
+from .medium import directory
+from .standard import Fault
+from .store import Store, open_store
+from .workers import Pool, Room, Task, processors
+
+SMALL = 1 << 26  # bytes of a file that is read; a larger one is mapped
+ENDINGS = ('.ch10', '.c10', '.img')
+PLACE_COLUMNS = ('path', 'file_number', 'recording', 'volume', 'file_name', 'closed', 'listed_size', 'seen')
+MOST_TOGETHER, MOST_WAIT = 64, 1.0  # recordings, or seconds, that a transaction takes together
+PARAMETERS = 900  # values in one statement, of which some builds of SQLite take no more than 999
+
+
+# ---- inputs
+
+class Input(NamedTuple):
+    """A file to add: how it is opened, and where it is said to lie."""
+
+    path: str
+    place: str
+
+
+def printable(path: str) -> str:
+    """A path as text: bytes that are no UTF-8 are escaped."""
+    return os.fsencode(path).decode('utf-8', 'backslashreplace')
+
+
+def inputs_of(paths: Sequence[str], base: Optional[str], passed: List[str]) -> Iterator[Input]:
+    """The files of a call: those that it names, and of a folder those below it that look like recordings or images; the others are counted in `passed`."""
+    for path in paths:
+        if os.path.isdir(path):
+            for folder, folders, names in os.walk(path):
+                folders.sort()
+                for name in sorted(names):
+                    found = os.path.join(folder, name)
+                    if os.path.isfile(found) and looks_right(found):
+                        yield Input(found, placed(found, os.path.relpath(found, path), base))
+                    else:
+                        passed.append(found)
+        else:
+            yield Input(path, placed(path, os.path.basename(path), base))
+
+
+def placed(path: str, rest: str, base: Optional[str]) -> str:
+    return printable(os.path.abspath(path)) if base is None else '%s/%s' % (base.rstrip('/'), printable(rest))
+
+
+def looks_right(path: str) -> bool:
+    """Whether a file in a folder is a recording or an image by its name or its first bytes."""
+    if path.lower().endswith(ENDINGS):
+        return True
+    try:
+        with open(path, 'rb') as file:
+            front = file.read(520)
+    except OSError:
+        return True  # which is said where it is added
+    return is_recording(front) or front[512:520] == b'FORTYtwo'
+
+
+def opened(path: str) -> Any:
+    """The bytes of a file: read where it is small, else mapped."""
+    with open(path, 'rb') as file:
+        state = os.fstat(file.fileno())
+        if not stat.S_ISREG(state.st_mode):
+            raise OSError(0, 'no regular file')
+        return file.read() if state.st_size <= SMALL else mmap.mmap(file.fileno(), 0, access=mmap.ACCESS_READ)
+
+
+def tasks_of(inputs: Iterable[Input], failed: List[Tuple[str, str]]) -> Iterator[Task]:
+    """What is to be done for each input: one task for a recording, one for each file of an image."""
+    for path, place in inputs:
+        try:
+            with open(path, 'rb') as file:
+                size, front = os.fstat(file.fileno()).st_size, file.read(520)
+            if is_recording(front) or front[512:520] != b'FORTYtwo':
+                yield dict(path=path, place=place, begin=0, end=size, number=-1, files=0, bytes=size)
+                continue
+            yield from image_tasks(path, place, opened(path))
+        except OSError as error:
+            failed.append((place, error.strerror or str(error)))
+
+
+def image_tasks(path: str, place: str, data: Any) -> Iterator[Task]:
+    try:
+        volume, files = directory(data)
+    except Fault as fault:
+        yield dict(path=path, place=place, begin=0, end=len(data), number=-1, files=0, bytes=len(data), fault=str(fault))
+        return
+    for number, file in enumerate(files):
+        begin = min(512 * file.first, len(data))
+        end = min(begin + file.size, len(data))
+        yield dict(path=path, place=place, begin=begin, end=end, number=number, files=len(files), bytes=end - begin, volume=shown(volume),
+                   name=shown(file.name), closed=file.closed, listed=file.size)
+
+
+# ---- one of them, in a process of its own or in this one
+
+def work(setting: Task) -> Any:
+    """What looks at one task, by the program and the database of a setting."""
+    store = open_store(setting['db'], make=False)
+
+    def look(task: Task) -> Task:
+        try:
+            data = opened(task['path'])
+        except OSError as error:
+            return {'error': error.strerror or str(error)}
+        begin, end = task['begin'], min(task['end'], len(data))
+        with memoryview(data)[begin:end] as view:
+            sum_ = sum_of(view)
+            known = store.rows('SELECT verdict FROM recording WHERE sha256 = ?', (sum_,))
+            if known and not setting['anew'] and (known[0][0] != 'unjudged' or setting['program'] is None):
+                return {'sha256': sum_, 'verdict': known[0][0], 'known': True}
+            program = setting['program'] if len(view) <= setting['most'] else None
+            if 'fault' in task:
+                found = nothing_in(len(view))
+                found.update(verdict_of_image(program, view, Fault(task['fault'])))
+        if 'fault' not in task:
+            found = facts_of(data, begin, end, program)
+        found.update(sha256=sum_, judge=setting['judge'] if found['verdict'] != 'unjudged' else None)
+        return found
+
+    return look
+
+
+# ---- into the database
+
+def now() -> str:
+    return datetime.datetime.now(datetime.timezone.utc).replace(tzinfo=None).isoformat(' ', 'seconds')
+
+
+def record(store: Store, found: Sequence[Tuple[Task, Task]], anew: bool) -> List[str]:
+    """Puts what was found into the database, all of it or nothing. Answers of each whether it was `added`, `judged` (it had no verdict before), or `known`."""
+    ways: Dict[str, str] = {}
+    moment = now()
+    with store.transaction():
+        fresh = {facts['sha256']: facts for _, facts in found if not facts.get('known')}
+        new = store.insert_new('recording', RECORDING_COLUMNS, [
+            tuple(dict(fresh[key], added=moment)[name] for name in RECORDING_COLUMNS) for key in sorted(fresh)], 1)
+        ids = dict(recordings_of(store, sorted({facts['sha256'] for _, facts in found})))
+        for key in sorted(fresh):
+            ways[key] = 'added' if (key,) in new else replace(store, ids[key], fresh[key], anew)
+        details(store, [(ids[key], fresh[key]) for key in sorted(fresh) if ways[key] != 'known'])
+        put_places(store, found, ids, moment)
+    return [ways.pop(facts['sha256'], 'known') for _, facts in found]
+
+
+def recordings_of(store: Store, sums: Sequence[str]) -> Iterator[Tuple[str, int]]:
+    for at in range(0, len(sums), PARAMETERS):
+        some = sums[at:at + PARAMETERS]
+        yield from store.rows('SELECT sha256, id FROM recording WHERE sha256 IN (%s)' % ', '.join('?' * len(some)), some)
+
+
+def replace(store: Store, number: int, facts: Task, anew: bool) -> str:
+    """Takes what was found in place of what stood there, where it had no verdict or the call asks for it."""
+    (verdict,), = store.rows('SELECT verdict FROM recording WHERE id = ?' + store.for_update, (number,))
+    if not anew and (verdict != 'unjudged' or facts['verdict'] == 'unjudged'):
+        return 'known'
+    names = [name for name in RECORDING_COLUMNS if name not in ('sha256', 'added')]
+    store.rows('UPDATE recording SET %s WHERE id = ?' % ', '.join(name + ' = ?' for name in names), [facts[name] for name in names] + [number])
+    for table in ('channel', 'damage', 'attribute'):
+        store.rows('DELETE FROM %s WHERE recording = ?' % table, (number,))
+    return 'judged'
+
+
+def details(store: Store, found: Sequence[Tuple[int, Task]]) -> None:
+    """The rows that belong to recordings."""
+    store.insert('channel', ('recording',) + CHANNEL_COLUMNS, ((number, *row) for number, facts in found for row in facts['channels']))
+    store.insert('damage', ('recording', 'byte_offset', 'byte_length', 'reason'), ((number, *row) for number, facts in found for row in facts['damage']))
+    store.insert('attribute', ('recording', 'code', 'value'), ((number, *row) for number, facts in found for row in facts['attributes']))
+
+
+def put_places(store: Store, found: Sequence[Tuple[Task, Task]], ids: Dict[str, int], moment: str) -> None:
+    """Where the recordings lie; a file that has others now than before has those."""
+    rows, files = {}, {}
+    for task, facts in found:
+        rows[task['place'], task['number']] = (task['place'], task['number'], ids[facts['sha256']], task.get('volume'), task.get('name'), task.get('closed'),
+                                               task.get('listed'), moment)
+        files[task['place']] = task['files']
+    plain = sorted(place for place, number in files.items() if number == 0)
+    for at in range(0, len(plain), PARAMETERS):
+        some = plain[at:at + PARAMETERS]
+        store.rows('DELETE FROM place WHERE file_number >= 0 AND path IN (%s)' % ', '.join('?' * len(some)), some)
+    for place in sorted(set(files) - set(plain)):
+        store.rows('DELETE FROM place WHERE path = ? AND (file_number < 0 OR file_number >= ?)', (place, files[place]))
+    every = [rows[key] for key in sorted(rows)]
+    step = PARAMETERS // len(PLACE_COLUMNS)
+    for at in range(0, len(every), step):
+        some = every[at:at + step]
+        store.rows('INSERT INTO place (%s) VALUES %s ON CONFLICT (path, file_number) DO UPDATE SET %s' % (
+            ', '.join(PLACE_COLUMNS), ', '.join(['(%s)' % ', '.join('?' * len(PLACE_COLUMNS))] * len(some)),
+            ', '.join('%s = excluded.%s' % (name, name) for name in PLACE_COLUMNS[2:])), [value for row in some for value in row])
+
+
+# ---- the command
+
+class Progress:
+    """What is said while files are added: a bar on a terminal, one line a file elsewhere."""
+
+    def __init__(self, out: Output) -> None:
+        self.out, self.is_bar = out, out.to.isatty() and sys.stderr is not None and sys.stderr.isatty()
+        self.files = self.bytes = self.faulty = 0
+        self.ways = dict.fromkeys(('added', 'judged', 'known'), 0)
+        self.start = self.last = time.monotonic()
+
+    def say(self, task: Task, facts: Task, way: str) -> None:
+        self.files += 1
+        self.bytes += task['bytes']
+        self.ways[way] += 1
+        self.faulty += facts['verdict'] == 'faulty'
+        if not self.is_bar:
+            self.out.line('%s %s %s %s' % (way, facts['verdict'], facts['sha256'][:16], title(task)))
+
+    def flush(self, is_end: bool = False) -> None:
+        if self.is_bar:
+            passed = time.monotonic() - self.start
+            sys.stderr.write('\r\x1b[K%d files, %.0f MB, %.0f MB/s, %d faulty%s' % (
+                self.files, self.bytes / 1e6, self.bytes / 1e6 / max(passed, 1e-3), self.faulty, '\n' if is_end else ''))
+            sys.stderr.flush()
+        else:
+            self.out.flush()
+
+
+def title(task: Task) -> str:
+    """Where an input lies, as a line says it."""
+    place = ''.join(letter if letter.isprintable() else '?' for letter in task['place'])
+    return place if task['number'] < 0 else '%s file %d %s' % (place, task['number'], task['name'])
+
+
+Added = Tuple[Task, Task, str]
+
+
+def added(store: Store, asked: Any, failed: List[Tuple[str, str]], passed: List[str]) -> Iterator[List[Added]]:
+    """Adds the inputs of a call, and gives what was done with each, a transaction's worth at a time. What can't be read goes to `failed`."""
+    program = None if asked.unjudged else program_of(asked.program)
+    memory = asked.memory << 20 if asked.memory else half_of_memory()
+    setting = dict(work='catalogue', db=asked.db, program=program, judge=program and version_of(program), anew=asked.anew, most=memory)
+    held: List[Tuple[Task, Task]] = []
+    last = time.monotonic()
+    with Pool(asked.jobs or processors(), setting, Room(memory)) as pool:
+        for task, facts in pool.done(tasks_of(inputs_of(asked.inputs, asked.place, passed), failed)):
+            if 'error' in facts:
+                failed.append((title(task), facts['error']))
+                continue
+            held.append((task, facts))
+            if len(held) >= MOST_TOGETHER or time.monotonic() - last >= MOST_WAIT:
+                yield [(*pair, way) for pair, way in zip(held, record(store, held, asked.anew))]
+                held, last = [], time.monotonic()
+        if held:
+            yield [(*pair, way) for pair, way in zip(held, record(store, held, asked.anew))]
+
+
+def add(asked: Any, data: None, out: Output) -> None:
+    """`ch10 catalogue add`."""
+    failed: List[Tuple[str, str]] = []
+    passed: List[str] = []
+    progress = Progress(out)
+    store = open_store(asked.db)
+    try:
+        for some in added(store, asked, failed, passed):
+            for task, facts, way in some:
+                progress.say(task, facts, way)
+            progress.flush()
+        progress.flush(is_end=True)
+        if progress.ways['added'] + progress.ways['judged']:
+            store.settle()
+    finally:
+        store.close()
+    out.line('%d added, %d judged anew, %d known before; %d of them faulty%s' % (
+        progress.ways['added'], progress.ways['judged'], progress.ways['known'], progress.faulty,
+        '; %d others in the folders are no recordings' % len(passed) if passed else ''))
+    unread(failed)
+
+
+def unread(failed: Sequence[Tuple[str, str]]) -> None:
+    """Says what could not be read, where something could not."""
+    if failed:
+        raise OSError(0, '%d of the inputs could not be read, first %s: %s' % (len(failed), failed[0][0], failed[0][1]))
+
+
+def half_of_memory() -> int:
+    """Half of the bytes that are free, for what the program holds while it judges."""
+    try:
+        with open('/proc/meminfo') as file:
+            for line in file:
+                if line.startswith('MemAvailable:'):
+                    return int(line.split()[1]) << 9
+    except OSError:
+        pass
+    return 1 << 31

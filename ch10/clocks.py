@@ -1,0 +1,59 @@
+"""What the times of a channel say of its clock: jumps, steps back, drift against the counter, seconds without a time."""
+from collections import namedtuple
+from typing import List, Optional, Tuple
+
+SECOND = 10 ** 7
+LEAST = 200000  # a jump is more than 20 ms, as times are in hundredths of a second,
+MOST_DRIFT = 2000  # and more than one part in 2,000 of what passed
+SURE = 100000  # times are told to 10 ms
+
+Jump = namedtuple('Jump', 'offset count before after by')
+Jump.__doc__ = """A jump of a clock: where the time packet stands, its counter, the time that was to come by the counter since the time before, the time that came, and
+by how much they differ. All in units of 100 ns; a step back is a time that came before the one before it."""
+
+
+class TimeLine:
+    """The times of one channel, in their order."""
+
+    def __init__(self, channel: int):
+        self.channel, self.packets = channel, 0
+        self.told: List[tuple] = []  # (counter, Time, offset) of each that is a time
+
+    def add(self, counter: int, said, offset: int) -> None:
+        self.packets += 1
+        if said.ticks is not None:
+            self.told.append((counter, said, offset))
+
+    def steps(self):
+        """From each time to the next one with a date as it has, or without one as it has: the two, what passed by the counter, and by how much they differ."""
+        for (count, said, _), (after, then, offset) in zip(self.told, self.told[1:]):
+            if said.dated == then.dated:
+                past = after - count
+                yield said.ticks, then.ticks, past, then.ticks - said.ticks - past, after, offset
+
+    @staticmethod
+    def is_jump(past: int, by: int) -> bool:
+        return abs(by) > max(LEAST, abs(past) // MOST_DRIFT) or past < 0
+
+    def jumps(self) -> List[Jump]:
+        return [Jump(offset, after, ticks + past, then, by) for ticks, then, past, by, after, offset in self.steps() if self.is_jump(past, by)]
+
+    def steps_back(self) -> int:
+        return sum(then < ticks for ticks, then, _, _, _, _ in self.steps())
+
+    def drift(self) -> Optional[Tuple[float, float]]:
+        """By how many parts in a million the clock is faster than the counter, and how far off that may be; None where less than 10 seconds tell it."""
+        past = sum(past for _, _, past, by, _, _ in self.steps() if not self.is_jump(past, by))
+        more = sum(by for _, _, past, by, _, _ in self.steps() if not self.is_jump(past, by))
+        if past < 10 * SECOND:
+            return None
+        parts = 1 + len(self.jumps())
+        return more * 10 ** 6 / past, SURE * parts * 10 ** 6 / past
+
+    def without(self, low: int, high: int) -> int:
+        """How many whole seconds, from the first count to the last, have no time, where each second is to have one."""
+        marks = sorted(count for count, _, _ in self.told)
+        if not marks:
+            return (high - low) // SECOND
+        inside = sum(max((then - count + SECOND // 2) // SECOND - 1, 0) for count, then in zip(marks, marks[1:]))
+        return inside + max(marks[0] - low, 0) // SECOND + max(high - marks[-1], 0) // SECOND

@@ -1,0 +1,219 @@
+"""The words of a call, and what comes of it."""
+import argparse
+import gc
+import os
+import re
+import sys
+
+from .cuts import as_file, as_range, setup
+from .database import as_sqlite
+from .inputs import Output, given
+from .lines import as_csv, as_json
+from .picture import as_svg
+from .range_words import add_words
+from .script import as_tmats
+from .standard import KIND_BY_NAME, Fault, Wrong
+from .table import summary
+from .times import Bound
+
+
+class Help(Exception):
+    """The text of help, which was asked for."""
+
+
+ABOUT = """What a crew asks of a recording, or of the image of a medium: from standard input to standard output, by the public standard alone.
+
+    ch10 summary < INPUT          what each channel has: packets, entries, bytes, counts, times, rate, losses
+    ch10 csv < INPUT              the entries as CSV, by count, then channel, then place
+    ch10 json < INPUT             the same as JSON lines
+    ch10 svg < INPUT              a picture of rates and losses over time
+    ch10 setup < INPUT            the setup text, or --tree
+    ch10 range --from A --to B < INPUT    the packets of a range of time, as a recording
+    ch10 file NAME < IMAGE        one file of an image, as a recording
+    ch10 sqlite --out FILE < INPUT    the entries as a database of SQLite
+    ch10 tmats < SCRIPT           a setup text for the channels of a script of r10
+
+It knows of this recorder's own no rule and one form, that of a loss report, and reads recordings of others too: packets of a kind that is
+not read are passed over and counted as opaque. What stands before the first fault is answered, and then the status is 1.
+"""
+
+
+# ---- the words of a call
+
+class Parser(argparse.ArgumentParser):
+    def print_help(self, file=None):
+        raise Help(self.format_help())
+
+    def error(self, message):
+        raise Wrong('%s; see %s --help' % (message, self.prog))
+
+
+def number(word):
+    if len(word) > 20 or not (word.isascii() and word.isdigit()) or word != str(int(word)):
+        raise argparse.ArgumentTypeError('%r is no decimal number' % word[:60])
+    return int(word)
+
+
+def channel_number(word):
+    if number(word) > 0xFFFF:
+        raise argparse.ArgumentTypeError('%s is not in 0..=65535' % word[:60])
+    return number(word)
+
+
+TIMES = """A and B are civil times, as '2024-02-29 12:34:56.78', with none to seven places behind the second; 12:34:56 is of the day of the recording's
+first time; '060 12:34:56' is a day of the year, where the recording has no date; 1000 is a count. Both ends are taken in."""
+
+
+def parser_of():
+    top = Parser(prog='ch10', allow_abbrev=False, formatter_class=argparse.RawDescriptionHelpFormatter,
+                 description=ABOUT, add_help=True, usage='ch10 COMMAND [WORDS] < INPUT',
+                 epilog='ch10 COMMAND --help says more of each.')
+    commands = top.add_subparsers(metavar='COMMAND', dest='command', required=True, parser_class=Parser, help=argparse.SUPPRESS)
+
+    def command(name, run, about, more=''):
+        made = commands.add_parser(name, prog='ch10 ' + name, allow_abbrev=False, description=about, epilog=more,
+                                   formatter_class=argparse.RawDescriptionHelpFormatter)
+        made.set_defaults(run=run)
+        made.add_argument('--file', type=number, metavar='N', help='a file of an image, by its number from 0 on'
+                          + (' (without it: each)' if name in ('summary', 'sqlite') else '' if name == 'file' else ' (without it: 0)'))
+        return made
+
+    def with_channels(made):
+        made.add_argument('--channel', type=channel_number, metavar='C', action='append', help='this channel alone; may be given again for another')
+
+    def with_forms(made):
+        made.add_argument('--kind', choices=sorted(KIND_BY_NAME), metavar='K', help='the entries of this kind alone, with its columns: ' + ', '.join(sorted(KIND_BY_NAME)))
+        made.add_argument('--raw', action='store_true', help='the values as they stand in the packets, as r10 play prints them')
+        made.add_argument('--turned-labels', action='store_true', help='labels of ARINC 429 whose first bit on the bus is the lowest of the word')
+        made.add_argument('--jobs', type=number, metavar='J', help='so many processes (without it: as many as there are processors, to eight)')
+
+    def going_on(made):
+        made.add_argument('--keep-going', action='store_true', help='go on after damage; each stretch that is passed over is a line, and the status 1')
+        return made
+
+    def with_times(made):
+        made.add_argument('--from', dest='first', type=Bound, metavar='A', help='the first time')
+        made.add_argument('--to', dest='last', type=Bound, metavar='B', help='the last time')
+
+    made = command('summary', summary, 'Says what each channel of a recording, or of each file of an image, has.', SUMMARY_MORE)
+    made.add_argument('--json', action='store_true', help='a JSON object for each line of the table, with whole times')
+    for name, run, about, more in (('csv', as_csv, 'Writes the entries as CSV.', CSV_MORE), ('json', as_json, 'Writes the entries as JSON lines.', JSON_MORE),
+                                   ('svg', as_svg, 'Draws rates and losses over time, as SVG.', SVG_MORE)):
+        made = going_on(command(name, run, about, more + TIMES))
+        with_channels(made)
+        with_times(made)
+        if name != 'svg':
+            with_forms(made)
+    made = going_on(command('setup', setup, 'Writes the setup text, byte for byte; of several setup packets one after the other.'))
+    made.add_argument('--tree', action='store_true', help='the attributes of chapter 9 as a tree, and which channels of the recording they do not name or name otherwise')
+    made = command('tmats', as_tmats, 'Writes a setup text of chapter 9 for the channels of a script.', 'As in: ch10 tmats --hex < SCRIPT, which is what setup = "..." takes.')
+    made.add_argument('--hex', action='store_true', help='as hex digits')
+    made = going_on(command('sqlite', as_sqlite, 'Writes the entries into a new database of SQLite.', SQLITE_MORE))
+    made.add_argument('--out', metavar='FILE', help='where the database is to be; there must be none')
+    with_channels(made)
+    made.add_argument('--turned-labels', action='store_true', help='labels of ARINC 429 whose first bit on the bus is the lowest of the word')
+    with_times(going_on(command('range', as_range, 'Writes the packets of a range of time as a recording.', RANGE_MORE + TIMES)))
+    made = command('file', as_file, 'Writes one file of an image, byte for byte.', 'As in: ch10 file FLT1 < medium.img | r10 check')
+    made.add_argument('name', nargs='?', metavar='NAME', help='its name, as r10 files prints it')
+    add_words(commands, Parser, channel_number)
+    return top
+
+
+SUMMARY_MORE = """Of each channel and type of data:
+  packets, bytes   all of them, headers and checksums taken in
+  entries          '-' where the type has none, or none that is read
+  entries/s        entries but one, over the time from the first to the last
+  losses           packets that are flagged for an overflow: of the program's lines, those with a gap
+  lost             how many messages were lost there, by the loss reports before them; + where of a loss it isn't told how many: at least one
+  jumps            packets whose sequence number does not follow that of the channel's packet before
+  opaque           packets that are not read: a secondary header, stamps of another clock, a type or a form of it that is not known
+  first, last      the lowest and highest count of its entries, or else of its packets' headers
+  first time ..    the same as civil times, by the last time in the recording that isn't later; '-' where there is none"""
+CSV_MORE = """The first line names the columns. time has seven places behind the second; lost is how many messages were lost before an
+entry, 1+ where the recording does not tell how many; value is the message in hex digits, or the civil time of a time; what a type does not have is empty.
+"""
+JSON_MORE = """Each line is an object with the keys channel, count, time, lost and type, and those of the type as in a script; a message's data error
+is data_error. lost is how many messages were lost before it, "1+" where the recording does not tell how many.
+"""
+SVG_MORE = """A strip for each channel: bars of entries a second (of packets, in grey, where no entry is read), with the highest beside it, and below
+them in red where messages were lost.
+"""
+SQLITE_MORE = """A table for each kind: uart, message, bus1553, arinc, discrete, time and event, with the columns of csv --kind and the file's number before them (0 of
+a recording); lost is NULL where the recording does not tell how many. Beside them: files, channels, losses, damage, clocks, clock_jumps and setup.
+"""
+RANGE_MORE = """Packets stand as they are, each one whole that has an entry in the range (or, where it is not read, its own count), and the loss report before it; before them
+stand the setup and the last time before the range. The index is left out, for it would name other places.
+"""
+
+
+def hint(words):
+    """What is said of a word that looks like a file."""
+    for word in words:
+        if re.search(r'[./]', word) and not word.startswith('-') and not word[:1].isdigit():
+            return '; a recording or an image comes from standard input: < FILE'
+    return ''
+
+
+def words_of(words):
+    asked, left = PARSER.parse_known_args(words)
+    if left:
+        raise Wrong('unexpected argument %r%s; see ch10 %s --help' % (left[0][:60], hint(left), asked.command))
+    return asked
+
+
+def answer(words, source, to):
+    """Does what the words of a call ask for, from what source() gives to the stream that to() gives.
+
+    The exit status, and the line that is said of it, or None: 1 of an input that is judged bad, 2 of a wrong call, 3 where a read or
+    a write failed. A reader that has gone is no line.
+    """
+    try:
+        out, line = Output(to()), ()
+        try:
+            asked = words_of(words)
+            asked.run(asked, None if getattr(asked, 'opens', False) else source(), out)
+        except Help as text:
+            out.line(str(text).rstrip())
+        except Fault as fault:
+            line = fault.lines()
+        out.flush()
+        return (1 if line else 0), '\n'.join(line) or None
+    except Wrong as wrong:
+        return 2, str(wrong)
+    except BrokenPipeError:
+        return 3, None
+    except OSError as error:
+        return 3, 'a read or a write failed: %s' % (error.strerror or error)
+    except MemoryError:
+        return 3, 'out of memory'
+
+
+PARSER = parser_of()
+
+
+def standard_output():
+    if sys.stdout is None:
+        raise OSError('standard output is closed')
+    return sys.stdout.buffer
+
+
+def say(line):
+    """Each line on standard error, whatever stands in it."""
+    lines = (''.join(letter if letter.isprintable() else '?' for letter in part[:400]) for part in line.split('\n'))
+    try:
+        print('\n'.join('ch10: ' + part for part in lines), file=sys.stderr, flush=True)
+    except (OSError, AttributeError, UnicodeError):
+        pass
+
+
+def main(words):
+    gc.disable()  # what is made here leads to itself nowhere, and there is much of it
+    try:
+        status, line = answer(words, given, standard_output)
+    except KeyboardInterrupt:
+        status, line = 130, None
+    if line:
+        say(line)
+    if status >= 3 and sys.stdout is not None:
+        os.dup2(os.open(os.devnull, os.O_WRONLY), sys.stdout.fileno())  # so that nothing is said of it when Python ends
+    return status

@@ -1,0 +1,168 @@
+"""The entries of a recording, or of each file of an image, as a database of SQLite: a table for each kind, and tables of files, channels, losses and damage."""
+import os
+import sqlite3
+from typing import Iterator, List, Optional, Tuple
+
+from .bodies import BODIES
+from .clocks import TimeLine
+from .fields import KINDS, REAL, TEXT, WHOLE, Reader, type_of
+from .inputs import is_recording, listed, shown, the_file
+from .medium import bytes_of
+from .packets import UNTOLD
+from .replay import Ordered, Part
+from .standard import BUS, Fault, Wrong
+from .survey import Survey, name_of
+
+FRONT = (('file', WHOLE), ('channel', WHOLE), ('name', TEXT), ('count', WHOLE), ('time', TEXT), ('lost', WHOLE))
+TABLES = {kind: 'bus1553' if kind == BUS else body.name for kind, body in BODIES.items() if kind in KINDS}
+OTHERS = (
+    ('files', (('file', WHOLE), ('name', TEXT), ('closed', WHOLE), ('bytes', WHOLE), ('packets', WHOLE), ('first', WHOLE), ('last', WHOLE), ('first_time', TEXT),
+               ('last_time', TEXT), ('fault', TEXT), ('unread', WHOLE))),
+    ('channels', (('file', WHOLE), ('channel', WHOLE), ('name', TEXT), ('type', TEXT), ('packets', WHOLE), ('entries', WHOLE), ('bytes', WHOLE), ('first', WHOLE),
+                  ('last', WHOLE), ('first_time', TEXT), ('last_time', TEXT), ('rate', REAL), ('losses', WHOLE), ('lost', WHOLE), ('untold', WHOLE), ('jumps', WHOLE),
+                  ('opaque', WHOLE), ('bad', WHOLE))),
+    ('losses', (('file', WHOLE), ('channel', WHOLE), ('type', TEXT), ('count', WHOLE), ('time', TEXT), ('lost', WHOLE))),
+    ('damage', (('file', WHOLE), ('offset', WHOLE), ('length', WHOLE), ('why', TEXT), ('channel', WHOLE), ('type', TEXT))),
+    ('clocks', (('file', WHOLE), ('channel', WHOLE), ('packets', WHOLE), ('no_time', WHOLE), ('steps_back', WHOLE), ('seconds_without', WHOLE), ('drift_ppm', REAL))),
+    ('clock_jumps', (('file', WHOLE), ('channel', WHOLE), ('offset', WHOLE), ('count', WHOLE), ('seconds', REAL))),
+    ('setup', (('file', WHOLE), ('attribute', TEXT), ('value', TEXT))),
+)
+
+
+def columns_of(kind: int) -> List[Tuple[str, str]]:
+    return list(FRONT) + [(column, type_of(kind, column)) for column in KINDS[kind]]
+
+
+def schema() -> Iterator[str]:
+    """The statements that make the tables."""
+    for name, columns in OTHERS:
+        yield 'CREATE TABLE "%s" (%s)' % (name, ', '.join('"%s" %s' % column for column in columns))
+    for kind, name in TABLES.items():
+        yield 'CREATE TABLE "%s" (%s)' % (name, ', '.join('"%s" %s' % column for column in columns_of(kind)))
+
+
+class Database:
+    """A new database in a file beside the one that is asked for, whose place it takes when it is whole."""
+
+    def __init__(self, path: str):
+        if os.path.exists(path):
+            raise Wrong('%r is there already: give --out another name' % path[:60])
+        self.path, self.part = path, path + '.part'
+        if os.path.exists(self.part):
+            raise Wrong('%r is there already, as a call that was ended leaves it: remove it, or give --out another name' % self.part[:60])
+        self.base = sqlite3.connect(self.part, isolation_level=None)
+        for line in ('PRAGMA journal_mode = OFF', 'PRAGMA synchronous = OFF', 'BEGIN', *schema()):
+            self.base.execute(line)
+        self.inserts = {name: 'INSERT INTO "%s" VALUES (%s)' % (name, ', '.join('?' * len(columns))) for name, columns in OTHERS}
+        for kind, name in TABLES.items():
+            self.inserts[name] = 'INSERT INTO "%s" VALUES (%s)' % (name, ', '.join('?' * len(columns_of(kind))))
+
+    def add(self, table: str, rows: List[tuple]) -> None:
+        self.base.executemany(self.inserts[table], rows)
+
+    def close(self) -> None:
+        """Makes what was added the file that was asked for."""
+        self.base.execute('COMMIT')
+        for kind, name in TABLES.items():
+            self.base.execute('CREATE INDEX "%s_by_count" ON "%s" (file, channel, count)' % (name, name))
+        self.base.close()
+        with open(self.part, 'rb') as written:
+            os.fsync(written.fileno())
+        os.replace(self.part, self.path)
+
+    def give_up(self) -> None:
+        self.base.close()
+        os.remove(self.part)
+
+
+def as_sqlite(asked, data, out) -> None:
+    if asked.out is None:
+        raise Wrong('sqlite takes --out FILE; see ch10 sqlite --help')
+    try:
+        base = Database(asked.out)
+    except sqlite3.Error as error:
+        raise OSError(str(error))
+    try:
+        first = written(asked, data, base)
+        base.close()
+    except sqlite3.Error as error:
+        base.give_up()
+        raise OSError(str(error))
+    except BaseException:
+        base.give_up()
+        raise
+    if first:
+        raise first
+
+
+def written(asked, data, base: Database) -> Optional[Fault]:
+    """Adds each recording, and answers the first fault."""
+    if is_recording(data):
+        if asked.file is not None:
+            raise Fault('the input is a recording and no image: it has no files')
+        return add(asked, data, 0, len(data), base, 0, None)
+    _, files = listed(data)
+    first = None
+    for number in range(len(files)) if asked.file is None else [asked.file]:
+        file = the_file(files, number)
+        try:
+            begin, end = bytes_of(data, file)
+        except Fault as fault:
+            base.add('files', [(number, shown(file.name), int(file.closed), file.size) + (None,) * 5 + (str(fault), file.size)])
+            first = first or fault
+            continue
+        first = add(asked, data, begin, end, base, number, file) or first
+    return first
+
+
+def add(asked, data, begin: int, end: int, base: Database, number: int, file) -> Optional[Fault]:
+    """Adds one recording, and answers what is wrong with it."""
+    survey = Survey(data, begin, end, asked.keep_going)
+    clock, span = survey.clock, survey.span() or (None, None)
+
+    def civil(count: Optional[int]) -> Optional[str]:
+        return clock.text(count) if clock and count is not None else None
+
+    base.add('files', [(number, file and shown(file.name), file and int(file.closed), end - begin, len(survey.lows), *span, civil(span[0]), civil(span[1]),
+                        survey.fault and str(survey.fault), end - begin - survey.size)])
+    base.add('channels', [(number, row.channel, survey.names.channel(row.channel) or None, name_of(row.kind), row.packets,
+                           row.entries if row.has_entries() else None, row.bytes, row.first(), row.last(), civil(row.first()), civil(row.last()), row.rate(),
+                           row.losses, row.lost, row.untold, row.jumps, row.opaque, row.bad) for row in survey.rows])
+    base.add('damage', [(number, one.offset, one.length, one.why, one.channel, None if one.kind is None else name_of(one.kind)) for one in survey.damage])
+    for line in survey.times:
+        add_clock(base, number, line, span)
+    base.add('setup', [(number, name, value) for name, value in survey.names.attributes.items()])
+    ordered, reader = Ordered(data, begin, survey, asked.channel), Reader(survey.names, asked.turned_labels)
+    for part in ordered.parts():
+        add_part(base, number, ordered, part, reader)
+    try:
+        survey.judge()
+    except Fault as fault:
+        return fault
+    return None
+
+
+def add_clock(base: Database, number: int, line: TimeLine, span: Tuple[int, int]) -> None:
+    drift = line.drift()
+    base.add('clocks', [(number, line.channel, line.packets, line.packets - len(line.told), line.steps_back(), line.without(*span), drift and drift[0])])
+    base.add('clock_jumps', [(number, line.channel, jump.offset, jump.count, jump.by / 10 ** 7) for jump in line.jumps()])
+
+
+def add_part(base: Database, number: int, ordered: Ordered, part: Part, reader: Reader) -> None:
+    """Adds the entries of a part, by their counts."""
+    clock, held, losses = ordered.survey.clock, {name: [] for name in TABLES.values()}, []
+    for place, packet, lost, _ in ordered.packets(part):
+        name = reader.names.channel(packet.channel) or None
+        rows = held.get(TABLES.get(packet.kind, ''))
+        first = True
+        for count, values in reader.entries(packet, ordered.states.get(place)):
+            if part.low <= count < part.high:
+                when = clock.text(count) if clock else None
+                rows.append((number, packet.channel, name, count, when, None if lost == UNTOLD else lost, *values))
+                if packet.flags & 0x10 and first:
+                    losses.append((number, packet.channel, name_of(packet.kind), count, when, None if lost == UNTOLD else lost))
+            lost, first = 0, False
+    for name, rows in held.items():
+        rows.sort(key=lambda row: (row[3], row[1]))
+        base.add(name, rows)
+    base.add('losses', losses)

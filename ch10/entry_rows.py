@@ -1,0 +1,292 @@
+"""The entries of a recording as rows of tables, one table for each kind, and the same rows as PostgreSQL's COPY takes them in binary."""
+from __future__ import annotations
+
+import struct
+import sys
+from array import array
+from typing import Any, Callable, Dict, Iterable, Iterator, List, NamedTuple, Optional, Sequence, Tuple
+
+from .bodies import BUS_ENTRY, entries, stamped, whole
+from .buses import RT_TO_RT, block_1553, command_1553, errors_429, layout_1553, word_429
+from .packets import UNTOLD, Packet, loss_of, lost_before
+from .standard import ARINC, BUS, COUNT_BITS, DISCRETE, EVENT, MESSAGE, TIME, UART
+from .store_schema import COMMON, ENTRIES
+from .times import Clock
+
+YEAR_2000 = 730120 * 864000000000  # in units of 100 ns, as times are counted here: where PostgreSQL's times begin
+FIXED = {'BIGINT': ('q', 8), 'INTEGER': ('i', 4), 'SMALLINT': ('h', 2), 'BOOLEAN': ('?', 1), '{time}': ('q', 8), 'REAL': ('f', 4),
+         '{text}3': ('3s', 3)}
+
+
+# ---- reading; each row is the count and the table's own columns, some of which stand together in a tuple that is made once for each value
+
+class Kept(dict):
+    """Values by a key, each made once; begun anew where there are very many."""
+
+    def __init__(self, make: Callable[[Any], Any]) -> None:
+        dict.__init__(self)
+        self.make = make
+
+    def __missing__(self, key: Any) -> Any:
+        if len(self) > 1 << 16:
+            self.clear()
+        self[key] = made = self.make(key)
+        return made
+
+
+def block_of(both: int) -> Tuple:
+    """Of gap times and block status the bus, the errors by name, the status, and the gaps in microseconds."""
+    bus, errors = block_1553(both & 0xFFFF)
+    return bus, errors or None, both & 0xFFFF, (both >> 16 & 0xFF) / 10, (both >> 24) / 10
+
+
+COMMANDS = Kept(command_1553)
+SECONDS = Kept(lambda word: (command_1553(word)[0], command_1553(word)[2]))
+BLOCKS = Kept(block_of)
+PLACES = Kept(lambda key: layout_1553(key[0], key[1], key[2] != 0))
+NO_COMMAND, NO_SECOND, NO_STATUS = command_1553(None), (None, None), (None, None)
+
+
+def bus_rows(packet: Packet, states: Dict[int, int]) -> List[Tuple]:
+    body, at, rows, turned = packet.body, 4, [], [turned_from(packet.body, 0), None]
+    unpack, add = BUS_ENTRY.unpack_from, rows.append
+    for _ in range(packet.word & 0xFFFFFF):
+        stamp, status, gap, size = unpack(body, at)
+        if at & 1 and turned[1] is None:
+            turned[1] = b'-' + turned_from(body, 1)
+        words = turned[at & 1][at + 14:at + 14 + (size & -2)]
+        at += 14 + size
+        if words:
+            command = words[0] << 8 | words[1]
+            second, first_status, second_status = PLACES[command, len(words) >> 1, status & RT_TO_RT]
+            add((stamp & COUNT_BITS, COMMANDS[command], NO_SECOND if second is None else SECONDS[word_at(words, second)],
+                 NO_STATUS if first_status is None else STATUSES[word_at(words, first_status), word_at(words, second_status)], BLOCKS[gap << 16 | status], words))
+        else:
+            add((stamp & COUNT_BITS, NO_COMMAND, NO_SECOND, NO_STATUS, BLOCKS[gap << 16 | status], b''))
+    return rows
+
+
+STATUSES = Kept(lambda both: both)
+
+
+def word_at(words: bytes, place: Optional[int]) -> Optional[int]:
+    return None if place is None else words[2 * place] << 8 | words[2 * place + 1]
+
+
+def turned_from(body: bytes, at: int) -> bytes:
+    """The words of a body from a place on, the high byte first."""
+    turned = array('H', body[at:at + (len(body) - at & -2)])
+    if sys.byteorder == 'little':
+        turned.byteswap()
+    return turned.tobytes()
+
+
+def arinc_of(key: int) -> Tuple:
+    """Of the three bits of a header and a word: what stands in the word, and what is wrong."""
+    head, word = key >> 32 << 21, key & 0xFFFFFFFF
+    label, sdi, data, ssm, parity = word_429(word)
+    return word, data, head >> 24, sdi, ssm, parity, head >> 21 & 1 == 1, label, errors_429(head, word) or None
+
+
+WORDS_429 = Kept(arinc_of)
+
+
+def arinc_rows(packet: Packet, states: Dict[int, int]) -> List[Tuple]:
+    count, rows = packet.counter, []
+    for head, word in struct.iter_unpack('<II', whole(packet.body, 8, packet.word & 0xFFFF)):
+        count += head & 0xFFFFF
+        rows.append((count, *WORDS_429[head >> 21 << 32 | word]))
+    return rows
+
+
+MESSAGE_ERRORS = (None, 'format error', 'data error', 'data error+format error')
+
+
+def text_rows(packet: Packet, states: Dict[int, int]) -> List[Tuple]:
+    """Of UART and of message channels."""
+    if packet.kind == UART:
+        return [(count, head >> 16 & 0x3FFF, 'parity error' if head >> 31 else None, bytes(data)) for count, head, data in stamped(packet.body, None)]
+    return [(count, head >> 16 & 0x3FFF, MESSAGE_ERRORS[head >> 30], bytes(data)) for count, head, data in stamped(packet.body, packet.word & 0xFFFF)]
+
+
+def discrete_rows(packet: Packet, states: Dict[int, int]) -> List[Tuple]:
+    rows, before = [], states.get(packet.channel)
+    for stamp, value in struct.iter_unpack('<QI', packet.body[4:]):
+        rows.append((stamp & COUNT_BITS, value, None if before is None else value ^ before))
+        before = value
+    if before is not None:
+        states[packet.channel] = before
+    return rows
+
+
+def other_rows(packet: Packet, states: Dict[int, int]) -> List[Tuple]:
+    return [(count, *values) for count, values in entries(packet)]
+
+
+class Table(NamedTuple):
+    """A kind of entries: its table's name and own columns, what reads a packet into rows of them, and how many columns stand together at the end of a row."""
+
+    name: str
+    columns: Sequence[Tuple[str, str]]
+    read: Callable[[Packet, Dict[int, int]], List[Tuple]]
+    together: Sequence[int] = ()
+
+    @property
+    def names(self) -> List[str]:
+        return [name for name, _ in COMMON] + [name for name, _ in self.columns]
+
+
+READERS = {BUS: (bus_rows, (5, 2, 2, 5, 1)), ARINC: (arinc_rows, (1,)), UART: (text_rows, (1, 1)), MESSAGE: (text_rows, (1, 1)), DISCRETE: (discrete_rows,),
+           TIME: (other_rows, (1,)), EVENT: (other_rows,)}
+TABLES = {kind: Table(*ENTRIES[kind], *read) for kind, read in READERS.items()}
+
+
+def flat(columns: Sequence[Sequence[Any]]) -> Iterator[Sequence[Any]]:
+    """Columns, each by itself."""
+    for column in columns:
+        if type(column[0]) is tuple:
+            yield from zip(*column)
+        else:
+            yield column
+
+
+def rows_of(packet: Packet, report: Optional[Tuple[int, int]], states: Dict[int, int]) -> Tuple[List[Tuple], Optional[int]]:
+    """The rows of a packet, and how many messages were lost before the first of them: None where it is not known how many."""
+    if packet.word is None or packet.kind not in TABLES:
+        return [], 0
+    lost = lost_before(packet, report)
+    return TABLES[packet.kind].read(packet, states), None if lost == UNTOLD else lost
+
+
+# ---- PostgreSQL's binary form
+
+FRONT = b'PGCOPY\n\xff\r\n\0' + bytes(8)
+END = b'\xff\xff'
+LENGTH = struct.Struct('>i')
+NULL = LENGTH.pack(-1)
+
+
+class Packer:
+    """Makes rows of one table into bytes: the columns of one length by one struct for many rows, what may be NULL or vary in length put after them."""
+
+    MOST = 256  # rows of one struct
+
+    def __init__(self, table: Table) -> None:
+        self.kinds = [kind.split(' ')[0] for _, kind in COMMON] + [kind for _, kind in table.columns]
+        self.fixed = len(self.kinds) - sum(table.together)
+        self.texts = [place for place in range(self.fixed) if self.kinds[place].startswith('{text}')]
+        self.made: Dict[int, Tuple[struct.Struct, List[Any]]] = {}
+        self.tails, at = [], self.fixed
+        for number in table.together:
+            self.tails.append(self.tail(self.kinds[at:at + number]))
+            at += number
+
+    def tail(self, kinds: List[str]) -> Callable[[Any], bytes]:
+        """What makes the columns that stand together into bytes: one of bytes anew each time, others once for each value."""
+        if kinds == ['{bytes}']:
+            return counted
+        if len(kinds) == 1:
+            return Kept(lambda value: self.pack_one((value,), kinds)).__getitem__
+        return Kept(lambda values: self.pack_one(values, kinds)).__getitem__
+
+    def form(self, number: int) -> Tuple[struct.Struct, List[Any]]:
+        """The struct of so many rows without NULL in a column of one length, and its arguments with room for their values."""
+        if number not in self.made:
+            text, words = 'h', [len(self.kinds)]
+            for kind in self.kinds[:self.fixed]:
+                text, words = text + 'i' + FIXED[kind][0], words + [FIXED[kind][1], None]
+            self.made[number] = struct.Struct('>' + text * number), words * number
+        return self.made[number]
+
+    def pack(self, columns: Sequence[Sequence[Any]]) -> bytes:
+        """The bytes of rows that are given by columns."""
+        number = len(columns[0])
+        if number <= self.MOST:
+            return self.pack_some(columns)
+        return b''.join(self.pack_some([column[at:at + self.MOST] for column in columns]) for at in range(0, number, self.MOST))
+
+    def pack_some(self, given: Sequence[Sequence[Any]]) -> bytes:
+        fixed, columns, number = self.fixed, list(given), len(given[0])
+        if any(None in column for column in columns[:fixed]):
+            fronts = [struct.pack('>h', len(self.kinds)) + self.pack_one(row, self.kinds) for row in zip(*columns[:fixed])]
+        else:
+            for place in self.texts:
+                columns[place] = [value.encode() for value in columns[place]]
+            form, words = self.form(number)
+            step = 2 * fixed + 1
+            for place in range(fixed):
+                words[2 + 2 * place::step] = columns[place]
+            made = form.pack(*words)
+            if not self.tails:
+                return made
+            size = form.size // number
+            fronts = [made[at:at + size] for at in range(0, len(made), size)]
+        parts = [fronts] + [list(map(tail, column)) for tail, column in zip(self.tails, columns[fixed:])]
+        return b''.join([part for row in zip(*parts) for part in row])
+
+    @staticmethod
+    def pack_one(values: Sequence[Any], kinds: Sequence[str]) -> bytes:
+        """Some values, of which some may be NULL."""
+        parts = []
+        for kind, value in zip(kinds, values):
+            if kind not in FIXED or value is None:
+                parts.append(counted(value))
+            else:
+                value = value.encode() if kind.startswith('{text}') else value
+                parts.append(struct.pack('>i' + FIXED[kind][0], FIXED[kind][1], value))
+        return b''.join(parts)
+
+
+def counted(value: Any) -> bytes:
+    """A value of varying length after its length."""
+    if value is None:
+        return NULL
+    data = value if type(value) is bytes else value.encode()
+    return LENGTH.pack(len(data)) + data
+
+
+def moments(counts: Sequence[int], clock: Optional[Clock]) -> Sequence[Optional[int]]:
+    """The civil times of some counts as PostgreSQL counts them, in microseconds from 2000 on; None where there is no date."""
+    if clock is None or not clock.dated:
+        return (None,) * len(counts)
+    low, high = min(counts), max(counts)
+    clock.at(low)
+    if clock.start <= low and high < clock.stop:
+        ahead = clock.ahead - YEAR_2000
+        return [(count + ahead) // 10 for count in counts]
+    return [(clock.at(count) - YEAR_2000) // 10 for count in counts]
+
+
+class Reader:
+    """Goes over packets and gives the rows of those channels that are wanted, a packet's at a time, as columns."""
+
+    def __init__(self, number: int, wanted: Any, report: Optional[Tuple[int, int]], states: Dict[int, int]) -> None:
+        self.number, self.wanted, self.report, self.states = number, wanted, report, states
+
+    def columns(self, packets: Iterable[Packet], times: Callable[[Sequence[int]], Sequence[Any]]) -> Iterator[Tuple[int, List[Sequence[Any]]]]:
+        """The data type and the columns of each packet that has rows."""
+        following = None
+        for packet in packets:
+            if following is not None and packet.offset != following:
+                self.report = None  # it stood before something that was passed over
+            if (packet.channel, packet.kind) in self.wanted:
+                found, lost = rows_of(packet, self.report, self.states)
+                if found:
+                    own = list(zip(*found))
+                    size = len(found)
+                    yield packet.kind, [(self.number,) * size, own[0], times(own[0]), [lost] + [0] * (size - 1), (packet.channel,) * size] + own[1:]
+            elif packet.kind == DISCRETE and packet.word is not None:
+                discrete_rows(packet, self.states)
+            self.report = loss_of(packet)
+            following = packet.offset + packet.length
+
+
+def packed(reader: Reader, packets: Iterable[Packet], clock: Optional[Clock]) -> Dict[int, Tuple[int, bytes]]:
+    """The rows of some packets in PostgreSQL's binary form: of each kind how many, and the bytes without front and end."""
+    parts: Dict[int, List[bytes]] = {}
+    totals: Dict[int, int] = {}
+    packers = {kind: Packer(table) for kind, table in TABLES.items()}
+    for kind, columns in reader.columns(packets, lambda counts: moments(counts, clock)):
+        parts.setdefault(kind, []).append(packers[kind].pack(columns))
+        totals[kind] = totals.get(kind, 0) + len(columns[0])
+    return {kind: (totals[kind], b''.join(some)) for kind, some in parts.items()}

@@ -1,0 +1,253 @@
+"""What the catalogue keeps of a recording: its sum, its verdict by the program, and what one pass over it finds."""
+from __future__ import annotations
+
+import hashlib
+import os
+import re
+import subprocess
+from bisect import bisect_right
+from typing import Any, Dict, List, Optional, Tuple
+
+from .bodies import counts
+from .clocks import TimeLine
+from .packets import HEADER, ONE_WORD, packet_at
+from .standard import ARINC, BUS, DISCRETE, EVENT, INDEX, LOSS, MESSAGE, SETUP, TIME, UART, Fault, Wrong, little
+from .survey import REPORT_ROW, Row, Survey, ends_of, name_of
+from .times import Clock, civil, time
+from .tmats import Names
+
+PART = 1 << 20
+RECORDING_COLUMNS = ('sha256', 'kind', 'size', 'verdict', 'opaque', 'fault_offset', 'fault', 'judge', 'first_time', 'last_time', 'first_count', 'last_count',
+                     'packets', 'entries', 'losses', 'lost', 'untold', 'jumps', 'damaged', 'damaged_bytes', 'added')
+CHANNEL_COLUMNS = ('channel', 'data_type', 'type', 'name', 'packets', 'entries', 'bytes', 'first_count', 'last_count', 'first_time', 'last_time', 'rate',
+                   'losses', 'lost', 'untold', 'jumps', 'opaque', 'bad')
+SUMS = ('losses', 'lost', 'untold', 'jumps')
+
+
+# ---- the verdict, by the program
+
+def program_of(given: Optional[str]) -> str:
+    """Where the program r10 is: as given, else by R10, else the proved build of this repository, else on the PATH."""
+    top = os.path.dirname(os.path.dirname(os.path.realpath(__file__)))
+    proved = os.path.join(top, 'crates', 'r10_cli', 'out', 'r10_cli')
+    for path in (given, os.environ.get('R10')):
+        if path:
+            return path
+    if os.path.exists(proved):
+        return proved
+    for folder in os.environ.get('PATH', '').split(os.pathsep):
+        if os.access(os.path.join(folder, 'r10'), os.X_OK):
+            return os.path.join(folder, 'r10')
+    raise Wrong('the verdict needs the program r10: scripts/build.sh makes the proved one, --program names another, --unjudged does without')
+
+
+def version_of(program: str) -> str:
+    """What the program says of its version."""
+    try:
+        done = subprocess.run([program, '--version'], stdin=subprocess.DEVNULL, stdout=subprocess.PIPE, stderr=subprocess.PIPE)
+    except OSError as error:
+        raise Wrong('the program %r cannot be run: %s' % (program[:200], error.strerror))
+    said = done.stdout.decode('ascii', 'replace').strip()
+    if done.returncode or not said.startswith('r10 '):
+        raise Wrong('%r is not the program r10' % program[:200])
+    return said[:100]
+
+
+def said_of(program: str, command: str, data: memoryview) -> Tuple[int, str]:
+    """The status and the line of a command of the program that reads these bytes."""
+    with subprocess.Popen([program, command], stdin=subprocess.PIPE, stdout=subprocess.PIPE, stderr=subprocess.PIPE, bufsize=0) as made:
+        try:
+            for at in range(0, len(data), PART):
+                part = data[at:at + PART]
+                while part:
+                    part = part[made.stdin.write(part):]
+            made.stdin.close()
+        except BrokenPipeError:
+            pass
+        said = made.stdout.read().decode('ascii', 'replace').strip() or made.stderr.read().decode('ascii', 'replace').strip()
+    return made.returncode, said
+
+
+def verdict_of(program: Optional[str], data: memoryview) -> Dict[str, Any]:
+    """The verdict on a recording and its place. It is `unjudged` where no program is given, or where it ended without one, as for want of memory."""
+    found: Dict[str, Any] = dict(verdict='unjudged', opaque=None, fault_offset=None, fault=None)
+    if program is None:
+        return found
+    _, said = said_of(program, 'check', data)
+    words = said.split(' ')
+    if said == 'strict':
+        found['verdict'] = 'strict'
+    elif re.fullmatch(r'lenient \d+', said):
+        found.update(verdict='lenient', opaque=int(words[1]))
+    elif re.fullmatch(r'faulty \d+ \w+', said):
+        found.update(verdict='faulty', fault_offset=int(words[1]), fault=words[2])
+    return found
+
+
+def verdict_of_image(program: Optional[str], data: memoryview, fault: Fault) -> Dict[str, Any]:
+    """The verdict on an image whose directory this reader cannot take."""
+    place = re.search(r'at offset (\d+)$', str(fault))
+    found = dict(verdict='faulty', opaque=None, fault_offset=int(place[1]) if place else 0, fault='BadDirectory')
+    if program is not None:
+        _, said = said_of(program, 'files', data)
+        if re.fullmatch(r'refused 26 BadDirectory \d+', said):
+            found['fault_offset'] = 512 * int(said.split(' ')[3])
+    return found
+
+
+# ---- what one pass finds
+
+class Ends:
+    """The earliest and the latest civil time of a span of counts, also where the clock was set forth or back on the way."""
+
+    def __init__(self, clock: Clock) -> None:
+        self.clock = clock
+        self.lows: List[int] = []
+        self.highs: List[int] = []
+        before = None
+        for count, ticks in zip(clock.counts, clock.ticks):
+            last = ticks if before is None else count - 1 + before
+            self.lows.append(min(ticks, last))
+            self.highs.append(max(ticks, last))
+            before = ticks - count
+
+    def of(self, low: int, high: int) -> Tuple[Optional[str], Optional[str]]:
+        """As texts; None where the calendar does not have them."""
+        first, last = self.clock.at(low), self.clock.at(high)
+        begin, end = bisect_right(self.clock.counts, low), bisect_right(self.clock.counts, high)
+        if begin < end:
+            first, last = min(first, min(self.lows[begin:end])), max(last, max(self.highs[begin:end]))
+        texts = [self.text(min(first, last)), self.text(max(first, last))]
+        return (texts[0], texts[1]) if None not in texts else (None, None)
+
+    def text(self, ticks: int) -> Optional[str]:
+        return text_of(ticks, self.clock.dated)
+
+
+def text_of(ticks: int, dated: bool) -> Optional[str]:
+    """A civil time with seven places after the second."""
+    said = civil(ticks, dated)
+    return said and '%s.%07d' % (said, ticks % 10 ** 7)
+
+
+class StrictSurvey:
+    """What `Survey` finds of a recording that the program calls strict, in a tenth of its time.
+
+    The rules of a strict file stand for what is not looked at: its sums are right, no sequence number is missing, and the counts of a channel rise from its first
+    packet's counter to the last entry of its last packet. So packets are counted by their headers and words, and one packet of each channel is read.
+    """
+
+    def __init__(self, data: Any, begin: int, end: int) -> None:
+        rows: Dict[Tuple[int, int], Row] = {}
+        last: Dict[Tuple[int, int], int] = {}
+        lines: Dict[int, TimeLine] = {}
+        self.damage: List[Any] = []
+        self.setup: Optional[bytes] = None
+        at, report = begin, None
+        head, one_word = HEADER.unpack_from, ONE_WORD.unpack_from
+        while at < end:
+            _, channel, length, size, _, _, flags, kind, low, high, _ = head(data, at)
+            counter, word = low | high << 32, one_word(data, at + 24)[0]
+            told = None
+            if kind == LOSS:
+                told, kind = (little(data, at + 32, 2), little(data, at + 36, 8)), REPORT_ROW
+            elif kind == TIME:
+                if channel not in lines:
+                    lines[channel] = TimeLine(channel)
+                lines[channel].add(counter, time(data[at + 24:at + 24 + size], word), at - begin)
+            elif kind == SETUP:
+                self.setup = bytes(data[at + 28:at + 24 + size])
+            key = channel, kind
+            row = rows.get(key)
+            if row is None:
+                row = rows[key] = Row(channel, kind, counter)
+            row.packets += 1
+            row.bytes += length
+            if flags & 0x10:
+                row.losses += 1
+                if report and report[0] == channel:
+                    row.lost += report[1]
+                else:
+                    row.lost += 1
+                    row.untold += 1
+            number = entries_in(data, at, size, kind, word)
+            if number:
+                row.entries += number
+                if row.low is None:
+                    row.low = counter
+                last[key] = at
+            row.end = max(row.end, counter)
+            report = told
+            at += length
+        for key, place in last.items():
+            rows[key].high = counts(packet_at(data, place, begin, end, False))[-1]
+        self.rows = [rows[key] for key in sorted(rows)]
+        self.times = list(lines.values())
+        self.clock = Clock(self.times) if self.times else None
+        self.names = Names(self.setup)
+
+    def span(self) -> Optional[Tuple[int, int]]:
+        drawn = [row for row in self.rows if row.kind not in (SETUP, INDEX, REPORT_ROW)]
+        return ends_of(drawn or self.rows)
+
+
+def entries_in(data: Any, at: int, size: int, kind: int, word: int) -> int:
+    """How many entries a packet of a strict recording has."""
+    if kind == BUS:
+        return word & 0xFFFFFF
+    if kind in (MESSAGE, ARINC):
+        return word & 0xFFFF
+    if kind == DISCRETE:
+        return (size - 4) // 12
+    if kind == UART:
+        number, at, end = 0, at + 28, at + 24 + size
+        while at < end:
+            at += 13 + (data[at + 8] | data[at + 9] << 8) & -2
+            number += 1
+        return number
+    return 1 if kind in (TIME, EVENT) else 0
+
+
+def attributes_of(names: Names) -> List[Tuple[str, str]]:
+    """The attributes of the setup text that are of the whole: of the general group all, of others those without a number of their own, for channels have rows."""
+    return [(code, value.replace('\0', '?')) for code, value in names.attributes.items() if code.startswith('G\\') or not re.search(r'-[0-9]+$', code)]
+
+
+def damage_of(survey: Any) -> List[Tuple[int, int, str]]:
+    """The stretches that were passed over: offset, length, and why."""
+    return [(stretch.offset, stretch.length, stretch.why) for stretch in survey.damage]
+
+
+# ---- all of it
+
+def facts_of(data: Any, begin: int, end: int, program: Optional[str], survey: Optional[Survey] = None) -> Dict[str, Any]:
+    """What the catalogue keeps of one recording within some bytes, but for its sum and its place; by the pass that was made, where one was."""
+    with memoryview(data)[begin:end] as view:
+        found = verdict_of(program, view)
+    survey = survey or (StrictSurvey if found['verdict'] == 'strict' else Survey)(data, begin, end)
+    ends = Ends(survey.clock) if survey.clock else None
+    rows = []
+    for row in survey.rows:
+        low, high = row.first(), row.last()
+        rows.append((row.channel, row.kind, name_of(row.kind), survey.names.channel(row.channel) or None, row.packets, row.entries if row.has_entries() else None, row.bytes,
+                     low, high) + (ends.of(low, high) if ends else (None, None)) + (row.rate(), row.losses, row.lost, row.untold, row.jumps, row.opaque, row.bad))
+    span = survey.span()
+    first, last = ends.of(*span) if ends and span else (None, None)
+    found.update(kind='recording', size=end - begin, first_time=first, last_time=last, first_count=span and span[0], last_count=span and span[1],
+                 packets=sum(row.packets for row in survey.rows), entries=sum(row.entries for row in survey.rows),
+                 channels=rows, damage=damage_of(survey), attributes=attributes_of(survey.names))
+    for name in SUMS:
+        found[name] = sum(getattr(row, name) for row in survey.rows)
+    found.update(damaged=len(found['damage']), damaged_bytes=sum(length for _, length, _ in found['damage']))
+    return found
+
+
+def nothing_in(size: int) -> Dict[str, Any]:
+    """What is kept of an input that no pass went over."""
+    found: Dict[str, Any] = dict.fromkeys(('first_time', 'last_time', 'first_count', 'last_count'))
+    found.update(dict.fromkeys(('packets', 'entries', 'damaged', 'damaged_bytes') + SUMS, 0), kind='image', size=size, channels=[], damage=[], attributes=[])
+    return found
+
+
+def sum_of(view: memoryview) -> str:
+    return hashlib.sha256(view).hexdigest()

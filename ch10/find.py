@@ -1,0 +1,278 @@
+"""`ch10 catalogue find` and `show`: questions to a catalogue."""
+from __future__ import annotations
+
+import json
+import re
+from typing import Any, Dict, Iterable, List, Optional, Sequence, Tuple
+
+from .facts import CHANNEL_COLUMNS, RECORDING_COLUMNS
+from .inputs import Output
+from .standard import Fault, Wrong
+from .range_words import Moment
+from .store import Store, open_store
+
+PLACE_COLUMNS = ('path', 'file_number', 'volume', 'file_name', 'closed', 'listed_size', 'seen')
+DAMAGE_COLUMNS = ('byte_offset', 'byte_length', 'reason')
+LAST = '\U0010ffff'  # which sorts after all letters
+TOGETHER = 500  # recordings whose places are asked for in one question
+
+
+# ---- conditions
+
+def pattern(word: str) -> str:
+    """A pattern with * and ? as LIKE has it."""
+    return re.sub(r'[%_!]', lambda found: '!' + found[0], word.lower()).replace('*', '%').replace('?', '_')
+
+
+class Question:
+    """What a call asks for, as conditions on recordings and on their channels, with the values that go into them."""
+
+    def __init__(self, asked: Any) -> None:
+        self.channel: List[Tuple[str, List[Any]]] = []
+        self.recording: List[Tuple[str, List[Any]]] = []
+        if asked.channel:
+            self.one_of(self.channel, 'c.channel', asked.channel)
+        if asked.type:
+            self.one_of(self.channel, 'c.type', asked.type)
+        if asked.name:
+            self.like(self.channel, 'c.name', asked.name)
+        if asked.losses:
+            self.channel.append(('c.losses > 0 AND c.losses >= ?', [asked.losses]))  # an index has those above 0
+        if asked.jumps:
+            self.channel.append(('c.jumps >= ?', [asked.jumps]))
+        times = self.channel if self.channel else self.recording
+        self.within(times, 'c' if self.channel else 'r', asked.first, asked.last)
+        if asked.verdict:
+            self.one_of(self.recording, 'r.verdict', asked.verdict)
+        if asked.damaged:
+            self.recording.append(('r.damaged > 0', []))
+        if asked.sum:
+            self.recording.append(('r.sha256 BETWEEN ? AND ?', [asked.sum, asked.sum + 'g']))
+        if asked.volume or asked.place:
+            places: List[Tuple[str, List[Any]]] = []
+            if asked.volume:
+                self.one_of(places, 'p.volume', asked.volume)
+            if asked.place:
+                self.like(places, 'p.path', asked.place)
+            self.recording.append(('r.id IN (SELECT p.recording FROM place p WHERE %s)' % joined(places), values_of(places)))
+        for code, value in asked.attribute or ():
+            self.recording.append(('r.id IN (SELECT a.recording FROM attribute a WHERE a.code = ? AND a.value = ?)', [code, value]))
+        if self.channel:
+            self.recording.append(('r.id IN (SELECT c.recording FROM channel c WHERE %s)' % joined(self.channel), values_of(self.channel)))
+
+    @staticmethod
+    def one_of(conditions: List, column: str, words: Sequence[Any]) -> None:
+        conditions.append(('%s IN (%s)' % (column, ', '.join('?' * len(words))), list(words)))
+
+    @staticmethod
+    def like(conditions: List, column: str, word: str) -> None:
+        front = re.split(r'[*?]', word.lower(), 1)[0]
+        if front == word.lower():
+            conditions.append(('lower(%s) = ?' % column, [front]))
+            return
+        if front:  # which an index finds
+            conditions.append(('lower(%s) BETWEEN ? AND ?' % column, [front, front + LAST]))
+        if word.lower() != front + '*':
+            conditions.append(("lower(%s) LIKE ? ESCAPE '!'" % column, [pattern(word)]))
+
+    @staticmethod
+    def within(conditions: List, of: str, first: Optional[Moment], last: Optional[Moment]) -> None:
+        """Those that have some of a range of times, both ends taken in."""
+        if first and last and first.dated != last.dated:
+            raise Wrong('--from and --to are of two kinds: one has a date, the other a day of the year')
+        if first or last:
+            conditions.append(('length(%s.first_time) = ?' % of, [27 if (first or last).dated else 20]))
+        if first:
+            conditions.append(('%s.last_time >= ?' % of, [first.first]))
+        if last:
+            conditions.append(('%s.first_time <= ?' % of, [last.last]))
+
+
+def joined(conditions: Sequence[Tuple[str, List[Any]]]) -> str:
+    return ' AND '.join(text for text, _ in conditions) or '1 = 1'
+
+
+def values_of(conditions: Sequence[Tuple[str, List[Any]]]) -> List[Any]:
+    return [value for _, values in conditions for value in values]
+
+
+# ---- answers
+
+RECORDING = ('id',) + RECORDING_COLUMNS
+
+
+def found(store: Store, question: Question, limit: Optional[int]) -> List[Dict[str, Any]]:
+    """The recordings that a question asks for, by their first time and then their sum, each with its places."""
+    rows = store.rows('SELECT %s FROM recording r WHERE %s ORDER BY r.first_time IS NULL, r.first_time, r.sha256%s' % (
+        ', '.join('r.' + name for name in RECORDING), joined(question.recording), '' if limit is None else ' LIMIT %d' % limit),
+        values_of(question.recording))
+    made = [dict(zip(RECORDING, row)) for row in rows]
+    places: Dict[int, List[Dict[str, Any]]] = {}
+    for row in of_recordings(store, 'place', PLACE_COLUMNS, 'path, file_number', [facts['id'] for facts in made]):
+        place = dict(zip(PLACE_COLUMNS, row[1:]))
+        place['closed'] = None if place['closed'] is None else bool(place['closed'])
+        places.setdefault(row[0], []).append(place)
+    for facts in made:
+        facts['places'] = places.get(facts['id'], [])
+    return made
+
+
+def of_recordings(store: Store, table_name: str, columns: Sequence[str], order: str, ids: Sequence[int], more: str = '', values: Sequence[Any] = ()) -> Iterable[Tuple]:
+    """The rows of a table that belong to some recordings, with the recording's id before them."""
+    for at in range(0, len(ids), TOGETHER):
+        some = list(ids[at:at + TOGETHER])
+        yield from store.rows('SELECT recording, %s FROM %s c WHERE recording IN (%s)%s ORDER BY recording, %s' % (
+            ', '.join(columns), table_name, ', '.join('?' * len(some)), more, order), some + list(values))
+
+
+def channels_of(store: Store, question: Question, ids: Sequence[int]) -> Dict[int, List[Dict[str, Any]]]:
+    """Of each recording the channels that the question asks for; all where it asks for none."""
+    more = ' AND ' + joined(question.channel) if question.channel else ''
+    made: Dict[int, List[Dict[str, Any]]] = {}
+    for row in of_recordings(store, 'channel', CHANNEL_COLUMNS, 'channel, data_type', ids, more, values_of(question.channel)):
+        made.setdefault(row[0], []).append(dict(zip(CHANNEL_COLUMNS, row[1:])))
+    return made
+
+
+def aligned(rows: Sequence[Sequence[Any]], left: Sequence[str]) -> List[str]:
+    """Rows in columns: those of times and those whose heads are named to the left, all others to the right."""
+    texts = [[str(cell) for cell in row] for row in rows]
+    widths = [max(map(len, column)) for column in zip(*texts)]
+    is_left = [head in left or head.endswith('time') for head in texts[0]]
+    return [' '.join(cell.ljust(width) if at_left else cell.rjust(width) for cell, width, at_left in zip(row, widths, is_left)).rstrip() for row in texts]
+
+
+def printable(text: Any) -> str:
+    return ''.join(letter if letter.isprintable() else '?' for letter in str(text))
+
+
+def verdict_text(facts: Dict[str, Any]) -> str:
+    if facts['verdict'] == 'lenient':
+        return 'lenient %d' % facts['opaque']
+    if facts['verdict'] == 'faulty':
+        return 'faulty %d %s' % (facts['fault_offset'], facts['fault'])
+    return facts['verdict']
+
+
+def lost_text(facts: Dict[str, Any]) -> str:
+    return '%d%s' % (facts['lost'], '+' if facts['untold'] else '')
+
+
+def cut(time: Optional[str]) -> str:
+    """A time as the table shows it: two places after the second."""
+    return time[:-5] if time else '-'
+
+
+def place_text(facts: Dict[str, Any]) -> str:
+    if not facts['places']:
+        return '-'
+    place = facts['places'][0]
+    text = place['path'] if place['file_number'] < 0 else '%s file %d %s' % (place['path'], place['file_number'], place['file_name'])
+    more = len(facts['places']) - 1
+    return printable(text) + (' and %d more' % more if more else '')
+
+
+def as_json(facts: Dict[str, Any]) -> str:
+    return json.dumps({name: value for name, value in facts.items() if name != 'id'})
+
+
+def find(asked: Any, data: None, out: Output) -> None:
+    """`ch10 catalogue find`."""
+    question = Question(asked)
+    store = open_store(asked.db, make=False)
+    try:
+        made = found(store, question, asked.limit)
+        channels = channels_of(store, question, [facts['id'] for facts in made]) if asked.channels else {}
+    finally:
+        store.close()
+    if asked.json:
+        for facts in made:
+            if asked.channels:
+                facts['channels'] = channels.get(facts['id'], [])
+            out.line(as_json(facts))
+        return
+    for line in channel_table(made, channels) if asked.channels else recording_table(made):
+        out.line(line)
+
+
+def recording_table(made: Sequence[Dict[str, Any]]) -> List[str]:
+    rows: List[Tuple] = [('sum', 'bytes', 'verdict', 'first time', 'last time', 'entries', 'losses', 'lost', 'damaged', 'place')]
+    for facts in made:
+        rows.append((facts['sha256'][:12], facts['size'], verdict_text(facts), cut(facts['first_time']), cut(facts['last_time']), facts['entries'],
+                     facts['losses'], lost_text(facts), facts['damaged'], place_text(facts)))
+    return aligned(rows, ('sum', 'verdict', 'place'))
+
+
+CHANNEL_HEADS = ('channel', 'type', 'name', 'first time', 'last time', 'packets', 'entries', 'bytes', 'entries/s', 'losses', 'lost', 'jumps', 'opaque', 'bad')
+
+
+def channel_cells(row: Dict[str, Any]) -> Tuple:
+    return (row['channel'], row['type'], printable(row['name'] or '-'), cut(row['first_time']), cut(row['last_time']), row['packets'],
+            '-' if row['entries'] is None else row['entries'], row['bytes'], '-' if row['rate'] is None else '%.1f' % row['rate'], row['losses'],
+            lost_text(row), row['jumps'], row['opaque'], row['bad'])
+
+
+def channel_table(made: Sequence[Dict[str, Any]], channels: Dict[int, List[Dict[str, Any]]]) -> List[str]:
+    rows: List[Tuple] = [('sum',) + CHANNEL_HEADS + ('place',)]
+    for facts in made:
+        rows += [(facts['sha256'][:12],) + channel_cells(row) + (place_text(facts),) for row in channels.get(facts['id'], [])]
+    return aligned(rows, ('sum', 'type', 'name', 'place'))
+
+
+# ---- one recording
+
+def one(store: Store, front: str) -> Dict[str, Any]:
+    """The recording whose sum begins so."""
+    if not re.fullmatch('[0-9a-f]{4,64}', front):
+        raise Wrong('%r is no sum: 4 to 64 hex digits of its front' % front[:70])
+    made = [dict(zip(RECORDING, row)) for row in store.rows(
+        'SELECT %s FROM recording r WHERE r.sha256 BETWEEN ? AND ? ORDER BY r.sha256 LIMIT 2' % ', '.join('r.' + name for name in RECORDING), (front, front + 'g'))]
+    if len(made) != 1:
+        raise Fault('%s recording has a sum that begins with %s' % ('no' if not made else 'more than one', front))
+    return made[0]
+
+
+def show(asked: Any, data: None, out: Output) -> None:
+    """`ch10 catalogue show`."""
+    store = open_store(asked.db, make=False)
+    try:
+        facts = one(store, asked.sum.lower())
+        number = facts.pop('id')
+        parts = {}
+        for name, columns, order in (('place', PLACE_COLUMNS, 'path, file_number'), ('channel', CHANNEL_COLUMNS, 'channel, data_type'),
+                                     ('damage', DAMAGE_COLUMNS, 'byte_offset'), ('attribute', ('code', 'value'), 'code')):
+            parts[name] = [dict(zip(columns, row[1:])) for row in of_recordings(store, name, columns, order, [number])]
+    finally:
+        store.close()
+    for place in parts['place']:
+        place['closed'] = None if place['closed'] is None else bool(place['closed'])
+    if asked.json:
+        out.line(json.dumps(dict(row='recording', **facts)))
+        for name, rows in parts.items():
+            for row in rows:
+                out.line(json.dumps(dict(row=name, sha256=facts['sha256'], **row)))
+        return
+    for line in shown_one(facts, parts):
+        out.line(line)
+
+
+def shown_one(facts: Dict[str, Any], parts: Dict[str, List[Dict[str, Any]]]) -> List[str]:
+    lines = ['%s %s: %d bytes in %d packets, %s' % (facts['kind'], facts['sha256'], facts['size'], facts['packets'], verdict_text(facts))]
+    lines.append('judged by %s; added %s UTC' % (facts['judge'] or 'no program', facts['added']))
+    if facts['first_time']:
+        lines.append('from %s to %s' % (facts['first_time'], facts['last_time']))
+    for place in parts['place']:
+        text = place['path'] if place['file_number'] < 0 else '%s file %d %s of volume %s, %s' % (
+            place['path'], place['file_number'], place['file_name'], place['volume'], 'closed' if place['closed'] else 'not closed')
+        lines.append('at %s' % printable(text))
+    if not parts['place']:
+        lines.append('at no place: what lay there has been replaced')
+    if parts['channel']:
+        lines += [''] + aligned([CHANNEL_HEADS] + [channel_cells(row) for row in parts['channel']], ('type', 'name'))
+    if parts['damage']:
+        rows: List[Tuple] = [('damaged from byte', 'bytes', 'why')] + [tuple(row[name] for name in DAMAGE_COLUMNS) for row in parts['damage']]
+        lines += [''] + aligned(rows, ('why',))
+    if parts['attribute']:
+        lines += [''] + ['%s:%s' % (printable(row['code']), printable(row['value'])) for row in parts['attribute']]
+    return lines
+

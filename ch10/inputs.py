@@ -1,0 +1,83 @@
+"""What a call reads, and what it writes to."""
+import mmap
+import os
+import re
+import stat
+import sys
+
+from .medium import bytes_of, directory
+from .standard import Fault
+
+
+MOST_HELD = 64 << 20
+
+
+def given():
+    """Standard input: read whole, or mapped where it is a file of more than 64 MiB."""
+    if sys.stdin is None:
+        raise OSError('standard input is closed')
+    source = sys.stdin.buffer
+    state = os.fstat(source.fileno())
+    if stat.S_ISREG(state.st_mode) and state.st_size > MOST_HELD and os.lseek(source.fileno(), 0, os.SEEK_CUR) == 0:
+        return mmap.mmap(source.fileno(), 0, access=mmap.ACCESS_READ)
+    return source.read()
+
+
+def is_recording(data):
+    return data[:2] == b'\x25\xeb'
+
+
+def listed(data):
+    """The volume and the files of an image."""
+    if len(data) == 0:
+        raise Fault('an empty input')
+    try:
+        return directory(data)
+    except Fault as fault:
+        if data[512:520] == b'FORTYtwo':
+            raise
+        raise Fault('neither a recording (no sync pattern at offset 0) nor an image of a medium (%s)' % fault)
+
+
+def the_file(files, number):
+    if not 0 <= number < len(files):
+        raise Fault('no file has the number %d: the image has %d' % (number, len(files)))
+    return files[number]
+
+
+def one_part(data, number):
+    """Of a recording all its bytes, of an image one file: its title, its first place, and the place behind it."""
+    if is_recording(data):
+        if number is not None:
+            raise Fault('the input is a recording and no image: it has no files')
+        return 'recording', 0, len(data)
+    volume, files = listed(data)
+    number = number or 0
+    file = the_file(files, number)
+    return ('%s, file %d of %s' % (shown(file.name), number, shown(volume)),) + bytes_of(data, file)
+
+
+class Output:
+    """What is written to a stream of bytes, by large writes."""
+
+    def __init__(self, to):
+        self.held, self.size, self.to = [], 0, to
+
+    def write(self, data):
+        self.held.append(data)
+        self.size += len(data)
+        if self.size >= 1 << 18:
+            self.flush()
+
+    def line(self, text):
+        self.write(text.encode('ascii', 'replace') + b'\n')
+
+    def flush(self):
+        self.to.write(b''.join(self.held))
+        self.to.flush()
+        self.held, self.size = [], 0
+
+
+def shown(name):
+    """A name as `r10 files` prints it."""
+    return re.sub('[^A-Za-z0-9._-]', '?', name)

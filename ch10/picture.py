@@ -1,0 +1,245 @@
+"""The picture that `svg` draws: for each channel a strip of rates over time, where messages were lost, and what was passed over."""
+from xml.sax.saxutils import escape
+
+from .bodies import counts
+from .inputs import one_part
+from .packets import UNTOLD, loss_of, lost_before, packets
+from .survey import Survey, ends_of, name_of, stretch_text
+from .times import Range, civil
+
+SECOND = 10 ** 7
+WIDTH, LEFT, RIGHT = 980, 130, 150
+TOP, STRIP, MARKS, STEP = 92, 44, 8, 66
+SPACE = WIDTH - LEFT - RIGHT
+MOST_BARS = 160
+LEAST_BAR = 10
+FEW = 10  # entries in the highest bar, below which it says little of a rate
+BLUE, GREY, RED, SHADE, DARK = '#2b6cb0', '#8a8f98', '#d11a2a', '#e8a33d', '#9c5a00'
+
+# The steps between the times below, in units of 100 ns.
+STEPS = ([unit * 10 ** power for power in range(1, 7) for unit in (1, 2, 5)]
+         + [SECOND * step for step in (1, 2, 5, 10, 15, 30, 60, 120, 300, 600, 900, 1800, 3600, 7200, 10800, 21600, 43200)]
+         + [86400 * SECOND * unit * 10 ** power for power in range(4) for unit in (1, 2, 5)])
+
+
+def least_step(least: int) -> int:
+    return next((step for step in STEPS if step >= least), STEPS[-1])
+
+
+def seconds(ticks: int) -> str:
+    return ('%d.%07d' % divmod(ticks, SECOND)).rstrip('0').rstrip('.')
+
+
+def number_text(rate: float) -> str:
+    return '{:,.0f}'.format(rate) if rate >= 100 else '%.3g' % rate
+
+
+class Picture:
+    """A picture of rates and losses over a span of counts.
+
+    Sources are the rows of a survey by channel and type; those by packets have no entries that are read.
+    """
+
+    def __init__(self, title, sources, by_packets, low, high, survey):
+        self.title, self.sources, self.by_packets, self.low, self.high = title, sources, by_packets, low, high
+        self.clock, self.names = survey.clock, survey.names
+        self.bar = least_step(max((high - low) // MOST_BARS + 1, LEAST_BAR))
+        self.bars = (high - low) // self.bar + 1
+        self.much = {key: [0] * self.bars for key in sources}
+        self.lost = {key: [0] * self.bars for key in sources}
+        self.sums = {key: [0, 0, 0] for key in sources}  # losses, messages lost, losses of an unknown number
+        self.bottom = TOP + STEP * len(sources)
+
+    def fill(self, seen, has):
+        """Counts how many entries stand in each bar, and losses; `has` says whether a count is drawn, or is None."""
+        low, bar, bars = self.low, self.bar, self.bars
+        for key, found, loss, lost in seen:
+            if has is not None:
+                found = [count for count in found if has(count)]
+                loss = loss if loss is not None and has(loss) else None
+            if loss is not None and 0 <= (loss - low) // bar < bars:
+                self.lost[key][(loss - low) // bar] += 1
+                sums = self.sums[key]
+                sums[0] += 1
+                sums[1] += 1 if lost == UNTOLD else lost
+                sums[2] += lost == UNTOLD
+            if not found:
+                continue
+            first, last = (min(found) - low) // bar, (max(found) - low) // bar
+            much = self.much[key]
+            if first == last:
+                much[first] += len(found)
+            else:
+                for count in found:
+                    much[(count - low) // bar] += 1
+
+    def place(self, count):
+        """Where a count lies from left to right."""
+        return LEFT + SPACE * min(max((count - self.low) / (self.bar * self.bars), 0), 1)
+
+    def text(self, survey, size):
+        height = self.bottom + 36
+        parts = ['<svg xmlns="http://www.w3.org/2000/svg" width="%d" height="%d" viewBox="0 0 %d %d" font-family="sans-serif" font-size="12">'
+                 % (WIDTH, height, WIDTH, height),
+                 '<title>%s</title>' % escape('Rates and losses of ' + self.title),
+                 '<rect width="100%" height="100%" fill="white"/>',
+                 words(LEFT, 24, self.title, size=16, weight='bold'),
+                 words(WIDTH - 10, 24, 'red: messages were lost', anchor='end', fill=RED)]
+        begin, end = (self.clock.text(self.low, 2), self.clock.text(self.high, 2)) if self.clock else (None, None)
+        when = '%s to %s' % (begin, end) if begin and end else 'counts %d to %d' % (self.low, self.high)
+        parts.append(words(LEFT, 44, '%s; entries a second, in bars of %s s' % (when, seconds(self.bar)), fill='#444'))
+        for place, key in enumerate(sorted(self.sources)):
+            parts += self.strip(TOP + STEP * place, key)
+        parts += self.axis() + self.damaged(survey) + self.jumps(survey) + self.ended(survey, size)
+        if not self.sources:
+            parts.append(words(LEFT, TOP, 'no channel to draw', fill='#444'))
+        return '\n'.join(parts + ['</svg>', ''])
+
+    def strip(self, top, key):
+        """One channel: its name, its bars, the highest of them, and its losses."""
+        much, lost, wide = self.much[key], self.lost[key], SPACE / self.bars
+        base, most = top + STRIP, max(much)
+        name = self.names.channel(key[0])
+        parts = [words(LEFT - 10, top + 18, 'channel %d' % key[0], anchor='end', weight='bold'),
+                 words(LEFT - 10, top + 34, name_of(key[1]), anchor='end', fill='#444'),
+                 '<rect x="%d" y="%d" width="%d" height="%d" fill="#f4f6f8"/>' % (LEFT, top, SPACE, STRIP)]
+        if name:
+            parts.insert(1, words(LEFT - 10, top + 3, shortened(name), anchor='end', size=11))
+        path = []
+        for place, number in enumerate(much):
+            if number:
+                tall = max(STRIP * number / most, 1)
+                path.append('M%.2f %.2fV%.2fH%.2fV%.2fz' % (LEFT + wide * place, base, base - tall, LEFT + wide * (place + 1), base))
+        if path:
+            parts.append('<path fill="%s" d="%s"/>' % (GREY if key in self.by_packets else BLUE, ''.join(path)))
+        parts.append('<path stroke="#444" stroke-width="1" d="M%d %.1fH%d"/>' % (LEFT, base, LEFT + SPACE))
+        for place, number in enumerate(lost):
+            if number:
+                middle, half = LEFT + wide * (place + 0.5), max(wide, 3) / 2
+                parts.append('<rect x="%.2f" y="%d" width="%.2f" height="%d" fill="%s"/>' % (middle - half, base + 2, 2 * half, MARKS, RED))
+        if most:
+            parts.append(words(LEFT + SPACE + 8, top + 12, self.rate_of(key, most), fill='#444'))
+        losses, messages, untold = self.sums[key]
+        if losses:
+            parts.append(words(LEFT + SPACE + 8, base + 10, '%s%s lost' % ('{:,}'.format(messages), '+' if untold else ''), fill=RED))
+        return parts
+
+    def rate_of(self, key, most):
+        """The highest rate of a strip; of one with few in a bar the mean, since a bar of few says little of a rate."""
+        row, what = self.sources[key], ' packets' if key in self.by_packets else ''
+        number = row.packets if key in self.by_packets else row.entries
+        if most >= FEW:
+            return 'max %s%s/s' % (number_text(most * SECOND / self.bar), what)
+        if number < 2 or row.last() == row.first():
+            return '%d%s in all' % (number, what)
+        return 'mean %s%s/s' % (number_text((number - 1) * SECOND / (row.last() - row.first())), what)
+
+    def axis(self):
+        """Lines at whole times, and the times below."""
+        span = self.bar * self.bars
+        step = least_step(span // 7)
+        start = (self.clock.at(self.low) if self.clock else 0) % step
+        parts = []
+        for count in range(self.low + (step - start) % step, self.low + span + 1, step):
+            x = LEFT + SPACE * (count - self.low) / span
+            parts.append('<path stroke="#c8ccd2" d="M%.2f %dV%d"/>' % (x, TOP - 6, self.bottom))
+            parts.append(words(x, self.bottom + 16, time_text(count, self.low, step, self.clock), anchor='middle', fill='#444'))
+        return parts
+
+    def damaged(self, survey):
+        """Where stretches were passed over, shaded from the packet before to the packet after."""
+        parts = []
+        for stretch, (before, after) in zip(survey.damage, survey.spans):
+            ends = self.place(self.low if before is None else before), self.place(self.high if after is None else after)
+            left, wide = min(ends), max(ends) - min(ends)
+            left, wide = (left, wide) if wide >= 2 else (left + wide / 2 - 1, 2)
+            parts.append('<rect x="%.2f" y="%d" width="%.2f" height="%d" fill="%s" fill-opacity="0.4"><title>%s</title></rect>' % (
+                left, TOP - 6, wide, self.bottom - TOP + 6, SHADE, escape(stretch_text(stretch))))
+        if parts:
+            parts.append(words(LEFT, 62, 'shaded: %d stretch%s passed over, %s bytes' % (
+                len(parts), '' if len(parts) == 1 else 'es', '{:,}'.format(sum(stretch.length for stretch in survey.damage))), fill=DARK))
+        return parts
+
+    def jumps(self, survey):
+        """Where the clock jumps."""
+        parts, line = [], survey.clock and next(line for line in survey.times if line.channel == survey.clock.channel)
+        for jump in line.jumps() if line else ():
+            if self.low <= jump.count <= self.high:
+                x = self.place(jump.count)
+                side, anchor = (x + 3, 'start') if x < WIDTH - RIGHT - 90 else (x - 3, 'end')
+                parts.append('<path stroke="%s" stroke-width="1.5" stroke-dasharray="5 3" d="M%.2f %dV%d"/>' % (DARK, x, TOP - 18, self.bottom))
+                parts.append(words(side, TOP - 10, 'time %+.7g s' % (jump.by / SECOND), anchor=anchor, fill=DARK, size=11))
+        return parts
+
+    def ended(self, survey, size):
+        """Where the pass ended, if it did not go on after a fault."""
+        if not survey.ends_early():
+            return []
+        x = self.place(survey.span()[1])
+        return ['<path stroke="%s" stroke-width="2" d="M%.2f %dV%d"/>' % (RED, x, TOP - 6, self.bottom),
+                words(LEFT, 62, 'ends at byte %d of %d: %s' % (survey.size, size, survey.fault.what), fill=RED, weight='bold')]
+
+
+def shortened(name):
+    return name if len(name) <= 18 else name[:17] + '…'
+
+
+def words(x, y, text, anchor='start', fill='black', size=12, weight='normal'):
+    return '<text x="%.1f" y="%.1f" text-anchor="%s" fill="%s" font-size="%d" font-weight="%s">%s</text>' % (x, y, anchor, fill, size, weight, escape(text))
+
+
+def time_text(count, low, step, clock):
+    """A time as its step asks for, rounded to it: with places after the second, without, or with the day."""
+    if clock is None or clock.text(count) is None:
+        return seconds(count - low) + ' s'
+    told = clock.at(count)
+    said = civil((told + step // 2) // step * step if step < 86400 * SECOND else told, clock.dated, 7)
+    day, of_day = said.split(' ') if said else clock.text(count).split(' ')
+    if step >= 12 * 3600 * SECOND:
+        return '%s %s' % (day[-5:], of_day[:5])
+    if step >= 60 * SECOND:
+        return of_day[:5]
+    if step >= SECOND:
+        return of_day[:8]
+    return of_day[:9] + of_day[9:].rstrip('0').ljust(1, '0')
+
+
+def as_svg(asked, data, out):
+    title, begin, end = one_part(data, asked.file)
+    survey = Survey(data, begin, end, asked.keep_going)
+    if not survey.lows:
+        survey.judge()
+    within = Range(asked.first, asked.last, survey.clock)
+    some = survey.drawn(asked.channel)
+    sources = {(row.channel, row.kind): row for row in some}
+    by_packets = {(row.channel, row.kind) for row in some if not row.entries}
+    low, high = ends_of(some or survey.rows)
+    if not within.is_all:
+        low, high = ends_in(data, begin, survey, sources, by_packets, within) or (low, low)
+    drawn = Picture(title, sources, by_packets, low, high, survey)
+    drawn.fill(marks(data, begin, survey, sources, by_packets), None if within.is_all else within.has)
+    out.write(drawn.text(survey, end - begin).encode())
+    survey.judge()
+
+
+def marks(data, begin, survey, sources, by_packets):
+    """Of each packet that is drawn its channel and type, its counts, the count of a loss and how many messages were lost, or None twice."""
+    report, behind = None, 0
+    for packet in packets(data, begin, begin + survey.size, False, survey.passed):
+        key = packet.channel, packet.kind
+        if packet.offset != behind:
+            report = None
+        behind = packet.offset + packet.length
+        if key in sources:
+            found = [packet.counter] if key in by_packets else counts(packet)
+            if packet.flags & 0x10:
+                yield key, found, (found or [packet.counter])[0], lost_before(packet, report)
+            elif found:
+                yield key, found, None, None
+        report = loss_of(packet)
+
+
+def ends_in(data, begin, survey, sources, by_packets, within):
+    """The lowest and the highest count that is drawn of a range, or None."""
+    found = [count for _, some, _, _ in marks(data, begin, survey, sources, by_packets) for count in some if within.has(count)]
+    return (min(found), max(found)) if found else None

@@ -1,0 +1,288 @@
+"""`ch10 report`: one page about some recordings, to look at in a browser or on paper. It takes nothing from elsewhere: no script, no picture, no font."""
+from __future__ import annotations
+
+import re
+import struct
+from collections import Counter
+from html import escape
+from typing import Any, Dict, Iterable, List, NamedTuple, Optional, Sequence, Tuple
+
+from .bodies import BUS_ENTRY, whole
+from .buses import ERRORS_1553, command_1553, word_429
+from .catalogue import Input, image_tasks, inputs_of, opened, title, unread
+from .facts import facts_of, nothing_in, program_of, verdict_of_image
+from .find import lost_text, verdict_text
+from .inputs import Output, is_recording
+from .packets import packets
+from .picture import Picture, marks
+from .standard import ARINC, BUS, Fault, Wrong
+from .survey import Survey, ends_of, name_of
+from .table import clock_lines, said
+from .timeline import timeline
+from .tmats import tree
+
+STYLE = """
+:root { color-scheme: light; --line: #c3c8cf; --ink: #1b1f24; --soft: #4a5159; --link: #0b4f9c; }
+body { margin: 0 auto; max-width: 72rem; padding: 1rem 1.5rem 3rem; font: 16px/1.45 system-ui, sans-serif; color: var(--ink); background: #fff; }
+h1 { font-size: 1.7rem; margin: 0.5rem 0; } h2 { font-size: 1.35rem; margin: 2.2rem 0 0.6rem; border-bottom: 2px solid var(--line); }
+h3 { font-size: 1.08rem; margin: 1.4rem 0 0.4rem; }
+p { margin: 0.4rem 0; max-width: 50rem; } a { color: var(--link); }
+.skip { position: absolute; left: -60rem; } .skip:focus { left: 1rem; top: 0.5rem; background: #fff; padding: 0.3rem 0.6rem; }
+:focus-visible { outline: 3px solid var(--link); outline-offset: 2px; }
+nav ul { columns: 2; padding-left: 1.2rem; margin: 0.3rem 0; }
+table { border-collapse: collapse; font-size: 0.86rem; font-variant-numeric: tabular-nums; }
+caption { text-align: left; color: var(--soft); padding: 0.2rem 0; }
+th, td { border-bottom: 1px solid var(--line); padding: 0.2rem 0.55rem; text-align: right; vertical-align: top; }
+thead th { border-bottom: 2px solid var(--soft); } th[scope=row] { font-weight: 600; }
+.left { text-align: left; } .time { white-space: nowrap; } .wrap { overflow-wrap: anywhere; text-align: left; min-width: 18rem; }
+.scroll { overflow-x: auto; } pre { font: 0.84rem/1.35 ui-monospace, monospace; white-space: pre-wrap; overflow-wrap: anywhere; }
+svg { max-width: 100%; height: auto; } figure { margin: 0.6rem 0; }
+.verdict { font-weight: 700; padding: 0.05rem 0.45rem; border: 2px solid; border-radius: 0.3rem; white-space: nowrap; }
+.strict { color: #14532d; } .lenient { color: #1e40af; } .faulty { color: #9b1c1c; border-style: double; border-width: 4px; } .unjudged { color: #4a5159; border-style: dashed; }
+@media print {
+  body { max-width: none; padding: 0; font-size: 10.5pt; } nav, .skip { display: none; } a { color: inherit; text-decoration: none; }
+  .scroll { overflow: visible; } table { font-size: 8pt; } tr, figure { break-inside: avoid; } h2, h3, caption { break-after: avoid; }
+  section.recording { break-before: page; } thead { display: table-header-group; }
+}
+"""
+MOST_STRETCHES = 500
+MEANS = {'strict': 'This recorder may have written it: it keeps each of its rules.',
+         'lenient': 'Any recorder may have written it: each packet is framed, checked and counted as the standard says.',
+         'faulty': 'A packet is none of any recorder\'s, first the one at this offset.',
+         'unjudged': 'The program r10 gave no verdict: it was not here, or there was too little memory.'}
+
+
+class Part(NamedTuple):
+    """One recording of the report."""
+
+    task: Dict[str, Any]
+    facts: Dict[str, Any]
+    html: List[str]
+
+
+# ---- pieces of a page
+
+def table(caption: str, heads: Sequence[str], rows: Iterable[Sequence[Any]], left: Sequence[str] = ()) -> List[str]:
+    """A table whose first column names its rows; a cell that is a pair is a class and HTML as it stands."""
+    def cell(place: int, value: Any) -> str:
+        name, text = value if isinstance(value, tuple) else ('left' if heads[place] in left else '', escape('-' if value is None else str(value)))
+        kind = ' class="%s"' % name if name else ''
+        return '<th scope="row"%s>%s</th>' % (kind, text) if place == 0 else '<td%s>%s</td>' % (kind, text)
+    made = ['<div class="scroll" tabindex="0" role="region" aria-label="%s"><table><caption>%s</caption><thead><tr>' % (escape(caption, True), escape(caption))]
+    made.append(''.join('<th scope="col"%s>%s</th>' % (' class="left"' if head in left else '', escape(head)) for head in heads) + '</tr></thead><tbody>')
+    made += ['<tr>%s</tr>' % ''.join(cell(place, value) for place, value in enumerate(row)) for row in rows]
+    return made + ['</tbody></table></div>']
+
+
+def verdict_html(facts: Dict[str, Any]) -> str:
+    return '<span class="verdict %s">%s</span>' % (facts['verdict'], escape(verdict_text(facts)))
+
+
+def time_text(facts: Dict[str, Any], name: str) -> str:
+    return facts[name][:-5] if facts[name] else '-'
+
+
+def size_text(size: int) -> str:
+    return '{:,}'.format(size)
+
+
+# ---- what the buses carried
+
+def buses_of(data: Any, begin: int, end: int, survey: Survey) -> Tuple[Dict[Tuple, Counter], Dict[Tuple, Counter], Dict[Tuple, Counter]]:
+    """Of 1553 channels the messages by RT, direction and subaddress, and the errors by RT and direction; of ARINC 429 channels the words by label."""
+    commands: Dict[int, Counter] = {}
+    labels: Dict[Tuple, Counter] = {}
+    for packet in packets(data, begin, begin + survey.size, False, survey.passed):
+        if packet.word is None:
+            continue
+        if packet.kind == BUS:
+            commands.setdefault(packet.channel, Counter()).update(bus_keys(packet))
+        elif packet.kind == ARINC:
+            for head, word in struct.iter_unpack('<II', whole(packet.body, 8, packet.word & 0xFFFF)):
+                labels.setdefault((packet.channel, head >> 24), Counter())[word & 0xFF] += 1
+    messages: Dict[Tuple, Counter] = {}
+    errors: Dict[Tuple, Counter] = {}
+    for channel, counted in commands.items():
+        for (command, status), number in counted.items():
+            rt, direction, sa, _, _ = command_1553(command)
+            key = channel, -1 if rt is None else rt, direction
+            messages.setdefault(key, Counter())[sa] += number
+            for bit, name in ERRORS_1553:
+                if status >> bit & 1:
+                    errors.setdefault(key, Counter())[name] += number
+    return messages, errors, labels
+
+
+def bus_keys(packet: Any) -> List[Tuple[Optional[int], int]]:
+    """Of each message of a packet its command word and its error bits."""
+    body, at, found = packet.body, 4, []
+    for _ in range(packet.word & 0xFFFFFF):
+        _, status, _, size = BUS_ENTRY.unpack_from(body, at)
+        found.append((body[at + 14] | body[at + 15] << 8 if size > 1 else None, status & 0x1638))
+        at += 14 + size
+    return found
+
+
+def counted_text(counted: Counter, names: Any) -> str:
+    return ', '.join('%s: %s' % (names(key), '{:,}'.format(number)) for key, number in sorted(counted.items(), key=lambda pair: (pair[0] is None, pair[0])))
+
+
+def bus_parts(data: Any, begin: int, end: int, survey: Survey) -> List[str]:
+    messages, errors, labels = buses_of(data, begin, end, survey)
+    made: List[str] = []
+    if messages:
+        rows = [(channel, survey.names.channel(channel) or '-', 'none' if rt < 0 else rt, {'T': 'transmits', 'R': 'receives', None: '-'}[direction],
+                 size_text(sum(counted.values())), counted_text(errors.get((channel, rt, direction), Counter()), str) or '-',
+                 ('wrap', escape(counted_text(counted, lambda sa: 'SA %s' % ('-' if sa is None else sa)))))
+                for (channel, rt, direction), counted in sorted(messages.items(), key=lambda pair: (pair[0][0], pair[0][1], pair[0][2] or ''))]
+        made += ['<h3>MIL-STD-1553 by terminal and subaddress</h3>'] + table(
+            'Messages of each remote terminal, by its direction and subaddress', ('channel', 'name', 'RT', 'direction', 'messages', 'errors', 'by subaddress'), rows,
+            ('name', 'direction', 'errors', 'by subaddress'))
+    if labels:
+        rows = [(channel, survey.names.channel(channel) or '-', bus, size_text(sum(counted.values())),
+                 ('wrap', escape(counted_text(counted, lambda label: word_429(label)[0]))))
+                for (channel, bus), counted in sorted(labels.items())]
+        made += ['<h3>ARINC 429 by label</h3>'] + table('Words of each bus, by label in octal', ('channel', 'name', 'bus', 'words', 'by label'), rows,
+                                                       ('name', 'by label'))
+    return made
+
+
+# ---- one recording
+
+def picture_of(data: Any, begin: int, end: int, survey: Survey, name: str) -> List[str]:
+    some = survey.drawn()
+    if not survey.rows or not some:
+        return []
+    sources = {(row.channel, row.kind): row for row in some}
+    by_packets = {(row.channel, row.kind) for row in some if not row.entries}
+    drawn = Picture(name, sources, by_packets, *ends_of(some), survey)
+    drawn.fill(marks(data, begin, survey, sources, by_packets), None)
+    about = 'Rates and losses of each channel over time; the same numbers stand in the table of channels'
+    text = drawn.text(survey, end - begin).replace('<svg ', '<svg role="img" aria-label="%s" ' % escape(about, True), 1)
+    return ['<h3>Rates and losses</h3><figure>', text, '<figcaption>%s.</figcaption></figure>' % escape(about)]
+
+
+def channel_part(survey: Survey) -> List[str]:
+    rows = []
+    for row in survey.rows:
+        rate = row.rate()
+        rows.append((row.channel, name_of(row.kind), survey.names.channel(row.channel) or '-', size_text(row.packets),
+                     size_text(row.entries) if row.has_entries() else None, size_text(row.bytes), None if rate is None else '{:,.1f}'.format(rate),
+                     size_text(row.losses), lost_text({'lost': row.lost, 'untold': row.untold}), row.jumps, row.opaque, row.bad))
+    return ['<h3>Channels</h3>'] + table('What each channel and data type has', (
+        'channel', 'type', 'name', 'packets', 'entries', 'bytes', 'entries/s', 'losses', 'messages lost', 'jumps', 'opaque', 'damaged packets'), rows, ('type', 'name'))
+
+
+def damage_part(survey: Survey) -> List[str]:
+    if not survey.damage:
+        return []
+    rows = [(size_text(one.offset), size_text(one.length), ('left', escape(one.why)), ('left', '-' if one.channel is None else '%d, %s' % (
+        one.channel, escape(name_of(one.kind))))) for one in survey.damage[:MOST_STRETCHES]]
+    more = len(survey.damage) - len(rows)
+    return ['<h3>Damaged stretches</h3>'] + table('Bytes that were passed over%s' % (', the first %d of %d' % (len(rows), len(survey.damage)) if more else ''),
+                                                 ('from byte', 'bytes', 'why', 'channel'), rows, ('why', 'channel'))
+
+
+def clock_part(survey: Survey) -> List[str]:
+    if not survey.times or not survey.span():
+        return []
+    return ['<h3>Clocks</h3><ul>'] + ['<li>%s</li>' % escape(line.strip()) for times in survey.times for line in clock_lines(times, survey)] + ['</ul>']
+
+
+def setup_part(survey: Survey) -> List[str]:
+    if survey.setup is None:
+        return ['<h3>Setup</h3><p>There is no setup text.</p>']
+    if not survey.names.attributes:
+        return ['<h3>Setup</h3><p>The setup text has %d bytes, and is none of chapter 9 (TMATS).</p>' % len(survey.setup)]
+    kinds: Dict[int, set] = {}
+    for row in survey.rows:
+        if row.channel:
+            kinds.setdefault(row.channel, set()).add(row.kind)
+    others = survey.names.disagreements(kinds)
+    made = ['<h3>Setup</h3>']
+    if others:
+        made.append('<ul>%s</ul>' % ''.join('<li>%s</li>' % escape(line) for line in others))
+    return made + ['<pre tabindex="0" aria-label="Setup attributes as a tree">%s</pre>' % escape('\n'.join(tree(survey.names.attributes)))]
+
+
+def facts_part(task: Dict[str, Any], facts: Dict[str, Any]) -> List[str]:
+    means = MEANS[facts['verdict']] + (' Packets of a kind that is not read: %d.' % facts['opaque'] if facts['verdict'] == 'lenient' else '')
+    lines = ['%s %s' % (verdict_html(facts), escape(means))]
+    if facts['first_time']:
+        lines.append('From %s to %s.' % (escape(facts['first_time']), escape(facts['last_time'])))
+    lines.append('%s bytes in %s packets, %s entries; %s, %s messages lost; %s.' % (
+        size_text(facts['size']), size_text(facts['packets']), size_text(facts['entries']), said(facts['losses'], 'loss', 'es'), lost_text(facts),
+        '%s, %s bytes in all' % (said(facts['damaged'], 'damaged stretch', 'es'), size_text(facts['damaged_bytes'])) if facts['damaged'] else 'nothing is damaged'))
+    if task['number'] >= 0:
+        lines.append('File %d of volume %s, %s.' % (task['number'], escape(task['volume']), 'closed' if task['closed'] else 'not closed'))
+    return ['<p>%s</p>' % line for line in lines]
+
+
+def part_of(task: Dict[str, Any], data: Any, program: Optional[str]) -> Part:
+    begin, end = task['begin'], task['end']
+    if 'fault' in task:
+        facts = nothing_in(end - begin)
+        with memoryview(data) as view:
+            facts.update(verdict_of_image(program, view, Fault(task['fault'])))
+        return Part(task, facts, facts_part(task, facts) + ['<p>%s.</p>' % escape(task['fault'])])
+    survey = Survey(data, begin, end)
+    facts = facts_of(data, begin, end, program, survey)
+    made = facts_part(task, facts) + picture_of(data, begin, end, survey, title(task).rpartition('/')[2]) + channel_part(survey)
+    return Part(task, facts, made + damage_part(survey) + clock_part(survey) + bus_parts(data, begin, end, survey) + setup_part(survey))
+
+
+# ---- the page
+
+def page(parts: Sequence[Part]) -> List[str]:
+    head = 'Report on %s' % ('1 recording' if len(parts) == 1 else '%d recordings' % len(parts))
+    made = ['<!DOCTYPE html>', '<html lang="en">', '<head>', '<meta charset="utf-8">',
+            '<meta http-equiv="Content-Security-Policy" content="default-src \'none\'; style-src \'unsafe-inline\'">',
+            '<meta name="viewport" content="width=device-width, initial-scale=1">', '<title>%s</title>' % head, '<style>%s</style>' % STYLE, '</head>', '<body>',
+            '<a class="skip" href="#recordings">To the recordings</a>', '<header><h1>%s</h1>' % head,
+            '<p>Written by ch10 report from the recordings alone. Times are civil times of the recordings.</p></header>',
+            '<nav aria-label="Contents"><ul><li><a href="#overview">Overview</a></li><li><a href="#timeline">Time line</a></li>']
+    made += ['<li><a href="#r%d">%s</a></li>' % (number, escape(title(part.task))) for number, part in enumerate(parts)]
+    made += ['</ul></nav>', '<main id="main">', '<section id="overview" aria-labelledby="overview-head"><h2 id="overview-head">Overview</h2>']
+    rows = [(('left', '<a href="#r%d">%s</a>' % (number, escape(title(part.task)))), ('left', verdict_html(part.facts)), size_text(part.facts['size']),
+             ('time', time_text(part.facts, 'first_time')), ('time', time_text(part.facts, 'last_time')), size_text(part.facts['entries']), size_text(part.facts['losses']),
+             lost_text(part.facts), part.facts['damaged']) for number, part in enumerate(parts)]
+    made += table('The recordings: verdicts, times, losses, messages lost, damaged stretches', (
+        'recording', 'verdict', 'bytes', 'first time', 'last time', 'entries', 'losses', 'lost', 'damaged'), rows, ('recording', 'verdict'))
+    made += ['</section>', '<section id="timeline" aria-labelledby="timeline-head"><h2 id="timeline-head">Time line</h2>']
+    made += timeline([(title(part.task), part.facts) for part in parts])
+    made += ['</section>', '<div id="recordings">']
+    for number, part in enumerate(parts):
+        made += ['<section class="recording" id="r%d" aria-labelledby="r%d-head"><h2 id="r%d-head">%s</h2>' % (number, number, number, escape(title(part.task)))]
+        made += part.html + ['</section>']
+    return made + ['</div>', '</main>', '</body>', '</html>']
+
+
+def report(asked: Any, data: None, out: Output) -> None:
+    """`ch10 report`."""
+    program = None
+    if not asked.unjudged:
+        try:
+            program = program_of(asked.program)
+        except Wrong:
+            program = None
+    failed: List[Tuple[str, str]] = []
+    parts = [part for one in inputs_of(asked.inputs, None, []) for part in parts_of_input(one, program, failed)]
+    for line in page(parts):
+        out.write(re.sub('[\x00-\x08\x0b\x0c\x0e-\x1f]', '?', line).encode('utf-8', 'replace') + b'\n')
+    unread(failed)
+    bad = [part for part in parts if part.facts['verdict'] == 'faulty' or part.facts['damaged']]
+    if bad:
+        raise Fault('%d of %d recordings at fault, first %s: %s' % (len(bad), len(parts), title(bad[0].task), verdict_text(bad[0].facts)))
+
+
+def parts_of_input(one: Input, program: Optional[str], failed: List[Tuple[str, str]]) -> List[Part]:
+    try:
+        data = opened(one.path)
+    except OSError as error:
+        failed.append((one.place, error.strerror or str(error)))
+        return []
+    if is_recording(data) or data[512:520] != b'FORTYtwo':
+        tasks: Iterable[Dict[str, Any]] = [dict(path=one.path, place=one.place, begin=0, end=len(data), number=-1)]
+    else:
+        tasks = image_tasks(one.path, one.place, data)
+    return [part_of(task, data, program) for task in tasks]

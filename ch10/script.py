@@ -1,0 +1,109 @@
+"""A setup text of chapter 9 for the channels of a script of r10."""
+import re
+from typing import Dict, Iterator, List, Tuple
+
+from .standard import Fault
+
+# Of each kind of channel its channel data type, the attribute of its format with the format that r10 writes, and the group that describes what it carries.
+KINDS = {'uart': ('UARTIN', 'UTF', 0, 'S'), '1553': ('1553IN', 'BTF', 1, 'B'), 'arinc': ('429IN', 'ABTF', 0, 'B'), 'discrete': ('DISIN', 'DTF', 1, ''),
+         'message': ('MSGIN', 'MTF', 0, 'S')}
+LINE = re.compile(r'\s*(?:"(\w+)"|(\w+))\s*=\s*(?:"([^"]*)"|([0-9_]+)|([^#]*?))\s*(?:#.*)?$')
+
+
+def tables_of(text: str) -> Tuple[Dict[str, object], Dict[str, List[dict]]]:
+    """The keys at the top of a script, and its tables by their names."""
+    try:
+        import tomllib
+    except ImportError:
+        return by_lines(text)
+    try:
+        whole = tomllib.loads(text)
+    except tomllib.TOMLDecodeError as fault:
+        raise Fault('no script: %s' % str(fault).split('\n')[0])
+    top = {key: value for key, value in whole.items() if not isinstance(value, list)}
+    return top, {key: [table for table in value if isinstance(table, dict)] for key, value in whole.items() if isinstance(value, list)}
+
+
+def by_lines(text: str) -> Tuple[Dict[str, object], Dict[str, List[dict]]]:
+    """The same of a script with a key on each line, for a Python without a reader of TOML."""
+    top: Dict[str, object] = {}
+    tables: Dict[str, List[dict]] = {}
+    here = top
+    for line in text.splitlines():
+        head = re.match(r'\s*\[\[(\w+)\]\]\s*(#.*)?$', line)
+        found = LINE.match(line)
+        if head:
+            here = {}
+            tables.setdefault(head.group(1), []).append(here)
+        elif found:
+            plain, quoted, text_value, digits, rest = found.groups()
+            here[plain or quoted] = int(digits.replace('_', '')) if digits else text_value if text_value is not None else rest
+    return top, tables
+
+
+def attributes_of(text: str) -> Iterator[Tuple[str, object]]:
+    """The attributes of a setup text for a script."""
+    top, tables = tables_of(text)
+    channels, volume = tables.get('channel', []), str(top.get('volume', ''))
+    if not volume or not channels or not isinstance(top.get('time'), int):
+        raise Fault('no script: it takes volume, time and tables [[channel]]')
+    for channel in channels:
+        if channel.get('kind') not in KINDS or not isinstance(channel.get('id'), int):
+            raise Fault('no script: a channel without an id, or of no kind that r10 has')
+    yield 'G\\PN', volume
+    yield 'G\\106', 17
+    yield 'G\\DSI\\N', 1
+    yield 'G\\DSI-1', volume
+    yield 'G\\DST-1', 'STO'
+    yield 'R-1\\ID', volume
+    yield 'R-1\\TC1', 'SSR'
+    yield 'R-1\\N', 1 + len(channels)
+    yield 'R-1\\EV\\E', 'T'
+    yield 'R-1\\IDX\\E', 'T'
+    yield from track(1, top['time'], 'TIME', 'TIMEIN', 'TTF', 1)
+    links, groups = [], {'B': 0, 'S': 0}
+    for number, channel in enumerate(channels, 2):
+        kind, format_name, form, group = KINDS[channel['kind']]
+        name = '%s-%d' % (channel['kind'].upper(), channel['id'])
+        yield from track(number, channel['id'], name, kind, format_name, form)
+        if group:
+            yield 'R-1\\CDLN-%d' % number, name
+            groups[group] += 1
+            links += list(link('%s-%d' % (group, groups[group]), name, channel, tables))
+    yield from links
+
+
+def track(number: int, channel: int, name: str, kind: str, format_name: str, form: int) -> Iterator[Tuple[str, object]]:
+    yield 'R-1\\TK1-%d' % number, channel
+    yield 'R-1\\CHE-%d' % number, 'T'
+    yield 'R-1\\DSI-%d' % number, name
+    yield 'R-1\\CDT-%d' % number, kind
+    yield 'R-1\\%s-%d' % (format_name, number), form
+
+
+def link(group: str, name: str, channel: dict, tables: Dict[str, List[dict]]) -> Iterator[Tuple[str, object]]:
+    """The attributes of what a channel carries: its buses, or its stream of messages."""
+    yield group + '\\DLN', name
+    if group.startswith('S'):
+        yield group + '\\NS\\N', 1
+        yield group + '\\SNA-1', name
+        return
+    buses = [0]
+    if channel['kind'] == 'arinc':
+        buses = sorted({step.get('bus', 0) for step in tables.get('step', []) if step.get('channel') == channel['id'] and step.get('do') == 'offer'}
+                       | {item.get('bus', 0) for feed in tables.get('feed', []) if feed.get('channel') == channel['id'] and isinstance(feed.get('items'), list)
+                          for item in feed['items']}) or [0]
+    yield group + '\\NBS\\N', len(buses)
+    for place, bus in enumerate(buses, 1):
+        yield '%s\\BID-%d' % (group, place), bus
+        yield '%s\\BNA-%d' % (group, place), name if channel['kind'] == '1553' else '%s-%s' % (name, bus)
+        yield '%s\\BT-%d' % (group, place), '1553' if channel['kind'] == '1553' else 'A429'
+
+
+def as_tmats(asked, data, out) -> None:
+    try:
+        text = bytes(data).decode('utf-8')
+    except UnicodeDecodeError:
+        raise Fault('no script: it is no text')
+    said = ''.join('%s:%s;\r\n' % attribute for attribute in attributes_of(text))
+    out.line(said.encode().hex()) if asked.hex else out.write(said.encode())

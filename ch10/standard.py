@@ -1,0 +1,64 @@
+"""What the other modules share: what a fault is, numbers in bytes, and the names of the types of data that IRIG 106-17, chapter 11, has."""
+
+
+class Fault(Exception):
+    """What the standard does not allow, and where: at which offset, and of a packet whose header is right its
+    length, and its channel, type, sequence number and counter."""
+
+    def __init__(self, what, offset=None, length=None, whose=None):
+        Exception.__init__(self, what)
+        self.what, self.offset, self.length, self.whose = what, offset, length, whose
+
+    def __str__(self):
+        return self.what if self.offset is None else '%s at offset %d' % (self.what, self.offset)
+
+    def lines(self):
+        """What is said of it, a line each."""
+        return [str(self)]
+
+
+class Damaged(Fault):
+    """A recording of which some stretches were passed over, of each a line."""
+
+    def __init__(self, lines):
+        Fault.__init__(self, '%d stretches were passed over' % len(lines))
+        self.said = lines
+
+    def lines(self):
+        return self.said
+
+
+class Wrong(Exception):
+    """What is wrong in the words of a call."""
+
+
+def need(held, offset, what):
+    if not held:
+        raise Fault(what, offset)
+
+
+def little(data, at, size):
+    return int.from_bytes(data[at:at + size], 'little')
+
+
+def big(data, at, size):
+    return int.from_bytes(data[at:at + size], 'big')
+
+
+def text(data):
+    return data.rstrip(b'\x00 ').decode('ascii', 'replace')
+
+
+def digits(data):
+    return data.hex() or '-'
+
+
+SYNC = 0xEB25
+LOSS, SETUP, EVENT, INDEX, TIME, BUS, DISCRETE, MESSAGE, ARINC, UART = 0x00, 0x01, 0x02, 0x03, 0x11, 0x19, 0x29, 0x30, 0x38, 0x50
+REPORT = bytes(4) + b'LOSS'  # what the body of a loss report begins with
+WIDTHS = (0, 1, 2, 4)
+SUMS = (None, 'B', 'H', 'I')
+COUNT_BITS = (1 << 48) - 1
+NONE_LATER = (1 << 64) - 1
+KIND_BY_NAME = {'time': TIME, 'event': EVENT, 'uart': UART, '1553': BUS, 'arinc': ARINC, 'discrete': DISCRETE, 'message': MESSAGE}
+KNOWN = frozenset((SETUP, EVENT, INDEX, TIME, BUS, DISCRETE, MESSAGE, ARINC, UART))

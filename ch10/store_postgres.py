@@ -1,0 +1,164 @@
+"""The catalogue in PostgreSQL, by psycopg2 or psycopg (3), whichever the distribution has here."""
+from __future__ import annotations
+
+import datetime
+import importlib
+import os
+import subprocess
+import sys
+from typing import Any, Iterable, Iterator, List, Sequence, Set, Tuple
+
+from .standard import Wrong
+from .store import Store, StoreError, shown_dsn
+
+SYSTEM = '/usr/bin/python3'
+LOCK = 0x63683130  # of an advisory lock: the letters ch10
+
+
+def driver() -> Any:
+    """The module that speaks to PostgreSQL."""
+    for name in ('psycopg2', 'psycopg'):
+        try:
+            return importlib.import_module(name)
+        except ImportError:
+            pass
+    more = 'install python3-psycopg2'
+    if os.path.exists(SYSTEM) and os.path.realpath(SYSTEM) != os.path.realpath(sys.executable):
+        if subprocess.run([SYSTEM, '-c', 'import psycopg2'], stderr=subprocess.DEVNULL).returncode == 0:
+            more = '%s sees the distribution\'s: %s scripts/ch10.py ..' % (SYSTEM, SYSTEM)
+    raise Wrong('a database of PostgreSQL needs psycopg2, which %s does not see; %s' % (sys.executable, more))
+
+
+class Postgres(Store):
+    engine = 'postgresql'
+    for_update = ' FOR UPDATE'
+    words = {'identity': 'BIGINT GENERATED ALWAYS AS IDENTITY PRIMARY KEY', 'text': 'TEXT COLLATE "C"', 'bytes': 'BYTEA', 'time': 'TIMESTAMP(6)'}
+
+    def __init__(self, dsn: str) -> None:
+        self.driver = driver()
+        try:
+            self.base = self.driver.connect(dsn)
+            self.base.autocommit = True
+            self.cursor = self.driver.ClientCursor(self.base) if hasattr(self.driver, 'ClientCursor') else self.base.cursor()
+            self.cursor.execute("SET client_encoding = 'UTF8'")
+        except self.driver.Error as error:
+            raise StoreError('the database %s: %s' % (shown_dsn(dsn), one_line(error)))
+
+    def rows(self, statement: str, values: Sequence[Any] = ()) -> List[Tuple]:
+        try:
+            if values:
+                self.cursor.execute(statement.replace('%', '%%').replace('?', '%s'), values)
+            else:
+                self.cursor.execute(statement)
+            return self.cursor.fetchall() if self.cursor.description else []
+        except self.driver.Error as error:
+            raise StoreError('the database: %s' % one_line(error))
+
+    def insert(self, table: str, columns: Sequence[str], rows: Iterable[Sequence[Any]]) -> None:
+        """By COPY, which takes many rows in one go."""
+        self.copy('COPY %s (%s) FROM STDIN' % (table, ', '.join(columns)), lines_of(rows))
+
+    def insert_new(self, table: str, columns: Sequence[str], rows: Sequence[Sequence[Any]], keys: int) -> Set[Tuple]:
+        if not rows:
+            return set()
+        one, front = '(%s)' % ', '.join('?' * len(columns)), ', '.join(columns[:keys])
+        return set(self.rows('INSERT INTO %s (%s) VALUES %s ON CONFLICT (%s) DO NOTHING RETURNING %s' % (
+            table, ', '.join(columns), ', '.join([one] * len(rows)), front, front), [value for row in rows for value in row]))
+
+    def copy(self, statement: str, parts: Iterable[bytes]) -> None:
+        """Does a COPY FROM STDIN with these bytes."""
+        try:
+            if hasattr(self.cursor, 'copy_expert'):
+                self.cursor.copy_expert(statement, Parts(parts), 1 << 16)
+            else:
+                with self.cursor.copy(statement) as to:
+                    for part in parts:
+                        to.write(part)
+        except self.driver.Error as error:
+            raise StoreError('the database: %s' % one_line(error))
+
+    def make_days(self, tables: Sequence[str], days: Sequence[str]) -> None:
+        """A partition for each table and day, as entry_1553_20240229. By one program at a time, so that none waits for another within its transaction."""
+        there = set(self.tables())
+        missing = [(table, day) for table in tables for day in days if '%s_%s' % (table, day.replace('-', '')) not in there]
+        if not missing:
+            return
+        with self.transaction():
+            self.lock_for_migrations()
+            for table, day in missing:
+                following = (datetime.date.fromisoformat(day) + datetime.timedelta(days=1)).isoformat()
+                self.rows("CREATE TABLE IF NOT EXISTS %s_%s PARTITION OF %s FOR VALUES FROM ('%s') TO ('%s')" % (
+                    table, day.replace('-', ''), table, day, following))
+
+    def settle(self) -> None:
+        self.rows('ANALYZE recording, place, channel, damage, attribute')
+
+    def begin(self) -> None:
+        self.rows('BEGIN')
+
+    def end(self, how: str) -> None:
+        try:
+            self.rows(how)
+        except StoreError:
+            if how == 'COMMIT':
+                raise  # a rollback that cannot be asked for was made by the server
+
+    def lock_for_migrations(self) -> None:
+        self.rows('SELECT pg_advisory_xact_lock(%d)' % LOCK)
+
+    def tables(self) -> List[str]:
+        return [name for name, in self.rows('SELECT tablename::text FROM pg_tables WHERE schemaname = current_schema()')]
+
+    def close(self) -> None:
+        self.base.close()
+
+
+def one_line(error: BaseException) -> str:
+    return ' '.join(str(error).split()) or type(error).__name__
+
+
+class Parts:
+    """Parts of bytes as a file to read, for psycopg2."""
+
+    def __init__(self, parts: Iterable[bytes]) -> None:
+        self.parts: Iterator[bytes] = iter(parts)
+        self.left = memoryview(b'')
+
+    def read(self, size: int = -1) -> bytes:
+        while not self.left:
+            part = next(self.parts, None)
+            if part is None:
+                return b''
+            self.left = memoryview(part)
+        if size < 0:
+            size = len(self.left)
+        given, self.left = self.left[:size], self.left[size:]
+        return bytes(given)
+
+
+ESCAPES = str.maketrans({'\\': '\\\\', '\t': '\\t', '\n': '\\n', '\r': '\\r'})
+
+
+def cell(value: Any) -> str:
+    """A value as the text form of COPY has it."""
+    if value is None:
+        return '\\N'
+    if isinstance(value, bool):
+        return 't' if value else 'f'
+    if isinstance(value, str):
+        return value.translate(ESCAPES)
+    if isinstance(value, (bytes, bytearray, memoryview)):
+        return '\\\\x' + bytes(value).hex()
+    return repr(value)
+
+
+def lines_of(rows: Iterable[Sequence[Any]]) -> Iterator[bytes]:
+    """Rows in the text form of COPY, in parts of some size."""
+    held: List[str] = []
+    for row in rows:
+        held.append('\t'.join(map(cell, row)))
+        if len(held) == 1000:
+            yield ('\n'.join(held) + '\n').encode()
+            held = []
+    if held:
+        yield ('\n'.join(held) + '\n').encode()

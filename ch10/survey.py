@@ -1,0 +1,242 @@
+"""One pass over a recording: what each channel has, what was passed over, its times and its setup text."""
+from array import array
+from typing import Dict, List, Optional, Tuple
+
+from .bodies import BODIES, counts
+from .clocks import TimeLine
+from .packets import Resync, Stretch, UNTOLD, loss_of, lost_before, packet_at
+from .standard import DISCRETE, INDEX, NONE_LATER, SETUP, TIME, Damaged, Fault
+from .times import Clock, time
+from .tmats import Names
+
+REPORT_ROW = 0x100  # in place of its data type, 0x00, which others have for something else
+FAMILIES = {0x00: 'computer', 0x08: 'pcm', 0x10: 'time', 0x18: '1553', 0x20: 'analog', 0x28: 'discrete', 0x30: 'message', 0x38: 'arinc',
+            0x40: 'video', 0x48: 'image', 0x50: 'uart', 0x58: '1394', 0x60: 'parallel', 0x68: 'ethernet', 0x70: 'tspi', 0x78: 'can'}
+
+
+def name_of(kind: int) -> str:
+    """The name of a data type: its own where it is read, else that of its family and its number."""
+    if kind in BODIES:
+        return BODIES[kind].name
+    if kind == REPORT_ROW:
+        return 'report'
+    return '%s-%02x' % (FAMILIES.get(kind & 0xF8, 'type'), kind)
+
+
+class Row:
+    """What the packets of one channel and one type have together."""
+
+    __slots__ = ('channel', 'kind', 'packets', 'entries', 'bytes', 'losses', 'lost', 'untold', 'jumps', 'opaque', 'bad', 'low', 'high', 'begin', 'end')
+
+    def __init__(self, channel: int, kind: int, counter: int):
+        self.channel, self.kind = channel, kind
+        self.packets = self.entries = self.bytes = self.losses = self.lost = self.untold = self.jumps = self.opaque = self.bad = 0
+        self.low = self.high = None
+        self.begin = self.end = counter
+
+    def add(self, packet, report):
+        """Adds a packet after this report, or after none."""
+        self.packets += 1
+        self.bytes += packet.length
+        if packet.flags & 0x10:
+            lost = lost_before(packet, report)
+            self.losses += 1
+            self.untold += lost == UNTOLD
+            self.lost += 1 if lost == UNTOLD else lost
+        if packet.word is None:
+            self.opaque += 1
+        counter = packet.counter
+        if counter < self.begin:
+            self.begin = counter
+        elif counter > self.end:
+            self.end = counter
+
+    def add_entries(self, number, low, high):
+        self.entries += number
+        if self.low is None:
+            self.low, self.high = low, high
+        if low < self.low:
+            self.low = low
+        if high > self.high:
+            self.high = high
+
+    def has_entries(self) -> bool:
+        """Whether its type is one of entries that are read."""
+        return self.kind in BODIES and BODIES[self.kind].keys is not None
+
+    def first(self) -> int:
+        return self.begin if self.low is None else self.low
+
+    def last(self) -> int:
+        return self.end if self.high is None else self.high
+
+    def rate(self) -> Optional[float]:
+        """Entries a second from the first to the last, or None."""
+        if self.entries < 2 or self.low == self.high:
+            return None
+        return (self.entries - 1) * 10 ** 7 / (self.high - self.low)
+
+
+class Survey:
+    """What one pass over a recording finds: to its end, or, where it does not go on, to its first fault.
+
+    .rows      a `Row` of each channel and type, by channel, then type
+    .damage    a `Stretch` of each stretch that was passed over, by offset; none where it does not go on
+    .passed    their lengths by their offsets, for `ch10.packets.packets`
+    .spans     of each stretch the counter of the last packet before it and of the first one after it, or None
+    .fault     the first fault, or None
+    .size      how many bytes were gone over: all, or those before the fault that ended it
+    .clock     the `Clock` of its times, or None; .times, a `TimeLine` of each channel with times
+    .setup     the first setup text as bytes, or None; .names, what it says of channels: `ch10.tmats.Names`
+    .lows      of each packet that was read the lowest count of its entries; .highs the highest; .places where it begins, after the recording's first byte
+    """
+
+    def __init__(self, data, begin: int, end: int, goes_on: bool = True):
+        self.rows: List[Row] = []
+        self.damage: List[Stretch] = []
+        self.passed: Dict[int, int] = {}
+        self.spans: List[Tuple[Optional[int], Optional[int]]] = []
+        self.fault: Optional[Fault] = None
+        self.setup: Optional[bytes] = None
+        self.lows, self.highs, self.places = array('Q'), array('Q'), array('Q')
+        self.states = []  # of each packet of discretes its number, its channel and its last states
+        self.times: List[TimeLine] = []
+        self.by_key: Dict[Tuple[int, int], Row] = {}
+        self.size = self.go(data, begin, end, goes_on)
+        if end == begin:
+            self.fault = Fault('no packet')
+        self.rows = [self.by_key[key] for key in sorted(self.by_key)]
+        self.names = Names(self.setup)
+        lines = [line for line in self.times if line.told]
+        self.clock = Clock(lines) if lines else None
+
+    def go(self, data, begin, end, goes_on):
+        """Goes over the recording, and answers how far it came."""
+        at, resync, before, report, last = begin, Resync(data, begin, end), {}, None, None
+        while at < end:
+            try:
+                packet = packet_at(data, at, begin, end, True, goes_on)
+                found = counts(packet)
+                said = time(packet.body, packet.word) if packet.kind == TIME and packet.word is not None else None
+            except Fault as fault:
+                if fault.offset != at - begin or fault.whose is None:  # of what stands in a packet
+                    fault = self.placed(fault, data, at, begin, end)
+                self.fault = self.fault or fault
+                if not goes_on:
+                    return at - begin
+                following = resync.after(at, fault.length)
+                self.pass_over(fault, at - begin, following - at, last, before)
+                at, report = following, None
+                continue
+            channel, kind, sequence, told = packet.channel, packet.kind, packet.sequence, loss_of(packet)
+            if self.spans and self.spans[-1][1] is None:
+                self.close_spans(packet.counter)
+            row = self.row_of(channel, REPORT_ROW if told else kind, packet.counter)
+            if before.get(channel, sequence) != sequence:
+                row.jumps += 1
+            before[channel] = sequence + 1 & 0xFF
+            row.add(packet, report)
+            report = told
+            self.note(packet, found, said, row)
+            resync.note(packet)
+            last = packet.counter
+            at += packet.length
+        return at - begin
+
+    @staticmethod
+    def placed(fault, data, at, begin, end):
+        """A fault of what stands in a packet, with the packet's place, length and channel; others as they are."""
+        try:
+            packet = packet_at(data, at, begin, end)
+        except Fault as same:
+            return same
+        return Fault(fault.what, at - begin, packet.length, (packet.channel, packet.kind, packet.sequence, packet.counter))
+
+    def row_of(self, channel, kind, counter):
+        row = self.by_key.get((channel, kind))
+        if row is None:
+            row = self.by_key[channel, kind] = Row(channel, kind, counter)
+        return row
+
+    def note(self, packet, found, said, row):
+        """Takes note of what stands in a packet."""
+        kind = packet.kind
+        if found:
+            low, high = min(found), max(found)
+            row.add_entries(len(found), low, high)
+        else:
+            low, high = NONE_LATER, 0
+        if kind == TIME and said is not None:
+            line = next((line for line in self.times if line.channel == packet.channel), None)
+            if line is None:
+                line = TimeLine(packet.channel)
+                self.times.append(line)
+            line.add(packet.counter, said, packet.offset)
+        elif kind == DISCRETE and found:
+            self.states.append((len(self.lows), packet.channel, bytes(packet.body[-4:])))
+        elif kind == SETUP and packet.word is not None and self.setup is None:
+            self.setup = bytes(packet.body[4:])
+        self.lows.append(low)
+        self.highs.append(high)
+        self.places.append(packet.offset)
+
+    def pass_over(self, fault, offset, length, last, before):
+        """Takes note of a stretch."""
+        channel = kind = None
+        if fault.whose:
+            channel, kind, sequence, counter = fault.whose
+            self.row_of(channel, kind, counter).bad += 1
+            before[channel] = sequence + 1 & 0xFF
+        if self.damage and channel is None and self.damage[-1].channel is None and self.damage[-1].offset + self.damage[-1].length == offset:
+            self.damage[-1] = self.damage[-1]._replace(length=self.damage[-1].length + length)
+            self.passed[self.damage[-1].offset] = self.damage[-1].length
+            return
+        self.damage.append(Stretch(offset, length, fault.what, channel, kind))
+        self.passed[offset] = length
+        self.spans.append((last, None))
+
+    def close_spans(self, counter):
+        for place in range(len(self.spans) - 1, -1, -1):
+            if self.spans[place][1] is not None:
+                break
+            self.spans[place] = self.spans[place][0], counter
+
+    def drawn(self, channels=None) -> List[Row]:
+        """The rows of all packets but those of setup, index and loss reports."""
+        return [row for row in self.rows if row.packets and row.kind not in (SETUP, INDEX, REPORT_ROW) and (channels is None or row.channel in channels)]
+
+    def span(self) -> Optional[Tuple[int, int]]:
+        """The lowest and the highest count, or None where there is no packet. Those of setup, index and reports matter where there are no others."""
+        return ends_of(self.drawn() or self.rows)
+
+    def ends_early(self) -> bool:
+        """Whether a fault ended it before the recording's end."""
+        return self.fault is not None and not self.damage
+
+    def judge(self) -> None:
+        """Raises what is wrong with the recording, when what is good of it is said: its first fault, or what was passed over."""
+        if self.damage:
+            raise Damaged([stretch_text(stretch) for stretch in self.damage])
+        if self.fault:
+            raise self.fault
+
+
+def stretch_text(stretch: Stretch) -> str:
+    whose = '' if stretch.channel is None else ' (channel %d, %s)' % (stretch.channel, name_of(stretch.kind))
+    return 'passed over: offset %d, length %d: %s%s' % (stretch.offset, stretch.length, stretch.why, whose)
+
+
+def stretch_fields(stretch: Stretch) -> dict:
+    found = {'offset': stretch.offset, 'length': stretch.length, 'why': stretch.why}
+    if stretch.channel is not None:
+        found.update(channel=stretch.channel, type=name_of(stretch.kind))
+    return {'bad': found}
+
+
+def ended_fields(survey: 'Survey', size: int) -> dict:
+    """Where a pass ended that does not go on after a fault."""
+    return {'ended': {'offset': survey.size, 'unread': size - survey.size, 'why': survey.fault.what}}
+
+
+def ends_of(rows: List[Row]) -> Optional[Tuple[int, int]]:
+    return (min(row.first() for row in rows), max(row.last() for row in rows)) if rows else None

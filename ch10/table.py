@@ -1,0 +1,180 @@
+"""The summary."""
+import json
+
+from .inputs import is_recording, listed, shown, the_file
+from .medium import bytes_of
+from .standard import Fault
+from .survey import REPORT_ROW, Survey, name_of, stretch_fields, stretch_text
+from .times import civil
+
+
+def summary(asked, data, out):
+    if is_recording(data):
+        if asked.file is not None:
+            raise Fault('the input is a recording and no image: it has no files')
+        return summary_of(asked, data, out, 0, len(data), None, None)
+    volume, files = listed(data)
+    numbers = range(len(files)) if asked.file is None else [asked.file]
+    if not asked.json:
+        out.line('volume %s, %s' % (shown(volume), said(len(files), 'file')))
+    first = None
+    for number in numbers:
+        file = the_file(files, number)
+        if not asked.json:
+            out.line('')
+        try:
+            begin, end = bytes_of(data, file)
+        except Fault as fault:
+            if not asked.json:
+                out.line('file %d %s: %s' % (number, shown(file.name), fault))
+            first = first or Fault('file %d: %s' % (number, fault))
+            continue
+        try:
+            summary_of(asked, data, out, begin, end, number, file)
+        except Fault as fault:
+            first = first or Fault('file %d: %s' % (number, fault))
+    if first:
+        raise first
+
+
+def summary_of(asked, data, out, begin, end, number, file):
+    """What one recording has. Raises its first fault, if it has one, when all is said."""
+    survey = Survey(data, begin, end)
+    if asked.json:
+        front = {} if file is None else {'file': number, 'name': shown(file.name), 'closed': file.closed}
+        for found in fields(survey):
+            out.line(json.dumps(dict(front, **found)))
+    else:
+        for line in titles(survey, end - begin, number, file) + tables(survey):
+            out.line(line)
+    if survey.fault:
+        raise first_of(survey)
+
+
+def first_of(survey):
+    """The first fault, and how much was passed over where there is more than it."""
+    if len(survey.damage) < 2:
+        return survey.fault
+    return Fault('%s passed over, %s in all; the first: %s' % (
+        said(len(survey.damage), 'stretch', 'es'), said(sum(stretch.length for stretch in survey.damage), 'byte'), survey.fault))
+
+
+def said(number, what, plural='s'):
+    return '%d %s%s' % (number, what, '' if number == 1 else plural)
+
+
+def titles(survey, size, number, file):
+    """What there is as a whole: how much, from when to when, what was passed over, and what the clocks say."""
+    what = '%s in %s' % (said(size, 'byte'), said(len(survey.lows), 'packet'))
+    if file is None:
+        head = 'recording: ' + what
+    else:
+        head = 'file %d %s: %s, %s' % (number, shown(file.name), what, 'closed' if file.closed else 'not closed')
+    if survey.damage:
+        head += '; %s of %s passed over' % (said(len(survey.damage), 'stretch', 'es'), said(sum(stretch.length for stretch in survey.damage), 'byte'))
+    lines, span = [head], survey.span()
+    if span and survey.clock:
+        lines.append('from %s to %s, %s seconds' % (
+            survey.clock.text(span[0]) or '-', survey.clock.text(span[1]) or '-', seconds_of(span[1] - span[0])))
+    elif span:
+        lines.append('%s seconds, without a civil time' % seconds_of(span[1] - span[0]))
+    return lines + [line for times in survey.times for line in clock_lines(times, survey)] + [stretch_text(stretch) for stretch in survey.damage]
+
+
+def seconds_of(ticks):
+    return '%d.%07d' % divmod(ticks, 10 ** 7)
+
+
+def clock_lines(times, survey):
+    """What the times of a channel say of its clock: a line, and one for each jump."""
+    low, high = survey.span()
+    drift, jumps, back = times.drift(), times.jumps(), times.steps_back()
+    text = 'not known' if drift is None else '%+.1f parts per million, known to %.1f' % drift
+    untold = times.packets - len(times.told)
+    yield 'time on channel %d: %s%s, %s, %s back, %s without one; drift %s' % (
+        times.channel, said(times.packets, 'packet'), ', %s no time' % untold if untold else '', said(len(jumps), 'jump'), said(back, 'step'),
+        said(times.without(low, high), 'second'), text)
+    dated = bool(times.told) and times.told[0][1].dated
+    for jump in jumps:
+        yield 'time jump on channel %d: offset %d, count %d: %s s, from %s to %s' % (
+            times.channel, jump.offset, jump.count, signed_seconds(jump.by), civil_text(jump.before, dated), civil_text(jump.after, dated))
+
+
+def signed_seconds(ticks):
+    return '%s%d.%07d' % (('-' if ticks < 0 else '+',) + divmod(abs(ticks), 10 ** 7))
+
+
+def civil_text(ticks, dated):
+    front = civil(ticks, dated) if ticks >= 0 else None
+    return '%s.%02d' % (front, ticks % 10 ** 7 // 10 ** 5) if front else '-'
+
+
+def tables(survey):
+    """What each channel has, and when."""
+    if not survey.rows:
+        return []
+    much = [('channel', 'name', 'type', 'packets', 'entries', 'bytes', 'entries/s', 'losses', 'lost', 'jumps', 'opaque', 'bad')]
+    when = [('channel', 'name', 'type', 'first', 'last', 'first time', 'last time')]
+    names = survey.names
+    for row in survey.rows:
+        rate = row.rate()
+        front = row.channel, names.channel(row.channel) if row.kind != REPORT_ROW else '', name_of(row.kind)
+        much.append(front + (row.packets, row.entries if row.has_entries() else '-', row.bytes,
+                     '-' if rate is None else rate_text(rate), row.losses, at_least(row.lost, row.untold), row.jumps, row.opaque, row.bad))
+        if row.packets:
+            ends = row.first(), row.last()
+            when.append(front + ends + tuple(survey.clock and survey.clock.text(end, 2) or '-' for end in ends))
+    sums = [sum(getattr(row, name) for row in survey.rows) for name in ('packets', 'entries', 'bytes', 'losses', 'lost', 'untold', 'jumps', 'opaque')]
+    much.append(('all', '', '', *sums[:3], '', sums[3], at_least(*sums[4:6]), *sums[6:], len(survey.damage)))
+    return [''] + table(much) + [''] + table(when)
+
+
+def rate_text(rate):
+    """A rate with as many places as a slow channel needs."""
+    return '%.1f' % rate if rate >= 100 else '%.3g' % rate
+
+
+def at_least(lost, untold):
+    """How many messages were lost, where of so many losses it isn't told how many."""
+    return '%d%s' % (lost, '+' if untold else '')
+
+
+def table(rows):
+    """Rows in columns: names, types and times to the left, all others to the right; without the names where there are none."""
+    if not any(row[1] for row in rows[1:]):
+        rows = [row[:1] + row[2:] for row in rows]
+    texts = [[str(cell) for cell in row] for row in rows]
+    widths = [max(map(len, column)) for column in zip(*texts)]
+    left = [head in ('name', 'type') or head.endswith('time') for head in texts[0]]
+    return [' '.join(cell.ljust(width) if is_left else cell.rjust(width) for cell, width, is_left in zip(row, widths, left)).rstrip()
+            for row in texts]
+
+
+def fields(survey):
+    """The objects of JSON lines: of each channel and type, of each clock, of each stretch that was passed over."""
+    for row in survey.rows:
+        yield of_row(row, survey)
+    span = survey.span()
+    for times in survey.times:
+        yield {'clock': of_clock(times, span)}
+    for stretch in survey.damage:
+        yield stretch_fields(stretch)
+
+
+def of_row(row, survey):
+    has, clock = row.packets > 0, survey.clock
+    return {
+        'channel': row.channel, 'channel_name': survey.names.channel(row.channel) or None, 'type': name_of(row.kind), 'packets': row.packets, 'entries': row.entries if row.has_entries() else None,
+        'bytes': row.bytes, 'first': row.first() if has else None, 'last': row.last() if has else None,
+        'first_time': clock and has and clock.text(row.first()) or None, 'last_time': clock and has and clock.text(row.last()) or None, 'rate': row.rate(),
+        'losses': row.losses, 'lost': row.lost, 'untold': row.untold, 'jumps': row.jumps, 'opaque': row.opaque, 'bad': row.bad}
+
+
+def of_clock(times, span):
+    drift = times.drift()
+    dated = bool(times.told) and times.told[0][1].dated
+    return {
+        'channel': times.channel, 'packets': times.packets, 'no_time': times.packets - len(times.told), 'steps_back': times.steps_back(),
+        'seconds_without': times.without(*span), 'drift_ppm': drift and drift[0], 'drift_known_to': drift and drift[1],
+        'jumps': [{'offset': jump.offset, 'count': jump.count, 'from': civil_text(jump.before, dated), 'to': civil_text(jump.after, dated),
+                   'seconds': jump.by / 10 ** 7} for jump in times.jumps()]}

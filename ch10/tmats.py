@@ -1,0 +1,113 @@
+"""Chapter 9: the setup text (TMATS), its attributes, and the names that it gives to channels and buses."""
+import re
+from collections import OrderedDict
+from typing import Dict, List, Optional, Tuple
+
+from .standard import ARINC, BUS, DISCRETE, MESSAGE, TIME, UART
+
+MOST_NAME = 40
+
+# The channel data types of the recorder attributes, and the families of data types of packets that they are.
+FAMILY = {'TIMEIN': 0x10, 'PCMIN': 0x08, '1553IN': 0x18, 'ANAIN': 0x20, 'DISIN': 0x28, 'MSGIN': 0x30, '429IN': 0x38, 'VIDIN': 0x40, 'IMGIN': 0x48, 'UARTIN': 0x50,
+          '1394IN': 0x58, 'PARIN': 0x60, 'ETHIN': 0x68, 'TSPIN': 0x70, 'CANIN': 0x78}
+TYPES = {TIME: 'TIMEIN', BUS: '1553IN', DISCRETE: 'DISIN', MESSAGE: 'MSGIN', ARINC: '429IN', UART: 'UARTIN'}
+
+
+def attributes(data: bytes) -> 'OrderedDict[str, str]':
+    """Each attribute of a setup text with its value: `NAME:VALUE;`, names in capitals. A text without any is none of chapter 9."""
+    found = OrderedDict()
+    for part in data.decode('latin-1').replace('\r', '').split(';'):
+        name, colon, value = part.partition(':')
+        name = name.strip().upper()
+        if colon and re.match(r'[A-Z](-[0-9]+)?\\[^\s;:]+$', name):
+            found[name] = ' '.join(value.split())
+    return found
+
+
+def printable(text: str) -> str:
+    return ''.join(letter if letter.isprintable() else '?' for letter in text)[:MOST_NAME]
+
+
+class Names:
+    """What a setup text says of the channels of a recording."""
+
+    def __init__(self, data: Optional[bytes]):
+        self.attributes = attributes(data) if data else OrderedDict()
+        self.channels: Dict[int, Tuple[str, str, str]] = {}  # by channel ID: name, channel data type, data link
+        self.buses: Dict[str, Dict[int, str]] = {}  # of each data link the names of its buses by their numbers
+        for name, value in self.attributes.items():
+            track = re.match(r'(R-[0-9]+)\\TK1-([0-9]+)$', name)
+            if track and value.isascii() and value.isdigit() and len(value) <= 5:
+                group, number = track.groups()
+                say = [printable(self.attributes.get('%s\\%s-%s' % (group, key, number), '')) for key in ('DSI', 'CDT', 'CDLN')]
+                self.channels.setdefault(int(value), tuple(say))
+            link = re.match(r'(B-[0-9]+)\\DLN$', name)
+            if link:
+                self.buses.setdefault(printable(value), dict(self.buses_of(link.group(1))))
+
+    def buses_of(self, group: str):
+        for name, value in self.attributes.items():
+            bus = re.match(re.escape(group) + r'\\BID-([0-9]+)$', name)
+            if bus:
+                number = bus_number(value)
+                if number is not None:
+                    yield number, printable(self.attributes.get('%s\\BNA-%s' % (group, bus.group(1)), ''))
+
+    def channel(self, channel: int) -> str:
+        """The name of a channel, or ''."""
+        return self.channels.get(channel, ('', '', ''))[0]
+
+    def bus(self, channel: int, number: Optional[int] = None) -> str:
+        """The name of a bus of a channel, or ''. Without a number that of the one bus it has."""
+        buses = self.buses.get(self.channels.get(channel, ('', '', ''))[2] or None, {})
+        if number is None:
+            return next(iter(buses.values())) if len(buses) == 1 else ''
+        return buses.get(number, '')
+
+    def disagreements(self, kinds: Dict[int, set]) -> List[str]:
+        """Of the channels of a recording, with the data types of their packets: which are not named, and which are named with another type; and which
+        channels of the text have no packet."""
+        said = []
+        for channel in sorted(kinds):
+            if channel not in self.channels:
+                said.append('channel %d is not named' % channel)
+            else:
+                named = self.channels[channel][1].upper()
+                others = sorted(kind for kind in kinds[channel] if named in FAMILY and FAMILY[named] != kind & 0xF8)
+                if others:
+                    said.append('channel %d is named %s, and has packets of type %s' % (channel, named, ', '.join('%02x' % kind for kind in others)))
+        return said + ['channel %d is named, and has no packet' % channel for channel in sorted(set(self.channels) - set(kinds))]
+
+
+def bus_number(value: str) -> Optional[int]:
+    """The number of a bus, in decimal or in so many binary digits."""
+    if not (value.isascii() and value.isdigit()) or len(value) > 8:
+        return None
+    return int(value, 2) if len(value) > 3 and not set(value) - {'0', '1'} else int(value)
+
+
+# ---- the text as a tree
+
+def tree(found: Dict[str, str]) -> List[str]:
+    """The attributes as lines: a group, then its attributes, and those of one number below it."""
+    groups: 'OrderedDict[str, OrderedDict]' = OrderedDict()
+    for name, value in found.items():
+        group, _, rest = name.partition('\\')
+        number = re.search(r'-([0-9]+)(-[0-9]+)*$', rest)
+        groups.setdefault(group, OrderedDict()).setdefault(number.group(1) if number else '', []).append((rest, value))
+    lines = []
+    for group, parts in groups.items():
+        lines.append('%s  %s' % (group, GROUPS.get(group[0], '')))
+        for number, some in parts.items():
+            if number:
+                lines.append('  ' + number)
+            lines += ['%s%s: %s' % ('    ' if number else '  ', rest, printable_line(value)) for rest, value in some]
+    return lines
+
+
+GROUPS = {'G': 'general information', 'T': 'transmission', 'R': 'recorder', 'M': 'multiplex and modulation', 'P': 'PCM format', 'D': 'PCM measurements', 'B': 'bus data',
+          'S': 'message data', 'A': 'PAM', 'C': 'data conversion', 'H': 'airborne hardware', 'V': 'vendor'}
+
+
+def printable_line(text: str) -> str:
+    return ''.join(letter if letter.isprintable() else '?' for letter in text)

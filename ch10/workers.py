@@ -1,0 +1,181 @@
+"""Work in several processes at a time: each is a Python of its own that takes a task as a line of JSON and answers with one, and with bytes after it.
+
+A worker ends when its standard input does. So none is left when the program that started them is killed, and nothing of theirs has to be undone.
+"""
+from __future__ import annotations
+
+import gc
+import importlib
+import json
+import os
+import queue
+import signal
+import subprocess
+import sys
+import threading
+from typing import Any, Callable, Dict, Iterable, Iterator, Optional, Tuple
+
+Task = Dict[str, Any]
+TOP = os.path.dirname(os.path.dirname(os.path.abspath(__file__)))
+START = 'import sys; sys.path[0] = sys.argv[1]; from ch10.workers import main; main()'  # whatever stands in the folder that the call is made in
+
+
+def processors() -> int:
+    """How many processors this program may use."""
+    try:
+        return len(os.sched_getaffinity(0))
+    except AttributeError:
+        return os.cpu_count() or 1
+
+
+class Room:
+    """Bytes of memory that tasks share: one that needs more than there is left waits."""
+
+    def __init__(self, size: int) -> None:
+        self.size, self.left, self.turn = size, size, threading.Condition()
+
+    def take(self, size: int) -> int:
+        size = min(size, self.size)
+        with self.turn:
+            self.turn.wait_for(lambda: self.left >= size)
+            self.left -= size
+        return size
+
+    def give(self, size: int) -> None:
+        with self.turn:
+            self.left += size
+            self.turn.notify_all()
+
+
+class Worker:
+    """One process, started for its first task, and started anew if it ended."""
+
+    def __init__(self, setting: Task) -> None:
+        self.setting = setting
+        self.process: Optional[subprocess.Popen] = None
+
+    def do(self, task: Task) -> Task:
+        if self.process is None:
+            self.process = subprocess.Popen([sys.executable, '-B', '-c', START, TOP], stdin=subprocess.PIPE, stdout=subprocess.PIPE)
+            self.send(self.setting)
+        self.send(task)
+        said = self.process.stdout.readline()
+        if not said.endswith(b'\n'):
+            self.close()
+            return {'error': 'the process that read it ended; is there enough memory?'}
+        answer = json.loads(said)
+        if 'parts' in answer:
+            answer['parts'] = [self.process.stdout.read(size) for size in answer['parts']]
+        return answer
+
+    def send(self, task: Task) -> None:
+        try:
+            self.process.stdin.write(json.dumps(task).encode() + b'\n')
+            self.process.stdin.flush()
+        except BrokenPipeError:
+            pass
+
+    def close(self) -> None:
+        process, self.process = self.process, None
+        if process is not None:
+            process.kill()
+            process.wait()
+            for stream in (process.stdin, process.stdout):
+                try:
+                    stream.close()
+                except BrokenPipeError:
+                    pass
+
+
+class Pool:
+    """So many workers, each started when there is a task for it; with one, this process does the work by itself."""
+
+    def __init__(self, number: int, setting: Task, room: Optional[Room] = None) -> None:
+        self.number, self.room, self.over = number, room, threading.Event()
+        self.alone = work_of(setting) if number == 1 else None
+        self.waiting: queue.Queue = queue.Queue()
+        self.ready: queue.Queue = queue.Queue()
+        self.workers = [Worker(setting) for _ in range(number)] if number > 1 else []
+        self.threads = [threading.Thread(target=self.serve, args=(worker,), daemon=True) for worker in self.workers]
+        for thread in self.threads:
+            thread.start()
+
+    def __enter__(self) -> Pool:
+        return self
+
+    def __exit__(self, *why: Any) -> None:
+        self.over.set()
+        for _ in self.threads:
+            self.waiting.put(None)
+        for worker in self.workers:
+            worker.close()
+        for thread in self.threads:
+            thread.join(1)
+
+    def serve(self, worker: Worker) -> None:
+        """What a worker's thread does."""
+        for task in iter(self.waiting.get, None):
+            if self.over.is_set():
+                break
+            held = self.room.take(task.get('bytes', 0)) if self.room else 0
+            try:
+                self.ready.put((task, worker.do(task)))
+            except Exception as error:
+                self.ready.put((task, {'error': said(error)}))
+            finally:
+                if self.room:
+                    self.room.give(held)
+
+    def done(self, tasks: Iterable[Task]) -> Iterator[Tuple[Task, Task]]:
+        """Each task with what came of it, as they get done. No more tasks are taken than there are worked on and waited for."""
+        if self.alone:
+            for task in tasks:
+                yield task, self.alone(task)
+            return
+        under_way = 0
+        for task in tasks:
+            self.waiting.put(task)
+            under_way += 1
+            while under_way >= 2 * self.number or under_way and not self.ready.empty():
+                yield self.ready.get()
+                under_way -= 1
+        for _ in range(under_way):
+            yield self.ready.get()
+
+
+def said(error: BaseException) -> str:
+    """An error in one line."""
+    return getattr(error, 'strerror', None) or ' '.join(str(error).split()) or type(error).__name__
+
+
+def work_of(setting: Task) -> Callable[[Task], Task]:
+    """What does the tasks of this setting."""
+    return importlib.import_module('ch10.' + setting['work']).work(setting)
+
+
+def main() -> None:
+    signal.signal(signal.SIGINT, signal.SIG_IGN)  # the one that started this one ends it
+    gc.set_threshold(100000)
+    setting = work = None
+    for line in sys.stdin.buffer:
+        task = json.loads(line)
+        if setting is None:
+            setting = task
+            continue
+        try:
+            work = work or work_of(setting)
+            answer = work(task)
+        except Exception as error:
+            answer = {'error': said(error)}
+        parts = answer.get('parts', ())
+        if parts:
+            answer['parts'] = [len(part) for part in parts]
+        try:
+            sys.stdout.buffer.write(json.dumps(answer).encode() + b'\n')
+            for part in parts:
+                sys.stdout.buffer.write(part)
+            sys.stdout.buffer.flush()
+        except BrokenPipeError:
+            break
+    os._exit(0)
+
