@@ -26,14 +26,17 @@ import xml.etree.ElementTree as tree
 from concurrent.futures import ThreadPoolExecutor
 
 sys.dont_write_bytecode = True
+TOP = pathlib.Path(__file__).resolve().parent.parent
+sys.path.insert(0, str(TOP))
 
-import ch10  # noqa: E402
+from ch10 import command, inputs  # noqa: E402
+import ch10_damage  # noqa: E402
+import ch10_meanings  # noqa: E402
 import check_cases  # noqa: E402
 import judge_recording  # noqa: E402
 import play_cases  # noqa: E402
 from check_cases import FIRST, letters, lost, number, packet, told  # noqa: E402
 
-TOP = pathlib.Path(__file__).resolve().parent.parent
 FILTER = str(TOP / 'scripts' / 'ch10.py')
 LAST_COUNT = (1 << 48) - 1
 
@@ -41,7 +44,7 @@ LAST_COUNT = (1 << 48) - 1
 def run(words, data):
     """The status, the output and the line of a call, made here."""
     to = io.BytesIO()
-    status, line = ch10.answer(words, lambda: data, lambda: to)
+    status, line = command.answer(words, lambda: data, lambda: to)
     return status, to.getvalue(), line
 
 
@@ -178,9 +181,9 @@ def compare(image, other, setups, draw, starts=None):
         losses += losses_in(lines)
         times = times_of(lines)
         wanted = list(zip(lines, map(text_of, times)))
-        agree(csv_lines(ran(['csv'] + of, image)), wanted, 'csv')
-        agree(json_lines(ran(['json'] + of, image)), wanted, 'json')
-        compare_summary(json.loads('[%s]' % ','.join(ran(['summary', '--json'] + of, image).decode().splitlines())), lines, dict(wanted), name,
+        agree(csv_lines(ran(['csv', '--raw'] + of, image)), wanted, 'csv')
+        agree(json_lines(ran(['json', '--raw'] + of, image)), wanted, 'json')
+        compare_summary(rows_in(ran(['summary', '--json'] + of, image)), lines, dict(wanted), name,
                         int(size), closed)
         compare_table(ran(['summary'] + of, image).decode(), lines, int(size))
         data = ran(['file', name], image)
@@ -190,11 +193,16 @@ def compare(image, other, setups, draw, starts=None):
         if starts is not None:
             agree(data, image[512 * starts:512 * starts + int(size)], 'bytes of a file')
             starts += int(blocks)
-        agree(csv_lines(ran(['csv'], data)), wanted, 'csv of a recording')
+        agree(csv_lines(ran(['csv', '--raw'], data)), wanted, 'csv of a recording')
         agree(ran(['setup'] + of, image), setups[name], 'setup')
         compare_ranges(image, data, other, of, lines, times, draw)
         compare_picture(ran(['svg'] + of, image), lines)
     return len(listing), total, sum(line.endswith(' 0') for line in listing), losses
+
+
+def rows_in(said):
+    """The objects of `summary --json` that are of a channel and type."""
+    return [found for found in map(json.loads, said.decode().splitlines()) if 'packets' in found]
 
 
 def losses_in(lines):
@@ -234,7 +242,7 @@ def compare_table(said, lines, size):
     words = [line.split() for line in said.splitlines()]
     total = next(line for line in words if line[:1] == ['all'])
     lost, untold = lost_in(lines)
-    agree(total[2:4] + total[4:], [str(len(lines)), str(size), str(losses_in(lines)), '%d%s' % (lost, '+' if untold else ''), '0', '0'], 'table')
+    agree(total[2:4] + total[4:], [str(len(lines)), str(size), str(losses_in(lines)), '%d%s' % (lost, '+' if untold else ''), '0', '0', '0'], 'table')
 
 
 def compare_ranges(image, data, other, of, lines, times, draw):
@@ -245,13 +253,13 @@ def compare_ranges(image, data, other, of, lines, times, draw):
     by_count = ['--from', str(first), '--to', str(last)]
     for more in ([], ['--channel', channel]):
         wanted = other.play(image, of + more + by_count)
-        agree([line for line, _ in csv_lines(ran(['csv'] + of + more + by_count, image))], wanted, 'csv %s' % (more + by_count))
-        agree([line for line, _ in json_lines(ran(['json'] + of + more + by_count, image))], wanted, 'json %s' % (more + by_count))
+        agree([line for line, _ in csv_lines(ran(['csv', '--raw'] + of + more + by_count, image))], wanted, 'csv %s' % (more + by_count))
+        agree([line for line, _ in json_lines(ran(['json', '--raw'] + of + more + by_count, image))], wanted, 'json %s' % (more + by_count))
     compare_cut(data, by_count, [line for line, count in zip(lines, counts) if first <= count <= last], other)
     early, late = sorted(draw.choice(times) + draw.choice((-1, 0, 0, 1, -10 ** 6, 10 ** 6)) for _ in range(2))
     by_time = ['--from', text_of(early), '--to', text_of(late).replace(' ', draw.choice(' T'))]
     wanted = [line for line, at in zip(lines, times) if early <= at <= late]
-    agree([line for line, _ in csv_lines(ran(['csv'] + of + by_time, image))], wanted, 'csv %s' % by_time)
+    agree([line for line, _ in csv_lines(ran(['csv', '--raw'] + of + by_time, image))], wanted, 'csv %s' % by_time)
     compare_cut(data, by_time, wanted, other)
     compare_picture(ran(['svg'] + of + by_time, image), lines, wanted)
 
@@ -263,7 +271,7 @@ def compare_cut(data, within, wanted, other):
     verdict = other.verdict(cut)
     if verdict not in ('strict', 'lenient 0'):
         raise Bad('range %s: %s' % (within, verdict))
-    said = [line for line, _ in csv_lines(ran(['csv'], cut))]
+    said = [line for line, _ in csv_lines(ran(['csv', '--raw'], cut))]
     agree([line for line in said if line in set(wanted)], wanted, 'range %s' % within)
     kept, rest = packets_of(cut), iter(packets_of(data))
     agree([part for part in kept if part not in rest], [], 'the packets of a range, in their order')
@@ -283,7 +291,7 @@ def bare(line):
 
 
 def csv_of(data):
-    return [line for line, _ in csv_lines(ran(['csv'], data))]
+    return [line for line, _ in csv_lines(ran(['csv', '--raw'], data))]
 
 
 def packets_of(data):
@@ -302,8 +310,8 @@ def compare_picture(said, lines, drawn=None):
     texts = [element.text for element in picture.iter('{http://www.w3.org/2000/svg}text')]
     channels = sorted({int(line.split(' ')[1]) for line in lines})
     agree([int(text.split(' ')[1]) for text in texts if text.startswith('channel ')], channels, 'strips')
-    agree(sum(int(text.split(' ')[0]) for text in texts if text.endswith((' loss', ' losses'))),
-          losses_in(drawn), 'losses of a picture')
+    agree(sum(int(text.split(' ')[0].rstrip('+').replace(',', '')) for text in texts if text.endswith(' lost') and text[:1].isdigit()),
+          lost_in(drawn)[0], 'losses of a picture')
     bars = [element for element in picture.iter('{http://www.w3.org/2000/svg}path') if element.get('fill')]
     agree(len(bars), len({line.split(' ')[1] for line in drawn}), 'strips with bars')
 
@@ -449,10 +457,10 @@ def by_shell(program, image, other):
             said = subprocess.run('"%s" file %s < "%s" | "%s" check' % (FILTER, name, medium.name, program), shell=True, capture_output=True)
             agree((said.stdout, said.stderr), (b'strict\n', b''), 'file | r10 check')
             of = line.split(' ')[1]
-            for call in ('"%s" csv --file %s < "%s"', 'cat "%s" | "%s" csv --file %s'):
+            for call in ('"%s" csv --raw --file %s < "%s"', 'cat "%s" | "%s" csv --raw --file %s'):
                 words = (FILTER, of, medium.name) if call.startswith('"') else (medium.name, FILTER, of)
                 said = subprocess.run(call % words, shell=True, capture_output=True)
-                agree(csv_lines(said.stdout), csv_lines(ran(['csv', '--file', of], image)), 'csv by the shell')
+                agree(csv_lines(said.stdout), csv_lines(ran(['csv', '--raw', '--file', of], image)), 'csv by the shell')
 
 
 # ---- the page that shows them
@@ -476,7 +484,7 @@ def using_trials(program):
     """Runs these lines one after the other in one folder. One with the word FILE has no file to be run with."""
     bad, done = 0, 0
     with tempfile.TemporaryDirectory() as folder:
-        for name in ('scripts', 'examples'):
+        for name in ('scripts', 'examples', 'ch10'):
             pathlib.Path(folder, name).symlink_to(TOP / name)
         pathlib.Path(folder, 'r10').symlink_to(pathlib.Path(program).resolve())
         how = {'cwd': folder, 'env': dict(os.environ, PATH=folder + ':' + os.environ['PATH']), 'shell': True, 'capture_output': True}
@@ -498,13 +506,14 @@ def using_trials(program):
 FIRST_SUMMARY = """\
 recording: 272 bytes in 5 packets
 from 2024-02-29 12:34:56.7800000 to 2024-02-29 12:34:56.7800010, 0.0000010 seconds
+time on channel 1: 1 packet, 0 jumps, 0 steps back, 0 seconds without one; drift not known
 
-channel type  packets entries bytes entries/s losses lost jumps opaque
-      0 setup       1       -    32         -      0    0     0      0
-      0 index       2       -   148         -      0    0     0      0
-      1 time        1       1    36         -      0    0     0      0
-      5 uart        1       2    56 1000000.0      0    0     0      0
-    all             5       3   272                0    0     0      0
+channel type  packets entries bytes entries/s losses lost jumps opaque bad
+      0 setup       1       -    32         -      0    0     0      0   0
+      0 index       2       -   148         -      0    0     0      0   0
+      1 time        1       1    36         -      0    0     0      0   0
+      5 uart        1       2    56 1000000.0      0    0     0      0   0
+    all             5       3   272                0    0     0      0   0
 
 channel type  first last first time             last time
       0 setup  1000 1000 2024-02-29 12:34:56.78 2024-02-29 12:34:56.78
@@ -554,6 +563,9 @@ def check():
     trials += [lambda it=it: compare_others(*it) for it in others_recordings()]
     trials += [lambda it=it: compare_verdict(*it) for it in check_cases.verdicts()]
     trials += [lambda it=it: agree(run(it[0], it[1])[::2], it[2:], str(it[0])) for it in calls()] + [compare_shell]
+    trials += [lambda it=it: agree(*it(), it.__name__) for it in ch10_meanings.TRIALS]
+    trials += [lambda seed=seed: agree(ch10_damage.each_twentieth(seed), [], 'a bit in each twentieth packet') for seed in range(3)]
+    trials += [lambda which=which: agree(ch10_damage.one_damaged(1, which)[1], [], 'damage') for which in range(20)]
     for trial in trials:
         try:
             trial()
@@ -566,7 +578,7 @@ def check():
 
 
 def compare_others(data, rows, times):
-    said = list(map(json.loads, ran(['summary', '--json'], data).decode().splitlines()))
+    said = rows_in(ran(['summary', '--json'], data))
     keys = 'channel', 'type', 'packets', 'entries', 'jumps', 'opaque'
     agree([tuple(row[key] for key in keys) for row in said], rows, 'rows')
     agree([json.loads(line)['time'] for line in ran(['json'], data).decode().splitlines()], times, 'times')
@@ -585,10 +597,10 @@ def compare_verdict(name, data, wanted):
     if words[0] != 'faulty':
         agree((status, line), (0, None), name)
         opaque = words[1] if len(words) > 1 else '0'
-        agree(said.decode().split('\nchannel')[1].splitlines()[-1].split()[-1], opaque, name)
+        agree(said.decode().split('\nchannel')[1].splitlines()[-1].split()[-2], opaque, name)
     else:
         agree(status, 1, name)
-        if ch10.is_recording(data) and not line.endswith('at offset %s' % words[1]):
+        if inputs.is_recording(data) and not line.endswith('at offset %s' % words[1]):
             raise Bad('%s: %s, wanted %s' % (name, line, wanted))
 
 

@@ -3,6 +3,7 @@
 
     scripts/check_cases.py cases          # what stands in crates/r10_rows/stdin from `== check-first` on
     scripts/check_cases.py answers        # the same of crates/r10_rows/stdout
+    scripts/check_cases.py kept           # fails where one of these files has others in their place
     scripts/check_cases.py run PROGRAM    # runs PROGRAM check over each file of these rows, and says what does not answer as wanted
 
 The wanted answers are stated here beside the files, as docs/FORMAT.md gives them; scripts/judge_recording.py, which is written from the
@@ -10,11 +11,14 @@ same rules, has to agree with each. Of the thousand files at the end, which are 
 changed, that script alone says the answer. Nothing is taken from the recorder.
 """
 import hashlib
+import pathlib
 import subprocess
 import sys
+from collections.abc import Callable, Iterable
 
 from judge_recording import ARINC, EVENT, INDEX, LOSS, SETUP, TIME, UART, first_fault, verdict
 
+KEPT = pathlib.Path(__file__).resolve().parent.parent / 'crates' / 'r10_rows'
 CIVIL = bytes.fromhex('010300007856341229022420')
 FOREIGN = 0x68
 
@@ -432,10 +436,41 @@ def run(program):
     return bad
 
 
-def print_rows(words, rows, case_text, answer_text, usage):
-    """Prints the cases of rows, or their answers."""
-    if words not in (['cases'], ['answers']):
+def row_texts(text: str) -> dict[str, str]:
+    """The cases or answers in a text, by their first lines."""
+    found = {}
+    for part in ('\n' + text).split('\n== ')[1:]:
+        name, _, rest = part.partition('\n')
+        found[name] = rest.rstrip('\n')
+    return found
+
+
+def differing(made: str, kept: str) -> list[str]:
+    """How a file of crates/r10_rows differs from what is made for it: nothing where that stands in it, as a whole and once."""
+    if kept.count(made) == 1:
+        return []
+    ours, theirs = row_texts(made), row_texts(kept)
+    names = [name for name in ours if ours[name] != theirs.get(name)]
+    return names or ['all are there, and not side by side, once and in order']
+
+
+def compare_kept(rows: list[tuple], case_text: Callable[..., str], answer_text: Callable[..., str]) -> int:
+    """Says which rows stand otherwise in crates/r10_rows than they are made, and answers how many."""
+    bad = 0
+    for file, text in (('stdin', case_text), ('stdout', answer_text)):
+        for name in differing(''.join(text(*row) for row in rows), (KEPT / file).read_text(encoding='utf-8')):
+            print('crates/r10_rows/%s: %s' % (file, name))
+            bad += 1
+    print('%s: %d rows, %d not as made' % (pathlib.Path(sys.argv[0]).name, len(rows), bad))
+    return bad
+
+
+def print_rows(words: list[str], rows: Iterable[tuple], case_text: Callable[..., str], answer_text: Callable[..., str], usage: str) -> int:
+    """Prints the cases of rows, or their answers; or compares both with the files of crates/r10_rows."""
+    if words not in (['cases'], ['answers'], ['kept']):
         sys.exit(usage)
+    if words == ['kept']:
+        return compare_kept(list(rows), case_text, answer_text) > 0
     text = case_text if words == ['cases'] else answer_text
     for row in rows:
         sys.stdout.write(text(*row))

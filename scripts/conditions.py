@@ -1,26 +1,49 @@
 #!/usr/bin/env python3
-"""Lists what each public function asks of its caller, as a table by crate.
+"""Writes docs/CALLERS.md: what each public function asks of its caller, and how the caller knows that it holds.
 
-    scripts/conditions.py                  each condition, in the order of crates.txt
-    scripts/conditions.py CRATE..          those of these crates
+    scripts/conditions.py                  writes docs/CALLERS.md, from docs/callers.txt
+    scripts/conditions.py --check          fails if docs/CALLERS.md is not what would be written, or if docs/callers.txt does not agree with the sources
+    scripts/conditions.py --list CRATE..   the conditions of these crates as they stand in the sources; without a crate, of all
     scripts/conditions.py --functions      how many public functions each crate has, and how many of them have a condition
-    scripts/conditions.py --missing        what docs/DECISIONS.md lacks in its part "What a caller must know", or has too much; status 1 where there is anything
 
-A function is public where another crate can call it: it is `pub` in a public module or brought out by `pub use`, a `pub` function
+A function is public if another crate can call it: it is `pub` in a public module or brought out by `pub use`, a `pub` function
 of such a type, or one of such a trait. What a trait's function asks stands at the trait, and its impls are not listed; nor are crates
 of tests.
-
-docs/DECISIONS.md has a line in a table for each function with a condition: the function as `crate::function` or `crate::Type::function`, what it asks, and how its
-caller knows that it holds. The last has parts between semicolons, each of which begins with a word: number; granted, with words that stand in the list above
-the table; or test, with public functions, of the same crate where no crate is named.
 """
 import re
 import sys
 from pathlib import Path
 
 TOP = Path(__file__).resolve().parent.parent
-PAGE = TOP / 'docs' / 'DECISIONS.md'
-PART = '## What a caller must know'
+TABLE = TOP / 'docs' / 'callers.txt'
+PAGE = TOP / 'docs' / 'CALLERS.md'
+GRANTED = {
+    'block': 'no block past the end of the medium is read or written',
+    'image': 'an image has whole blocks',
+    'times': 'of two times the first is not the later one',
+    'limits': 'a medium is formatted with numbers of blocks that settings may have',
+    'medium': 'a medium has as many blocks as the settings say',
+    'lanes': 'there is one lane for each channel, in the order of the settings and with its settings; and nobody else took from them',
+    'sample': 'what a builder is given passes the check of its channel, and its count is not before the last',
+    'rings': 'who makes the two ends of a lane pairs them, and its channel with them; who makes a gauge or a cabinet, or splits a pass, looks with that pass there alone',
+    'written': 'the medium reads as the calls of this value last wrote it, and nobody else wrote since. `read_chain` shows that of a directory, and `check_medium` '
+               'whether files are strict. No call shows that an open file is the one that a value in memory represents; a recorder owns its medium, and so keeps this itself',
+    'handle': 'an open gave the handle, and no close took it. A program in another language keeps this, and nothing tests it: the header says so',
+}
+INTRO = '''# What a caller must know
+
+Made by `scripts/conditions.py` from `docs/callers.txt`, and compared with the sources. It lists each condition (`requires`) of a public function, and how its
+caller knows that the condition holds.
+
+No condition: the calls of `Recorder` (but `new`), of a lock's value and of a world, `run`, `Settings::of`, an offer, the commands, and whatever judges or reads
+bytes from outside (`check_file`, `check_medium`, `read_chain`, `r10_cursor::Reader`, `Packet::read`, each `decode`).
+
+A caller knows by one or more of these:
+
+- **number**: it compares a number that it passes, or the length of what it passes.
+- **test**: these public calls show it, or answer Ok only if it holds.
+- **granted**: it keeps one of the few conditions that need no test:
+'''
 FUNCTION = re.compile(r'^(?P<indent> *)(?P<public>pub(?P<within>\([a-z ]+\))? )?(?:const )?(?:unsafe )?(?:extern "C" )?fn (?P<name>\w+)', re.M)
 HEAD = re.compile(r'^(?:pub )?(?:unsafe )?(?P<kind>impl|trait)\b(?P<rest>[^{;]*)\{', re.M)
 
@@ -95,13 +118,18 @@ def functions(crate):
 LINE = re.compile(r'^\| `(r10_[\w:]+)` \| (.+) \| (.+) \|$', re.M)
 
 
-def page():
-    """The lines of the page's table, and the words of the list above it."""
-    part = PAGE.read_text(encoding='utf-8').partition(PART)[2].split('\n## ')[0]
-    return LINE.findall(part), set(re.findall(r'^- \*\*(\w+)\*\*:', part, re.M))
+def page(lines: list[tuple[str, str, str]]) -> str:
+    """The page: what is granted, and a table for each crate, in the order of crates.txt."""
+    text = INTRO + ''.join('  - **%s**: %s.\n' % it for it in GRANTED.items())
+    for crate in crates():
+        here = [it for it in lines if it[0].startswith(crate + '::')]
+        if here:
+            text += '\n## %s\n\n| Function | It asks | Its caller knows by |\n|---|---|---|\n' % crate
+            text += ''.join('| `%s` | %s | %s |\n' % (name.removeprefix(crate + '::'), asked, answer) for name, asked, answer in here)
+    return text
 
 
-def wrong_parts(function, answer, public, granted):
+def wrong_parts(function, answer, public):
     """What is wrong in how a caller is to know that a function's conditions hold."""
     crate = function.partition('::')[0]
     for it in answer.split('; '):
@@ -114,13 +142,17 @@ def wrong_parts(function, answer, public, granted):
             if not {name, '%s::%s' % (crate, name)} & public:
                 yield '%s: no public function: %s' % (function, name)
         for name in words:
-            if name not in granted:
+            if name not in GRANTED:
                 yield '%s: not in the list: %s' % (function, name)
 
 
-def missing():
-    """What the page lacks, or has too much."""
-    lines, granted = page()
+def missing(lines: list[tuple[str, str, str]]) -> list[str]:
+    """What docs/callers.txt lacks, or has too much."""
+    return list(differences(lines))
+
+
+def differences(lines):
+    """Each difference between these lines and the sources."""
     public, asking = set(), []
     for crate in crates():
         for name, asked in functions(crate):
@@ -132,25 +164,33 @@ def missing():
     yield from ('%s: it asks nothing' % it for it in told if it not in asking)
     yield from ('%s: more than one line' % it for it in sorted(set(told)) if told.count(it) > 1)
     for function, _, answer in lines:
-        yield from wrong_parts(function, answer, public, granted)
+        yield from wrong_parts(function, answer, public)
 
 
-def main(words):
+def main(words: list[str]) -> int:
+    """Writes the page, checks it, or lists conditions."""
     if words == ['--functions']:
         print('| Crate | Public functions | With a condition |\n|---|---|---|')
         for crate in crates():
             found = list(functions(crate))
             print('| `%s` | %d | %d |' % (crate, len(found), sum(bool(asked) for _, asked in found)))
         return 0
-    if words == ['--missing']:
-        found = list(missing())
-        print('\n'.join(found) if found else 'none')
+    lines = LINE.findall(TABLE.read_text(encoding='utf-8'))
+    if not words:
+        PAGE.write_text(page(lines), encoding='utf-8')
+        return 0
+    if words == ['--check']:
+        found = missing(lines)
+        if not PAGE.is_file() or PAGE.read_text(encoding='utf-8') != page(lines):
+            found.append('docs/CALLERS.md is not what scripts/conditions.py writes: run it')
+        for it in found:
+            print('conditions: ' + it, file=sys.stderr)
         return int(bool(found))
-    if any(word not in crates() for word in words):
-        print(__doc__)
+    if words[0] != '--list' or any(word not in crates() for word in words[1:]):
+        print(__doc__, file=sys.stderr)
         return 2
     print('| Crate | Function | Asks |\n|---|---|---|')
-    for crate in words or crates():
+    for crate in words[1:] or crates():
         for name, asked in functions(crate):
             if asked:
                 print('| `%s` | `%s` | %s |' % (crate, name, '; '.join('`%s`' % it for it in asked)))

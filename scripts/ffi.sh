@@ -1,26 +1,43 @@
 #!/usr/bin/env bash
-# The recorder as a library for programs in C and Rust: ffi/r10.h says what it is.
+# The recorder as a library for programs in C, C++ and Rust: ffi/r10.h says what it is.
 #
 #     scripts/ffi.sh build             # makes crates/r10_ffi/out/libr10_ffi.a, proved, where it is not there or a source has changed
+#     scripts/ffi.sh build --shared    # and of it, beside it, libr10.a and libr10.so, which show the names of r10.h and no others
+#     scripts/ffi.sh install PREFIX    # puts header, libraries and r10.pc under a folder, as /usr/local
 #     scripts/ffi.sh examples FOLDER   # compiles ffi/example.c and ffi/example.rs over it, into FOLDER/example_c and FOLDER/example_rs
-#     scripts/ffi.sh check             # runs both, and ffi/calls.c, which calls each function, and compares what they print with ffi/*.expected
-#     scripts/ffi.sh behind-ci         # `rt ci`, and behind it `check` over the libraries that it made: the gate
+#     scripts/ffi.sh random CALLS [SEED]   # random calls under the address sanitizer, a tenth of them under valgrind, and scripts of 1,000 beside `r10 sim`
+#     scripts/ffi.sh check             # runs both, ffi/calls.c, which calls each function, also as C++, and ffi/flight.c, and compares what they print with ffi/*.expected
+#     scripts/ffi.sh kept              # prints where the library is: the proved one if it is there, else one that is not proved
+#     scripts/ffi.sh behind-ci         # `rt ci`, and after it `check` over the libraries that it made: the gate
 #
-# Without `rt ci` before it, `rt lib` makes what is not made: from nothing that is about half an hour on four processors. It wants a C compiler, `cc`, and a Rust
-# compiler, `rustc`. Where one is not there `check` fails; `behind-ci` says in a line what was not tried, and goes on.
+# With --quick as the word after it, `build`, `examples` and `check` take a library that is not proved: it is made once, in one to three minutes, and kept
+# (scripts/quick_build.py). `build` prints where the library is.
+#
+# Without `rt ci` before it, scripts/build.py proves what is not proved, side by side. It wants a C compiler, `cc`; for the program in
+# C++ `g++`, and for the Rust crates `cargo`, which needs no network. If one of the last two is not there, a line says what was not tried. `check` fails
+# without `cc`; `behind-ci` says so in a line, and goes on. With R10_FFI_LIBRARY=FILE another static library is taken, and none is made: for trials.
 set -u
 
 top=$(cd "$(dirname "$(readlink -f "${BASH_SOURCE[0]}")")/.." && pwd)
 crate=$top/crates/r10_ffi
-library=$crate/out/libr10_ffi.a
+library=${R10_FFI_LIBRARY:-$crate/out/libr10_ffi.a}
+version=$(cat "$top/VERSION")
 
 give_up() {
     echo "ffi: $1" >&2
     exit 1
 }
 
-command -v rt >/dev/null || give_up "there is no rt to prove with"
-kit=$(dirname "$(rt doc)")
+rt=$(command -v rt) || give_up "there is no rt to build or to prove with"
+kit=$(dirname "$(dirname "$(readlink -f "$rt")")")
+quick=
+if [ "${2:-}" = --quick ]; then
+    quick=yes
+    set -- "$1" "${@:3}"
+fi
+# what the library calls of the C library, through the kit
+below=("$kit/c/liblibc_c.a")
+[ -z "${R10_FFI_LIBRARY:-}" ] || below=("$kit/c/libos_c.a" "$kit/c/liblibc_c.a")
 
 # A sum of all that the library is made from.
 sum() {
@@ -30,8 +47,18 @@ sum() {
     } | sha256sum | cut -c1-64
 }
 
+# Whether the proved library is there, and is of the sources as they stand.
+is_proved() {
+    [ -f "$library" ] && [ "$(cat "$library.sum" 2>/dev/null)" = "$(sum)" ]
+}
+
 build() {
     local now
+    [ -z "${R10_FFI_LIBRARY:-}" ] || return 0
+    if [ -n "$quick" ]; then
+        library=$("$top/scripts/quick_build.py" --library) || exit
+        return
+    fi
     now=$(sum)
     [ -f "$library" ] && [ "$(cat "$library.sum" 2>/dev/null)" = "$now" ] && return 0
     mkdir -p "$crate/out"
@@ -54,7 +81,8 @@ for it in crate.below():
 sys.exit(crate.build_static([]))
 EOF
     else
-        (cd "$crate" && rt lib) >"$crate/out/lib.log" 2>&1
+        # (what it says of a crate that is not proved is said at once)
+        "$top/scripts/build.py" --crate r10_ffi >"$crate/out/lib.log"
     fi || {
         [ $? = 3 ] && [ "${1:-}" = over-ci ] && return 3
         tail -n 20 "$crate/out/lib.log" >&2
@@ -63,20 +91,70 @@ EOF
     echo "$now" >"$library.sum"
 }
 
-c_example() {
-    cc -std=c11 -Wall -Wextra -Werror -O2 -I"$top/ffi" -o "$2" "$top/ffi/$1" "$library" "$kit/c/liblibc_c.a" || give_up "ffi/$1 does not compile"
+# Of the static library a static and a shared one that show the names of the header and no others, in a folder.
+share() {
+    local names="$room/names"
+    sed -n 's/^\(uint32_t\|void\) \(r10_[a-z0-9_]*\)(.*/\2/p' "$top/ffi/r10.h" >"$names"
+    ld -r -o "$room/all.o" --whole-archive "$library" --no-whole-archive "${below[@]}" &&
+        objcopy --keep-global-symbols="$names" "$room/all.o" "$room/r10.o" &&
+        rm -f "$1/libr10.a" && ar rcs "$1/libr10.a" "$room/r10.o" &&
+        cc -shared -Wl,-soname,libr10.so.1 -Wl,--no-undefined -o "$1/libr10.so.$version" "$room/r10.o" &&
+        ln -sf "libr10.so.$version" "$1/libr10.so.1" && ln -sf libr10.so.1 "$1/libr10.so" || give_up "libr10.a and libr10.so were not made"
+    nm -D --defined-only "$1/libr10.so" | awk '{ print $3 }' | sort >"$room/shown"
+    nm -g --defined-only "$1/libr10.a" | awk 'NF == 3 { print $3 }' | sort >"$room/shown_static"
+    sort "$names" | diff - "$room/shown" >&2 && sort "$names" | diff - "$room/shown_static" >&2 || give_up "the libraries do not show the names of ffi/r10.h and no others"
 }
 
+install_under() {
+    mkdir -p "$1/include" "$1/lib/pkgconfig" || give_up "can't make folders in $1"
+    share "$1/lib"
+    cp "$top/ffi/r10.h" "$top/ffi/r10_posix.h" "$1/include/" || give_up "can't write into $1"
+    sed "s|@PREFIX@|$(cd "$1" && pwd)|; s|@VERSION@|$version|" "$top/ffi/r10.pc.in" >"$1/lib/pkgconfig/r10.pc" || give_up "can't write into $1"
+}
+
+# A program in C over the library; what follows are words for the compiler.
+c_example() {
+    cc -std=c11 -Wall -Wextra -Werror -O2 -I"$top/ffi" -o "$2" "$top/ffi/$1" "$library" "${below[@]}" || give_up "ffi/$1 does not compile"
+}
+
+# The program in Rust over the crates of ffi/rust, without a network, over the libraries in a folder.
 rust_example() {
-    rustc --edition 2024 -O -D warnings -o "$2" "$top/ffi/$1" -C link-arg="$library" -C link-arg="$kit/c/liblibc_c.a" || give_up "ffi/$1 does not compile"
+    R10_LIB_DIR=$2 R10_STATIC=1 CARGO_TARGET_DIR=$room/rust cargo build --offline --quiet --release --manifest-path "$top/ffi/rust/Cargo.toml" --example example &&
+        cp "$room/rust/release/examples/example" "$1" || give_up "ffi/example.rs does not compile"
 }
 
 # Whether a compiler is there; where it is not, what that means.
 has() {
     command -v "$1" >/dev/null && return 0
-    [ -n "$must" ] && give_up "there is no $1 to compile ffi/$2 with"
+    [ -n "$must" ] && [ "$1" = cc ] && give_up "there is no $1 to compile ffi/$2 with"
     echo "ffi: NOT TRIED: there is no $1 to compile ffi/$2 with"
     return 1
+}
+
+# Scripts of random calls, and what `r10 sim` says of the same, but for the texts behind a refusal's number. The program is that of R10_PROGRAM, or the proved one.
+beside_sim() {
+    local program=${R10_PROGRAM:-$top/crates/r10_cli/out/r10_cli} seed
+    [ -x "$program" ] || {
+        echo "ffi: NOT TRIED: there is no program to set random calls beside"
+        return 0
+    }
+    for ((seed = $1; seed < $1 + $2; seed++)); do
+        "$room/random" "$seed" 1000 "$room/script" "$room/replies" >/dev/null || give_up "random $seed: status $?"
+        "$program" sim <"$room/script" | sed 's/^\([0-9]* refused [0-9]*\) .*/\1/' | diff "$room/replies" - >&2 || give_up "random $seed: r10 sim says something else"
+    done
+    echo "ffi: $2 scripts of 1,000 random calls come to the same in r10 sim"
+}
+
+random() {
+    c_example random.c "$room/random"
+    cc -std=c11 -g -O1 -fsanitize=address,undefined -fno-sanitize-recover=all -I"$top/ffi" -o "$room/random_asan" "$top/ffi/random.c" "$library" "${below[@]}" || give_up "ffi/random.c does not compile"
+    "$room/random_asan" "$2" "$1" || give_up "random, with the address sanitizer: status $?"
+    if command -v valgrind >/dev/null; then
+        valgrind -q --error-exitcode=99 --leak-check=full "$room/random" "$2" $(($1 / 10)) || give_up "random, under valgrind: status $?"
+    else
+        echo "ffi: NOT TRIED: there is no valgrind"
+    fi
+    beside_sim "$2" 100
 }
 
 # Whether what a run printed is what stands in the file.
@@ -93,6 +171,7 @@ check() {
     if has cc example.c; then
         c_example example.c "$room/example_c"
         c_example calls.c "$room/calls"
+        c_example flight.c "$room/flight"
         {
             "$room/example_c" "$room/medium" 0 1000 100 && "$room/example_c" "$room/medium" 1 250 100
         } >"$room/c.said" || give_up "example_c: status $?"
@@ -104,27 +183,55 @@ check() {
         compare example_verdicts.expected "$room/verdicts.out"
         "$room/calls" >"$room/calls.out" || give_up "calls: status $?"
         compare calls.expected "$room/calls.out"
+        "$room/flight" 40 100000 >"$room/flight.out" || give_up "flight: status $?"
+        compare flight.expected "$room/flight.out"
+        c_example random.c "$room/random"
+        "$room/random" 1 50000 >"$room/random.out" || give_up "random: status $?"
+        beside_sim 1 5
         echo "ffi: the programs in C print what they are to"
-    fi
-    if has rustc example.rs; then
-        rust_example example.rs "$room/example_rs"
-        "$room/example_rs" 1000 100 >"$room/rs.out" || give_up "example_rs: status $?"
-        compare example_rs.expected "$room/rs.out"
-        echo "ffi: the program in Rust prints what it is to"
+        install_under "$room/installed"
+        if has g++ calls.c; then
+            # as C++, over the shared library, found by pkg-config where that is there
+            local words="-I$room/installed/include -L$room/installed/lib -lr10"
+            if command -v pkg-config >/dev/null; then
+                words=$(PKG_CONFIG_PATH=$room/installed/lib/pkgconfig pkg-config --cflags --libs r10) || give_up "pkg-config does not find r10"
+            fi
+            # shellcheck disable=SC2086
+            g++ -std=c++17 -Wall -Wextra -Werror -O2 -x c++ "$top/ffi/calls.c" -o "$room/calls_cc" $words || give_up "ffi/calls.c does not compile as C++"
+            LD_LIBRARY_PATH=$room/installed/lib "$room/calls_cc" >"$room/calls_cc.out" || give_up "calls, as C++: status $?"
+            compare calls.expected "$room/calls_cc.out"
+            echo "ffi: as C++ over libr10.so they print the same"
+        fi
+        if has cargo example.rs; then
+            rust_example "$room/example_rs" "$room/installed/lib"
+            R10_LIB_DIR=$room/installed/lib R10_STATIC=1 CARGO_TARGET_DIR=$room/rust cargo test --offline --quiet --release --manifest-path "$top/ffi/rust/Cargo.toml" --tests \
+                >"$room/rust.out" 2>&1 || {
+                tail -n 40 "$room/rust.out" >&2
+                give_up "a test of ffi/rust failed"
+            }
+            "$room/example_rs" 1000 100 >"$room/rs.out" || give_up "example_rs: status $?"
+            compare example_rs.expected "$room/rs.out"
+            "$room/example_rs" 1000 100 "$room/medium_rs" >"$room/rs.out" || give_up "example_rs over a file: status $?"
+            { grep -v '^the disk' "$top/ffi/example_rs.expected" | diff - "$room/rs.out"; } >&2 || give_up "what was printed over a file is not ffi/example_rs.expected"
+            "$top/scripts/judge_image.py" check <"$room/medium_rs" >"$room/verdicts_rs.out"
+            [ "$(cat "$room/verdicts_rs.out")" = "FLT1 strict" ] || give_up "what example_rs leaves is not strict"
+            echo "ffi: the program in Rust prints what it is to"
+        fi
     fi
 }
 
 # All lines but the last, and that one into a file.
 but_the_last() {
-    local line last= is_first=1
+    local line last='' is_first=1
     while IFS= read -r line || [ -n "$line" ]; do
         [ -n "$is_first" ] || printf '%s\n' "$last"
-        is_first= last=$line
+        is_first='' last=$line
     done
     printf '%s\n' "$last" >"$1"
 }
 
-# The run's last line and status are those of `rt ci`; a program that does not print what it is to is one more that failed.
+# The run's last line and status are those of `rt ci`. A program that does not print what it is to is one more that failed, and so are
+# sessions of the program that do not end, or whose accounts do not add up.
 behind_ci() {
     local status last
     (cd "$top" && exec rt ci) | but_the_last "$room/last"
@@ -142,6 +249,10 @@ behind_ci() {
             status=1
             last=$(sed 's/^\([0-9]* passed, \)[0-9]* failed/\11 failed/' "$room/last")
         }
+        "$top/scripts/hammer.py" --gate || {
+            status=1
+            last=$(sed 's/^\([0-9]* passed, \)[0-9]* failed/\11 failed/' "$room/last")
+        }
     fi
     printf '%s\n' "$last"
     return "$status"
@@ -153,14 +264,35 @@ trap 'rm -rf "$room"' EXIT
 case ${1:-} in
 build)
     build
+    if [ "${2:-}" = --shared ]; then
+        share "$(dirname "$library")"
+    fi
+    echo "$library"
+    ;;
+kept)
+    is_proved || quick=yes
+    build
+    echo "$library"
+    ;;
+install)
+    [ -n "${2:-}" ] || give_up "under which folder? scripts/ffi.sh install PREFIX"
+    build
+    install_under "$2"
     ;;
 examples)
     [ -d "${2:-}" ] || give_up "into which folder? scripts/ffi.sh examples FOLDER"
     has cc example.c
-    has rustc example.rs
     build
     c_example example.c "$2/example_c"
-    rust_example example.rs "$2/example_rs"
+    if has cargo example.rs; then
+        share "$room"
+        rust_example "$2/example_rs" "$room"
+    fi
+    ;;
+random)
+    [[ ${2:-} =~ ^[1-9][0-9]*$ ]] || give_up "how many? scripts/ffi.sh random CALLS [SEED]"
+    build
+    random "$2" "${3:-1}"
     ;;
 check)
     build
@@ -171,7 +303,7 @@ behind-ci)
     behind_ci
     ;;
 *)
-    sed -n '2,11s/^# \{0,1\}//p' "${BASH_SOURCE[0]}" >&2
+    sed -n '2,15s/^# \{0,1\}//p' "${BASH_SOURCE[0]}" >&2
     exit 2
     ;;
 esac

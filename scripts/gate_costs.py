@@ -2,15 +2,18 @@
 """Runs a gate over the checkout in this folder, and prints what each crate took of it, in minutes of a processor, as docs/GATE.md has it.
 
     scripts/gate_costs.py [--least MINUTES] [WORD..]     the words are those of `rt ci`: --anew, or names of crates; none for the whole gate
+    scripts/gate_costs.py --paths [FILE]                 runs nothing: counts the paths of crates.txt, or of a file like it, along which the tool sums up what a crate is made from
 
 Each prover's processor time is read from the system twice a second while it runs. What is proved already is not proved again, and costs nothing here: for the whole, --anew, on
 a machine that does nothing else. A crate below MINUTES (1 where none is told) stands in one line with the others. Status 1 where the gate fails.
+
+A crate's paths are one, for itself, and those of each crate that it lists. A library is a crate with a `src/lib.rt` that is no static library.
 """
 import argparse
 import os
 import pathlib
-import re
 import subprocess
+import re
 import sys
 import tempfile
 import time
@@ -72,10 +75,46 @@ def watched(words, said):
     return gate.returncode, table, (used.children_user + used.children_system) / 60
 
 
+def listed(file: pathlib.Path) -> dict[str, tuple[bool, list[str]]]:
+    """Of each crate of a crates.txt whether it is a static library, and the crates of that file that it lists."""
+    lines = (re.match(r'(\w+)([^:]*):(.*)', it.partition('#')[0]) for it in file.read_text(encoding='utf-8').splitlines())
+    found = {it[1]: ('staticlib' in it[2].split(), it[3].split()) for it in lines if it}
+    return {crate: (static, [it for it in below if it in found]) for crate, (static, below) in found.items()}
+
+
+def paths_of(crates: dict[str, tuple[bool, list[str]]]) -> dict[str, int]:
+    """Of each crate how many paths lead from it to a crate below it, itself among them."""
+    counts: dict[str, int] = {}
+
+    def count(crate: str) -> int:
+        if crate not in counts:
+            counts[crate] = 1 + sum(count(it) for it in crates[crate][1])
+        return counts[crate]
+
+    for crate in crates:
+        count(crate)
+    return counts
+
+
+def print_paths(file: pathlib.Path) -> None:
+    """Prints the paths of libraries and of all crates, and those crates that have most."""
+    crates = listed(file)
+    counts = paths_of(crates)
+    programs = {it for it in crates if (file.parent / 'crates' / it / 'src' / 'main.rt').is_file()}
+    libraries = sum(number for crate, number in counts.items() if crate not in programs and not crates[crate][0])
+    print(f'{len(crates)} crates, {sum(len(below) for _, below in crates.values())} edges; paths: {libraries:,} of libraries, {sum(counts.values()):,} of all crates')
+    for crate, number in sorted(counts.items(), key=lambda it: -it[1])[:12]:
+        print(f'{number:8,}  {crate}')
+
+
 def main():
     words = argparse.ArgumentParser(description=__doc__, formatter_class=argparse.RawDescriptionHelpFormatter)
     words.add_argument('--least', type=float, default=1.0)
+    words.add_argument('--paths', nargs='?', type=pathlib.Path, const=TOP / 'crates.txt', metavar='FILE')
     words, others = words.parse_known_args()
+    if words.paths:
+        print_paths(words.paths)
+        return
     began = time.time()
     with tempfile.TemporaryFile('w+', errors='replace') as said:
         status, table, whole = watched(others, said)

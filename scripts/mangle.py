@@ -24,7 +24,7 @@ from check_cases import (CHAIN, CLOSED, FAR, FAR_BY_TWO, FIRST, LONG, LONG_INDEX
                          lost, number, report, told)
 from judge_image import Refused, answer, listed, said_of
 from judge_recording import INDEX, WIDTHS, first_fault, little, verdict
-from play_cases import KINDS, PAIR, alone, big, case_text as image_text, directory_block, image_of, listed as entry_bytes
+from play_cases import KINDS, PAIR, alone, big, case_text as image_text, directory_block, listed as entry_bytes
 
 TOP = pathlib.Path(__file__).resolve().parent.parent
 BLOCK = 512
@@ -489,8 +489,8 @@ def run(words):
     counts, wrong = collections.Counter(), []
     groups = [range(at, min(at + 50, words.count)) for at in range(0, words.count, 50)]
     with concurrent.futures.ThreadPoolExecutor(words.lanes) as pool:
-        for told, came in pool.map(lambda group: judge(words, bases, group), groups):
-            wrong += told
+        for differing, came in pool.map(lambda group: judge(words, bases, group), groups):
+            wrong += differing
             counts.update(came)
     print('seed %d: %d mangled, of %d recordings and %d images' % (words.seed, words.count, len(bases.recordings), len(bases.images)))
     for word, times in sorted(counts.items()):

@@ -3,18 +3,20 @@
 
     scripts/play_cases.py cases            # what stands in crates/r10_rows/stdin from `== play-first` on, up to `== check-first`
     scripts/play_cases.py answers          # the same of crates/r10_rows/stdout
+    scripts/play_cases.py kept             # fails where one of these files has others in their place
     scripts/play_cases.py compare PROGRAM  # PROGRAM play and scripts/read_chapter10.py --entries print the same of each strict file,
-                                           # and of what PROGRAM sim --image records of each example
+                                           # and of what PROGRAM sim --image records of each example but those of sessions, which leave no image
     scripts/play_cases.py image            # the image of a file with every kind of channel
 
 Packets and the directory are built here from IRIG 106-17, chapters 10 and 11, and the wanted lines stand beside them. Nothing is
 taken from the recorder.
 """
 import pathlib
+import re
 import subprocess
 import sys
 
-from check_cases import CHAIN, CIVIL, FIRST, LONG, OPENING, event, flipped, index_of, letters, lost, number, packet, print_rows, report, told
+from check_cases import CHAIN, FIRST, LONG, OPENING, event, flipped, index_of, letters, lost, number, packet, print_rows, report, told
 from judge_recording import ARINC, TIME, UART, first_fault
 
 READER = pathlib.Path(__file__).with_name('read_chapter10.py')
@@ -175,6 +177,11 @@ def answer_text(name, words, _, status, lines):
     return '\n'.join(['== %s %s' % (name, words), str(status)] + lines) + '\n'
 
 
+def is_session(script: pathlib.Path) -> bool:
+    """Whether a script is one of `run`: it has feeds, orders or readers, which `sim` does not know."""
+    return re.search(r'^ *(\[\[)?(feed|order|reader)\b', script.read_text(encoding='utf-8'), re.MULTILINE) is not None
+
+
 def compare(program):
     """Runs both over each strict file, and over what the program records of each example, and answers how many do not print the same."""
     bad = 0
@@ -187,10 +194,15 @@ def compare(program):
             print('played', played.stdout, played.stderr, 'read', read.stdout, read.stderr, 'wanted', wanted)
             bad += 1
     for script in sorted(EXAMPLES.glob('*.toml')):
-        image = subprocess.run([program, 'sim', '--image'], input=script.read_bytes(), capture_output=True).stdout
-        if subprocess.run([program, 'files'], input=image, capture_output=True).stdout:
-            played = subprocess.run([program, 'play'], input=image, capture_output=True)
-            read = subprocess.run([sys.executable, READER, '--entries'], input=image, capture_output=True)
+        if is_session(script):
+            continue
+        made = subprocess.run([program, 'sim', '--image'], input=script.read_bytes(), capture_output=True)
+        if made.returncode != 0:
+            print(script.name, 'recorded', made.stdout[:100], made.stderr)
+            bad += 1
+        elif subprocess.run([program, 'files'], input=made.stdout, capture_output=True).stdout:
+            played = subprocess.run([program, 'play'], input=made.stdout, capture_output=True)
+            read = subprocess.run([sys.executable, READER, '--entries'], input=made.stdout, capture_output=True)
             if not (played.stdout == read.stdout != b'' and played.returncode == read.returncode == 0):
                 print(script.name, 'played', played.stdout, played.stderr, 'read', read.stdout, read.stderr)
                 bad += 1

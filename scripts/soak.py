@@ -1,7 +1,7 @@
 #!/usr/bin/env python3
 """Kills a recording program at random moments, takes the power from its disk at random operations, and counts what it said is sure and is not there.
 
-    scripts/soak.py PROGRAM SECONDS SEED FOLDER
+    scripts/soak.py PROGRAM SECONDS SEED FOLDER [BLOCKS]
 
 PROGRAM is ffi/example.c (scripts/soak.sh compiles it and calls this). Each run records on the same file, FOLDER/medium, and has a number of its own,
 which stands in its messages: `RUN NUMBER`. Of each run that was not erased, the messages that it said are sure have to be on the medium, each once
@@ -158,19 +158,24 @@ def cuts(program, folder, chance, number):
 
 
 def main(words):
-    if len(words) != 4:
+    if len(words) not in (4, 5):
         sys.exit(__doc__)
     program, seconds, seed, folder = words[0], float(words[1]), words[2], words[3]
+    blocks = words[4] if len(words) == 5 else '2048'
     chance, medium = random.Random(seed), f'{folder}/medium'
     wanted, run, kills, acknowledged, missing, files, sealed, erases, read_back = {}, 0, 0, 0, 0, 0, 0, 0, 0
     lost_power = [0, 0, 0, 0]
+    if not os.path.exists(medium):
+        # the file is made whole first: a large one takes longer than a run has
+        subprocess.run([program, medium, '0', '1', '1', '-', blocks], stdout=subprocess.DEVNULL, check=True)
+        wanted[0], run = (0, 1), 1
     until = time.monotonic() + seconds
     while time.monotonic() < until:
         if run % 20 == 19:
             lost_power = [one + more for one, more in zip(lost_power, cuts(program, folder, chance, run))]
         each = chance.choice((1, 2, 5, 20, 100))
         with open(f'{folder}/said', 'w') as said:
-            child = subprocess.Popen([program, medium, str(run), '0', str(each)], stdout=said)
+            child = subprocess.Popen([program, medium, str(run), '0', str(each), '-', blocks], stdout=said)
             try:
                 child.wait(chance.uniform(0.01, 0.6))
             except subprocess.TimeoutExpired:

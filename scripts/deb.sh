@@ -1,0 +1,112 @@
+#!/usr/bin/env bash
+# Makes a Debian package of r10, by what scripts/install.sh installs, and tries it.
+#
+#     scripts/deb.sh FOLDER            # makes FOLDER/r10_VERSION_ARCHITECTURE.deb, and prints its name
+#     scripts/deb.sh try PACKAGE       # unpacks it into a root of its own, which has a C library and nothing else, and runs r10 there
+#
+# `try` wants root, for chroot, or leave to make a namespace (unshare); without either a line says NOT TRIED.
+set -eu
+
+top=$(cd "$(dirname "$(readlink -f "${BASH_SOURCE[0]}")")/.." && pwd)
+
+give_up() {
+    echo "deb: $2" >&2
+    exit "$1"
+}
+
+command -v dpkg-deb >/dev/null || give_up 3 "there is no dpkg-deb"
+made=$(mktemp -d)
+trap 'rm -rf "$made"' EXIT
+
+# The C library's version that these files want at least.
+wanted_libc() {
+    objdump -T "$@" 2>/dev/null | sed -n 's/.*(\{0,1\}GLIBC_\([0-9.]*\).*/\1/p' | sort -Vu | tail -n 1
+}
+
+make_package() {
+    local version architecture package root=$made/root
+    version=$(cat "$top/VERSION")
+    architecture=$(dpkg --print-architecture)
+    "$top/scripts/install.sh" /usr "$root" >&2
+    # (the list is for scripts/install.sh alone: here dpkg keeps one)
+    rm "$root/usr/share/r10/installed"
+    find "$root/usr/share/man" -type f -exec gzip -9n {} +
+    # Where Debian has zsh's own functions of packages.
+    mkdir -p "$root/usr/share/zsh/vendor-completions"
+    mv "$root"/usr/share/zsh/site-functions/* "$root/usr/share/zsh/vendor-completions"
+    rmdir "$root/usr/share/zsh/site-functions"
+    mkdir -p "$root/DEBIAN"
+    cat >"$root/DEBIAN/control" <<CONTROL
+Package: r10
+Version: $version
+Architecture: $architecture
+Maintainer: the r10 project <r10@localhost>
+Section: science
+Priority: optional
+Installed-Size: $(du -sk "$root/usr" | cut -f 1)
+Depends: libc6 (>= $(wanted_libc "$root/usr/bin/r10" "$root"/usr/lib/libr10.so.*))
+Recommends: python3 (>= 3.7)
+Description: flight recorder for IRIG 106 Chapter 10 files
+ Records UART, MIL-STD-1553, ARINC 429, discrete and message channels into
+ recording files, plays them back, and says the verdict on a recording.
+ With a library for programs in C and Rust, and filters for recordings.
+CONTROL
+    printf 'activate-noawait ldconfig\n' >"$root/DEBIAN/triggers"
+    (cd "$root" && find usr -type f -print0 | sort -z | xargs -0 md5sum) >"$root/DEBIAN/md5sums"
+    package=$1/r10_${version}_$architecture.deb
+    dpkg-deb --root-owner-group --build "$root" "$made/package.deb" >&2 || give_up 3 "the package was not made"
+    cp "$made/package.deb" "$package" || give_up 3 "$package can't be written"
+    echo "$package"
+}
+
+# A root with the C library and the words of a Debian system that dpkg asks for.
+make_root() {
+    local root=$1 file
+    mkdir -p "$root/var/lib/dpkg/info" "$root/var/lib/dpkg/updates" "$root/var/lib/dpkg/triggers" "$root/var/log" "$root/tmp" "$root/etc"
+    cat >"$root/var/lib/dpkg/status" <<STATUS
+Package: libc6
+Status: install ok installed
+Architecture: $(dpkg --print-architecture)
+Version: $(dpkg-query -W -f '${Version}' libc6 2>/dev/null || echo 2.36)
+Maintainer: none
+Description: what this root has of it
+
+STATUS
+    while read -r file; do
+        mkdir -p "$root$(dirname "$file")"
+        cp -L "$file" "$root$file"
+    done < <(ldd "$2" "$3" | sed -n 's/.* => \(\/[^ ]*\) .*/\1/p; s/^\t\(\/[^ ]*\) .*/\1/p' | sort -u)
+}
+
+try_package() {
+    local root=$made/root into=() listed
+    if [ "$(id -u)" != 0 ]; then
+        unshare --user --map-root-user true 2>/dev/null || {
+            echo "deb: NOT TRIED: no leave for chroot here"
+            return
+        }
+        into=(unshare --user --map-root-user)
+    fi
+    dpkg-deb -x "$1" "$made/unpacked"
+    make_root "$root" "$made/unpacked/usr/bin/r10" "$made/unpacked"/usr/lib/libr10.so.*.*
+    "${into[@]}" dpkg --root="$root" --force-script-chrootless --force-not-root --log=/dev/null -i "$1" >"$made/dpkg" 2>&1 ||
+        { cat "$made/dpkg" >&2; give_up 1 "dpkg does not install it"; }
+    "${into[@]}" chroot "$root" /usr/bin/r10 <"$top/examples/first.toml" | cmp - "$top/examples/first.expected" || give_up 1 "r10 in that root prints another thing"
+    "${into[@]}" chroot "$root" /usr/bin/r10 --version | grep -qx "r10 $(cat "$top/VERSION")" || give_up 1 "r10 in that root has another version"
+    dpkg --root="$root" --verify r10 || give_up 1 "files are not as the package has them"
+    listed=$(dpkg --root="$root" -L r10 | wc -l)
+    "${into[@]}" dpkg --root="$root" --force-script-chrootless --force-not-root --log=/dev/null -r r10 >"$made/dpkg" 2>&1 || give_up 1 "dpkg does not remove it"
+    [ -z "$(find "$root/usr" -name '*r10*' 2>/dev/null)" ] || give_up 1 "after it was removed files are left"
+    echo "deb: $(basename "$1") is installed in a root of its own, runs there, and is removed ($listed names)"
+}
+
+case ${1:-} in
+try)
+    [ -f "${2:-}" ] || give_up 2 "which package? scripts/deb.sh try PACKAGE"
+    try_package "$2"
+    ;;
+*)
+    [ -d "${1:-}" ] || give_up 2 "into which folder? scripts/deb.sh FOLDER"
+    make_package "$1"
+    ;;
+esac

@@ -1,0 +1,150 @@
+#!/usr/bin/env bash
+# Installs r10: the program, the library for C and Rust (static and shared), its header and r10.pc, the filters as ch10, the manual
+# pages, completions for bash and zsh, and the documents.
+#
+#     scripts/install.sh [PREFIX] [DESTDIR]               # below /usr/local, or below DESTDIR/PREFIX for a package
+#     scripts/install.sh --uninstall [PREFIX] [DESTDIR]   # removes what the list of an installation names, and nothing else
+#
+# It takes the proved builds where they are there and of the sources as they stand (scripts/build.sh, scripts/ffi.sh build), else those without
+# proofs, and says so. What was installed stands in PREFIX/share/r10/installed. Without leave to write, or room, that is one line, and status 3;
+# then nothing is changed.
+set -eu
+
+top=$(cd "$(dirname "$(readlink -f "${BASH_SOURCE[0]}")")/.." && pwd)
+
+give_up() {
+    echo "install: $2" >&2
+    exit "$1"
+}
+
+uninstall=
+if [ "${1:-}" = --uninstall ]; then
+    uninstall=yes
+    shift
+fi
+[ "$#" -le 2 ] || give_up 2 "too many words: scripts/install.sh [--uninstall] [PREFIX] [DESTDIR]"
+prefix=${1:-/usr/local}
+root=${2:-}
+[[ $prefix = /* && $prefix != *$'\n'* ]] || give_up 2 "PREFIX begins with /: scripts/install.sh [--uninstall] [PREFIX] [DESTDIR]"
+prefix=${prefix%/}
+list=$root$prefix/share/r10/installed
+
+# Removes what the list names: files first, then the folders that are empty then.
+remove() {
+    local name
+    while IFS= read -r name; do
+        [[ $name = /* ]] || continue
+        if [ -d "$root$name" ] && [ ! -L "$root$name" ]; then
+            rmdir "$root$name" 2>/dev/null || true
+        else
+            rm -f "$root$name"
+        fi
+    done < <(tac "$1")
+}
+
+# Whether all that this call changes may be changed.
+may_write() {
+    local at=$root$prefix
+    while [ ! -e "$at" ]; do
+        at=$(dirname "$at")
+    done
+    [ -d "$at" ] && [ -w "$at" ] || give_up 3 "$at may not be written: name another PREFIX, or call it as root"
+}
+
+if [ -n "$uninstall" ]; then
+    [ -f "$list" ] || give_up 1 "there is no $list: nothing was installed there"
+    may_write
+    copy=$(mktemp)
+    trap 'rm -f "$copy"' EXIT
+    cat "$list" >"$copy"
+    remove "$copy"
+    echo "(removed from $root$prefix)"
+    exit
+fi
+
+may_write
+version=$(cat "$top/VERSION")
+major=${version%%.*}
+cc=$(command -v cc) || give_up 3 "there is no cc to link the shared library with"
+program=$("$top/scripts/quick_build.py") || exit 3
+library=$("$top/scripts/ffi.sh" kept) || exit 3
+case $program in
+*/proved-*) ;;
+*) echo "(the program that is installed is not proved: scripts/build.sh makes the proved one)" >&2 ;;
+esac
+case $library in
+*/builds/*) echo "(the library that is installed is not proved: scripts/ffi.sh build makes the proved one)" >&2 ;;
+esac
+rt=$(command -v rt) || give_up 3 "there is no rt: the library stands on a part of the toolchain"
+kit=$(dirname "$(dirname "$(readlink -f "$rt")")")
+
+# All is made whole in a folder of its own first.
+made=$(mktemp -d)
+trap 'rm -rf "$made"' EXIT
+whole=$made/root
+share=$whole$prefix/share
+lib=$whole$prefix/lib
+mkdir -p "$whole$prefix/bin" "$lib/pkgconfig" "$whole$prefix/include" "$share/r10/scripts" "$share/doc/r10" "$share/man" \
+    "$share/bash-completion/completions" "$share/zsh/site-functions"
+
+install -m 755 "$program" "$whole$prefix/bin/r10"
+install -m 644 "$top"/ffi/*.h "$whole$prefix/include"
+
+# The static library has in it what it stands on of the toolchain, so that a program needs it alone.
+cp "$library" "$made/own.a"
+cp "$kit/c/liblibc_c.a" "$made/kit.a"
+printf 'create %s\naddlib %s\naddlib %s\nsave\nend\n' libr10.a own.a kit.a | (cd "$made" && ar -M) || give_up 3 "the static library was not made"
+install -m 644 "$made/libr10.a" "$lib/libr10.a"
+printf '{ global: r10_*; local: *; };\n' >"$made/exports"
+"$cc" -shared -o "$made/libr10.so" -Wl,-soname,"libr10.so.$major" -Wl,--version-script="$made/exports" -Wl,-Bsymbolic -Wl,-z,defs -Wl,-z,now \
+    -Wl,--whole-archive "$made/own.a" -Wl,--no-whole-archive "$made/kit.a" || give_up 3 "the shared library was not made"
+install -m 644 "$made/libr10.so" "$lib/libr10.so.$version"
+ln -s "libr10.so.$version" "$lib/libr10.so.$major"
+ln -s "libr10.so.$major" "$lib/libr10.so"
+cat >"$lib/pkgconfig/r10.pc" <<PC
+prefix=$prefix
+libdir=\${prefix}/lib
+includedir=\${prefix}/include
+
+Name: r10
+Description: A flight recorder that writes IRIG 106 Chapter 10 files
+Version: $version
+Libs: -L\${libdir} -lr10
+Cflags: -I\${includedir}
+PC
+
+# The filters, as a package beside their start where there is one.
+for file in "$top"/scripts/ch10.py "$top"/scripts/ch10_picture.py "$top"/scripts/ch10_survey.py "$top"/scripts/read_chapter10.py; do
+    [ ! -f "$file" ] || install -m 644 "$file" "$share/r10/scripts"
+done
+chmod 755 "$share/r10/scripts/ch10.py"
+if [ -d "$top/ch10" ]; then
+    mkdir "$share/r10/ch10"
+    install -m 644 "$top"/ch10/*.py "$share/r10/ch10"
+fi
+ln -s ../share/r10/scripts/ch10.py "$whole$prefix/bin/ch10"
+
+"$top/scripts/manual.py" "$program" "$top/scripts/ch10.py" "$made/manual" || exit 3
+cp -r "$made/manual/man1" "$made/manual/man3" "$share/man"
+cp "$made/manual/bash/"* "$share/bash-completion/completions"
+cp "$made/manual/zsh/"* "$share/zsh/site-functions"
+cp -r "$top/README.md" "$top/docs" "$top/examples" "$share/doc/r10"
+chmod -R u=rwX,go=rX "$whole"
+
+(
+    cd "$whole"
+    find ".$prefix" -mindepth 1 \( -type d -path '*r10*' -o ! -type d \) -print | sed 's/^\.//'
+    echo "$prefix/share/r10/installed"
+) | sort >"$made/installed"
+install -m 644 "$made/installed" "$share/r10/installed"
+
+# What an earlier version had and this one has not goes.
+if [ -f "$list" ]; then
+    comm -23 "$list" "$made/installed" >"$made/gone"
+fi
+mkdir -p "$root$prefix" && cp -a --no-preserve=ownership "$whole$prefix/." "$root$prefix/" || give_up 3 "not all could be written below $root$prefix: call it again, or with --uninstall"
+[ ! -s "$made/gone" ] || remove "$made/gone"
+if [ -z "$root" ] && [ "$(id -u)" = 0 ] && command -v ldconfig >/dev/null; then
+    ldconfig
+fi
+echo "(installed r10 $version in $root$prefix: scripts/install.sh --uninstall${1:+ $1}${2:+ $2} removes it)"

@@ -1,0 +1,37 @@
+#!/usr/bin/env bash
+# Looks over the scripts of this repository with the linters that are there, and says in a line which is not.
+#
+#     scripts/lint.sh
+#
+# Every shell script has to parse, and every Python script to compile; and what begins as a command does has the run bit. Then the Python scripts
+# are looked at by pyflakes (or by ruff, by the same rules), and those of the shell by shellcheck: Debian's packages are pyflakes3 and shellcheck.
+# Status 1 where one of them finds something.
+set -u
+cd "$(dirname "${BASH_SOURCE[0]}")/.." || exit 1
+
+readonly shells=(r10 .ci/run scripts/*.sh scripts/tests/*.sh) pythons=(scripts/*.py ch10/*.py)
+bad=0
+
+for script in "${shells[@]}"; do
+    bash -n "$script" || bad=1
+done
+for script in "${pythons[@]}"; do
+    python3 -c 'import sys; compile(open(sys.argv[1], encoding="utf-8").read(), sys.argv[1], "exec")' "$script" || bad=1
+    [ "$(head -c 2 "$script")" != '#!' ] || [ -x "$script" ] || { echo "$script: it begins as a command does, and has no run bit"; bad=1; }
+done
+
+if command -v pyflakes3 >/dev/null; then
+    pyflakes3 "${pythons[@]}" || bad=1
+elif command -v ruff >/dev/null; then
+    ruff check --quiet --isolated --select F "${pythons[@]}" || bad=1
+else
+    echo "lint: NOT TRIED: there is no pyflakes3 and no ruff for the Python scripts"
+fi
+if command -v shellcheck >/dev/null; then
+    shellcheck --severity=warning "${shells[@]}" || bad=1
+else
+    echo "lint: NOT TRIED: there is no shellcheck for the shell scripts"
+fi
+
+[ "$bad" = 0 ] && echo "lint: ${#pythons[@]} Python scripts and ${#shells[@]} of the shell"
+exit "$bad"

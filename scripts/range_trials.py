@@ -1,0 +1,683 @@
+#!/usr/bin/env python3
+"""Trials of the catalogue, the load of entries and the report, in SQLite and in PostgreSQL.
+
+    scripts/range_trials.py check                                # in seconds, for the gate: a small range, both databases, three kills, one page
+    scripts/range_trials.py kills COUNT [SEED]                   # so many kills amid add and load in each database
+    scripts/range_trials.py figures FOLDER [--program PATH] [--jobs N]   # what adding, finding and loading the recordings of FOLDER takes
+
+Recordings are those of scripts/range_recordings.py. The server is one of its own (scripts/postgres_server.py); where there is none, or no driver, or no
+browser, a line says what was NOT TRIED. Where no program r10 is there, verdicts are those of scripts/judge_recording.py, which says them by the same rules.
+"""
+from __future__ import annotations
+
+import argparse
+import contextlib
+import csv
+import importlib.util
+import io
+import itertools
+import json
+import os
+import pathlib
+import random
+import re
+import resource
+import shutil
+import signal
+import subprocess
+import sys
+import tempfile
+import time
+from html.parser import HTMLParser
+from typing import Any, Callable, Dict, Iterator, List, Optional, Sequence, Tuple
+
+sys.dont_write_bytecode = True
+HERE = pathlib.Path(__file__).resolve().parent
+sys.path.insert(0, str(HERE.parent))
+
+import play_cases  # noqa: E402
+from ch10 import command, find  # noqa: E402
+from ch10.entry_rows import TABLES  # noqa: E402
+from ch10.facts import StrictSurvey  # noqa: E402
+from ch10.standard import Wrong  # noqa: E402
+from ch10.store import open_store  # noqa: E402
+from ch10.store_schema import ENTRIES  # noqa: E402
+from ch10.survey import Row, Survey  # noqa: E402
+from postgres_server import NotThere, server  # noqa: E402
+from range_recordings import recording  # noqa: E402
+
+FEW = ('1553', '1553', 'arinc', 'uart', 'discrete', 'message')
+STAND_IN = r"""#!%s
+import sys
+sys.path.insert(0, %r)
+from judge_image import answer, listed
+from judge_recording import verdict
+data = b'' if sys.argv[1] == '--version' else sys.stdin.buffer.read()
+if sys.argv[1] == '--version':
+    print('r10 stand-in')
+elif sys.argv[1] == 'check':
+    print(verdict(data))
+else:
+    found, status = answer(listed, data)
+    print('\n'.join(found) if status else '')
+"""
+
+
+class Bad(Exception):
+    """What does not agree."""
+
+
+def agree(found: Any, wanted: Any, what: str) -> None:
+    if found != wanted:
+        raise Bad('%s: %.500r, wanted %.500r' % (what, found, wanted))
+
+
+def to_other_python() -> None:
+    """Goes on in the system's Python, where that one sees a driver of PostgreSQL and this one does not."""
+    system = '/usr/bin/python3'
+    if not has_driver() and os.path.exists(system) and os.path.realpath(system) != os.path.realpath(sys.executable):
+        if subprocess.run([system, '-c', 'import psycopg2'], stderr=subprocess.DEVNULL).returncode == 0:
+            os.execv(system, [system] + sys.argv)
+
+
+def has_driver() -> bool:
+    return any(importlib.util.find_spec(name) for name in ('psycopg2', 'psycopg'))
+
+
+def ch10(words: Sequence[str], status: int = 0) -> str:
+    """What a call writes, made in this process."""
+    to = Stream()
+    ended, line = command.answer(list(words), lambda: b'', lambda: to)
+    if ended != status:
+        raise Bad('ch10 %s ends with %d: %s' % (' '.join(words)[:200], ended, line))
+    return to.getvalue().decode()
+
+
+class Stream(io.BytesIO):
+    def isatty(self) -> bool:
+        return False
+
+
+def program(folder: str) -> str:
+    """The program r10: of R10 in the environment, the proved build, or else a stand-in in a folder."""
+    proved = HERE.parent / 'crates' / 'r10_cli' / 'out' / 'r10_cli'
+    found = os.environ.get('R10') or (str(proved) if proved.exists() else None)
+    if found:
+        return found
+    path = os.path.join(folder, 'r10-stand-in')
+    pathlib.Path(path).write_text(STAND_IN % (sys.executable, str(HERE)))
+    os.chmod(path, 0o755)
+    return path
+
+
+# ---- a small range
+
+def small_range(folder: str, count: int, size: int = 30000) -> List[str]:
+    """Some recordings, an image with two files, an image without a directory, and an empty file. Number 7 is damaged."""
+    os.makedirs(folder)
+    for number in range(count):
+        pathlib.Path(folder, 'r%03d.ch10' % number).write_bytes(recording(5, number, size, FEW))
+    image = play_cases.PAIR
+    pathlib.Path(folder, 'pair.img').write_bytes(image)
+    pathlib.Path(folder, 'broken.img').write_bytes(image[:522] + b'\xff\xff' + image[524:])
+    pathlib.Path(folder, 'empty.ch10').write_bytes(b'')
+    pathlib.Path(folder, 'notes.txt').write_text('no recording')
+    return sorted(os.listdir(folder))
+
+
+QUESTIONS = (
+    [], ['--verdict', 'faulty'], ['--verdict', 'lenient', '--type', '1553'], ['--damaged'], ['--losses', '1'], ['--losses', '1', '--type', 'arinc'],
+    ['--name', 'nav*'], ['--name', '*1553*', '--from', '2025-01-01'], ['--from', '2024-06-01', '--to', '2025-03-01 12:00'], ['--to', '2024-08-11'],
+    ['--channel', '1', '--verdict', 'strict'], ['--type', 'uart', '--type', 'video-40', '--from', '2025-01-01', '--to', '2025-12-31'], ['--volume', 'VOL'],
+    ['--place', '*r00[0]?*'], ['--place', '*R001.CH10'], ['--attribute', 'G\\TA=TAIL 03'], ['--jumps', '1'], ['--limit', '3'], ['--from', '060'])
+
+
+def answers(dsn: str) -> List[str]:
+    """What a catalogue answers to the questions, without what is of the moment."""
+    made = []
+    for question in QUESTIONS:
+        for more in ([], ['--json'], ['--channels'], ['--channels', '--json']):
+            made.append(settled(ch10(['catalogue', 'find', '--db', dsn] + question + more)))
+    for line in ch10(['catalogue', 'find', '--db', dsn, '--json']).splitlines():
+        sum_ = json.loads(line)['sha256']
+        made += [settled(ch10(['catalogue', 'show', '--db', dsn, sum_])), settled(ch10(['catalogue', 'show', '--db', dsn, '--json', sum_[:20]]))]
+    return made
+
+
+def settled(text: str) -> str:
+    return re.sub(r'(added "?|"(?:added|seen)": ")\d{4}-\d\d-\d\d \d\d:\d\d:\d\d', r'\1MOMENT', text)
+
+
+def check_facts(folder: str, dsn: str, made: str) -> None:
+    """What the catalogue says of each recording, against the verdict by itself and the summary of the filters."""
+    said = {place['path']: facts for facts in map(json.loads, ch10(['catalogue', 'find', '--db', dsn, '--json', '--channels']).splitlines())
+            for place in facts['places'] if place['file_number'] < 0}
+    agree(sorted(map(os.path.basename, said)), sorted(name for name in os.listdir(folder) if name not in ('pair.img', 'notes.txt')), 'recordings')
+    agree(any(facts['verdict'] == 'strict' and facts['losses'] for facts in said.values()), True, 'a strict recording with losses')
+    for path, facts in sorted(said.items()):
+        data = pathlib.Path(path).read_bytes()
+        if facts['kind'] == 'image':
+            agree((facts['verdict'], facts['fault'], facts['fault_offset']), ('faulty', 'BadDirectory', 512), 'an image without a directory')
+            continue
+        done = subprocess.run([made, 'check'], input=data, stdout=subprocess.PIPE)
+        agree(find.verdict_text(facts), done.stdout.decode().strip(), 'the verdict on ' + path)
+        survey = Survey(data, 0, len(data))
+        agree([(one.offset, one.length) for one in survey.damage], damage_of(dsn, facts['sha256']), 'damaged stretches of ' + path)
+        rows = [(row.channel, row.packets, row.entries if row.has_entries() else None, row.bytes, row.first(), row.last(), row.losses, row.lost, row.untold,
+                 row.jumps, row.opaque, row.bad, survey.names.channel(row.channel) or None) for row in survey.rows]
+        keys = 'channel', 'packets', 'entries', 'bytes', 'first_count', 'last_count', 'losses', 'lost', 'untold', 'jumps', 'opaque', 'bad', 'name'
+        agree([tuple(row[key] for key in keys) for row in facts['channels']], rows, 'channels of ' + path)
+        if survey.rows:
+            agree(facts['channels'][0]['first_time'], survey.clock and survey.clock.text(survey.rows[0].first()), 'first time of ' + path)
+        if facts['verdict'] == 'strict':
+            short = StrictSurvey(data, 0, len(data))
+            agree([[getattr(row, name) for name in Row.__slots__] for row in short.rows], [[getattr(row, name) for name in Row.__slots__] for row in survey.rows],
+                  'the pass over strict ' + path)
+
+
+def damage_of(dsn: str, sum_: str) -> List[Tuple[int, int]]:
+    lines = map(json.loads, ch10(['catalogue', 'show', '--db', dsn, '--json', sum_]).splitlines())
+    return [(line['byte_offset'], line['byte_length']) for line in lines if line['row'] == 'damage']
+
+
+def check_again(folder: str, dsn: str, made: str, count: int) -> None:
+    """The same once more is no second one; what moved has its new place, and what was replaced is no longer there."""
+    words = ['catalogue', 'add', '--db', dsn, '--program', made, '--jobs', '2', folder]
+    lines = ch10(words).splitlines()
+    agree([line.split(' ')[0] for line in lines[:-1]], ['known'] * (count + 4), 'a second add')
+    other = os.path.join(folder, 'r000.ch10')
+    kept = pathlib.Path(other).read_bytes()
+    pathlib.Path(other).write_bytes(pathlib.Path(folder, 'r001.ch10').read_bytes())
+    ch10(words)
+    shown = ch10(['catalogue', 'find', '--db', dsn, '--json']).splitlines()
+    places = sorted(len(json.loads(line)['places']) for line in shown)
+    agree((places[0], places[-1], len(shown)), (0, 2, count + 4), 'places after one file took the place of another')
+    pathlib.Path(other).write_bytes(kept)
+    ch10(words)
+
+
+# ---- entries
+
+def check_entries(folder: str, dsn: str, made: str, names: Sequence[str]) -> int:
+    """The rows of the tables, against what `ch10 csv` says of the same recordings."""
+    paths = [os.path.join(folder, name) for name in names]
+    said = ch10(['load', '--db', dsn, '--program', made, '--jobs', '2'] + paths)
+    total = 0
+    for path in paths:
+        to = Stream()
+        command.answer(['csv', '--keep-going'], lambda: pathlib.Path(path).read_bytes(), lambda: to)
+        wanted = sorted(map(line_of_csv, csv.DictReader(io.StringIO(to.getvalue().decode()))))
+        found = sorted(rows_in(dsn, path))
+        for one, other in itertools.zip_longest(found, wanted):
+            agree(one, other, 'an entry of %s' % path)
+        total += len(found)
+    agree(said.splitlines()[-1], '%d entries of %d recordings loaded' % (total, len(paths)), 'what load says')
+    again = ch10(['load', '--db', dsn, '--program', made, '--jobs', '1'] + paths)
+    agree(again.splitlines()[-1], '0 entries of 0 recordings loaded', 'a second load')
+    return total
+
+
+def line_of_csv(row: Dict[str, str]) -> Tuple:
+    """An entry of the CSV as a tuple of texts, with the columns that tables have too."""
+    kind = row['type']
+    front = (kind, int(row['channel']), int(row['count']), row['time'][:26], row['lost'])
+    if kind == '1553':
+        return front + tuple(row[key] for key in ('rt', 'tr', 'sa', 'wc', 'mode', 'rt2', 'sa2', 'status1', 'status2', 'bus', 'errors', 'gap1', 'gap2'))
+    if kind == 'arinc':
+        return front + tuple(row[key] for key in ('value', 'data', 'bus', 'sdi', 'ssm', 'parity', 'high', 'label', 'errors'))
+    if kind in ('uart', 'message'):
+        return front + (row['sub'], row['errors'], row['value'])
+    return front + ((row['number'], row['occurrence']) if kind == 'event' else (row['value'],))
+
+
+FORMS = {'status1': '%04x', 'status2': '%04x', 'word': '%08x', 'states': '%08x', 'high': '%d', 'gap1': '%.1f', 'gap2': '%.1f'}
+LEFT_OUT = ('recording', 'count', 'time', 'lost', 'channel', 'words', 'block_status', 'changed')
+
+
+def rows_in(dsn: str, path: str) -> Iterator[Tuple]:
+    """The rows of a recording in the tables, as texts."""
+    with contextlib.closing(open_store(dsn, make=False)) as store:
+        (number,), = store.rows('SELECT recording FROM place WHERE path = ?', (path,))
+        for table in TABLES.values():
+            for values in store.rows('SELECT %s FROM %s WHERE recording = ?' % (', '.join(table.names), table.name), (number,)):
+                row = dict(zip(table.names, values))
+                moment = str(row['time']) if '.' in str(row['time']) else str(row['time']) + '.'
+                front = (table.name[6:], row['channel'], row['count'], moment[:26].ljust(26, '0'), '1+' if row['lost'] is None else str(row['lost']))
+                yield front + tuple(text_in(key, value) for key, value in row.items() if key not in LEFT_OUT)
+
+
+def text_in(key: str, value: Any) -> str:
+    """A value of a table as the CSV has it."""
+    if value is None:
+        return ''
+    return bytes(value).hex() if isinstance(value, (bytes, memoryview)) else FORMS.get(key, '%s') % value
+
+
+# ---- kills
+
+def child(words: Sequence[str], prepare: Optional[Callable[[], None]] = None) -> int:
+    """Makes a call in a process of its own, which begins at once, and answers its number."""
+    sys.stdout.flush()
+    number = os.fork()
+    if number == 0:
+        try:
+            os.setsid()
+            if prepare:
+                prepare()
+            status, _ = command.answer(list(words), lambda: b'', Stream)
+            os._exit(status)
+        finally:
+            os._exit(99)
+    return number
+
+
+def killed_after(words: Sequence[str], seconds: float) -> bool:
+    """Whether a call was still at work when it was killed after some time."""
+    number = child(words)
+    time.sleep(seconds)
+    with contextlib.suppress(ProcessLookupError):
+        os.kill(number, signal.SIGKILL)
+    _, status = os.waitpid(number, 0)
+    return os.WIFSIGNALED(status)
+
+
+def killed_at(words: Sequence[str], statement: int) -> bool:
+    """Whether a call was killed at its so-many-th statement: before it was made, or amid its rows."""
+    def prepare() -> None:
+        made = itertools.count(1)
+
+        def deadly(call: Callable) -> Callable:
+            def one(store: Any, *words: Any) -> Any:
+                if next(made) == statement:
+                    if call.__name__ == 'insert' and statement % 2:
+                        words = words[:2] + (dying(words[2]),)
+                    else:
+                        os.kill(os.getpid(), signal.SIGKILL)
+                return call(store, *words)
+            return one
+
+        def dying(rows: Any) -> Iterator[Any]:
+            for row in rows:
+                yield row
+                os.kill(os.getpid(), signal.SIGKILL)
+            os.kill(os.getpid(), signal.SIGKILL)
+
+        from ch10.store_postgres import Postgres
+        from ch10.store_sqlite import Sqlite
+        for engine in (Sqlite, Postgres):
+            for name in ('rows', 'insert', 'insert_new'):
+                setattr(engine, name, deadly(getattr(engine, name)))
+
+    _, status = os.waitpid(child(words, prepare), 0)
+    if os.WIFEXITED(status) and os.WEXITSTATUS(status):
+        raise Bad('%s ends with %d' % (' '.join(words)[:100], os.WEXITSTATUS(status)))
+    return os.WIFSIGNALED(status)
+
+
+HALVES = (
+    'SELECT count(*) FROM recording r WHERE packets <> (SELECT coalesce(sum(packets), 0) FROM channel c WHERE c.recording = r.id)',
+    'SELECT count(*) FROM recording r WHERE entries <> (SELECT coalesce(sum(entries), 0) FROM channel c WHERE c.recording = r.id)',
+    'SELECT count(*) FROM recording r WHERE damaged <> (SELECT count(*) FROM damage d WHERE d.recording = r.id)',
+    'SELECT count(*) FROM recording r WHERE NOT EXISTS (SELECT 1 FROM place p WHERE p.recording = r.id)')
+
+
+def state(dsn: str) -> Dict[str, int]:
+    """How many recordings there are, how many halves of them, and how many entries."""
+    try:
+        store = open_store(dsn, make=False)
+    except Wrong:
+        return dict(recordings=0, halves=0, entries=0, loaded=0)
+    with contextlib.closing(store):
+        def one(text: str) -> int:
+            return int(store.rows(text)[0][0])
+        agree(one('SELECT count(DISTINCT sha256) FROM recording'), one('SELECT count(*) FROM recording'), 'recordings, each once')
+        halves = sum(map(one, HALVES))
+        entries = 0
+        for kind, (name, _) in ENTRIES.items():
+            there = store.rows('SELECT recording, channel, count(*) FROM %s GROUP BY recording, channel ORDER BY recording, channel' % name)
+            told = store.rows('SELECT recording, channel, entries FROM loaded WHERE data_type = ? ORDER BY recording, channel', (kind,))
+            agree(there, told, 'entries that are there, and those that were noted, of ' + name)
+            entries += sum(number for _, _, number in there)
+        return dict(recordings=one('SELECT count(*) FROM recording'), halves=halves, entries=entries, loaded=one('SELECT count(DISTINCT recording) FROM loaded'))
+
+
+def kill_words(name: str, dsn: str, folder: str, jobs: int) -> List[str]:
+    return (['catalogue', 'add'] if name == 'add' else ['load']) + ['--db', dsn, '--unjudged', '--jobs', str(jobs), folder]
+
+
+def unharmed(before: Dict[str, int], dsn: str, name: str) -> Dict[str, int]:
+    """What a database has after a kill: no half, and nothing less than before."""
+    after = state(dsn)
+    agree(after['halves'], 0, 'halves after a kill of ' + name)
+    if any(after[key] < before[key] for key in before):
+        raise Bad('a kill of %s took something away: %r, %r' % (name, before, after))
+    return after
+
+
+def kill_each(folder: str, dsn: str, step: int, count: int) -> int:
+    """Kills add and load at each step-th of their statements, from an empty database on, until they come to their end; answers how many kills there were."""
+    kills = 0
+    for name in ('add', 'load'):
+        before, statement = state(dsn), 1
+        while killed_at(kill_words(name, dsn, folder, 1), statement):
+            before = unharmed(before, dsn, name)
+            kills, statement = kills + 1, statement + step
+        agree(unharmed(before, dsn, name)['recordings' if name == 'add' else 'loaded'] >= count, True, 'what %s has done at its end' % name)
+    return kills
+
+
+def kill_some(folder: str, dsn: str, number: int, draw: random.Random, count: int) -> Dict[str, int]:
+    """Kills add, and then load, so many times at random moments of their work by two processes; then each does the rest."""
+    seen = dict(add=0, load=0, amid=0)
+    for name in ('add', 'load'):
+        key = 'recordings' if name == 'add' else 'loaded'
+        words, span, before = kill_words(name, dsn, folder, 2), 0.5, state(dsn)
+        while seen[name] < number:
+            was_killed = killed_after(words, draw.random() * span)
+            after = unharmed(before, dsn, name)
+            seen[name] += was_killed
+            seen['amid'] += was_killed and after[key] > before[key]
+            span = span * 1.2 if was_killed and after[key] == before[key] else max(span * 0.8, 0.1)
+            before = after
+            if after[key] >= count:  # all is there: begin anew
+                with contextlib.closing(open_store(dsn, make=False)) as store:
+                    for table in ['loaded'] + [table for table, _ in ENTRIES.values()] + (['recording'] if name == 'add' else []):
+                        store.rows('DELETE FROM ' + table)
+                before = state(dsn)
+        ch10(words)
+        agree(unharmed(before, dsn, name)[key] >= count, True, 'what the next %s does' % name)
+    return seen
+
+
+# ---- the page
+
+class Page(HTMLParser):
+    """What has to hold of a page: closed tags, links that lead somewhere, nothing from elsewhere, words for pictures and tables."""
+
+    EMPTY = {'meta', 'br', 'path', 'rect', 'circle', 'line'}
+
+    def __init__(self) -> None:
+        HTMLParser.__init__(self)
+        self.open: List[str] = []
+        self.ids: List[str] = []
+        self.links: List[str] = []
+        self.faults: List[str] = []
+        self.tags: Dict[str, int] = {}
+        self.heads: List[int] = []
+
+    def handle_starttag(self, tag: str, attrs: List[Tuple[str, Optional[str]]]) -> None:
+        said = dict(attrs)
+        self.tags[tag] = self.tags.get(tag, 0) + 1
+        if tag not in self.EMPTY:
+            self.open.append(tag)
+        if 'id' in said:
+            self.ids.append(said['id'])
+        if re.fullmatch('h[1-6]', tag):
+            self.heads.append(int(tag[1]))
+        for name, value in attrs:
+            if name.startswith('on') or name in ('src', 'srcset', 'data', 'action'):
+                self.faults.append('%s of %s' % (name, tag))
+            if name in ('href', 'xlink:href'):
+                self.links.append(value or '')
+            if value and 'url(' in value and 'url(#' not in value:
+                self.faults.append('%s of %s: %s' % (name, tag, value[:40]))
+        if tag in ('script', 'img', 'iframe', 'link', 'object', 'embed'):
+            self.faults.append(tag)
+        if tag == 'svg' and not (said.get('role') == 'img' and said.get('aria-label')):
+            self.faults.append('a picture without words')
+        if tag == 'th' and 'scope' not in said:
+            self.faults.append('a head without a scope')
+
+    def handle_startendtag(self, tag: str, attrs: List[Tuple[str, Optional[str]]]) -> None:
+        self.handle_starttag(tag, attrs)
+        if tag not in self.EMPTY:
+            self.open.pop()
+
+    def handle_endtag(self, tag: str) -> None:
+        if tag in self.EMPTY:
+            return
+        if not self.open or self.open.pop() != tag:
+            self.faults.append('</%s> that closes something else' % tag)
+
+
+def check_page(text: str, names: Sequence[str]) -> None:
+    page = Page()
+    page.feed(text)
+    page.close()
+    agree((page.faults, page.open), ([], []), 'the page')
+    agree(sorted(set(page.ids)), sorted(page.ids), 'the ids of the page')
+    agree([link for link in page.links if link[1:] not in page.ids or link[:1] != '#'], [], 'links that lead nowhere')
+    agree(page.tags['table'], page.tags['caption'], 'tables with captions')
+    agree([two for one, two in zip(page.heads, page.heads[1:]) if two > one + 1], [], 'steps between heads')
+    for name in names:
+        agree(name in text, True, '%s on the page' % name)
+    agree(re.findall(r'(?:https?:)?//(?!www\.w3\.org/2000/svg)[^\s<"\']{3,60}', text), [], 'addresses on the page')
+
+
+def browser() -> str:
+    for name in ('chromium', 'chromium-browser', 'google-chrome'):
+        if shutil.which(name):
+            return shutil.which(name)
+    raise NotThere('no browser here (Debian: chromium)')
+
+
+def picture_of(page: str, to: str, height: int = 1600) -> None:
+    """The picture that a browser makes of a page."""
+    with tempfile.TemporaryDirectory() as room:
+        words = [browser(), '--headless', '--no-sandbox', '--disable-gpu', '--hide-scrollbars', '--user-data-dir=' + room, '--screenshot=' + to,
+                 '--window-size=1200,%d' % height, 'file://' + page]
+        try:
+            done = subprocess.run(words, stdout=subprocess.DEVNULL, stderr=subprocess.PIPE, timeout=120)
+        except subprocess.TimeoutExpired:
+            raise NotThere('the browser does not end within two minutes')
+    if done.returncode or not os.path.exists(to):
+        raise Bad('the browser: ' + done.stderr.decode(errors='replace')[-300:])
+
+
+def ink_of(picture: bytes) -> int:
+    """How many bytes a picture has, after its head is looked at."""
+    agree(picture[:8], b'\x89PNG\r\n\x1a\n', 'a picture')
+    return len(picture)
+
+
+def check_report(folder: str, room: str, made: str) -> None:
+    names = ['r001.ch10', 'r007.ch10', 'r003.ch10', 'pair.img', 'broken.img', 'empty.ch10']
+    text = ch10(['report', '--program', made] + [os.path.join(folder, name) for name in names], 1)
+    check_page(text, names + ['FLT1', 'RANGE TRIAL', 'BadDirectory'])
+    page = os.path.join(room, 'report.html')
+    pathlib.Path(page).write_text(text)
+    try:
+        picture = os.path.join(room, 'report.png')
+        picture_of(page, picture)
+        if ink_of(pathlib.Path(picture).read_bytes()) < 20000:
+            raise Bad('the page looks empty')
+    except NotThere as why:
+        print('NOT TRIED: the page in a browser: %s' % why)
+
+
+# ---- all of it, small
+
+@contextlib.contextmanager
+def both(room: str) -> Iterator[Tuple[str, Optional[str]]]:
+    """The DSNs of the two databases; of one alone where there is no server."""
+    with contextlib.ExitStack() as held:
+        dsn = None
+        try:
+            if not has_driver():
+                raise NotThere('no driver of PostgreSQL here (Debian: python3-psycopg2)')
+            dsn = held.enter_context(server(['fsync=off']))
+        except NotThere as why:
+            print('NOT TRIED: PostgreSQL: %s' % why)
+        yield os.path.join(room, 'range.sqlite'), dsn
+
+
+def check() -> int:
+    count = 9
+    with tempfile.TemporaryDirectory(prefix='ch10-range-') as room, both(room) as (lite, postgres):
+        folder = os.path.join(room, 'flights')
+        small_range(folder, count)
+        made = program(room)
+        found = {}
+        for dsn in filter(None, (lite, postgres)):
+            lines = ch10(['catalogue', 'add', '--db', dsn, '--program', made, '--jobs', '2', folder]).splitlines()
+            agree(lines[-1], '%d added, 0 judged anew, 0 known before; 3 of them faulty; 1 others in the folders are no recordings' % (count + 4), 'what add says')
+            check_again(folder, dsn, made, count)
+            total = check_entries(folder, dsn, made, ['r001.ch10', 'r007.ch10'])
+            found[dsn] = answers(dsn)
+        check_facts(folder, lite, made)
+        if postgres:
+            for one, other in zip(*found.values()):
+                agree(other, one, 'the answer of PostgreSQL beside that of SQLite')
+        check_two_at_once(folder, os.path.join(room, 'two.sqlite'), 'add', count + 4)
+        check_two_at_once(folder, postgres or os.path.join(room, 'two.sqlite'), 'load', count + 2)
+        kills = kill_each(folder, os.path.join(room, 'killed.sqlite'), 7, count + 2)
+        check_statuses(folder, lite, made)
+        check_report(folder, room, made)
+        print('range: %d answers of %s agree, %d entries loaded, %d kills' % (
+            len(found[lite]), 'both databases' if postgres else 'SQLite', total, kills))
+    return 0
+
+
+def check_statuses(folder: str, dsn: str, made: str) -> None:
+    """What is wrong ends with a line, and leaves the database as it was."""
+    before = state(dsn)
+    ch10(['catalogue', 'find', '--db', '/nowhere/at.all'], 2)
+    ch10(['catalogue', 'show', '--db', dsn, '0000'], 1)
+    ch10(['catalogue', 'find', '--db', dsn, '--from', 'noon'], 2)
+    ch10(['catalogue', 'find', '--db', dsn, '--from', '2024-01-01', '--to', '060'], 2)
+    ch10(['catalogue', 'find', '--db', 'mysql://host/range'], 2)
+    ch10(['catalogue', 'add', '--db', dsn, '--program', made, os.path.join(folder, 'not-there')], 3)
+    ch10(['catalogue', 'add', '--db', dsn, '--program', '/bin/true', os.path.join(folder, 'r001.ch10')], 2)
+    ch10(['catalogue', 'add', '--db', os.path.join(folder, 'notes.txt'), '--program', made, os.path.join(folder, 'r001.ch10')], 3)
+    agree(state(dsn), before, 'the catalogue after calls that were refused')
+
+
+def check_two_at_once(folder: str, dsn: str, name: str, wanted: int) -> None:
+    """Two calls at a time do the work once."""
+    both_made = [child(kill_words(name, dsn, folder, 1)) for _ in range(2)]
+    agree([os.waitpid(number, 0)[1] for number in both_made], [0, 0], 'two calls of %s at a time' % name)
+    found = state(dsn)
+    agree((found['halves'], found['recordings' if name == 'add' else 'loaded']), (0, wanted), 'what two calls of %s have done' % name)
+
+
+def kills(number: int, seed: int) -> int:
+    with tempfile.TemporaryDirectory(prefix='ch10-range-') as room, both(room) as (lite, postgres):
+        folder, few = os.path.join(room, 'flights'), os.path.join(room, 'few')
+        small_range(few, 3, 8000)
+        os.makedirs(folder)
+        for place in range(40):
+            pathlib.Path(folder, 'r%03d.ch10' % place).write_bytes(recording(seed, place, 60000, FEW))
+        for name, dsn in (('SQLite', lite), ('PostgreSQL', postgres)):
+            if dsn:
+                each = kill_each(few, dsn, 1, 3)
+                with contextlib.closing(open_store(dsn, make=False)) as store:
+                    for table in ['loaded'] + [table for table, _ in ENTRIES.values()] + ['recording']:
+                        store.rows('DELETE FROM ' + table)
+                seen = kill_some(folder, dsn, number, random.Random(seed), 40)
+                print('%s: killed at each of %d statements, and at random moments %d times in add and %d in load, %d of them after something was kept: '
+                      'no half, no double' % (name, each, seen['add'], seen['load'], seen['amid']))
+    return 0
+
+
+# ---- figures
+
+def spent() -> Tuple[float, float]:
+    """Seconds that passed, and seconds of processors of this process and its children."""
+    own, others = resource.getrusage(resource.RUSAGE_SELF), resource.getrusage(resource.RUSAGE_CHILDREN)
+    return time.monotonic(), own.ru_utime + own.ru_stime + others.ru_utime + others.ru_stime
+
+
+def figures(folder: str, made: str, jobs: int, loads: int) -> int:
+    """What adding, finding and loading takes, in both databases."""
+    paths = sorted(str(path) for path in pathlib.Path(folder).iterdir())
+    size = sum(os.path.getsize(path) for path in paths)
+    print('%d recordings, %.0f MB; load of the machine %.1f' % (len(paths), size / 1e6, os.getloadavg()[0]))
+    found, sizes = {}, {}
+    with tempfile.TemporaryDirectory(prefix='ch10-range-') as room, contextlib.ExitStack() as held:
+        postgres = held.enter_context(server(['shared_buffers=256MB', 'max_wal_size=4GB']))
+        for name, dsn in (('SQLite', os.path.join(room, 'range.sqlite')), ('PostgreSQL', postgres)):
+            start, work = spent()
+            ch10(['catalogue', 'add', '--db', dsn, '--program', made, '--jobs', str(jobs), folder])
+            passed, used = (now - then for now, then in zip(spent(), (start, work)))
+            print('%s: added at %.0f MB/s, %.1f ms of a processor for each MB' % (name, size / 1e6 / passed, used * 1000 / (size / 1e6)))
+            print_finds(name, dsn)
+            found[name], sizes[name] = dsn, bytes_of(dsn)
+            print('%s: the catalogue has %.2f MB' % (name, sizes[name] / 1e6))
+        some = paths[:loads]
+        for name, dsn in found.items():
+            start, work = spent()
+            said = ch10(['load', '--db', dsn, '--program', made, '--jobs', str(jobs)] + some).splitlines()[-1]
+            passed, used = (now - then for now, then in zip(spent(), (start, work)))
+            entries = int(said.split(' ')[0])
+            print('%s: %d entries loaded at %.0f a second, %.2f microseconds of a processor for each beside the server; %.0f bytes for each' % (
+                name, entries, entries / passed, used * 1e6 / entries, (bytes_of(dsn) - sizes[name]) / max(entries, 1)))
+    return 0
+
+
+def bytes_of(dsn: str) -> int:
+    """How many bytes a database has on the disk."""
+    with contextlib.closing(open_store(dsn, make=False)) as store:
+        if store.engine == 'sqlite':
+            return int(store.rows('PRAGMA page_count')[0][0]) * int(store.rows('PRAGMA page_size')[0][0])
+        return int(store.rows('SELECT pg_database_size(current_database())')[0][0])
+
+
+CONDITIONS = (['--from', '2024-06-01', '--to', '2024-06-30'], ['--channel', '77'], ['--name', 'NAV 1553 12'], ['--type', '1553'], ['--verdict', 'faulty'],
+              ['--losses', '1'], ['--place', '*r01*'], ['--attribute', 'G\\TA=TAIL 07'], ['--name', 'nav*'], ['--verdict', 'strict'], ['--damaged'])
+
+
+def print_finds(name: str, dsn: str) -> None:
+    """What each two conditions take, from the question to the answer: the least time that passed, and the time of processors."""
+    store = open_store(dsn, make=False)
+    rows = store.rows('SELECT count(*) FROM channel')[0][0]
+    server_id = store.rows('SELECT pg_backend_pid()')[0][0] if store.engine == 'postgresql' else None
+    taken = []
+    for one, other in itertools.combinations(CONDITIONS, 2):
+        if one[0] == other[0]:
+            continue
+        question = find.Question(command.words_of(['catalogue', 'find'] + one + other))
+        passed, work = [], worked(server_id)
+        for _ in range(5):
+            start = time.perf_counter()
+            answer = find.found(store, question, None)
+            passed.append(time.perf_counter() - start)
+        taken.append((min(passed) * 1000, (worked(server_id) - work) * 200, ' '.join(one + other), len(answer)))
+    store.close()
+    for what, place in (('passed', 0), ('of processors', 1)):
+        taken.sort(key=lambda one: one[place])
+        print('%s: %d channel rows; %d pairs of conditions, ms that %s: %.1f at the median, %.1f at most (%s: %d)' % (
+            name, rows, len(taken), what, taken[len(taken) // 2][place], taken[-1][place], *taken[-1][2:]))
+
+
+def worked(server_id: Optional[int]) -> float:
+    """Seconds of processors of this process and of a server's."""
+    if server_id is None:
+        return time.process_time()
+    fields = pathlib.Path('/proc/%d/stat' % server_id).read_text().rsplit(')', 1)[1].split()
+    return time.process_time() + (int(fields[11]) + int(fields[12])) / os.sysconf('SC_CLK_TCK')
+
+
+def main(words: List[str]) -> int:
+    to_other_python()
+    if words == ['check']:
+        return check()
+    if len(words) in (2, 3) and words[0] == 'kills':
+        return kills(int(words[1]), int(words[2]) if len(words) == 3 else 1)
+    if words[:1] == ['figures']:
+        parser = argparse.ArgumentParser()
+        parser.add_argument('folder')
+        parser.add_argument('--program', default=os.environ.get('R10'))
+        parser.add_argument('--jobs', type=int, default=4)
+        parser.add_argument('--loads', type=int, default=200)
+        asked = parser.parse_args(words[1:])
+        return figures(asked.folder, asked.program, asked.jobs, asked.loads)
+    print(__doc__)
+    return 2
+
+
+if __name__ == '__main__':
+    try:
+        sys.exit(main(sys.argv[1:]))
+    except (Bad, Wrong) as bad:
+        print('range_trials: %s' % bad, file=sys.stderr)
+        sys.exit(1)

@@ -1,0 +1,110 @@
+#!/usr/bin/env bash
+# Tests of scripts/install.sh and scripts/deb.sh, over the builds that are kept: some twenty seconds. Status 1 where one fails.
+set -u
+here=$(cd "$(dirname "$(readlink -f "${BASH_SOURCE[0]}")")" && pwd)
+top=$(cd "$here/../.." && pwd)
+# shellcheck disable=SC2016,SC2317 source=scripts/tests/kit.sh
+. "$here/kit.sh"
+program=$("$top/scripts/quick_build.py" --current) && "$top/scripts/quick_build.py" --library --current >/dev/null || {
+    echo "NOT TRIED: an installation (no build of the program and of the library is kept)"
+    exit 0
+}
+room=$(mktemp -d)
+trap 'rm -rf "$room"' EXIT
+is() { [ "$1" = "$2" ] || { echo "    '$1' is not '$2'"; false; }; }
+says() { [[ $1 == *"$2"* ]] || { echo "    '$1' does not say '$2'"; false; }; }
+version=$(cat "$top/VERSION")
+
+check "the program has the number in VERSION" is "$("$program" --version)" "r10 $version"
+check "so has its source" is "$(sed -n 's/^const VERSION: &str = "\(.*\)";$/\1/p' "$top/crates/r10_words/src/usage.rt")" "$version"
+
+number() { sed -n "s/^#define R10_VERSION_$1 \([0-9]*\)$/\1/p" "$top/ffi/r10.h"; }
+if grep -q '^#define R10_VERSION_MAJOR' "$top/ffi/r10.h"; then
+    check "so has the header" is "$(number MAJOR).$(number MINOR).$(number PATCH)" "$version"
+fi
+
+root="$room/a root"
+"$top/scripts/install.sh" /usr "$root" >"$room/said" 2>&1
+check "it installs" is "$?" 0
+r10=$root/usr/bin/r10
+check "the program runs" is "$("$r10" <"$top/examples/first.toml")" "$(cat "$top/examples/first.expected")"
+"$r10" sim --image <"$top/examples/first.toml" >"$room/medium.img"
+check "the filters run" says "$("$root/usr/bin/ch10" summary <"$room/medium.img")" "file 0 FLT1: 272 bytes"
+check "the filters leave nothing" is "$(find "$root" -name '__pycache__' | wc -l)" 0
+
+flags() { PKG_CONFIG_PATH="$root/usr/lib/pkgconfig" PKG_CONFIG_SYSROOT_DIR="$root" pkg-config "$@" r10; }
+if command -v pkg-config >/dev/null && command -v cc >/dev/null; then
+    check "r10.pc has the version" is "$(flags --modversion)" "$version"
+    flat=$room/flat
+    ln -s "$root" "$flat"
+    cc -std=c11 -I"$flat/usr/include" -o "$room/shared" "$top/ffi/calls.c" -L"$flat/usr/lib" -lr10 &&
+        cc -std=c11 -I"$flat/usr/include" -o "$room/static" "$top/ffi/calls.c" "$flat/usr/lib/libr10.a"
+    check "a program links with either library" is "$?" 0
+    check "with the shared one it prints what it is to" is "$(LD_LIBRARY_PATH="$flat/usr/lib" "$room/shared")" "$(cat "$top/ffi/calls.expected")"
+    check "with the static one too" is "$("$room/static")" "$(cat "$top/ffi/calls.expected")"
+    check "the shared one gives the calls of the header and no other name" is \
+        "$(nm -D --defined-only "$flat/usr/lib/libr10.so" | sed 's/.* //' | sort | tr '\n' ' ')" \
+        "$(sed -n 's/^\(uint32_t\|void\) \(r10_[a-z0-9_]*\)(.*/\2/p' "$top/ffi/r10.h" | sort | tr '\n' ' ')"
+else
+    echo "NOT TRIED: linking (no pkg-config or cc here)"
+fi
+
+pages=$(find "$root/usr/share/man" -type f | sort)
+check "a page for each command" is "$(find "$root/usr/share/man/man1" -name 'r10-*' -printf '%f\n' | sort | tr '\n' ' ')" \
+    "$("$r10" --help | sed -n '/^Commands:/,/^$/s/^  \([a-z]*\) .*/r10-\1.1/p' | grep -v help | sort | tr '\n' ' ')"
+if command -v groff >/dev/null; then
+    while IFS= read -r page; do
+        check "$(basename "$page") formats without a warning" is "$(groff -man -Tutf8 -ww -z "$page" 2>&1)" ""
+    done <<<"$pages"
+fi
+words() { groff -man -Tascii -P-cbou "$1" | tr -s ' \n' '  '; }
+if command -v groff >/dev/null; then
+    check "the page of play says what its help says" says "$(words "$root/usr/share/man/man1/r10-play.1")" "$("$r10" play --help | grep -o 'The file must be strict' | head -n 1)"
+    check "the page of the header has its calls" says "$(words "$root/usr/share/man/man3/r10.h.3")" "r10_commit(r10 *recorder)"
+fi
+
+complete_words() {
+    bash -c '. "$1"; shift; COMP_WORDS=("$@"); COMP_CWORD=$(($# - 1)); _"$1"; echo "${COMPREPLY[*]}"' - "$root/usr/share/bash-completion/completions/$1" "$@"
+}
+check "bash completes a command" is "$(complete_words r10 ch)" "check"
+check "bash completes an option" is "$(complete_words r10 play --f)" "--file --from"
+check "bash completes a command of the filters" is "$(complete_words ch10 sum)" "summary"
+if command -v zsh >/dev/null; then
+    check "zsh reads its completions" zsh -n "$root/usr/share/zsh/site-functions/_r10"
+else
+    echo "NOT TRIED: completions in zsh (no zsh here)"
+fi
+
+touch "$root/usr/bin/other"
+printf '/usr/share/r10/gone\n' >>"$root/usr/share/r10/installed"
+sort -o "$root/usr/share/r10/installed" "$root/usr/share/r10/installed"
+touch "$root/usr/share/r10/gone"
+"$top/scripts/install.sh" /usr "$root" >/dev/null 2>&1
+check "a file that only an earlier version had goes" test ! -e "$root/usr/share/r10/gone"
+"$top/scripts/install.sh" --uninstall /usr "$root" >/dev/null
+check "it is removed by its list, and nothing else" is "$(find "$root" -type f -o -type l)" "$root/usr/bin/other"
+check "no folder of its own is left" is "$(find "$root" -type d -name '*r10*' | wc -l)" 0
+"$top/scripts/install.sh" --uninstall /usr "$root" >"$room/said" 2>&1
+check "twice is an error of one line" is "$? $(wc -l <"$room/said")" "1 1"
+"$top/scripts/install.sh" relative >"$room/said" 2>&1
+check "a prefix that does not begin with / is one line, status 2" is "$? $(wc -l <"$room/said")" "2 1"
+if [ "$(id -u)" = 0 ]; then
+    mkdir "$room/shut"
+    chmod 755 "$room" "$room/shut"
+    setpriv --reuid=65534 --regid=65534 --clear-groups "$top/scripts/install.sh" /usr "$room/shut" >"$room/said" 2>&1
+    check "without leave to write it is one line, status 3" is "$? $(wc -l <"$room/said")" "3 1"
+fi
+
+if command -v dpkg-deb >/dev/null; then
+    package=$("$top/scripts/deb.sh" "$room" 2>/dev/null)
+    check "a Debian package is made" test -f "$package"
+    check "it installs in a root of its own, runs there and goes" "$top/scripts/deb.sh" try "$package"
+    cp -r "$room" "$room.broken"
+    dpkg-deb -R "$package" "$room.broken/whole" && echo 'echo no' >"$room.broken/whole/usr/bin/r10" &&
+        dpkg-deb --root-owner-group -b "$room.broken/whole" "$room.broken/broken.deb" >/dev/null
+    check "a package whose program is another is refused" bash -c '! "$1" try "$2" >/dev/null 2>&1' - "$top/scripts/deb.sh" "$room.broken/broken.deb"
+    rm -rf "$room.broken"
+else
+    echo "NOT TRIED: a Debian package (no dpkg-deb here)"
+fi
+exit "$failed"

@@ -1,0 +1,44 @@
+#!/usr/bin/env bash
+# Tests of the program's words, over the build that is kept: its cases, its help, and the lines that help shows. Some ten seconds; status 1 where one fails.
+set -u
+here=$(cd "$(dirname "$(readlink -f "${BASH_SOURCE[0]}")")" && pwd)
+top=$(cd "$here/../.." && pwd)
+# shellcheck disable=SC2016,SC2317 source=scripts/tests/kit.sh
+. "$here/kit.sh"
+program=${1:-$("$top/scripts/quick_build.py" --current)} || {
+    echo "NOT TRIED: the program's words (no build of the program is kept)"
+    exit 0
+}
+room=$(mktemp -d)
+trap 'rm -rf "$room"' EXIT
+is() { [ "$1" = "$2" ] || { echo "    '$1' is not '$2'"; false; }; }
+says() { [[ $1 == *"$2"* ]] || { echo "    '$1' does not say '$2'"; false; }; }
+
+check "each case of r10_rows is answered as it stands there" "$top/scripts/run_rows.py" "$program"
+
+# The lines that help shows run as they stand, in the folder of the sources; what they write goes to a copy of it.
+mkdir "$room/bin" "$room/sources"
+ln -s "$program" "$room/bin/r10"
+cp -r "$top/examples" "$top/scripts" "$room/sources"
+lines() {
+    "$program" "$@" --help | sed -n '/ \\$/{N;N;s/\\\n//;s/\n//;}; s/^  \(r10 .*[<>|].*\|tail .*\|echo .*\)$/\1/p'
+}
+for command in "" sim run format files play check; do
+    # shellcheck disable=SC2086
+    while IFS= read -r line; do
+        (cd "$room/sources" && PATH="$room/bin:$PATH" bash -c "$line" >"$room/out" 2>"$room/errors")
+        status=$?
+        # (grep finds no refused step, and says so by its status)
+        [[ $line != *"grep ' refused '"* ]] || status=$((status - 1))
+        check "help of '$command': $line" is "$status$(cat "$room/errors")" "0"
+    done < <(lines $command)
+done
+check "there are such lines for each command" test "$(for command in "" sim run format files play check; do
+    # shellcheck disable=SC2086
+    lines $command | grep -c .
+done | grep -c '^0$')" = 0
+
+sed 's/name = "FLT1"/name = "FLT 1"/' "$top/examples/first.toml" >"$room/refused.toml"
+check "a refused step with --image is silent, status 0" is "$("$program" sim --image <"$room/refused.toml" 2>&1 >/dev/null; echo $?)" "0"
+check "the line that help shows finds it" says "$("$program" sim <"$room/refused.toml" | grep ' refused ')" "3 refused 15 BadName"
+exit "$failed"
