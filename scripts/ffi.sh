@@ -3,12 +3,13 @@
 #
 #     scripts/ffi.sh build             # makes crates/r10_ffi/out/libr10_ffi.a, proved, where it is not there or a source has changed
 #     scripts/ffi.sh build --shared    # and of it, beside it, libr10.a and libr10.so, which show the names of r10.h and no others
-#     scripts/ffi.sh install PREFIX    # puts header, libraries and r10.pc under a folder, as /usr/local
+#     scripts/ffi.sh install PREFIX [DESTDIR]   # puts headers, the kept library (static and shared) and r10.pc below DESTDIR/PREFIX: scripts/install.sh calls it
 #     scripts/ffi.sh examples FOLDER   # compiles ffi/example.c and ffi/example.rs over it, into FOLDER/example_c and FOLDER/example_rs
 #     scripts/ffi.sh random CALLS [SEED]   # random calls under the address sanitizer, a tenth of them under valgrind, and scripts of 1,000 beside `r10 sim`
 #     scripts/ffi.sh check             # runs both, ffi/calls.c, which calls each function, also as C++, and ffi/flight.c, and compares what they print with ffi/*.expected
 #     scripts/ffi.sh kept              # prints where the library is: the proved one if it is there, else one that is not proved
-#     scripts/ffi.sh behind-ci         # `rt ci`, and after it `check` over the libraries that it made: the gate
+#     scripts/ffi.sh proved            # prints where the proved library is; status 1 if it is not there, or a source has changed
+#     scripts/ffi.sh behind-ci         # `rt ci`; after it `check` over its libraries, an installation of what was proved, and sessions: the gate
 #
 # With --quick as the word after it, `build`, `examples` and `check` take a library that is not proved: it is made once, in one to three minutes, and kept
 # (scripts/quick_build.py). `build` prints where the library is.
@@ -22,6 +23,7 @@ top=$(cd "$(dirname "$(readlink -f "${BASH_SOURCE[0]}")")/.." && pwd)
 crate=$top/crates/r10_ffi
 library=${R10_FFI_LIBRARY:-$crate/out/libr10_ffi.a}
 version=$(cat "$top/VERSION")
+major=${version%%.*}
 
 give_up() {
     echo "ffi: $1" >&2
@@ -98,18 +100,19 @@ share() {
     ld -r -o "$room/all.o" --whole-archive "$library" --no-whole-archive "${below[@]}" &&
         objcopy --keep-global-symbols="$names" "$room/all.o" "$room/r10.o" &&
         rm -f "$1/libr10.a" && ar rcs "$1/libr10.a" "$room/r10.o" &&
-        cc -shared -Wl,-soname,libr10.so.1 -Wl,--no-undefined -o "$1/libr10.so.$version" "$room/r10.o" &&
-        ln -sf "libr10.so.$version" "$1/libr10.so.1" && ln -sf libr10.so.1 "$1/libr10.so" || give_up "libr10.a and libr10.so were not made"
+        cc -shared -Wl,-soname,"libr10.so.$major" -Wl,--no-undefined -Wl,-Bsymbolic -Wl,-z,now -o "$1/libr10.so.$version" "$room/r10.o" &&
+        ln -sf "libr10.so.$version" "$1/libr10.so.$major" && ln -sf "libr10.so.$major" "$1/libr10.so" || give_up "libr10.a and libr10.so were not made"
     nm -D --defined-only "$1/libr10.so" | awk '{ print $3 }' | sort >"$room/shown"
     nm -g --defined-only "$1/libr10.a" | awk 'NF == 3 { print $3 }' | sort >"$room/shown_static"
     sort "$names" | diff - "$room/shown" >&2 && sort "$names" | diff - "$room/shown_static" >&2 || give_up "the libraries do not show the names of ffi/r10.h and no others"
 }
 
-install_under() {
-    mkdir -p "$1/include" "$1/lib/pkgconfig" || give_up "can't make folders in $1"
-    share "$1/lib"
-    cp "$top/ffi/r10.h" "$top/ffi/r10_posix.h" "$1/include/" || give_up "can't write into $1"
-    sed "s|@PREFIX@|$(cd "$1" && pwd)|; s|@VERSION@|$version|" "$top/ffi/r10.pc.in" >"$1/lib/pkgconfig/r10.pc" || give_up "can't write into $1"
+# Headers, libraries and r10.pc, for a prefix, in the folder that stands for it.
+install_for() {
+    mkdir -p "$2/include" "$2/lib/pkgconfig" || give_up "can't make folders in $2"
+    share "$2/lib"
+    install -m 644 "$top/ffi/r10.h" "$top/ffi/r10_posix.h" "$2/include" || give_up "can't write into $2"
+    sed "s|@PREFIX@|$1|; s|@VERSION@|$version|" "$top/ffi/r10.pc.in" >"$2/lib/pkgconfig/r10.pc" || give_up "can't write into $2"
 }
 
 # A program in C over the library; what follows are words for the compiler.
@@ -189,7 +192,7 @@ check() {
         "$room/random" 1 50000 >"$room/random.out" || give_up "random: status $?"
         beside_sim 1 5
         echo "ffi: the programs in C print what they are to"
-        install_under "$room/installed"
+        install_for "$room/installed" "$room/installed"
         if has g++ calls.c; then
             # as C++, over the shared library, found by pkg-config where that is there
             local words="-I$room/installed/include -L$room/installed/lib -lr10"
@@ -230,6 +233,22 @@ but_the_last() {
     printf '%s\n' "$last" >"$1"
 }
 
+# The program and the library that `rt ci` proved are installed and packaged, and tried where they were put.
+installed() {
+    local program=$top/crates/r10_cli/out/r10_cli
+    if ! [ -x "$program" ] || ! is_proved; then
+        echo "ffi: NOT TRIED: an installation: rt ci left no program or library"
+        return
+    fi
+    R10_BUILDS=$room/builds "$top/scripts/quick_build.py" --proved "$program" || return 1
+    R10_BUILDS=$room/builds "$top/scripts/tests/install.sh" >"$room/install.out" 2>&1 || {
+        grep -v '^ok: ' "$room/install.out" >&2
+        return 1
+    }
+    grep '^NOT TRIED' "$room/install.out"
+    echo "ffi: installation and package of what was proved: $(grep -c '^ok: ' "$room/install.out") checks pass"
+}
+
 # The run's last line and status are those of `rt ci`. A program that does not print what it is to is one more that failed, and so are
 # sessions of the program that do not end, or whose accounts do not add up.
 behind_ci() {
@@ -245,14 +264,10 @@ behind_ci() {
             else
                 check
             fi
-        ) || {
-            status=1
-            last=$(sed 's/^\([0-9]* passed, \)[0-9]* failed/\11 failed/' "$room/last")
-        }
-        "$top/scripts/hammer.py" --gate || {
-            status=1
-            last=$(sed 's/^\([0-9]* passed, \)[0-9]* failed/\11 failed/' "$room/last")
-        }
+        ) || status=1
+        installed || status=1
+        "$top/scripts/hammer.py" --gate || status=1
+        [ "$status" = 0 ] || last=$(sed 's/^\([0-9]* passed, \)[0-9]* failed/\11 failed/' "$room/last")
     fi
     printf '%s\n' "$last"
     return "$status"
@@ -274,10 +289,17 @@ kept)
     build
     echo "$library"
     ;;
+proved)
+    is_proved && echo "$library"
+    ;;
 install)
-    [ -n "${2:-}" ] || give_up "under which folder? scripts/ffi.sh install PREFIX"
+    [[ ${2:-} = /* ]] || give_up "below which folder? scripts/ffi.sh install /PREFIX [DESTDIR]"
+    if ! is_proved && [ -z "${R10_FFI_LIBRARY:-}" ]; then
+        quick=yes
+        echo "(the library that is installed is not proved: scripts/ffi.sh build makes the proved one)" >&2
+    fi
     build
-    install_under "$2"
+    install_for "${2%/}" "${3:-}${2%/}"
     ;;
 examples)
     [ -d "${2:-}" ] || give_up "into which folder? scripts/ffi.sh examples FOLDER"
@@ -303,7 +325,7 @@ behind-ci)
     behind_ci
     ;;
 *)
-    sed -n '2,15s/^# \{0,1\}//p' "${BASH_SOURCE[0]}" >&2
+    sed -n '2,16s/^# \{0,1\}//p' "${BASH_SOURCE[0]}" >&2
     exit 2
     ;;
 esac

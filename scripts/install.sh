@@ -64,54 +64,23 @@ fi
 
 may_write
 version=$(cat "$top/VERSION")
-major=${version%%.*}
-cc=$(command -v cc) || give_up 3 "there is no cc to link the shared library with"
+command -v cc >/dev/null || give_up 3 "there is no cc to link the shared library with"
 program=$("$top/scripts/quick_build.py") || exit 3
-library=$("$top/scripts/ffi.sh" kept) || exit 3
 case $program in
 */proved-*) ;;
 *) echo "(the program that is installed is not proved: scripts/build.sh makes the proved one)" >&2 ;;
 esac
-case $library in
-*/builds/*) echo "(the library that is installed is not proved: scripts/ffi.sh build makes the proved one)" >&2 ;;
-esac
-rt=$(command -v rt) || give_up 3 "there is no rt: the library stands on a part of the toolchain"
-kit=$(dirname "$(dirname "$(readlink -f "$rt")")")
 
 # All is made whole in a folder of its own first.
 made=$(mktemp -d)
 trap 'rm -rf "$made"' EXIT
 whole=$made/root
 share=$whole$prefix/share
-lib=$whole$prefix/lib
-mkdir -p "$whole$prefix/bin" "$lib/pkgconfig" "$whole$prefix/include" "$share/r10/scripts" "$share/doc/r10" "$share/man" \
+mkdir -p "$whole$prefix/bin" "$share/r10/scripts" "$share/doc/r10" "$share/man" \
     "$share/bash-completion/completions" "$share/zsh/site-functions"
 
 install -m 755 "$program" "$whole$prefix/bin/r10"
-install -m 644 "$top"/ffi/*.h "$whole$prefix/include"
-
-# The static library has in it what it stands on of the toolchain, so that a program needs it alone.
-cp "$library" "$made/own.a"
-cp "$kit/c/liblibc_c.a" "$made/kit.a"
-printf 'create %s\naddlib %s\naddlib %s\nsave\nend\n' libr10.a own.a kit.a | (cd "$made" && ar -M) || give_up 3 "the static library was not made"
-install -m 644 "$made/libr10.a" "$lib/libr10.a"
-printf '{ global: r10_*; local: *; };\n' >"$made/exports"
-"$cc" -shared -o "$made/libr10.so" -Wl,-soname,"libr10.so.$major" -Wl,--version-script="$made/exports" -Wl,-Bsymbolic -Wl,-z,defs -Wl,-z,now \
-    -Wl,--whole-archive "$made/own.a" -Wl,--no-whole-archive "$made/kit.a" || give_up 3 "the shared library was not made"
-install -m 644 "$made/libr10.so" "$lib/libr10.so.$version"
-ln -s "libr10.so.$version" "$lib/libr10.so.$major"
-ln -s "libr10.so.$major" "$lib/libr10.so"
-cat >"$lib/pkgconfig/r10.pc" <<PC
-prefix=$prefix
-libdir=\${prefix}/lib
-includedir=\${prefix}/include
-
-Name: r10
-Description: A flight recorder that writes IRIG 106 Chapter 10 files
-Version: $version
-Libs: -L\${libdir} -lr10
-Cflags: -I\${includedir}
-PC
+"$top/scripts/ffi.sh" install "$prefix" "$whole" || exit 3
 
 # The filters, as a package beside their start where there is one.
 for file in "$top"/scripts/ch10.py "$top"/scripts/ch10_picture.py "$top"/scripts/ch10_survey.py "$top"/scripts/read_chapter10.py; do

@@ -5,7 +5,7 @@ here=$(cd "$(dirname "$(readlink -f "${BASH_SOURCE[0]}")")" && pwd)
 top=$(cd "$here/../.." && pwd)
 # shellcheck disable=SC2016,SC2317 source=scripts/tests/kit.sh
 . "$here/kit.sh"
-program=$("$top/scripts/quick_build.py" --current) && "$top/scripts/quick_build.py" --library --current >/dev/null || {
+program=$("$top/scripts/quick_build.py" --current) && { "$top/scripts/ffi.sh" proved || "$top/scripts/quick_build.py" --library --current; } >/dev/null || {
     echo "NOT TRIED: an installation (no build of the program and of the library is kept)"
     exit 0
 }
