@@ -26,8 +26,7 @@ struct front {
 
 static size_t now, most, written;
 
-static void *give(size_t size, size_t align)
-{
+static void *give(size_t size, size_t align) {
     size_t room = sizeof(struct front) + align;
     char *piece = size < SIZE_MAX - room ? __libc_malloc(size + room) : NULL;
     if (piece == NULL) {
@@ -44,13 +43,9 @@ static void *give(size_t size, size_t align)
     return (void *)at;
 }
 
-void *malloc(size_t size)
-{
-    return give(size, 16);
-}
+void *malloc(size_t size) { return give(size, 16); }
 
-void free(void *given)
-{
+void free(void *given) {
     if (given == NULL)
         return;
     struct front *front = (struct front *)given - 1;
@@ -58,8 +53,7 @@ void free(void *given)
     __libc_free(front->piece);
 }
 
-void *calloc(size_t number, size_t size)
-{
+void *calloc(size_t number, size_t size) {
     size_t all;
     if (__builtin_mul_overflow(number, size, &all)) {
         errno = ENOMEM;
@@ -72,8 +66,7 @@ void *calloc(size_t number, size_t size)
 }
 
 /* Old and new are counted one behind the other, as where the C library finds room behind the old. */
-void *realloc(void *given, size_t size)
-{
+void *realloc(void *given, size_t size) {
     if (given == NULL)
         return give(size, 16);
     size_t old = ((struct front *)given - 1)->size;
@@ -87,24 +80,16 @@ void *realloc(void *given, size_t size)
     return other;
 }
 
-int posix_memalign(void **given, size_t align, size_t size)
-{
+int posix_memalign(void **given, size_t align, size_t size) {
     *given = give(size, align < 16 ? 16 : align);
     return *given == NULL ? ENOMEM : 0;
 }
 
-void *aligned_alloc(size_t align, size_t size)
-{
-    return give(size, align < 16 ? 16 : align);
-}
+void *aligned_alloc(size_t align, size_t size) { return give(size, align < 16 ? 16 : align); }
 
-void *memalign(size_t align, size_t size)
-{
-    return aligned_alloc(align, size);
-}
+void *memalign(size_t align, size_t size) { return aligned_alloc(align, size); }
 
-static void tell(int file)
-{
+static void tell(int file) {
     if (file != 1)
         return;
     char line[96];
@@ -113,26 +98,20 @@ static void tell(int file)
     most = now;
 }
 
-static ssize_t told(int file, ssize_t done)
-{
+static ssize_t told(int file, ssize_t done) {
     if (file == 1 && done > 0)
         written += (size_t)done;
     return done;
 }
 
-ssize_t write(int file, const void *bytes, size_t size)
-{
+ssize_t write(int file, const void *bytes, size_t size) {
     tell(file);
     return told(file, syscall(SYS_write, file, bytes, size));
 }
 
-ssize_t writev(int file, const struct iovec *parts, int number)
-{
+ssize_t writev(int file, const struct iovec *parts, int number) {
     tell(file);
     return told(file, syscall(SYS_writev, file, parts, number));
 }
 
-ssize_t __write(int file, const void *bytes, size_t size)
-{
-    return write(file, bytes, size);
-}
+ssize_t __write(int file, const void *bytes, size_t size) { return write(file, bytes, size); }

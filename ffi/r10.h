@@ -67,40 +67,40 @@ extern "C" {
 
 enum {
     R10_OK = 0,
-    R10_FAILED = 1,         /* the recorder met a failure of the medium before */
-    R10_NOT_MOUNTED = 2,    /* nothing is mounted */
-    R10_MOUNTED = 3,        /* something is mounted already */
-    R10_BUSY = 4,           /* a file is being recorded */
-    R10_NOT_RECORDING = 5,  /* no file is being recorded */
-    R10_NO_CHANNEL = 6,     /* no channel has this ID */
-    R10_WRONG_KIND = 7,     /* the message is not of the channel's kind */
-    R10_BAD_MESSAGE = 8,    /* a field is out of its range */
-    R10_TOO_LONG = 9,       /* the message or the setup text is too long */
-    R10_COUNT_RANGE = 10,   /* a count from 2^48 on */
-    R10_COUNT_BACK = 11,    /* a count below the last one */
-    R10_OVERFLOW = 12,      /* the channel's lane holds its capacity */
-    R10_BAD_CIVIL = 13,     /* no such date or time */
-    R10_NO_TIME = 14,       /* no tick yet */
-    R10_BAD_NAME = 15,      /* not 1 to 56 of letters, digits, '.', '_', '-' */
-    R10_NAME_TAKEN = 16,    /* a file has this name */
-    R10_BAD_EVENT = 17,     /* an event number over 4095 */
-    R10_UNSEALED = 18,      /* the last file is not closed: r10_seal */
-    R10_NO_FILE = 19,       /* no file of this number; for r10_seal: no file that is not closed */
-    R10_STALE = 20,         /* the cursor is older than an erase */
-    R10_NO_CURSOR = 21,     /* no open cursor of this number */
-    R10_UNREAD = 22,        /* the cursor's queue is not empty */
+    R10_FAILED = 1,        /* the recorder met a failure of the medium before */
+    R10_NOT_MOUNTED = 2,   /* nothing is mounted */
+    R10_MOUNTED = 3,       /* something is mounted already */
+    R10_BUSY = 4,          /* a file is being recorded */
+    R10_NOT_RECORDING = 5, /* no file is being recorded */
+    R10_NO_CHANNEL = 6,    /* no channel has this ID */
+    R10_WRONG_KIND = 7,    /* the message is not of the channel's kind */
+    R10_BAD_MESSAGE = 8,   /* a field is out of its range */
+    R10_TOO_LONG = 9,      /* the message or the setup text is too long */
+    R10_COUNT_RANGE = 10,  /* a count from 2^48 on */
+    R10_COUNT_BACK = 11,   /* a count below the last one */
+    R10_OVERFLOW = 12,     /* the channel's lane holds its capacity */
+    R10_BAD_CIVIL = 13,    /* no such date or time */
+    R10_NO_TIME = 14,      /* no tick yet */
+    R10_BAD_NAME = 15,     /* not 1 to 56 of letters, digits, '.', '_', '-' */
+    R10_NAME_TAKEN = 16,   /* a file has this name */
+    R10_BAD_EVENT = 17,    /* an event number over 4095 */
+    R10_UNSEALED = 18,     /* the last file is not closed: r10_seal */
+    R10_NO_FILE = 19,      /* no file of this number; for r10_seal: no file that is not closed */
+    R10_STALE = 20,        /* the cursor is older than an erase */
+    R10_NO_CURSOR = 21,    /* no open cursor of this number */
+    R10_UNREAD = 22,       /* the cursor's queue is not empty */
     R10_DIRECTORY_FULL = 23,
     R10_MEDIUM_FULL = 25,
     R10_BAD_DIRECTORY = 26,
-    R10_BAD_FILE = 27,      /* the file is not one that this recorder wrote, or does not fit its directory entry */
-    R10_MEDIUM = 28,        /* the medium failed in this call: the program said so (r10_disk_failed), or memory for one operation more was refused */
-    R10_NO_MEMORY = 30,     /* memory was refused */
-    R10_SCRIPT = 40,        /* the script can't be taken */
-    R10_BLOCKS = 41,        /* the region has another number of blocks than the script says */
-    R10_ROOM = 42,          /* less memory was lent than the call needs */
-    R10_PLACE = 43,         /* a list has no such place */
-    R10_CLOSED = 44,        /* the handle is not open */
-    R10_OPEN = 45           /* the handle is open already */
+    R10_BAD_FILE = 27,  /* the file is not one that this recorder wrote, or does not fit its directory entry */
+    R10_MEDIUM = 28,    /* the medium failed in this call: the program said so (r10_disk_failed), or memory for one operation more was refused */
+    R10_NO_MEMORY = 30, /* memory was refused */
+    R10_SCRIPT = 40,    /* the script can't be taken */
+    R10_BLOCKS = 41,    /* the region has another number of blocks than the script says */
+    R10_ROOM = 42,      /* less memory was lent than the call needs */
+    R10_PLACE = 43,     /* a list has no such place */
+    R10_CLOSED = 44,    /* the handle is not open */
+    R10_OPEN = 45       /* the handle is open already */
 };
 
 /* ---- what is lent and given */
@@ -112,10 +112,15 @@ typedef struct r10 {
 } r10;
 
 /* So many blocks of memory, 512 bytes each, side by side: a file or device that is mapped (MAP_PRIVATE), or plain memory. */
-typedef struct r10_region { void *at; size_t blocks; } r10_region;
+typedef struct r10_region {
+    void *at;
+    size_t blocks;
+} r10_region;
 
 /* A civil time: years 1 to 3999, hundredths of a second, no leap second. */
-typedef struct r10_civil { uint16_t year, month, day, hour, minute, second, centi; } r10_civil;
+typedef struct r10_civil {
+    uint16_t year, month, day, hour, minute, second, centi;
+} r10_civil;
 
 /* The messages' kinds in r10_entry. */
 enum { R10_UART = 1, R10_1553 = 2, R10_ARINC = 3, R10_DISCRETE = 4, R10_MESSAGE = 5, R10_TIME = 6, R10_EVENT = 7 };
@@ -123,45 +128,45 @@ enum { R10_UART = 1, R10_1553 = 2, R10_ARINC = 3, R10_DISCRETE = 4, R10_MESSAGE 
 /* An entry without its bytes or words. What its kind does not have is 0. */
 typedef struct r10_entry {
     uint64_t count;
-    uint64_t lost;              /* how many messages before it on its channel were refused for an overflow; 0 where the file doesn't tell how many */
-    size_t length;              /* how many bytes (UART, message) or words (1553) it has */
-    uint32_t word;              /* ARINC: the word; discrete: the states */
+    uint64_t lost; /* how many messages before it on its channel were refused for an overflow; 0 where the file doesn't tell how many */
+    size_t length; /* how many bytes (UART, message) or words (1553) it has */
+    uint32_t word; /* ARINC: the word; discrete: the states */
     uint16_t channel;
-    uint16_t sub;               /* UART, message: the subchannel */
-    uint16_t status, gap_times; /* 1553: block status, gap times word */
-    uint16_t number, occurrence; /* event: its number, and how many of this number stand earlier */
+    uint16_t sub;                                           /* UART, message: the subchannel */
+    uint16_t status, gap_times;                             /* 1553: block status, gap times word */
+    uint16_t number, occurrence;                            /* event: its number, and how many of this number stand earlier */
     uint16_t year, month, day, hour, minute, second, centi; /* time */
     uint8_t kind;
-    uint8_t bus;                /* ARINC */
-    bool gap;                   /* at least one message before it on its channel was refused for an overflow */
-    bool parity;                /* UART, ARINC */
-    bool format;                /* ARINC, message */
-    bool data_error;            /* message */
-    bool high;                  /* ARINC: a high speed bus */
+    uint8_t bus;     /* ARINC */
+    bool gap;        /* at least one message before it on its channel was refused for an overflow */
+    bool parity;     /* UART, ARINC */
+    bool format;     /* ARINC, message */
+    bool data_error; /* message */
+    bool high;       /* ARINC: a high speed bus */
 } r10_entry;
 
 typedef struct r10_file_info {
-    uint64_t size;              /* the bytes that the medium shows of it */
-    uint64_t blocks;            /* the blocks that hold these bytes */
-    size_t name_length;         /* at most 56 */
+    uint64_t size;      /* the bytes that the medium shows of it */
+    uint64_t blocks;    /* the blocks that hold these bytes */
+    size_t name_length; /* at most 56 */
     bool closed;
 } r10_file_info;
 
 enum { R10_MODE_UNMOUNTED = 0, R10_MODE_IDLE = 1, R10_MODE_RECORDING = 2, R10_MODE_FAILED = 3 };
 
 typedef struct r10_status_info {
-    uint64_t tick;              /* the count of the last tick; 0 where ticked is false */
-    uint64_t free;              /* bytes: what the open file's area has left, or the next file's area; 0 where nothing is mounted or the recorder failed */
-    size_t files;               /* 0 likewise */
-    size_t channels;            /* of the settings */
+    uint64_t tick;   /* the count of the last tick; 0 where ticked is false */
+    uint64_t free;   /* bytes: what the open file's area has left, or the next file's area; 0 where nothing is mounted or the recorder failed */
+    size_t files;    /* 0 likewise */
+    size_t channels; /* of the settings */
     uint8_t mode;
     bool ticked;
 } r10_status_info;
 
 typedef struct r10_channel_info {
-    uint64_t lost;              /* messages that were refused for an overflow */
-    uint64_t erased;            /* entries that erases took; 0 where the recorder failed */
-    size_t waiting;             /* messages in its lane */
+    uint64_t lost;   /* messages that were refused for an overflow */
+    uint64_t erased; /* entries that erases took; 0 where the recorder failed */
+    size_t waiting;  /* messages in its lane */
     uint16_t channel;
 } r10_channel_info;
 
@@ -169,20 +174,20 @@ typedef struct r10_channel_info {
 enum { R10_NOTHING = 0, R10_WRITE = 1, R10_SYNC = 2 };
 
 typedef struct r10_order_info {
-    size_t block;               /* R10_WRITE: which block holds these bytes from now on */
-    uint8_t kind;               /* R10_NOTHING, R10_WRITE, or R10_SYNC: what was written so far is made durable */
+    size_t block; /* R10_WRITE: which block holds these bytes from now on */
+    uint8_t kind; /* R10_NOTHING, R10_WRITE, or R10_SYNC: what was written so far is made durable */
 } r10_order_info;
 
 typedef struct r10_run_info {
-    size_t block;               /* R10_WRITE: the first block of the run */
-    size_t blocks;              /* how many blocks it has, side by side */
-    uint8_t kind;               /* as in r10_order_info */
+    size_t block;  /* R10_WRITE: the first block of the run */
+    size_t blocks; /* how many blocks it has, side by side */
+    uint8_t kind;  /* as in r10_order_info */
 } r10_run_info;
 
 typedef struct r10_queue_info {
-    size_t waiting;             /* the operations that wait in the ring in hand */
-    size_t places;              /* the places that it has */
-    size_t rings;               /* the further rings that wait, each of 64 to 16,384 places; 0 where the first was enough */
+    size_t waiting; /* the operations that wait in the ring in hand */
+    size_t places;  /* the places that it has */
+    size_t rings;   /* the further rings that wait, each of 64 to 16,384 places; 0 where the first was enough */
 } r10_queue_info;
 
 /* ---- a medium and a recorder over it
@@ -306,8 +311,8 @@ uint32_t r10_close_cursor(r10 *recorder, size_t cursor);
 
 /* The first shown entry of a channel with at least this count, and its number on the channel from 0. R10_NOT_MOUNTED, R10_COUNT_RANGE,
  * R10_NO_FILE, R10_BAD_FILE, R10_MEDIUM, R10_ROOM as r10_next. */
-uint32_t r10_find(r10 *recorder, size_t file, uint16_t channel, uint64_t count, bool *there, size_t *number, r10_entry *entry, uint8_t *bytes,
-                  size_t byte_room, uint16_t *words, size_t word_room);
+uint32_t r10_find(r10 *recorder, size_t file, uint16_t channel, uint64_t count, bool *there, size_t *number, r10_entry *entry, uint8_t *bytes, size_t byte_room,
+                  uint16_t *words, size_t word_room);
 
 /* The count at a civil time, by the last shown time that is not later. R10_NOT_MOUNTED, R10_BAD_CIVIL, R10_NO_FILE, R10_BAD_FILE, R10_MEDIUM. */
 uint32_t r10_count_at(r10 *recorder, size_t file, const r10_civil *civil, bool *there, uint64_t *count);

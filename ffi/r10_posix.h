@@ -35,6 +35,7 @@ typedef struct r10_disk {
     uint64_t operations; /* the runs and syncs that were done */
     uint64_t blocks;     /* the blocks that were written */
     uint64_t kept;       /* the blocks that were written since pages were given back */
+    bool failed;         /* a write or a sync failed: nothing more is done on it until it is opened again */
     uint8_t bytes[512 * R10_RUN_BLOCKS];
 } r10_disk;
 
@@ -69,6 +70,7 @@ static inline int r10_disk_drop(int file, int answer) {
  * it, EINVAL where it has fewer blocks. */
 static inline int r10_disk_open(r10_disk *disk, const char *path, size_t blocks) {
     disk->operations = disk->blocks = disk->kept = 0;
+    disk->failed = false;
     disk->file = open(path, O_RDWR | O_CLOEXEC);
     if (disk->file < 0)
         return -1;
@@ -104,9 +106,21 @@ static inline int r10_disk_give_back(r10_disk *disk) {
     return madvise(disk->region.at, disk->region.blocks * 512, MADV_DONTNEED);
 }
 
-/* Does on the disk what waits. Then what the last call answered is durable, where it answers so. -1 where the disk failed: the recorder was told. */
+/* The disk failed: the recorder's next call that writes is refused R10_MEDIUM. */
+static inline int r10_disk_gave_up(r10_disk *disk, r10 *recorder) {
+    disk->failed = true;
+    r10_disk_failed(recorder);
+    return -1;
+}
+
+/* Does on the disk what waits. After a 0 what the last call answered is durable, where it answers so. -1 where the disk failed, now or at an earlier call: errno says
+ * why, EIO at later calls. A later operation may not be done without an earlier one, so nothing more is done then. Close both, and open the disk again. */
 static inline int r10_disk_settle(r10_disk *disk, r10 *recorder) {
     r10_run_info run;
+    if (disk->failed) {
+        errno = EIO;
+        return -1;
+    }
     for (;;) {
         uint32_t number = r10_orders(recorder, &run, disk->bytes, sizeof disk->bytes);
         if (number != R10_OK) {
@@ -116,10 +130,8 @@ static inline int r10_disk_settle(r10_disk *disk, r10 *recorder) {
         if (run.kind == R10_NOTHING)
             break;
         if (run.kind == R10_SYNC) {
-            if (fdatasync(disk->file) != 0) {
-                r10_disk_failed(recorder);
-                return -1;
-            }
+            if (fdatasync(disk->file) != 0)
+                return r10_disk_gave_up(disk, recorder);
         } else {
             size_t done = 0, count = run.blocks * 512;
             while (done < count) {
@@ -129,8 +141,7 @@ static inline int r10_disk_settle(r10_disk *disk, r10 *recorder) {
                         continue;
                     if (more == 0)
                         errno = EIO;
-                    r10_disk_failed(recorder);
-                    return -1;
+                    return r10_disk_gave_up(disk, recorder);
                 }
                 done += (size_t)more;
             }
@@ -164,9 +175,14 @@ static inline int r10_disk_sync_folder(const char *path) {
 }
 
 /* Makes a file of so many blocks, allocated whole and formatted by the script, under another name, and gives it its own only then. So a file of this name is
- * always whole. 0, or the number of a refusal, or -1 where the system failed. */
+ * always whole. 0, or the number of a refusal, or -1 where the system failed: EEXIST where there is something of this name, which stays. */
 static inline int r10_disk_make(const char *path, size_t blocks, size_t room, const void *script, size_t script_length) {
     char fresh[4096];
+    struct stat found;
+    if (lstat(path, &found) == 0) {
+        errno = EEXIST;
+        return -1;
+    }
     if (snprintf(fresh, sizeof fresh, "%s.new", path) >= (int)sizeof fresh) {
         errno = ENAMETOOLONG;
         return -1;
@@ -175,11 +191,12 @@ static inline int r10_disk_make(const char *path, size_t blocks, size_t room, co
     if (file < 0)
         return -1;
     int why = posix_fallocate(file, 0, (off_t)blocks * 512);
-    if (why != 0) {
-        errno = why;
-        return r10_disk_drop(file, -1);
-    }
     close(file);
+    if (why != 0) {
+        unlink(fresh);
+        errno = why;
+        return -1;
+    }
     r10_disk *disk = (r10_disk *)malloc(sizeof *disk);
     if (!disk)
         return -1;

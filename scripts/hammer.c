@@ -30,8 +30,7 @@ static int (*next_create)(pthread_t *, const pthread_attr_t *, void *(*)(void *)
 static int (*next_yield)(void);
 static _Thread_local unsigned long state;
 
-__attribute__((constructor)) static void begin(void)
-{
+__attribute__((constructor)) static void begin(void) {
     const char *yield = getenv("HAMMER_YIELD"), *refuse = getenv("HAMMER_REFUSE"), *rest = getenv("HAMMER_PAUSE");
     next_syscall = (long (*)(long, ...))dlsym(RTLD_NEXT, "syscall");
     next_create = (int (*)(pthread_t *, const pthread_attr_t *, void *(*)(void *), void *))dlsym(RTLD_NEXT, "pthread_create");
@@ -46,14 +45,12 @@ __attribute__((constructor)) static void begin(void)
         abort();
 }
 
-static void say(atomic_flag *flag, const char *line)
-{
+static void say(atomic_flag *flag, const char *line) {
     if (!atomic_flag_test_and_set(flag) && write(2, line, strlen(line)) < 0)
         abort();
 }
 
-static void some_yields(void)
-{
+static void some_yields(void) {
     if (!state)
         state = (seed * 2654435761u) ^ (unsigned long)&state ^ 88172645463325252u;
     state ^= state << 13;
@@ -63,8 +60,7 @@ static void some_yields(void)
         next_yield();
 }
 
-long syscall(long number, ...)
-{
+long syscall(long number, ...) {
     long a[6], result;
     int error;
     va_list more;
@@ -83,8 +79,7 @@ long syscall(long number, ...)
     return result;
 }
 
-int pthread_create(pthread_t *thread, const pthread_attr_t *attr, void *(*run)(void *), void *with)
-{
+int pthread_create(pthread_t *thread, const pthread_attr_t *attr, void *(*run)(void *), void *with) {
     unsigned long place = atomic_fetch_add(&asked, 1) + 1;
     if (first_refused <= place && place <= last_refused) {
         say(&told_refused, "hammer: a thread is refused\n");
@@ -93,8 +88,7 @@ int pthread_create(pthread_t *thread, const pthread_attr_t *attr, void *(*run)(v
     return next_create(thread, attr, run, with);
 }
 
-int sched_yield(void)
-{
+int sched_yield(void) {
     if (!pause_time || next_syscall(SYS_gettid) != getpid())
         return next_yield();
     say(&told_paused, "hammer: a yield pauses\n");

@@ -5,11 +5,12 @@
 #
 # Every shell script has to parse, and every Python script to compile; and what begins as a command does has the run bit. Then the Python scripts
 # are looked at by pyflakes (or by ruff, by the same rules), and those of the shell by shellcheck: Debian's packages are pyflakes3 and shellcheck.
+# Sources in C and Rust have the form that clang-format and rustfmt give them, by ffi/.clang-format and ffi/rustfmt.toml.
 # Status 1 where one of them finds something.
 set -u
 cd "$(dirname "${BASH_SOURCE[0]}")/.." || exit 1
 
-readonly shells=(r10 .ci/run scripts/*.sh scripts/tests/*.sh) pythons=(scripts/*.py ch10/*.py)
+readonly shells=(r10 .ci/run scripts/*.sh scripts/tests/*.sh) pythons=(scripts/*.py ch10/*.py) sources=(ffi/*.[ch] scripts/*.c bench/*.c)
 bad=0
 
 for script in "${shells[@]}"; do
@@ -31,6 +32,17 @@ if command -v shellcheck >/dev/null; then
     shellcheck --severity=warning "${shells[@]}" || bad=1
 else
     echo "lint: NOT TRIED: there is no shellcheck for the shell scripts"
+fi
+
+if command -v clang-format >/dev/null; then
+    clang-format --style=file:ffi/.clang-format --dry-run --Werror "${sources[@]}" || bad=1
+else
+    echo "lint: NOT TRIED: there is no clang-format for the sources in C"
+fi
+if command -v rustfmt >/dev/null && command -v cargo >/dev/null; then
+    (cd ffi/rust && cargo fmt --check) && (cd bench && cargo fmt --check) || bad=1
+else
+    echo "lint: NOT TRIED: there is no rustfmt for the sources in Rust"
 fi
 
 [ "$bad" = 0 ] && echo "lint: ${#pythons[@]} Python scripts and ${#shells[@]} of the shell"

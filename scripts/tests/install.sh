@@ -16,13 +16,6 @@ says() { [[ $1 == *"$2"* ]] || { echo "    '$1' does not say '$2'"; false; }; }
 version=$(cat "$top/VERSION")
 
 check "the program has the number in VERSION" is "$("$program" --version)" "r10 $version"
-check "so has its source" is "$(sed -n 's/^const VERSION: &str = "\(.*\)";$/\1/p' "$top/crates/r10_words/src/usage.rt")" "$version"
-
-number() { sed -n "s/^#define R10_VERSION_$1 \([0-9]*\)$/\1/p" "$top/ffi/r10.h"; }
-if grep -q '^#define R10_VERSION_MAJOR' "$top/ffi/r10.h"; then
-    check "so has the header" is "$(number MAJOR).$(number MINOR).$(number PATCH)" "$version"
-fi
-
 root="$room/a root"
 "$top/scripts/install.sh" /usr "$root" >"$room/said" 2>&1
 check "it installs" is "$?" 0

@@ -35,6 +35,8 @@ pub struct Disk {
     at: *mut c_void,
     length: usize,
     kept: usize,
+    /// a write or a sync failed: nothing more is done, since a later operation may not be done without an earlier one
+    failed: bool,
 }
 
 // SAFETY: the mapping is this value's own.
@@ -60,27 +62,36 @@ impl Disk {
         if at as isize == -1 {
             return Err(io::Error::last_os_error());
         }
-        Ok(Disk { file, at, length, kept: 0 })
+        Ok(Disk { file, at, length, kept: 0, failed: false })
     }
 
-    /// Makes a file of so many blocks, allocated whole and formatted by the script, under another name, and gives it its own only then.
+    /// Makes a file of so many blocks, allocated whole and formatted by the script, under another name, and gives it its own only then. What is there already
+    /// stays: `AlreadyExists`. A call that failed leaves no file.
     pub fn make(path: impl AsRef<Path>, blocks: usize, script: &str) -> io::Result<()> {
         let path = path.as_ref();
+        if path.symlink_metadata().is_ok() {
+            return Err(io::ErrorKind::AlreadyExists.into());
+        }
         let mut fresh = path.as_os_str().to_owned();
         fresh.push(".new");
-        let file = OpenOptions::new().read(true).write(true).create(true).truncate(true).open(&fresh)?;
+        let made = Disk::make_as(Path::new(&fresh), blocks, script).and_then(|()| std::fs::rename(&fresh, path));
+        if made.is_err() {
+            let _ = std::fs::remove_file(&fresh);
+        }
+        made?;
+        let folder = path.parent().filter(|it| !it.as_os_str().is_empty()).unwrap_or(Path::new("."));
+        File::open(folder)?.sync_all()
+    }
+
+    fn make_as(path: &Path, blocks: usize, script: &str) -> io::Result<()> {
+        let file = OpenOptions::new().read(true).write(true).create(true).truncate(true).open(path)?;
         let refused = unsafe { posix_fallocate(file.as_raw_fd(), 0, 512 * blocks as i64) };
         if refused != 0 {
             return Err(io::Error::from_raw_os_error(refused));
         }
         drop(file);
-        let disk = Disk::open(&fresh, blocks)?;
-        let mut recorder = Recorder::format(disk.into(), 64, script).map_err(|(error, _)| io::Error::other(error))?;
-        recorder.settle()?;
-        drop(recorder);
-        std::fs::rename(&fresh, path)?;
-        let folder = path.parent().filter(|it| !it.as_os_str().is_empty()).unwrap_or(Path::new("."));
-        File::open(folder)?.sync_all()
+        let mut recorder = Recorder::format(Disk::open(path, blocks)?.into(), 64, script).map_err(|(error, _)| io::Error::other(error))?;
+        recorder.settle()
     }
 }
 
@@ -91,8 +102,22 @@ impl Drop for Disk {
 }
 
 enum Kind {
-    Memory(Box<[u8]>),
+    Memory(Memory),
     Disk(Disk),
+}
+
+/// Blocks of plain memory. The library has a pointer to them, so no reference to them is kept here.
+struct Memory {
+    bytes: *mut [u8],
+}
+
+// SAFETY: the memory is this value's own.
+unsafe impl Send for Memory {}
+
+impl Drop for Memory {
+    fn drop(&mut self) {
+        drop(unsafe { Box::from_raw(self.bytes) });
+    }
 }
 
 /// What a recorder lies over.
@@ -104,26 +129,41 @@ pub struct Region {
 impl Region {
     /// So many blocks of plain memory, all zeros.
     pub fn memory(blocks: usize) -> Region {
-        Region { kind: Kind::Memory(vec![0; 512 * blocks].into_boxed_slice()), buffer: vec![0; RUN] }
+        let bytes = Box::into_raw(vec![0; 512 * blocks].into_boxed_slice());
+        Region { kind: Kind::Memory(Memory { bytes }), buffer: vec![0; RUN] }
     }
 
     /// What its blocks hold.
     pub fn bytes(&self) -> &[u8] {
         match &self.kind {
-            Kind::Memory(bytes) => bytes,
+            Kind::Memory(memory) => unsafe { &*memory.bytes },
             Kind::Disk(disk) => unsafe { std::slice::from_raw_parts(disk.at.cast(), disk.length) },
         }
     }
 
     pub(crate) fn lend(&mut self) -> r10_sys::r10_region {
         match &mut self.kind {
-            Kind::Memory(bytes) => r10_sys::r10_region { at: bytes.as_mut_ptr().cast(), blocks: bytes.len() / 512 },
+            Kind::Memory(memory) => r10_sys::r10_region { at: memory.bytes.cast(), blocks: memory.bytes.len() / 512 },
             Kind::Disk(disk) => r10_sys::r10_region { at: disk.at, blocks: disk.length / 512 },
         }
     }
 
     pub(crate) fn buffer(&mut self) -> &mut Vec<u8> {
         &mut self.buffer
+    }
+
+    /// `Err` where the disk failed before: nothing more may be done on it.
+    pub(crate) fn goes_on(&self) -> io::Result<()> {
+        match &self.kind {
+            Kind::Disk(disk) if disk.failed => Err(io::Error::other("the disk failed before: close the recorder, and open the disk again")),
+            _ => Ok(()),
+        }
+    }
+
+    pub(crate) fn fail(&mut self) {
+        if let Kind::Disk(disk) = &mut self.kind {
+            disk.failed = true;
+        }
     }
 
     pub(crate) fn write(&mut self, block: usize, bytes: &[u8]) -> io::Result<()> {

@@ -181,6 +181,8 @@ impl Recorder {
     }
 
     /// The next run of blocks, whose bytes come to the front of the buffer, or the next sync. A buffer has room for a block at least.
+    ///
+    /// It is for a program with a disk of its own, over [`Region::memory`]. Over a [`Disk`] call [`Recorder::settle`]: a run that is taken here is not done there.
     pub fn next_run(&mut self, bytes: &mut [u8]) -> Result<Option<Run>, Error> {
         let mut run = sys::r10_run_info::default();
         answer(unsafe { sys::r10_orders(&mut self.raw, &mut run, bytes.as_mut_ptr(), bytes.len()) })?;
@@ -191,12 +193,17 @@ impl Recorder {
         })
     }
 
-    /// Does on the disk what waits. Where the disk fails the recorder is told so. Over plain memory there is nothing to do.
+    /// Does on the disk what waits. Over plain memory there is nothing to do.
+    ///
+    /// Where the disk fails, the recorder's next call that writes is refused, and each later `settle` does nothing and fails too: close the recorder, and
+    /// open the disk again.
     pub fn settle(&mut self) -> io::Result<()> {
+        self.region.goes_on()?;
         let mut bytes = std::mem::take(self.region.buffer());
         let done = self.settle_by(&mut bytes);
         *self.region.buffer() = bytes;
         if done.is_err() {
+            self.region.fail();
             unsafe { sys::r10_disk_failed(&mut self.raw) };
         }
         done

@@ -1,0 +1,160 @@
+/* Tries r10_posix.h: a file as a recorder's disk, one that is refused, and one that fails.
+ *
+ *     disk FILE     FILE must not be there, and is removed at the end */
+#define _GNU_SOURCE
+#include <inttypes.h>
+#include <signal.h>
+#include <stdio.h>
+#include <stdlib.h>
+#include <string.h>
+#include <sys/resource.h>
+
+#include "r10.h"
+#include "r10_posix.h"
+
+enum { BLOCKS = 4096, ROOM = 16, LINE = 5, LENGTH = 1000 };
+
+static const char script[] = "blocks = 4096\ndirectory = 7\nvolume = \"VOL\"\nnodes = 100\ntime = 1\nevent = 2\n"
+                             "[[channel]]\nid = 5\nkind = \"message\"\ncapacity = 64\ncheck = 16\nbytes = 65536\nnumber = 100\n";
+
+static r10 recorder;
+static r10_disk disk, other;
+
+static void must(const char *what, uint32_t number) {
+    if (number != R10_OK) {
+        printf("%s: refused %u, %s\n", what, number, r10_strerror(number));
+        exit(1);
+    }
+}
+
+static void say(const char *what, int answer) {
+    int why = errno;
+    if (answer == 0)
+        printf("%s: done\n", what);
+    else if (answer < 0)
+        printf("%s: %s\n", what, strerror(why));
+    else
+        printf("%s: refused %d, %s\n", what, answer, r10_strerror((uint32_t)answer));
+}
+
+static uint64_t at = 1000;
+
+static void offer(unsigned count) {
+    static uint8_t bytes[LENGTH];
+    size_t moved;
+    for (unsigned n = 0; n < count; n++) {
+        at++;
+        memcpy(bytes, &at, sizeof at);
+        must("offer", r10_offer_message(&recorder, LINE, at, false, false, 0, bytes, LENGTH));
+        must("pump", r10_pump(&recorder, LINE, 1, &moved));
+    }
+}
+
+static size_t waiting(void) {
+    r10_queue_info info;
+    must("queue", r10_queue(&recorder, &info));
+    return info.waiting;
+}
+
+static void record(const char *name) {
+    const r10_civil civil = {2024, 2, 29, 12, 34, 56, 78};
+    must("mount", r10_mount(&recorder));
+    must("tick", r10_tick(&recorder, at, &civil));
+    must("start", r10_start(&recorder, name, strlen(name), "", 0));
+}
+
+static void limit(rlim_t bytes) {
+    struct rlimit it;
+    getrlimit(RLIMIT_FSIZE, &it);
+    it.rlim_cur = bytes;
+    setrlimit(RLIMIT_FSIZE, &it);
+}
+
+/* Whether the file holds what the region holds. */
+static bool is_same(void) {
+    static uint8_t bytes[512 * BLOCKS];
+    return pread(disk.file, bytes, sizeof bytes, 0) == (ssize_t)sizeof bytes && memcmp(bytes, disk.region.at, sizeof bytes) == 0;
+}
+
+int main(int count, char **words) {
+    size_t taken, left, files, before;
+    r10_file_info info;
+    uint8_t name[56];
+    char path[4096];
+    if (count != 2) {
+        fprintf(stderr, "usage: disk FILE\n");
+        return 1;
+    }
+    signal(SIGXFSZ, SIG_IGN);
+
+    say("a script that cannot be taken", r10_disk_make(words[1], BLOCKS, ROOM, "blocks", 6));
+    limit(512 * BLOCKS / 2);
+    say("a file that has no room", r10_disk_make(words[1], BLOCKS, ROOM, script, strlen(script)));
+    limit(RLIM_INFINITY);
+    snprintf(path, sizeof path, "%s.new", words[1]);
+    printf("neither leaves a file: %s\n", access(words[1], F_OK) != 0 && access(path, F_OK) != 0 ? "yes" : "no");
+    say("made", r10_disk_make(words[1], BLOCKS, ROOM, script, strlen(script)));
+    say("made where one is", r10_disk_make(words[1], BLOCKS, ROOM, script, strlen(script)));
+
+    say("opened for more blocks than there are", r10_disk_open(&disk, words[1], BLOCKS + 1));
+    say("opened", r10_disk_open(&disk, words[1], BLOCKS));
+    say("opened by another program", r10_disk_open(&other, words[1], BLOCKS));
+    unsigned long sector = r10_disk_sector(&disk);
+    printf("sectors of 512, 4096 or unknown: %s\n", sector == 0 || sector == 512 || sector == 4096 ? "yes" : "no");
+
+    must("open", r10_open(disk.region, ROOM, script, strlen(script), &recorder));
+    record("FLT1");
+    offer(100);
+    must("commit", r10_commit(&recorder));
+    say("settled", r10_disk_settle(&disk, &recorder));
+    printf("nothing waits, and the file holds what the region holds: %s\n", waiting() == 0 && is_same() ? "yes" : "no");
+    say("pages given back", r10_disk_give_back(&disk));
+    printf("the region reads as before: %s\n", is_same() ? "yes" : "no");
+
+    offer(100);
+    must("commit", r10_commit(&recorder));
+    limit(512 * 64);
+    say("settled on a disk that fails", r10_disk_settle(&disk, &recorder));
+    limit(RLIM_INFINITY);
+    before = waiting();
+    say("settled once more", r10_disk_settle(&disk, &recorder));
+    printf("nothing more was done: %s\n", before > 0 && waiting() == before ? "yes" : "no");
+    say("a commit after that", (int)r10_commit(&recorder));
+    say("and one more", (int)r10_commit(&recorder));
+    r10_close(&recorder);
+    r10_disk_close(&disk);
+
+    say("opened again", r10_disk_open(&disk, words[1], BLOCKS));
+    must("open", r10_open(disk.region, ROOM, script, strlen(script), &recorder));
+    must("mount", r10_mount(&recorder));
+    must("seal", r10_seal(&recorder));
+    say("settled", r10_disk_settle(&disk, &recorder));
+    must("dismount", r10_dismount(&recorder));
+    record("FLT2");
+    offer(3);
+    must("stop", r10_stop(&recorder, &taken, &left));
+    say("settled", r10_disk_settle(&disk, &recorder));
+    must("files", r10_files(&recorder, &files));
+    for (size_t n = 0; n < files; n++) {
+        must("file", r10_file(&recorder, n, &info, name, sizeof name));
+        printf("file %.*s: closed %d\n", (int)info.name_length, (const char *)name, info.closed);
+    }
+    for (size_t n = 0; n < files; n++) {
+        static uint8_t bytes[65535];
+        uint16_t some[36];
+        r10_entry entry;
+        bool there = true;
+        size_t cursor, queued, messages = 0;
+        must("cursor", r10_cursor(&recorder, n, (const uint16_t[]){LINE}, 1, 0, ((uint64_t)1 << 48) - 1, &cursor));
+        must("advance", r10_advance(&recorder, cursor, &queued));
+        while (there) {
+            must("next", r10_next(&recorder, cursor, &there, &entry, bytes, sizeof bytes, some, 36));
+            messages += there;
+        }
+        printf("file %zu: %zu messages\n", n, messages);
+    }
+    r10_close(&recorder);
+    r10_disk_close(&disk);
+    unlink(words[1]);
+    return 0;
+}

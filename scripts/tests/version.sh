@@ -1,0 +1,23 @@
+#!/usr/bin/env bash
+# Tests that the version is one number: that of the file VERSION. Without a build, in no time. Status 1 where one fails.
+set -u
+here=$(cd "$(dirname "$(readlink -f "${BASH_SOURCE[0]}")")" && pwd)
+top=$(cd "$here/../.." && pwd)
+# shellcheck disable=SC2317 source=scripts/tests/kit.sh
+. "$here/kit.sh"
+is() { [ "$1" = "$2" ] || { echo "    '$1' is not '$2'"; false; }; }
+version=$(cat "$top/VERSION")
+IFS=. read -r major minor patch <<<"$version"
+number=$((10000 * major + 100 * minor + patch))
+
+part() { sed -n "s/^#define R10_VERSION_$1 \([0-9]*\)$/\1/p" "$top/ffi/r10.h"; }
+check "VERSION is three numbers" is "$(grep -cE '^[0-9]{1,2}\.[0-9]{1,2}\.[0-9]{1,2}$' "$top/VERSION")" 1
+check "the program's source has it" is "$(sed -n 's/^const VERSION: &str = "\(.*\)";$/\1/p' "$top/crates/r10_words/src/usage.rt")" "$version"
+check "so has the library's" is "$(sed -n 's/^const VERSION: u32 = \(.*\);$/\1/p' "$top/crates/r10_ffi/src/calls.rt")" "$number"
+check "so has the header" is "$(part MAJOR).$(part MINOR).$(part PATCH)" "$version"
+check "so have the declarations for Rust" is "$(sed -n 's/^pub const VERSION: u32 = \(.*\);$/\1/p' "$top/ffi/rust/r10-sys/src/lib.rs" | tr -d _)" "$number"
+for crate in r10-sys r10; do
+    check "so has the crate $crate" is "$(sed -n 's/^version = "\(.*\)"$/\1/p' "$top/ffi/rust/$crate/Cargo.toml")" "$version"
+done
+# shellcheck disable=SC2154
+exit "$failed"
