@@ -12,7 +12,7 @@
  *
  * What the disk must do
  *  - A block of 512 bytes is written whole or not at all, and its neighbours stay as they were. A disk with sectors of 4,096 bytes may lose eight blocks
- *    when the power fails amid a write. In a trial of 192 such losses 16 media had no directory left, and 66 lacked messages that a commit had made durable.
+ *    when the power fails amid a write: then the directory can be gone, or the end of the recorded file. A directory of 7 blocks shares no sector with a file.
  *    `/sys/block/DISK/queue/physical_block_size` says which sectors a disk has; r10_disk_sector of r10_posix.h reads it. A killed program tears nothing.
  *  - What a sync made durable stays. After a failed sync (fdatasync) the system's copies may differ from the disk. Close the recorder then, drop the copies, and open it
  *    again: r10_disk_open of r10_posix.h syncs and drops them before each open. r10_disk_failed tells the recorder that its disk failed.
@@ -26,7 +26,7 @@
  *  - An `r10` is all zeros before r10_open or r10_format, and is not copied while it is open. One that is not open is answered R10_CLOSED.
  *  - The region is the library's from r10_open or r10_format to r10_close: nothing else writes it. At the start it holds what the disk holds. A file is mapped with
  *    MAP_PRIVATE: with MAP_SHARED the system would write blocks before their turn.
- *  - The runs are done in order. Where one fails, say so (r10_disk_failed) or close the recorder, and go on as after a loss of power.
+ *  - The runs are done in order. Where one fails, do none after it: say so (r10_disk_failed) or close the recorder, and go on as after a loss of power.
  *  - malloc, realloc and free are those of the C library. No call is made from a signal handler.
  *
  * Memory
