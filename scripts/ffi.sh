@@ -6,7 +6,7 @@
 #     scripts/ffi.sh install PREFIX [DESTDIR]   # puts headers, the kept library (static and shared) and r10.pc below DESTDIR/PREFIX: scripts/install.sh calls it
 #     scripts/ffi.sh examples FOLDER   # compiles ffi/example.c and ffi/example.rs over it, into FOLDER/example_c and FOLDER/example_rs
 #     scripts/ffi.sh random CALLS [SEED]   # random calls under the address sanitizer, a tenth of them under valgrind, and scripts of 1,000 beside `r10 sim`
-#     scripts/ffi.sh check             # runs both, ffi/calls.c, which calls each function, also as C++, ffi/flight.c and ffi/disk.c, and compares what they print with ffi/*.expected
+#     scripts/ffi.sh check             # runs both, ffi/calls.c, which calls each function, also as C++, ffi/flight.c, ffi/disk.c and ffi/commits.c, and compares what they print with ffi/*.expected
 #     scripts/ffi.sh kept              # prints where the library is: the proved one if it is there, else one that is not proved
 #     scripts/ffi.sh proved            # prints where the proved library is; status 1 if it is not there, or a source has changed
 #     scripts/ffi.sh behind-ci         # `rt ci`; after it `check` over its libraries, an installation of what was proved, and sessions: the gate
@@ -191,6 +191,9 @@ check() {
         c_example disk.c "$room/disk"
         "$room/disk" "$room/disk.medium" >"$room/disk.out" || give_up "disk: status $?"
         compare disk.expected "$room/disk.out"
+        c_example commits.c "$room/commits"
+        "$room/commits" >"$room/commits.out" || give_up "commits: status $?"
+        compare commits.expected "$room/commits.out"
         c_example random.c "$room/random"
         "$room/random" 1 50000 >"$room/random.out" || give_up "random: status $?"
         beside_sim 1 5
