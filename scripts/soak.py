@@ -11,6 +11,7 @@ Every twentieth run is one on a file of its own, FOLDER/cut, that is not killed 
 them: each block that was written since the last sync then holds, by chance, what was there at the sync or one of the writes since. The same has to
 hold of what is left, by what was said up to that operation; and PROGRAM itself has to open it, close what was cut off, and record.
 """
+import mmap
 import os
 import random
 import subprocess
@@ -191,10 +192,9 @@ def main(words):
             missing += 1
         acknowledged += said.sure
         files, sealed, erases, read_back = files + said.files, sealed + said.sealed, erases + said.erases, read_back + said.played
-        with open(medium, 'rb') as it:
-            image = it.read()
         try:
-            found = found_in(image)
+            with open(medium, 'rb') as it, mmap.mmap(it.fileno(), 0, access=mmap.ACCESS_READ) as image:
+                found = found_in(image)
         except Refused as refused:
             print(f'run {run}: {refused}')
             return 1
