@@ -139,6 +139,7 @@ static void start(void) {
         must("erase", r10_erase(&recorder));
         erased = played = filed;
         printf("erased %lu\n", filed);
+        fflush(stdout);
     }
 }
 

@@ -201,8 +201,8 @@ def main(words):
         if said.erases:
             wanted = {}
         low = said.erased
-        if said.erasing is not None and not found:
-            # it was killed amid an erase, which was done
+        if said.erasing is not None and not any(found.get(which) for which in wanted):
+            # it was killed amid an erase, which was done, or right after it
             wanted, low = {}, said.sure
         wanted[run] = (low, said.sure)
         for which, (low, high) in wanted.items():
