@@ -82,15 +82,10 @@ mkdir -p "$whole$prefix/bin" "$share/r10/scripts" "$share/doc/r10" "$share/man" 
 install -m 755 "$program" "$whole$prefix/bin/r10"
 "$top/scripts/ffi.sh" install "$prefix" "$whole" || exit 3
 
-# The filters, as a package beside their start where there is one.
-for file in "$top"/scripts/ch10.py "$top"/scripts/ch10_picture.py "$top"/scripts/ch10_survey.py "$top"/scripts/read_chapter10.py; do
-    [ ! -f "$file" ] || install -m 644 "$file" "$share/r10/scripts"
-done
-chmod 755 "$share/r10/scripts/ch10.py"
-if [ -d "$top/ch10" ]; then
-    mkdir "$share/r10/ch10"
-    install -m 644 "$top"/ch10/*.py "$share/r10/ch10"
-fi
+# The filters, as a package, and their start.
+install -m 755 "$top/scripts/ch10.py" "$share/r10/scripts"
+mkdir "$share/r10/ch10"
+install -m 644 "$top"/ch10/*.py "$share/r10/ch10"
 ln -s ../share/r10/scripts/ch10.py "$whole$prefix/bin/ch10"
 
 "$top/scripts/manual.py" "$program" "$top/scripts/ch10.py" "$made/manual" || exit 3
