@@ -9,12 +9,62 @@
 #include <string.h>
 #include <sys/resource.h>
 
+#include <errno.h>
+#include <fcntl.h>
+#include <unistd.h>
+
 #include "r10.h"
+
+/* What the header calls of the system is done, and written down: 'f' for blocks of files, 'd' for blocks of the directory, and 's' for a sync, where it is not
+ * the same as before. A write does at most 700 bytes, and each seventh one is interrupted. */
+enum { DIRECTORY = 7 };
+
+static char sequence[64];
+static unsigned long writes, folders, drops;
+
+static void note(char what) {
+    size_t length = strlen(sequence);
+    if (length + 1 < sizeof sequence && (length == 0 || sequence[length - 1] != what))
+        sequence[length] = what;
+}
+
+static ssize_t short_write(int file, const void *bytes, size_t count, off_t at) {
+    if (++writes % 7 == 0) {
+        errno = EINTR;
+        return -1;
+    }
+    note(at <= 512 * DIRECTORY ? 'd' : 'f');
+    return pwrite(file, bytes, count > 700 ? 700 : count, at);
+}
+
+static int noted_sync(int file) {
+    note('s');
+    return fdatasync(file);
+}
+
+static int noted_folder(int file) {
+    folders++;
+    return fsync(file);
+}
+
+static int noted_drop(int file, off_t at, off_t length, int advice) {
+    drops += advice == POSIX_FADV_DONTNEED;
+    return posix_fadvise(file, at, length, advice);
+}
+
+#define pwrite short_write
+#define fdatasync noted_sync
+#define fsync noted_folder
+#define posix_fadvise noted_drop
 #include "r10_posix.h"
+#undef pwrite
+#undef fdatasync
+#undef fsync
+#undef posix_fadvise
 
-enum { BLOCKS = 4096, ROOM = 16, LINE = 5, LENGTH = 1000 };
+enum { BLOCKS = 131072, ROOM = 16, LINE = 5, LENGTH = 1000 };
 
-static const char script[] = "blocks = 4096\ndirectory = 7\nvolume = \"VOL\"\nnodes = 100\ntime = 1\nevent = 2\n"
+static const char script[] = "blocks = 131072\ndirectory = 7\nvolume = \"VOL\"\nnodes = 100\ntime = 1\nevent = 2\n"
                              "[[channel]]\nid = 5\nkind = \"message\"\ncapacity = 64\ncheck = 16\nbytes = 65536\nnumber = 100\n";
 
 static r10 recorder;
@@ -53,7 +103,7 @@ static void offer(unsigned count) {
 static size_t waiting(void) {
     r10_queue_info info;
     must("queue", r10_queue(&recorder, &info));
-    return info.waiting;
+    return info.waiting + info.rings;
 }
 
 static void record(const char *name) {
@@ -70,9 +120,9 @@ static void limit(rlim_t bytes) {
     setrlimit(RLIMIT_FSIZE, &it);
 }
 
-/* Whether the file holds what the region holds. */
+/* Whether the first blocks of the file, which are all that was written then, hold what the region holds. */
 static bool is_same(void) {
-    static uint8_t bytes[512 * BLOCKS];
+    static uint8_t bytes[512 * 4096];
     return pread(disk.file, bytes, sizeof bytes, 0) == (ssize_t)sizeof bytes && memcmp(bytes, disk.region.at, sizeof bytes) == 0;
 }
 
@@ -94,19 +144,25 @@ int main(int count, char **words) {
     snprintf(path, sizeof path, "%s.new", words[1]);
     printf("neither leaves a file: %s\n", access(words[1], F_OK) != 0 && access(path, F_OK) != 0 ? "yes" : "no");
     say("made", r10_disk_make(words[1], BLOCKS, ROOM, script, strlen(script)));
+    printf("its name is made durable: %s\n", folders > 0 ? "yes" : "no");
     say("made where one is", r10_disk_make(words[1], BLOCKS, ROOM, script, strlen(script)));
 
     say("opened for more blocks than there are", r10_disk_open(&disk, words[1], BLOCKS + 1));
+    drops = 0;
     say("opened", r10_disk_open(&disk, words[1], BLOCKS));
+    printf("the system's copies are dropped: %s\n", drops > 0 ? "yes" : "no");
     say("opened by another program", r10_disk_open(&other, words[1], BLOCKS));
     unsigned long sector = r10_disk_sector(&disk);
     printf("sectors of 512, 4096 or unknown: %s\n", sector == 0 || sector == 512 || sector == 4096 ? "yes" : "no");
 
     must("open", r10_open(disk.region, ROOM, script, strlen(script), &recorder));
     record("FLT1");
+    say("settled", r10_disk_settle(&disk, &recorder));
     offer(100);
     must("commit", r10_commit(&recorder));
+    memset(sequence, 0, sizeof sequence);
     say("settled", r10_disk_settle(&disk, &recorder));
+    printf("files, sync, directory, sync: %s\n", sequence);
     printf("nothing waits, and the file holds what the region holds: %s\n", waiting() == 0 && is_same() ? "yes" : "no");
     say("pages given back", r10_disk_give_back(&disk));
     printf("the region reads as before: %s\n", is_same() ? "yes" : "no");
@@ -131,7 +187,13 @@ int main(int count, char **words) {
     say("settled", r10_disk_settle(&disk, &recorder));
     must("dismount", r10_dismount(&recorder));
     record("FLT2");
-    offer(3);
+    for (unsigned n = 0; n < 400; n++) {
+        offer(100);
+        must("commit", r10_commit(&recorder));
+        if (r10_disk_settle(&disk, &recorder) != 0)
+            say("settled", -1);
+    }
+    printf("many blocks are written, and pages given back meanwhile: %s\n", disk.blocks > R10_GIVE_BACK && disk.kept < R10_GIVE_BACK ? "yes" : "no");
     must("stop", r10_stop(&recorder, &taken, &left));
     say("settled", r10_disk_settle(&disk, &recorder));
     must("files", r10_files(&recorder, &files));
@@ -153,6 +215,15 @@ int main(int count, char **words) {
         }
         printf("file %zu: %zu messages\n", n, messages);
     }
+    for (size_t n = 0; n < files; n++) {
+        uint8_t header[24] = {0};
+        size_t got = 0;
+        must("shown", r10_shown(&recorder, disk.region, DIRECTORY, n, 0, header, sizeof header, &got));
+        printf("file %zu begins with %02X%02X, a packet of channel %u\n", n, header[1], header[0], header[2] + 256u * header[3]);
+    }
+    r10_channel_info channel;
+    say("channel 4", (int)r10_channel_of(&recorder, 4, &channel));
+    say("channel 5", (int)r10_channel_of(&recorder, 5, &channel));
     r10_close(&recorder);
     r10_disk_close(&disk);
     unlink(words[1]);
