@@ -30,14 +30,32 @@ capacity = 2
 check = 32
 bytes = 4096
 number = 100
+[[channel]]
+id = 7
+kind = \"arinc\"
+capacity = 2
+check = 8
+bytes = 4096
+number = 100
+[[channel]]
+id = 8
+kind = \"message\"
+capacity = 2
+check = 16
+bytes = 4096
+number = 100
 ";
 
 const CIVIL: Civil = Civil { year: 2024, month: 2, day: 29, hour: 12, minute: 34, second: 56, centi: 78 };
 
 fn recording(region: Region) -> Result<Recorder, Error> {
     let mut recorder = Recorder::format(region, 4, SCRIPT).map_err(|(error, _)| error)?;
+    let queue = recorder.queue()?;
+    assert!(queue.waiting > 0 && queue.places >= 4, "{queue:?}");
     recorder.mount()?;
+    assert_eq!(recorder.status()?.tick, None);
     recorder.tick(1000, &CIVIL)?;
+    assert_eq!(recorder.status()?.tick, Some(1000));
     recorder.start("FLT1", b"ABCD")?;
     Ok(recorder)
 }
@@ -56,17 +74,21 @@ fn what_is_committed_is_read() -> Result<(), Error> {
     assert_eq!(recorder.offer(3, 1003, Message::Uart { parity: false, sub: 7, bytes: b"three" }), Err(Error::OVERFLOW));
     recorder.offer(4, 1004, Message::Bus1553 { status: 0x2000, gap_times: 0x1234, words: &[0x0821, 0xABCD] })?;
     recorder.offer(6, 1005, Message::Discrete { states: 0xA5A })?;
+    recorder.offer(7, 1006, Message::Arinc { bus: 3, format: true, parity: false, high: true, word: 0x1234_5678 })?;
+    recorder.offer(7, 1007, Message::Arinc { bus: 3, format: false, parity: true, high: false, word: 9 })?;
+    recorder.offer(8, 1008, Message::Message { data_error: true, format: false, sub: 9, bytes: b"m" })?;
+    recorder.offer(8, 1009, Message::Message { data_error: false, format: true, sub: 9, bytes: b"" })?;
     assert_eq!(recorder.offer(6, 1006, Message::Discrete { states: 0x1000 }), Err(Error::BAD_MESSAGE));
     assert_eq!(recorder.channel(3)?.map(|it| (it.waiting, it.lost)), Some((2, 1)));
-    assert_eq!(recorder.channel(9)?, None);
-    assert_eq!((recorder.pump(3, 9)?, recorder.pump(4, 9)?, recorder.pump(6, 9)?), (2, 1, 1));
+    assert_eq!((recorder.channel(5)?, recorder.channel(9)?), (None, None));
+    assert_eq!((recorder.pump(3, 9)?, recorder.pump(4, 9)?, recorder.pump(6, 9)?, recorder.pump(7, 9)?, recorder.pump(8, 9)?), (2, 1, 1, 2, 2));
     recorder.offer(3, 1010, Message::Uart { parity: false, sub: 0, bytes: b"four" })?;
     recorder.event(4095, 1011)?;
     assert_eq!(recorder.pump(3, 9)?, 1);
     recorder.commit()?;
     assert_eq!(recorder.status()?.mode, Mode::Recording);
     let cursor = recorder.cursor(0, &[], ALL_COUNTS)?;
-    assert_eq!(recorder.advance(cursor)?, 7);
+    assert_eq!(recorder.advance(cursor)?, 11);
     let mut entries = Vec::new();
     while let Some(entry) = recorder.next(cursor)? {
         entries.push((entry.channel, entry.count, entry.gap, entry.content));
@@ -80,10 +102,17 @@ fn what_is_committed_is_read() -> Result<(), Error> {
             (3, 1002, Gap::None, uart(false, 7, b"")),
             (4, 1004, Gap::None, Content::Bus1553 { status: 0x2000, gap_times: 0x1234, words: vec![0x0821, 0xABCD] }),
             (6, 1005, Gap::None, Content::Discrete { states: 0xA5A }),
+            (7, 1006, Gap::None, Content::Arinc { bus: 3, format: true, parity: false, high: true, word: 0x1234_5678 }),
+            (7, 1007, Gap::None, Content::Arinc { bus: 3, format: false, parity: true, high: false, word: 9 }),
+            (8, 1008, Gap::None, Content::Message { data_error: true, format: false, sub: 9, bytes: b"m".to_vec() }),
+            (8, 1009, Gap::None, Content::Message { data_error: false, format: true, sub: 9, bytes: b"".to_vec() }),
             (3, 1010, Gap::Lost(1), uart(false, 0, b"four")),
             (2, 1011, Gap::None, Content::Event { number: 4095, occurrence: 0 }),
         ]
     );
+    let until = recorder.cursor(0, &[3, 4], 1002..=1004)?;
+    assert_eq!((recorder.advance(until)?, recorder.advance(until)), (2, Err(Error::UNREAD)));
+    recorder.close_cursor(until)?;
     recorder.close_cursor(cursor)?;
     assert_eq!(recorder.next(cursor), Err(Error::NO_CURSOR));
     assert_eq!(recorder.find(0, 3, 1002)?.map(|(number, entry)| (number, entry.count)), Some((1, 1002)));
@@ -98,7 +127,18 @@ fn what_is_committed_is_read() -> Result<(), Error> {
     assert_eq!(recorder.shown(2, 0, size as u64 - 3)?.len(), 3);
     assert_eq!(recorder.shown(2, 0, size as u64 + 9)?.len(), 0);
     assert_eq!(recorder.shown(2, 1, 0), Err(Error::PLACE));
+    recorder.tick(2000, &CIVIL)?;
+    recorder.start("FLT2", b"")?;
+    let size = recorder.files()?[1].size as usize;
+    let shown = recorder.shown(2, 1, 0)?;
+    assert_eq!((shown.len(), &shown[..2]), (size, &[0x25, 0xEB][..]));
+    recorder.event(4095, 2001)?;
+    recorder.event(4095, 2002)?;
+    recorder.stop()?;
+    let second = recorder.find(1, 2, 2002)?.map(|(number, entry)| (number, entry.content));
+    assert_eq!(second, Some((1, Content::Event { number: 4095, occurrence: 1 })));
     recorder.erase()?;
+    assert_eq!(recorder.channel(3)?.map(|it| (it.erased, it.lost)), Some((3, 1)));
     recorder.dismount()?;
     assert_eq!(recorder.commit(), Err(Error::NOT_MOUNTED));
     Ok(())
@@ -168,8 +208,11 @@ fn a_file_has_one_program() -> Result<(), Box<dyn std::error::Error>> {
     recorder.mount()?;
     assert_eq!(recorder.find(0, 3, 0)?.map(|(_, entry)| entry.count), Some(1001));
     assert!(Disk::open(&path, 65).is_err());
+    assert!(Disk::open(&path, 0).is_err());
     drop(recorder);
-    assert_eq!(Disk::open(&path, 65).err().map(|error| error.kind()), Some(ErrorKind::InvalidInput));
+    for blocks in [0, 65] {
+        assert_eq!(Disk::open(&path, blocks).err().map(|error| error.kind()), Some(ErrorKind::InvalidInput));
+    }
     std::fs::remove_file(&path)?;
     Ok(())
 }
