@@ -241,13 +241,14 @@ but_the_last() {
     printf '%s\n' "$last" >"$1"
 }
 
-# The program and the library that `rt ci` proved are installed and packaged, and tried where they were put.
+# The program that `rt ci` proved makes what README shows of the example of a flight. It and the library are installed and packaged, and tried where they were put.
 installed() {
     local program=$top/crates/r10_cli/out/r10_cli
     if ! [ -x "$program" ] || ! is_proved; then
         echo "ffi: NOT TRIED: an installation: rt ci left no program or library"
         return
     fi
+    "$top/scripts/flight.sh" check "$program" || return 1
     R10_BUILDS=$room/builds "$top/scripts/quick_build.py" --proved "$program" || return 1
     R10_BUILDS=$room/builds "$top/scripts/tests/install.sh" >"$room/install.out" 2>&1 || {
         grep -v '^ok: ' "$room/install.out" >&2
