@@ -117,6 +117,7 @@ int main(void) {
     say("commit, closed", r10_commit(&recorder));
     say("pump, closed", r10_pump(&recorder, 3, 9, &moved));
     printf("  moved %zu\n", moved);
+    say("lost, closed", r10_lost(&recorder, 3, 1));
     say("orders, closed", r10_orders(&recorder, &run, bytes, sizeof bytes));
     r10_close(&recorder);
     say("format, another size", r10_format(small, 64, script, strlen(script), &recorder));
@@ -226,6 +227,20 @@ int main(void) {
     say("files", r10_files(&recorder, &files));
     say("mount", r10_mount(&recorder));
     say("start", r10_start(&recorder, "FLT2", 4, "", 0));
+    say("lost", r10_lost(&recorder, 3, 38));
+    say("lost", r10_lost(&recorder, 3, 2));
+    say("lost, none", r10_lost(&recorder, 3, 0));
+    say("lost, no channel", r10_lost(&recorder, 8, 1));
+    say("offer uart", r10_offer_uart(&recorder, 3, 1015, false, 0, "known", 5));
+    say("pump", r10_pump(&recorder, 3, 1, &moved));
+    say_sure("commit", r10_commit(&recorder));
+    say("cursor", r10_cursor(&recorder, 0, NULL, 0, 1015, 1015, &second));
+    say("advance", r10_advance(&recorder, second, &queued));
+    say("next, after losses outside", r10_next(&recorder, second, &there, &entry, bytes, sizeof bytes, words, 36));
+    show(&entry);
+    say("close cursor", r10_close_cursor(&recorder, second));
+    say("channel", r10_channel(&recorder, 0, &channel));
+    printf("  %u waiting %zu lost %" PRIu64 " erased %" PRIu64 "\n", channel.channel, channel.waiting, channel.lost, channel.erased);
     say("offer uart", r10_offer_uart(&recorder, 3, 1020, false, 0, "five", 4));
     say("pump", r10_pump(&recorder, 3, 1, &moved));
     say("disk failed", r10_disk_failed(&recorder));

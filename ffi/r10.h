@@ -128,7 +128,7 @@ enum { R10_UART = 1, R10_1553 = 2, R10_ARINC = 3, R10_DISCRETE = 4, R10_MESSAGE 
 /* An entry without its bytes or words. What its kind does not have is 0. */
 typedef struct r10_entry {
     uint64_t count;
-    uint64_t lost; /* how many messages before it on its channel were refused for an overflow; 0 where the file doesn't tell how many */
+    uint64_t lost; /* how many messages before it on its channel were lost; 0 where the file doesn't tell how many */
     size_t length; /* how many bytes (UART, message) or words (1553) it has */
     uint32_t word; /* ARINC: the word; discrete: the states */
     uint16_t channel;
@@ -164,7 +164,7 @@ typedef struct r10_status_info {
 } r10_status_info;
 
 typedef struct r10_channel_info {
-    uint64_t lost;   /* messages that were refused for an overflow */
+    uint64_t lost;   /* messages that were refused for an overflow, or lost before they were offered */
     uint64_t erased; /* entries that erases took; 0 where the recorder failed */
     size_t waiting;  /* messages in its lane */
     uint16_t channel;
@@ -223,7 +223,7 @@ uint32_t r10_disk_failed(r10 *recorder);
  * closed stays so. */
 void r10_close(r10 *recorder);
 
-/* ---- control. Each may answer R10_NO_MEMORY, and but for r10_offer_.., r10_status, r10_channel, r10_next and r10_close_cursor R10_FAILED. */
+/* ---- control. Each may answer R10_NO_MEMORY, and but for r10_offer_.., r10_lost, r10_status, r10_channel, r10_next and r10_close_cursor R10_FAILED. */
 
 /* Begins to use the medium. R10_MOUNTED, R10_BAD_DIRECTORY, R10_MEDIUM. */
 uint32_t r10_mount(r10 *recorder);
@@ -278,6 +278,12 @@ uint32_t r10_offer_discrete(r10 *recorder, uint16_t channel, uint64_t count, uin
 
 /* Any other source: subchannel below 16,384, at most 65,535 bytes. */
 uint32_t r10_offer_message(r10 *recorder, uint16_t channel, uint64_t count, bool data_error, bool format, uint16_t sub, const void *bytes, size_t length);
+
+/* ---- losses, in every mode */
+
+/* So many of a channel's messages were lost before they were offered: a UART overran, a socket dropped them, another recorder failed with them. The next
+ * message that is accepted has them in its gap, with those that were refused R10_OVERFLOW. 0 changes nothing. R10_NO_CHANNEL. */
+uint32_t r10_lost(r10 *recorder, uint16_t channel, uint64_t count);
 
 /* ---- files, and how the recorder is */
 

@@ -223,8 +223,13 @@ static r10_civil some_civil(void) {
 static void one_call(void) {
     static unsigned long files;
     uint64_t which = below(100);
-    if (which < 30) {
+    if (which < 28) {
         offer();
+    } else if (which < 30) {
+        uint16_t channel = some_channel();
+        uint64_t count = below(below(4) == 0 ? (uint64_t)INT64_MAX : 5);
+        STEP("do = \"lose\"\nchannel = %u\ncount = %" PRIu64 "\n", channel, count);
+        REPLY(r10_lost(&recorder, channel, count), fprintf(replies, "ok"));
     } else if (which < 48) {
         uint16_t channel = some_channel();
         size_t most = (size_t)below(8), moved = 0;

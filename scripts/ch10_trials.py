@@ -373,6 +373,8 @@ class Clock:
 def step_of(draw, clock, channels):
     which = draw.random()
     channel, kind = draw.choice(channels)
+    if which < 0.02:
+        return 'do = "lose"\nchannel = %d\ncount = %d' % (channel, draw.choice((0, 1, 40, 1 << 40)))
     if which < 0.76:
         return '\n'.join(['do = "offer"', 'channel = %d' % channel, 'count = %d' % clock.go_on(draw.choice((2, 2, 500, 90000, 1500000)))] + message_of(draw, kind))
     if which < 0.88:

@@ -1,17 +1,26 @@
 -- What a step does to the account of a channel.
-use Rattle.std.proofs.Common.{◌≡◌, ◌≤◌, ℕ, ◌+◌, ◌-◌, ◌^◌, Bool, false, cond, List, [], ◌++◌, map, length, sym, ap, ◌∙◌, subst}
+use Rattle.std.proofs.Common.{◌≡◌, ◌≤◌, ℕ, ◌+◌, ◌-◌, ◌^◌, ◌==◌, Bool, false, cond, List, [], ◌++◌, map, length, sym, ap, ◌∙◌, subst}
 use Rattle.std.proofs.lemmas.List.{append_assoc, append-nil}
 use Rattle.r10_body.specs.declared.entry.Entry.{Entry}
 use Rattle.r10_machine.specs.Machine.{Lane, File, saturated}
 use Rattle.r10_machine.specs.ControlCalls.{own_entries}
-use Rattle.r10_account.specs.Accepted.{Exchange, was_accepted, was_lost, entry_with}
+use Rattle.r10_machine.specs.declared.event.Event.TheVariants.{Offer, Lose}
+use Rattle.r10_machine.specs.declared.reply.Reply.TheVariants.{Done, Refused}
+use Rattle.r10_body.specs.declared.refusal.Refusal.TheVariants.{Overflow}
+use Rattle.r10_account.specs.Accepted.{Exchange, was_accepted, lost_by, entry_with}
 use Rattle.r10_account.specs.Account.{waiting_of, missed_of, erased_of}
 use Rattle.r10_account.proofs.Files.{AllBehind}
 use Rattle.r10_account.proofs.Numbers.{same_number}
 
+-- an offer on the channel that was refused because too many waited, or a loss that was told of it
+abbrev pub is_loss : ℕ → Exchange → Bool
+is_loss channel (Offer id count message, Refused Overflow) = id == channel
+is_loss channel (Lose id lost, Done) = id == channel
+is_loss channel exchange = false
+
 -- how many were missed behind an exchange
 abbrev pub missed_behind : ℕ → ℕ → Exchange → ℕ
-missed_behind channel missed x = cond (was_accepted channel x) 0 (cond (was_lost channel x) (saturated (missed + 1)) missed)
+missed_behind channel missed x = cond (was_accepted channel x) 0 (cond (is_loss channel x) (saturated (missed + lost_by channel x)) missed)
 
 -- from lanes and files to others: erases take the first of the channel's entries, and what the exchange accepts comes behind all
 pub record StepAccounts (channel : ℕ) (lanes : List Lane) (files : List File) (x : Exchange) (later : List Lane) (news : List File) : Type 0 where
@@ -34,11 +43,12 @@ pub record WaitsMore (channel : ℕ) (lanes : List Lane) (files : List File) (x 
 pub record IsApart (channel : ℕ) (x : Exchange) : Type 0 where
   pub makes_none : (lost : ℕ) → entry_with channel lost x ≡ []
   pub accepts_none : was_accepted channel x ≡ false
-  pub loses_none : was_lost channel x ≡ false
+  pub loses_none : is_loss channel x ≡ false
 
 pub missed_on : (channel missed : ℕ) (x : Exchange) → IsApart channel x → missed ≡ missed_behind channel missed x
 missed_on channel missed x apart =
-    sym (ap (λ (b : Bool). cond b 0 (cond (was_lost channel x) (saturated (missed + 1)) missed)) apart.accepts_none ∙ ap (λ (b : Bool). cond b (saturated (missed + 1)) missed) apart.loses_none)
+    sym (ap (λ (b : Bool). cond b 0 (cond (is_loss channel x) (saturated (missed + lost_by channel x)) missed)) apart.accepts_none
+    ∙ ap (λ (b : Bool). cond b (saturated (missed + lost_by channel x)) missed) apart.loses_none)
 
 -- more waits, and all else stays
 pub waits_accounts : (channel : ℕ) (lanes : List Lane) (files : List File) (x : Exchange) (later : List Lane) (news : List File) → WaitsMore channel lanes files x later news → StepAccounts channel lanes files x later news

@@ -13,20 +13,20 @@ use Rattle.r10_body.specs.declared.message.Message.{Message}
 use Rattle.r10_machine.specs.declared.mode.Mode.{Mode}
 use Rattle.r10_machine.specs.Config.{Config}
 use Rattle.r10_machine.specs.Machine.{Machine, Lane, File, lane_in, lane_of, last_size, with_entries, change_first, change_last, is_channel, entry_of, waiting_entries, saturated, cursor_of}
-use Rattle.r10_machine.specs.Calls.{accepted, without, time_entry, empty_file, shown_whole, closed_whole, all_waiting, lanes_without, TicksIn}
+use Rattle.r10_machine.specs.Calls.{accepted, losing, overflowed, without, time_entry, empty_file, shown_whole, closed_whole, all_waiting, lanes_without, TicksIn}
 use Rattle.r10_machine.specs.ControlCalls.{own_entries, event_entry, closed_in, erased_with}
 use Rattle.r10_machine.specs.declared.event.Event.{Event as EventValue}
-use Rattle.r10_machine.specs.declared.event.Event.TheVariants.{Mount, Dismount, Tick, Start, Offer, Pump, Event, Commit, Stop, Seal, Erase, Files, Status, Cursor, Advance, Next, Close, Find, CountAt}
+use Rattle.r10_machine.specs.declared.event.Event.TheVariants.{Mount, Dismount, Tick, Start, Offer, Lose, Pump, Event, Commit, Stop, Seal, Erase, Files, Status, Cursor, Advance, Next, Close, Find, CountAt}
 use Rattle.r10_machine.specs.declared.reply.Reply.{Reply as ReplyValue}
 use Rattle.r10_machine.specs.declared.reply.Reply.TheVariants as replies
 use Rattle.r10_machine.specs.EventChecks.{refusal, start_checks, event_checks, file_checks, most_files}
 use Rattle.r10_machine.specs.Step.{Does}
-use Rattle.r10_body.specs.declared.refusal.Refusal.TheVariants.{NameTaken, Unsealed, DirectoryFull}
+use Rattle.r10_body.specs.declared.refusal.Refusal.TheVariants.{NameTaken, Overflow, Unsealed, DirectoryFull}
 use Rattle.r10_machine.proofs.Steady.{checks_pass, parts_pass, records_of, same_specs}
 use Rattle.r10_machine.proofs.Taking.{on_its_own, on_another, lane_has, taken_on}
-use Rattle.r10_account.specs.Accepted.{Exchange, entry_with, was_accepted, was_lost}
+use Rattle.r10_account.specs.Accepted.{Exchange, entry_with, was_accepted}
 use Rattle.r10_account.specs.Account.{waiting_in, waiting_of, missed_in, missed_of, erased_in, erased_of}
-use Rattle.r10_account.proofs.Accounting.{StepAccounts, WaitsMore, IsApart, waits_accounts, same_waits, missed_on, shifts, files_change}
+use Rattle.r10_account.proofs.Accounting.{StepAccounts, WaitsMore, IsApart, is_loss, missed_behind, waits_accounts, same_waits, missed_on, shifts, files_change}
 use Rattle.r10_account.proofs.Files.{AllBehind, own_more, own_kept, own_appended, behind_kept, behind_appended}
 use Rattle.r10_account.proofs.Lanes.{lane_changed, lane_stays, lane_mapped, mapped_specs}
 
@@ -91,6 +91,51 @@ waits_at channel lanes files x later later' news news' same stay more =
 accounts_at : (channel : ℕ) (lanes : List Lane) (files : List File) (x : Exchange) (later later' : List Lane) (news news' : List File) → later' ≡ later → news' ≡ news → StepAccounts channel lanes files x later news → StepAccounts channel lanes files x later' news'
 accounts_at channel lanes files x later later' news news' same stay more =
     subst (λ (fs : List File). StepAccounts channel lanes files x later' fs) (sym stay) (subst (λ (ls : List Lane). StepAccounts channel lanes files x ls news) (sym same) more)
+
+-- ---- losses
+
+-- a lane that lost so many messages
+lost_missed : (channel id n : ℕ) (lanes : List Lane) (lane : Lane) → lane_in channel lanes ≡ Some lane → (b : Bool) → (id == channel) ≡ b
+    → missed_of channel (change_first (is_channel id) (losing n) lanes) ≡ cond b (saturated (missed_of channel lanes + cond b n 0)) (missed_of channel lanes)
+lost_missed channel id n lanes lane there true is =
+    ap missed_in (lane_changed channel id (losing n) (λ lane. refl) lanes is ∙ ap (option_map (losing n)) there) ∙ sym (ap (λ (o : Option Lane). saturated (missed_in o + n)) there)
+lost_missed channel id n lanes lane there false other = ap missed_in (lane_stays channel id (losing n) (λ lane. refl) lanes other)
+
+-- what the lane says but for what was missed
+lost_same : {X : Type 0} (channel id n : ℕ) (lanes : List Lane) (say : Option Lane → X) → ((o : Option Lane) → say (option_map (losing n) o) ≡ say o) → (b : Bool) → (id == channel) ≡ b
+    → say (lane_in channel (change_first (is_channel id) (losing n) lanes)) ≡ say (lane_in channel lanes)
+lost_same channel id n lanes say same true is = ap say (lane_changed channel id (losing n) (λ lane. refl) lanes is) ∙ same (lane_in channel lanes)
+lost_same channel id n lanes say same false other = ap say (lane_stays channel id (losing n) (λ lane. refl) lanes other)
+
+-- an exchange that makes no entry and loses so many, on whatever channel
+loss_waits : (channel id n : ℕ) (lanes : List Lane) (files : List File) (lane : Lane) → lane_in channel lanes ≡ Some lane → (x : Exchange) → entry_with channel (missed_of channel lanes) x ≡ []
+    → missed_behind channel (missed_of channel lanes) x ≡ cond (id == channel) (saturated (missed_of channel lanes + cond (id == channel) n 0)) (missed_of channel lanes)
+    → WaitsMore channel lanes files x (change_first (is_channel id) (losing n) lanes) files
+loss_waits channel id n lanes files lane there x makes behind = record {
+  files_stay = refl;
+  waits = lost_same channel id n lanes waiting_in waiting (id == channel) refl ∙ sym (ap (λ (l : List Entry). waiting_of channel lanes ++ l) makes ∙ append-nil (waiting_of channel lanes));
+  missed = lost_missed channel id n lanes lane there (id == channel) refl ∙ sym behind;
+  erased = lost_same channel id n lanes erased_in erased (id == channel) refl;
+  specs = same_specs (is_channel id) (losing n) (λ lane. refl) lanes;
+}
+  where
+    waiting : (o : Option Lane) → waiting_in (option_map (losing n) o) ≡ waiting_in o
+    waiting None = refl
+    waiting (Some lane) = refl
+
+    erased : (o : Option Lane) → erased_in (option_map (losing n) o) ≡ erased_in o
+    erased None = refl
+    erased (Some lane) = refl
+
+-- an overflow loses one
+pub overflow_waits : (channel id count : ℕ) (message : Message) (lanes : List Lane) (files : List File) (lane : Lane) → lane_in channel lanes ≡ Some lane
+    → WaitsMore channel lanes files (Offer id count message, replies.Refused Overflow) (change_first (is_channel id) overflowed lanes) files
+overflow_waits channel id count message lanes files lane there = loss_waits channel id 1 lanes files lane there (Offer id count message, replies.Refused Overflow) refl refl
+
+-- and a loss as many as it tells
+pub told_waits : (channel id lost : ℕ) (lanes : List Lane) (files : List File) (lane : Lane) → lane_in channel lanes ≡ Some lane
+    → WaitsMore channel lanes files (Lose id lost, replies.Done) (change_first (is_channel id) (losing lost) lanes) files
+told_waits channel id lost lanes files lane there = loss_waits channel id lost lanes files lane there (Lose id lost, replies.Done) refl refl
 
 -- ---- what goes into the open file
 
@@ -203,7 +248,7 @@ quiet channel old x new apart lanes files = waits_accounts channel old.lanes old
 same : (channel : ℕ) (old : Machine) (x : Exchange) (new : Machine) → IsApart channel x → new ≡ old → StepAccounts channel old.lanes old.files x new.lanes new.files
 same channel old x new apart is = quiet channel old x new apart (ap (λ (m : Machine). m.lanes) is) (ap (λ (m : Machine). m.files) is)
 
-abbrev apart_is : {channel : ℕ} {x : Exchange} → ((lost : ℕ) → entry_with channel lost x ≡ []) → was_accepted channel x ≡ false → was_lost channel x ≡ false → IsApart channel x
+abbrev apart_is : {channel : ℕ} {x : Exchange} → ((lost : ℕ) → entry_with channel lost x ≡ []) → was_accepted channel x ≡ false → is_loss channel x ≡ false → IsApart channel x
 apart_is makes accepts loses = record { makes_none = makes; accepts_none = accepts; loses_none = loses }
 
 pub does_accounts : (s : Config) (channel : ℕ) (old : Machine) (event : EventValue) (reply : ReplyValue) (new : Machine) → Known s channel old.mode old.lanes old.files → refusal s old event ≡ None → Does s old event reply new
@@ -231,6 +276,10 @@ does_accounts s channel old (Offer id count message) replies.Done new known fine
     waits_accounts channel old.lanes old.files (Offer id count message, replies.Done) new.lanes new.files
     (waits_at channel old.lanes old.files (Offer id count message, replies.Done) (change_first (is_channel id) (accepted count message) old.lanes) new.lanes old.files new.files
     (ap (λ (m : Machine). m.lanes) is) (ap (λ (m : Machine). m.files) is) (offer_waits channel id count message old.lanes old.files known.lane known.there known.its))
+does_accounts s channel old (Lose id lost) replies.Done new known fine is =
+    waits_accounts channel old.lanes old.files (Lose id lost, replies.Done) new.lanes new.files
+    (waits_at channel old.lanes old.files (Lose id lost, replies.Done) (change_first (is_channel id) (losing lost) old.lanes) new.lanes old.files new.files
+    (ap (λ (m : Machine). m.lanes) is) (ap (λ (m : Machine). m.files) is) (told_waits channel id lost old.lanes old.files known.lane known.there))
 does_accounts s channel old (Pump id most) (replies.Moved n) new known fine does =
     let o = known.open_file (records_of old.mode (parts_pass (recording_checks old.mode) (channel_checks (lane_of id old)) fine).0) in
     some_then (StepAccounts channel old.lanes old.files (Pump id most, replies.Moved n) new.lanes new.files) (lane_of id old) _ does (λ lane is_lane pumps.

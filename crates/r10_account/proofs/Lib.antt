@@ -7,3 +7,4 @@ mod Doing
 mod Stepping
 mod Accounts
 mod Staying
+mod Adding

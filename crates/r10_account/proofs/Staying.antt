@@ -14,7 +14,7 @@ use Rattle.r10_machine.specs.Calls.{all_waiting, closed_whole, empty_file, overf
 use Rattle.r10_machine.specs.ControlCalls.{closed_in, event_entry}
 use Rattle.r10_machine.specs.Sound.{IsFoundFile, IsSound}
 use Rattle.r10_machine.specs.declared.event.Event.{Event as EventValue}
-use Rattle.r10_machine.specs.declared.event.Event.TheVariants.{Mount, Dismount, Tick, Start, Offer, Pump, Event, Commit, Stop, Seal, Erase, Files, Status, Cursor, Advance, Next, Close, Find, CountAt}
+use Rattle.r10_machine.specs.declared.event.Event.TheVariants.{Mount, Dismount, Tick, Start, Offer, Lose, Pump, Event, Commit, Stop, Seal, Erase, Files, Status, Cursor, Advance, Next, Close, Find, CountAt}
 use Rattle.r10_machine.specs.declared.reply.Reply.{Reply as ReplyValue}
 use Rattle.r10_machine.specs.declared.reply.Reply.TheVariants as replies
 use Rattle.r10_machine.specs.EventChecks.{refusal, event_checks, most_files}
@@ -94,6 +94,7 @@ does_still s found old (Start name setup) replies.Done new opens fine none does 
     let g : File = shown_whole (last_size new) (with_entries (time_entry s tick ∷ []) (empty_file s old.files name setup)) in
     stays_same found (old.files ++ g ∷ []) new.files (ap (λ (m : Machine). m.files) made.1) (appended found old.files g still))
 does_still s found old (Offer id count message) replies.Done new opens fine none is still = stays_same found old.files new.files (ap (λ (m : Machine). m.files) is) still
+does_still s found old (Lose id lost) replies.Done new opens fine none is still = stays_same found old.files new.files (ap (λ (m : Machine). m.files) is) still
 does_still s found old (Pump id most) (replies.Moved n) new opens fine none does still =
     let rec = records_of old.mode (parts_pass (recording_checks old.mode) (channel_checks (lane_of id old)) fine).0 in
     some_then (AreStillFirst found new.files) (lane_of id old) _ does (λ lane is_lane pumps.

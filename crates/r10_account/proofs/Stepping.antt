@@ -1,5 +1,5 @@
 -- What a step does to the account of a channel.
-use Rattle.std.proofs.Common.{◌≡◌, ◌≤◌, ℕ, ◌+◌, ◌-◌, ◌^◌, ◌⊎◌, inl, inr, Bool, true, false, not, cond, List, [], ◌∷◌, ◌++◌, take, length, Option, Some, None, option_map, is_none, refl, sym, ap, ◌∙◌, subst, IsSomeAnd, true≢false, ◌==◌}
+use Rattle.std.proofs.Common.{◌≡◌, ◌≤◌, ℕ, ◌+◌, ◌-◌, ◌^◌, ◌⊎◌, inl, inr, Bool, true, false, not, cond, List, [], ◌∷◌, ◌++◌, take, length, Option, Some, None, is_none, refl, sym, ap, ◌∙◌, subst, IsSomeAnd, true≢false}
 use Rattle.std.specs.List.{AllByRecursion}
 use Rattle.std.proofs.lemmas.List.{append_assoc, append-nil}
 use Rattle.r10_machine.specs.Checks.{first_broken, Check, is_working, is_full, offer_checks, room_checks}
@@ -10,21 +10,21 @@ use Rattle.r10_body.specs.declared.refusal.Refusal.TheVariants as refusals
 use Rattle.r10_machine.specs.declared.mode.Mode.{Mode}
 use Rattle.r10_machine.specs.Config.{Config}
 use Rattle.r10_machine.specs.Machine.{Machine, Lane, File, lane_in, lane_of, with_lane, change_first, is_channel, waiting_entries, saturated, cursor_of}
-use Rattle.r10_machine.specs.Calls.{accepted, overflowed}
+use Rattle.r10_machine.specs.Calls.{accepted, losing, overflowed}
 use Rattle.r10_machine.specs.ControlCalls.{own_entries}
 use Rattle.r10_machine.specs.declared.event.Event.{Event as EventValue}
-use Rattle.r10_machine.specs.declared.event.Event.TheVariants.{Offer, Status, Next, Close}
+use Rattle.r10_machine.specs.declared.event.Event.TheVariants.{Offer, Lose, Status, Next, Close}
 use Rattle.r10_machine.specs.declared.reply.Reply.{Reply as ReplyValue}
 use Rattle.r10_machine.specs.declared.reply.Reply.TheVariants as replies
 use Rattle.r10_machine.specs.EventChecks.{refusal}
 use Rattle.r10_machine.specs.Step.{Does, Step, Replies, Refuses, GivesUp, FailsIn, after_refusal, uses_medium}
-use Rattle.r10_machine.proofs.Steady.{checks_pass, same_specs}
-use Rattle.r10_account.specs.Accepted.{Exchange, entry_with, was_accepted, was_lost}
+use Rattle.r10_machine.proofs.Steady.{checks_pass}
+use Rattle.r10_account.specs.Accepted.{Exchange, entry_with, was_accepted}
 use Rattle.r10_account.specs.Account.{waiting_in, waiting_of, missed_in, missed_of, erased_in, erased_of, shown_own}
-use Rattle.r10_account.proofs.Accounting.{StepAccounts, WaitsMore, IsApart, same_waits, waits_accounts}
-use Rattle.r10_account.proofs.Doing.{Known, does_accounts, front_moves, offer_waits, waits_at}
+use Rattle.r10_account.proofs.Accounting.{StepAccounts, WaitsMore, IsApart, is_loss, same_waits, waits_accounts}
+use Rattle.r10_account.proofs.Doing.{Known, does_accounts, front_moves, offer_waits, overflow_waits, told_waits, waits_at}
 use Rattle.r10_account.proofs.Files.{AllBehind, shown_front, shown_same}
-use Rattle.r10_account.proofs.Lanes.{lane_changed, lane_stays, lost_front, some_same as some_is}
+use Rattle.r10_account.proofs.Lanes.{lost_front, some_same as some_is}
 
 -- ---- exchanges apart
 
@@ -43,7 +43,7 @@ refused_apart channel event r differs = record { makes_none = makes event; accep
     accepts (Offer id count message) = refl
     accepts event = refl
 
-    loses : (event : EventValue) (r : Refusal) → is_overflow r ≡ false → was_lost channel (event, replies.Refused r) ≡ false
+    loses : (event : EventValue) (r : Refusal) → is_overflow r ≡ false → is_loss channel (event, replies.Refused r) ≡ false
     loses (Offer id count message) refusals.Overflow differs = absurd (true≢false differs)
     loses (Offer id count message) r differs = refl
     loses event r differs = refl
@@ -51,6 +51,7 @@ refused_apart channel event r differs = record { makes_none = makes event; accep
 -- nor does what uses the medium
 used_apart : (channel : ℕ) (event : EventValue) (reply : ReplyValue) → uses_medium event ≡ true → IsApart channel (event, reply)
 used_apart channel (Offer id count message) reply uses = absurd (true≢false (sym uses))
+used_apart channel (Lose id lost) reply uses = absurd (true≢false (sym uses))
 used_apart channel event reply uses = record { makes_none = λ lost. refl; accepts_none = refl; loses_none = refl }
 
 -- ---- refusals by a check
@@ -73,37 +74,6 @@ no_overflow ((false, g) ∷ xs) f (here, all) is = subst (λ (r : Refusal). is_o
 front_apart : (o : Option Lane) (count : ℕ) (message : Message) (f : Refusal) → first_broken (offer_checks o count message) ≡ Some f → is_overflow f ≡ false
 front_apart None count message f is = no_overflow (offer_checks None count message) f (refl, tt) is
 front_apart (Some lane) count message f is = no_overflow (offer_checks (Some lane) count message) f (refl, (refl, (refl, (refl, (refl, tt))))) is
-
--- a lane that lost a message
-lost_missed : (channel id : ℕ) (lanes : List Lane) (lane : Lane) → lane_in channel lanes ≡ Some lane → (b : Bool) → (id == channel) ≡ b
-    → missed_of channel (change_first (is_channel id) overflowed lanes) ≡ cond b (saturated (missed_of channel lanes + 1)) (missed_of channel lanes)
-lost_missed channel id lanes lane there true is =
-    ap missed_in (lane_changed channel id overflowed (λ lane. refl) lanes is ∙ ap (option_map overflowed) there) ∙ sym (ap (λ (o : Option Lane). saturated (missed_in o + 1)) there)
-lost_missed channel id lanes lane there false other = ap missed_in (lane_stays channel id overflowed (λ lane. refl) lanes other)
-
--- what the lane says but for what was missed
-lost_same : {X : Type 0} (channel id : ℕ) (lanes : List Lane) (say : Option Lane → X) → ((o : Option Lane) → say (option_map overflowed o) ≡ say o) → (b : Bool) → (id == channel) ≡ b
-    → say (lane_in channel (change_first (is_channel id) overflowed lanes)) ≡ say (lane_in channel lanes)
-lost_same channel id lanes say same true is = ap say (lane_changed channel id overflowed (λ lane. refl) lanes is) ∙ same (lane_in channel lanes)
-lost_same channel id lanes say same false other = ap say (lane_stays channel id overflowed (λ lane. refl) lanes other)
-
-overflow_waits : (channel id count : ℕ) (message : Message) (lanes : List Lane) (files : List File) (lane : Lane) → lane_in channel lanes ≡ Some lane
-    → WaitsMore channel lanes files (Offer id count message, replies.Refused refusals.Overflow) (change_first (is_channel id) overflowed lanes) files
-overflow_waits channel id count message lanes files lane there = record {
-  files_stay = refl;
-  waits = lost_same channel id lanes waiting_in waiting (id == channel) refl ∙ sym (append-nil (waiting_of channel lanes));
-  missed = lost_missed channel id lanes lane there (id == channel) refl;
-  erased = lost_same channel id lanes erased_in erased (id == channel) refl;
-  specs = same_specs (is_channel id) overflowed (λ lane. refl) lanes;
-}
-  where
-    waiting : (o : Option Lane) → waiting_in (option_map overflowed o) ≡ waiting_in o
-    waiting None = refl
-    waiting (Some lane) = refl
-
-    erased : (o : Option Lane) → erased_in (option_map overflowed o) ≡ erased_in o
-    erased None = refl
-    erased (Some lane) = refl
 
 offer_refused : (channel : ℕ) (old : Machine) (lane : Lane) → lane_in channel old.lanes ≡ Some lane → (id count : ℕ) (message : Message) (first : Refusal)
     → (o : Option Lane) (p : Option Refusal) → first_broken (offer_checks o count message) ≡ p → first_broken (offer_checks o count message ++ room_checks o) ≡ Some first
@@ -246,10 +216,11 @@ work_steps s channel old event reply new known (more, replied) = replies_account
 
 -- the calls that look at the mode
 abbrev looks : EventValue → Bool
-looks event = elim event [ Offer id count message ↦ false | Next id ↦ false | Close id ↦ false | Status ↦ false | _ ↦ true ]
+looks event = elim event [ Offer id count message ↦ false | Lose id lost ↦ false | Next id ↦ false | Close id ↦ false | Status ↦ false | _ ↦ true ]
 
 works_by : (s : Config) (m : Machine) (event : EventValue) → looks event ≡ true → refusal s m event ≡ None → is_working m.mode ≡ true
 works_by s m (Offer id count message) looks fine = absurd (true≢false (sym looks))
+works_by s m (Lose id lost) looks fine = absurd (true≢false (sym looks))
 works_by s m (Next id) looks fine = absurd (true≢false (sym looks))
 works_by s m (Close id) looks fine = absurd (true≢false (sym looks))
 works_by s m Status looks fine = absurd (true≢false (sym looks))
@@ -257,6 +228,7 @@ works_by s m event looks fine = (checks_pass (is_working m.mode) refusals.Failed
 
 uses_looks : (event : EventValue) → uses_medium event ≡ true → looks event ≡ true
 uses_looks (Offer id count message) uses = absurd (true≢false (sym uses))
+uses_looks (Lose id lost) uses = absurd (true≢false (sym uses))
 uses_looks (Next id) uses = absurd (true≢false (sym uses))
 uses_looks (Close id) uses = absurd (true≢false (sym uses))
 uses_looks Status uses = absurd (true≢false (sym uses))
@@ -283,6 +255,12 @@ failed_does s channel old (Offer id count message) replies.Done new lane there i
   failed = ap (λ (m : Machine). is_working m.mode) is ∙ failed;
 }
 failed_does s channel old (Offer id count message) reply new lane there its failed fine does = absurd does
+failed_does s channel old (Lose id lost) replies.Done new lane there its failed fine is = record {
+  waits = waits_at channel old.lanes old.files (Lose id lost, replies.Done) (with_lane id (losing lost) old).lanes new.lanes old.files new.files
+      (ap (λ (m : Machine). m.lanes) is) (ap (λ (m : Machine). m.files) is) (told_waits channel id lost old.lanes old.files lane there);
+  failed = ap (λ (m : Machine). is_working m.mode) is ∙ failed;
+}
+failed_does s channel old (Lose id lost) reply new lane there its failed fine does = absurd does
 failed_does s channel old Status (replies.Status status) new lane there its failed fine (told, is) =
     stays_failed channel old (Status, replies.Status status) new (record { makes_none = λ lost. refl; accepts_none = refl; loses_none = refl }) failed (ap (λ (m : Machine). m.lanes) is) (ap (λ (m : Machine). m.files) is) (ap (λ (m : Machine). m.mode) is)
 failed_does s channel old Status reply new lane there its failed fine does = absurd does

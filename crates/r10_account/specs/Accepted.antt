@@ -1,12 +1,12 @@
 -- Which messages of a channel the replies to events accepted, each with the number of those that were lost before it.
-use Rattle.std.specs.Prelude.{ℕ, ◌+◌, Bool, false, ◌||◌, List, [], ◌∷◌, ◌++◌, count_by, zip, ◌==◌, if◌then◌else◌}
-use Rattle.std.specs.List.{list_any}
+use Rattle.std.specs.Prelude.{ℕ, ◌+◌, Bool, false, ◌||◌, List, [], ◌∷◌, ◌++◌, zip, ◌==◌, if◌then◌else◌}
+use Rattle.std.specs.List.{list_any, sum_by}
 use Rattle.r10_body.specs.Gaps.{gap_after}
 use Rattle.r10_body.specs.declared.entry.Entry.{Entry}
 use Rattle.r10_body.specs.declared.refusal.Refusal.TheVariants.{Overflow}
 use Rattle.r10_machine.specs.Machine.{saturated}
 use Rattle.r10_machine.specs.declared.event.Event.{Event}
-use Rattle.r10_machine.specs.declared.event.Event.TheVariants.{Offer}
+use Rattle.r10_machine.specs.declared.event.Event.TheVariants.{Offer, Lose}
 use Rattle.r10_machine.specs.declared.reply.Reply.{Reply}
 use Rattle.r10_machine.specs.declared.reply.Reply.TheVariants.{Done, Refused}
 
@@ -19,10 +19,11 @@ abbrev pub was_accepted : ℕ → Exchange → Bool
 was_accepted channel (Offer id count message, Done) = id == channel
 was_accepted channel exchange = false
 
--- an offer on the channel that was refused because too many waited
-abbrev pub was_lost : ℕ → Exchange → Bool
-was_lost channel (Offer id count message, Refused Overflow) = id == channel
-was_lost channel exchange = false
+-- how many messages of the channel an exchange loses: one where an offer was refused because too many waited, and as many as a loss told
+abbrev pub lost_by : ℕ → Exchange → ℕ
+lost_by channel (Offer id count message, Refused Overflow) = if id == channel then 1 else 0
+lost_by channel (Lose id lost, Done) = if id == channel then lost else 0
+lost_by channel exchange = 0
 
 -- what stands behind the last element that passes a test; all, where none does
 abbrev pub behind_last : {X : Type 0} → (X → Bool) → List X → List X
@@ -35,7 +36,7 @@ since_accepted channel before = behind_last (was_accepted channel) before
 
 -- How many were lost on the channel since the last message that was accepted. Where none was accepted yet, those that were missed before all of these count too. The number stays at the greatest of 64 bits.
 abbrev pub lost_since : ℕ → ℕ → List Exchange → ℕ
-lost_since channel missed before = saturated (count_by (was_lost channel) (since_accepted channel before) + (if list_any (was_accepted channel) before then 0 else missed))
+lost_since channel missed before = saturated (sum_by (lost_by channel) (since_accepted channel before) + (if list_any (was_accepted channel) before then 0 else missed))
 
 -- the entry that an exchange makes on the channel behind so many losses, if it accepts a message there
 abbrev pub entry_with : ℕ → ℕ → Exchange → List Entry

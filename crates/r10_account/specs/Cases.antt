@@ -1,5 +1,5 @@
 -- Worked cases: what whole recordings accepted, and where it is.
-use Rattle.std.specs.Prelude.{◌≡◌, ℕ, ◌++◌, ◌∷◌, [], List, refl, map}
+use Rattle.std.specs.Prelude.{◌≡◌, ℕ, ◌++◌, ◌∷◌, [], List, count_by, refl, map, zip}
 use Rattle.std.proofs.Common.{ap, arith, length, lit≤}
 use Rattle.std.proofs.lemmas.List.{length-append}
 use Rattle.r10_body.specs.declared.gap.Gap.TheVariants.{Whole, Lost}
@@ -11,7 +11,8 @@ use Rattle.r10_machine.specs.declared.event.Event.TheVariants as ask
 use Rattle.r10_machine.specs.declared.reply.Reply.{Reply}
 use Rattle.r10_machine.specs.declared.reply.Reply.TheVariants as say
 use Rattle.r10_machine.specs.Vectors.{after_gap, both_offered, entry, leap_day, lost, name, replayed, resumed, setup_text, small_started, small_stopped, stopped, text, two}
-use Rattle.r10_account.specs.Accepted.{accepted_entries}
+use Rattle.r10_account.specs.Accepted.{accepted_entries, lost_since}
+use Rattle.r10_account.specs.Sums.{all_lost, all_told, was_offered, was_refused}
 use Rattle.r10_account.specs.Account.{GoesOver, IsAccount, missed_of, shown_own, waiting_of}
 
 -- ---- the first recording
@@ -99,6 +100,20 @@ most-told = refl
 pub none-told : accepted_entries 5 0 (ask.Offer 6 1 (text []) ∷ offer 1 ∷ offer 2 ∷ []) (lane_full ∷ say.Refused refusals.CountBack ∷ say.Done ∷ []) ≡ entry 5 2 (text []) Whole ∷ []
 none-told = refl
 
+-- losses that were told count with those that were refused, and on their channel alone
+pub told-too : accepted_entries 5 0 (ask.Lose 5 40 ∷ offer 1 ∷ ask.Lose 5 2 ∷ ask.Lose 6 9 ∷ offer 2 ∷ offer 3 ∷ []) (say.Done ∷ lane_full ∷ say.Done ∷ say.Done ∷ say.Done ∷ say.Done ∷ [])
+    ≡ entry 5 2 (text []) (Lost 43) ∷ entry 5 3 (text []) Whole ∷ []
+told-too = refl
+
+-- one that was refused counts for none, and nor does a loss of none
+pub none-of-none : accepted_entries 5 0 (ask.Lose 5 40 ∷ ask.Lose 5 0 ∷ offer 1 ∷ []) (say.Refused refusals.NoSuchChannel ∷ say.Done ∷ say.Done ∷ []) ≡ entry 5 1 (text []) Whole ∷ []
+none-of-none = refl
+
+-- the sum stays at the greatest too
+pub most-told-too : accepted_entries 5 7 (ask.Lose 5 18446744073709551610 ∷ offer 1 ∷ ask.Lose 5 18446744073709551615 ∷ offer 2 ∷ []) (say.Done ∷ say.Done ∷ say.Done ∷ say.Done ∷ [])
+    ≡ entry 5 1 (text []) (Lost 18446744073709551615) ∷ entry 5 2 (text []) (Lost 18446744073709551615) ∷ []
+most-told-too = refl
+
 -- a loss outlasts what is done between
 pub loss-stays : accepted_entries 5 0 (offer 1 ∷ ask.Stop ∷ ask.Offer 6 1 (text []) ∷ ask.Erase ∷ offer 2 ∷ []) (lane_full ∷ say.Stopped (record { taken = 0; left = 0 }) ∷ say.Done ∷ say.Done ∷ say.Done ∷ []) ≡ entry 5 2 (text []) (Lost 1) ∷ []
 loss-stays = refl
@@ -116,3 +131,26 @@ nowhere account = omega (arith, ap length (account.each refl), length-append (ac
 -- what waits doesn't go without an erase
 pub vanished : GoesOver 5 both_offered small_started [] → ⊥
 vanished over = omega (arith, ap length over.each, length-append (over.gone ++ []) [], length-append over.gone [], over.erased (lit≤ tt))
+
+-- ---- sums: three offers of which one is refused, and four losses, of which one comes after the last message
+
+abbrev summed_events : List Event
+summed_events = ask.Lose 5 40 ∷ offer 1 ∷ offer 2 ∷ ask.Lose 6 9 ∷ ask.Lose 5 2 ∷ offer 3 ∷ ask.Lose 5 7 ∷ []
+
+abbrev summed_replies : List Reply
+summed_replies = say.Done ∷ say.Done ∷ lane_full ∷ say.Done ∷ say.Done ∷ say.Done ∷ say.Done ∷ []
+
+pub lost-in-all : all_lost 5 (zip summed_events summed_replies) ≡ 50
+lost-in-all = refl
+
+pub told-in-all : all_told (accepted_entries 5 0 summed_events summed_replies) ≡ 43
+told-in-all = refl
+
+pub missed-still : lost_since 5 0 (zip summed_events summed_replies) ≡ 7
+missed-still = refl
+
+pub offered-in-all : count_by (was_offered 5) (zip summed_events summed_replies) ≡ 3
+offered-in-all = refl
+
+pub refused-in-all : count_by (was_refused 5) (zip summed_events summed_replies) ≡ 1
+refused-in-all = refl

@@ -1,10 +1,11 @@
 //! The laws of accepted messages over runs, as calls that do nothing.
 
-ghost use Rattle.std.specs.Prelude.{◌≡◌, ◌≤◌, ℕ, true, false, List, IsSome, length, zip};
+ghost use Rattle.std.specs.Prelude.{◌≡◌, ◌≤◌, ◌+◌, ◌-◌, ◌^◌, ℕ, true, false, List, IsSome, count_by, length, zip};
 ghost use Rattle.std.specs.List.{AllByRecursion, list_any};
-ghost use Rattle.r10_account.specs.Accepted.{accepted_entries};
+ghost use Rattle.r10_account.specs.Accepted.{accepted_entries, lost_since};
 ghost use Rattle.r10_account.specs.Account.{GoesOver, IsAccount, missed_of};
 ghost use Rattle.r10_account.specs.Found.{AreStillFirst, may_erase};
+ghost use Rattle.r10_account.specs.Sums.{all_lost, all_told, was_offered, was_refused};
 ghost use Rattle.r10_body.specs.Channels.{spec_of};
 ghost use Rattle.r10_machine.specs.Checks.{is_working};
 ghost use Rattle.r10_machine.specs.Config.{Config};
@@ -49,3 +50,16 @@ pub fn found_files_stay()
     a_step_stays_sound();
     a_new_recorder_is_sound();
 }
+
+/// Over any run each offer on a channel was accepted, or it was refused.
+pub fn offers_add_up()
+    ensures { (s : Config) (channel : ℕ) (old : Machine) (events : List EventValue) (replies : List ReplyValue) (images : List Image) (new : Machine) → Run s old events replies images new
+        → count_by (was_offered channel) (zip events replies) ≡ length (accepted_entries channel 0 events replies) + count_by (was_refused channel) (zip events replies) }
+{}
+
+/// Of all that a channel lost, by overflows and outside, its accepted messages tell what was lost before the last of them, and the
+/// rest was lost since. So the numbers of the loss reports add up, as long as the sum has 64 bits.
+pub fn losses_add_up()
+    ensures { (channel : ℕ) (events : List EventValue) (replies : List ReplyValue) → all_lost channel (zip events replies) ≤ 2 ^ 64 - 1
+        → all_told (accepted_entries channel 0 events replies) + lost_since channel 0 (zip events replies) ≡ all_lost channel (zip events replies) }
+{}

@@ -4,4 +4,6 @@
 
 mod laws;
 
-pub use laws::{a_recording_accounts, a_run_goes_over, found_files_stay};
+pub use laws::{
+    a_recording_accounts, a_run_goes_over, found_files_stay, losses_add_up, offers_add_up,
+};

@@ -12,7 +12,7 @@ use Rattle.r10_control.specs.Leading.{KeptStepsTaking, none_taken}
 use Rattle.r10_machine.specs.EventChecks.{refusal}
 use Rattle.r10_machine.specs.Step.{has_room}
 use Rattle.r10_machine.specs.declared.event.Event.{Event as EventValue}
-use Rattle.r10_machine.specs.declared.event.Event.TheVariants.{Mount, Dismount, Tick, Start, Offer, Pump, Event, Commit, Stop, Seal, Erase, Files, Status, Cursor, Advance, Next, Close, Find, CountAt}
+use Rattle.r10_machine.specs.declared.event.Event.TheVariants.{Mount, Dismount, Tick, Start, Offer, Lose, Pump, Event, Commit, Stop, Seal, Erase, Files, Status, Cursor, Advance, Next, Close, Find, CountAt}
 use Rattle.r10_machine.specs.declared.reply.Reply.TheVariants as replies
 use Rattle.r10_control.proofs.Seals.{lack_leads as gives_up}
 
@@ -24,6 +24,7 @@ same_room s m n Dismount = refl
 same_room s m n (Tick count parts) = refl
 same_room s m n (Start name setup) = refl
 same_room s m n (Offer channel count message) = refl
+same_room s m n (Lose channel lost) = refl
 same_room s m n (Pump channel most) = refl
 same_room s m n (Event number count) = refl
 same_room s m n Commit = refl

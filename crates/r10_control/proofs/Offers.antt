@@ -1,4 +1,4 @@
--- Offers to the lanes of one thread, by their places and as steps of the machine.
+-- Offers to the lanes of one thread, and losses, by their places and as steps of the machine.
 use Rattle.std.proofs.Common.{◌≡◌, ◌≤◌, ◌<◌, ◌+◌, ℕ, zero, suc, Bool, true, false, cond, List, [], ◌∷◌, ◌++◌, length, map, find, get_or, set, is_none, if◌then◌else◌, nat_lt, Option, None, Some, Result, Ok, Err, refl, sym, ap, ◌∙◌, subst, arith}
 use Rattle.std.specs.Prelude.{not, option_map}
 use Rattle.std.specs.List.{position, position_or_len}
@@ -14,8 +14,8 @@ use Rattle.r10_body.specs.Files.{on_channel}
 use Rattle.r10_body.specs.Sequence.{last_count}
 use Rattle.r10_lane.specs.Lanes.{Offers, reached}
 use Rattle.r10_lane.proofs.Waiting.{refused_before_room}
-use Rattle.r10_machine.specs.Calls.{accepted, overflowed}
-use Rattle.r10_machine.specs.Checks.{in_48_bits, is_not_before, message_checks, offer_checks, offer_refusal, taking_checks}
+use Rattle.r10_machine.specs.Calls.{accepted, losing, overflowed}
+use Rattle.r10_machine.specs.Checks.{channel_checks, in_48_bits, is_not_before, message_checks, offer_checks, offer_refusal, taking_checks}
 use Rattle.r10_machine.specs.Limits.{IsConfig}
 use Rattle.r10_dirchain.specs.declared.chain.ChainBlock.{ChainBlock}
 use Rattle.r10_volume.specs.Holding.{Open}
@@ -28,10 +28,10 @@ use Rattle.r10_medium.specs.Disk.{Image}
 use Rattle.r10_openfile.specs.Stopping.{AllEnd}
 use Rattle.r10_cursor.specs.declared.books.Books.{Books}
 use Rattle.r10_control.specs.Owns.{IsRecorded, Owns, OwnsWork}
-use Rattle.r10_control.specs.Lanes.{AnswersWith, AreLanes, HaveRisen, LeadsWith, OffersTo, unerased}
+use Rattle.r10_control.specs.Lanes.{AnswersWith, AreLanes, HaveRisen, LeadsWith, LosesOn, OffersTo, unerased}
 use Rattle.r10_machine.specs.EventChecks.{refusal}
 use Rattle.r10_machine.specs.Step.{after_refusal}
-use Rattle.r10_machine.specs.declared.event.Event.TheVariants.{Offer}
+use Rattle.r10_machine.specs.declared.event.Event.TheVariants.{Lose, Offer}
 use Rattle.r10_machine.specs.declared.reply.Reply.TheVariants as replies
 
 -- ---- places
@@ -94,6 +94,15 @@ offers_at channel lanes i old new count message (Ok u) is here (fine, made) =
 offers_at channel lanes i old new count message (Err r) is here (first, made) =
     let at = is_at (is_channel channel) lanes i old is here in
     rw at.found (first, ap (set lanes i) made ∙ left channel lanes i old (is_none (first_broken (offer_checks (Some old) count message))) at here)
+
+pub loses_at : (channel : ℕ) (lanes : List Lane) (i : ℕ) (old new : Lane) (lost : ℕ) → position (is_channel channel) lanes ≡ Some i → old ≡ get_or lanes i old → new ≡ losing lost old → LosesOn channel lanes lost (Ok tt) (set lanes i new)
+loses_at channel lanes i old new lost is here made =
+    let at = is_at (is_channel channel) lanes i old is here in
+    rw at.found (refl, ap (set lanes i) made ∙ sym (at.changed (losing lost)))
+
+-- a lane that loses has reached what it had
+pub loses_rise : (old new : Lane) (lost : ℕ) → new ≡ losing lost old → reached old ≤ reached new
+loses_rise old new lost made = let same : reached new ≡ reached old = ap reached made in omega (arith, same)
 
 pub none_risen : (lanes : List Lane) → HaveRisen lanes lanes
 none_risen [] = tt
@@ -234,3 +243,45 @@ pub offer_leads : OffersAreSteps → RefusedOffersAreSteps → (k : Kept) (image
     → OffersTo channel old count message result new → AnswersWith old k image n (Offer channel count message) (λ (u : Unit {0}). replies.Done) result new
 offer_leads law refusing k image n channel count message old new (Ok u) limits offers = λ m means are. accepted_so k image n m channel count message old new limits means are law offers.0 offers.1
 offer_leads law refusing k image n channel count message old new (Err r) limits offers = λ m means are. refused_so k image n m channel count message old new limits means are refusing r offers.0 offers.1
+
+-- ---- losses that are told
+
+same_channel : (o : Option Lane) → first_broken (channel_checks (option_map unerased o)) ≡ first_broken (channel_checks o)
+same_channel None = refl
+same_channel (Some l) = refl
+
+-- a loss that is counted is a step, and so is one that is refused
+abbrev pub LossesAreSteps : Type 0
+LossesAreSteps = (k : Kept) (image : Image) (n : ℕ) (m : Machine) (channel lost : ℕ) → IsConfig k.config → KeptStandsFor k image n m → refusal k.config m (Lose channel lost) ≡ None
+    → KeptStepsTo k m (Lose channel lost) replies.Done k image n (with_lane channel (losing lost) m)
+
+abbrev pub RefusedLossesAreSteps : Type 0
+RefusedLossesAreSteps = (k : Kept) (image : Image) (n : ℕ) (m : Machine) (channel lost : ℕ) (r : Refusal) → IsConfig k.config → KeptStandsFor k image n m → refusal k.config m (Lose channel lost) ≡ Some r
+    → KeptStepsTo k m (Lose channel lost) (replies.Refused r) k image n m
+
+module _ (k : Kept) (image : Image) (n : ℕ) (m : Machine) (channel lost : ℕ) (old new : List Lane) (limits : IsConfig k.config) (means : KeptStandsFor k image n m) (are : AreLanes old m) where
+  lost_refusal : first_broken (channel_checks (find (is_channel channel) old)) ≡ refusal k.config m (Lose channel lost)
+  lost_refusal = ap (λ (ls : List Lane). first_broken (channel_checks (find (is_channel channel) ls))) are ∙ ap (λ (o : Option Lane). first_broken (channel_checks o)) (found_in channel m.lanes) ∙ same_channel (lane_of channel m)
+
+  counted_so : LossesAreSteps → first_broken (channel_checks (find (is_channel channel) old)) ≡ None → new ≡ change_first (is_channel channel) (losing lost) old → LeadsWith k m (Lose channel lost) replies.Done image n new
+  counted_so law fine made = record {
+    machine = with_lane channel (losing lost) m;
+    led = law k image n m channel lost limits means (sym lost_refusal ∙ fine);
+    lanes_are = made ∙ ap (change_first (is_channel channel) (losing lost)) are ∙ changed_in channel (losing lost) (λ l. refl) m.lanes;
+    files = refl;
+    cursors = refl;
+  }
+
+  uncounted_so : RefusedLossesAreSteps → (r : Refusal) → first_broken (channel_checks (find (is_channel channel) old)) ≡ Some r → new ≡ old → LeadsWith k m (Lose channel lost) (replies.Refused r) image n new
+  uncounted_so law r first made = record {
+    machine = m;
+    led = law k image n m channel lost r limits means (sym lost_refusal ∙ first);
+    lanes_are = made ∙ are;
+    files = refl;
+    cursors = refl;
+  }
+
+pub lose_leads : LossesAreSteps → RefusedLossesAreSteps → (k : Kept) (image : Image) (n channel lost : ℕ) (old new : List Lane) (result : Result (Unit {0}) Refusal) → IsConfig k.config
+    → LosesOn channel old lost result new → AnswersWith old k image n (Lose channel lost) (λ (u : Unit {0}). replies.Done) result new
+lose_leads law refusing k image n channel lost old new (Ok u) limits loses = λ m means are. counted_so k image n m channel lost old new limits means are law loses.0 loses.1
+lose_leads law refusing k image n channel lost old new (Err r) limits loses = λ m means are. uncounted_so k image n m channel lost old new limits means are refusing r loses.0 loses.1

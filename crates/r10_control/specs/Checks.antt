@@ -14,7 +14,7 @@ use Rattle.r10_cursor.specs.declared.cursor.Cursor.{Cursor as CursorValue}
 use Rattle.r10_machine.specs.declared.mode.Mode.{Mode}
 use Rattle.r10_machine.specs.EventChecks.{count_at_checks, erase_checks, event_checks, find_checks, most_files}
 use Rattle.r10_machine.specs.declared.event.Event.{Event as EventValue}
-use Rattle.r10_machine.specs.declared.event.Event.TheVariants.{Mount, Dismount, Tick, Start, Offer, Pump, Event, Commit, Stop, Seal, Erase, Files, Status, Cursor, Advance, Next, Close, Find, CountAt}
+use Rattle.r10_machine.specs.declared.event.Event.TheVariants.{Mount, Dismount, Tick, Start, Offer, Lose, Pump, Event, Commit, Stop, Seal, Erase, Files, Status, Cursor, Advance, Next, Close, Find, CountAt}
 use Rattle.r10_volume.specs.Listing.{has_name, is_last_closed}
 
 -- the files of the directory in use
@@ -31,6 +31,7 @@ recorder_checks k (Tick count parts) = mounted_checks (mode_of k.work) ++ tick_c
 recorder_checks k (Start name setup) = idle_checks (mode_of k.work) ++ begin_checks (is_some k.tick) name setup
     ++ (not (has_name name (files_of k.work)), NameTaken) ∷ (is_last_closed (files_of k.work), Unsealed) ∷ (nat_lt (length (files_of k.work)) (most_files k.config), DirectoryFull) ∷ []
 recorder_checks k (Offer channel count message) = []
+recorder_checks k (Lose channel lost) = []
 recorder_checks k (Pump channel most) = recording_checks (mode_of k.work) ++ (is_some (find (λ (spec : ChannelSpec). spec.id == channel) k.config.channels), NoSuchChannel) ∷ []
 recorder_checks k (Event number count) = recording_checks (mode_of k.work) ++ event_checks k.last_event number count
 recorder_checks k Commit = recording_checks (mode_of k.work)

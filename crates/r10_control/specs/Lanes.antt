@@ -5,8 +5,8 @@ use Rattle.r10_body.specs.declared.entry.Sample.{Sample}
 use Rattle.r10_body.specs.declared.message.Message.{Message}
 use Rattle.r10_body.specs.declared.refusal.Refusal.{Refusal}
 use Rattle.r10_lane.specs.Lanes.{reached}
-use Rattle.r10_machine.specs.Calls.{accepted, overflowed, without}
-use Rattle.r10_machine.specs.Checks.{offer_checks, offer_refusal}
+use Rattle.r10_machine.specs.Calls.{accepted, losing, overflowed, without}
+use Rattle.r10_machine.specs.Checks.{channel_checks, offer_checks, offer_refusal}
 use Rattle.r10_machine.specs.Machine.{Lane, Machine, change_first, is_channel}
 use Rattle.r10_means.specs.Kept.{Kept}
 use Rattle.r10_means.specs.Means.{KeptStepsTo, KeptStandsFor}
@@ -57,6 +57,14 @@ OffersTo channel old count message result new =
     MatchResult result
     (λ _. (offer_refusal lane count message ≡ None) × (new ≡ change_first (is_channel channel) (accepted count message) old))
     (λ r. (offer_refusal lane count message ≡ Some r) × (new ≡ (if fine then change_first (is_channel channel) overflowed old else old)))
+
+-- what a loss that is told of a channel answers, and the lanes that it leaves: counted where there is such a channel
+abbrev pub LosesOn : ℕ → List Lane → ℕ → Result (Unit {0}) Refusal → List Lane → Type 0
+LosesOn channel old lost result new =
+    let lane = find (is_channel channel) old in
+    MatchResult result
+    (λ _. (first_broken (channel_checks lane) ≡ None) × (new ≡ change_first (is_channel channel) (losing lost) old))
+    (λ r. (first_broken (channel_checks lane) ≡ Some r) × (new ≡ old))
 
 -- lanes with the same settings, which have reached as much or more
 abbrev pub HaveRisen : List Lane → List Lane → Type 0

@@ -1,4 +1,4 @@
-//! Offers to the lanes of one thread.
+//! Offers to the lanes of one thread, and losses that are told of them.
 
 ghost use Rattle.std.specs.Prelude.{◌≡◌, ◌≤◌, ◌^◌, None, Some, IfErr, IfOk, option_map};
 ghost use Rattle.std.specs.List.{position};
@@ -6,7 +6,7 @@ ghost use Rattle.r10_body.specs.declared.refusal.Refusal.TheVariants as refusals
 ghost use Rattle.r10_count.specs.Checks.{first_broken};
 ghost use Rattle.r10_machine.specs.Checks.{taking_checks};
 ghost use Rattle.r10_machine.specs.Machine.{is_channel, lane_in};
-ghost use Rattle.r10_control.specs.Lanes.{AnswersWith, HaveRisen, OffersTo};
+ghost use Rattle.r10_control.specs.Lanes.{AnswersWith, HaveRisen, LosesOn, OffersTo};
 ghost use Rattle.r10_machine.specs.declared.event.Event.TheVariants as events;
 ghost use Rattle.r10_machine.specs.declared.reply.Reply.TheVariants as replies;
 
@@ -15,7 +15,7 @@ use r10_body::{ChannelSpec, Message, Refusal};
 use r10_count::Count;
 use r10_lane::{LaneOut, RingLane};
 use r10_machine::check_offer;
-use r10_means::offers_are_steps;
+use r10_means::{losses_are_steps, offers_are_steps};
 use r10_medium::BlockMedium;
 
 impl<M: BlockMedium> Recorder<M, RingLane> {
@@ -33,7 +33,22 @@ impl<M: BlockMedium> Recorder<M, RingLane> {
         offer_to(&mut self.lanes, channel, count, message)
     }
 
-    /// How many messages of a channel were refused because its lane was full, up to `u64::MAX`. Refused: NoSuchChannel.
+    /// A channel lost so many messages that were never offered, in any mode: the next one that is accepted has them in its gap, with
+    /// those that overflowed. None changes nothing. Refused: NoSuchChannel.
+    pub fn lose(&mut self, channel: u16, lost: u64) -> Result<(), Refusal>
+        ensures loses { LosesOn channel self.old.lanes lost result self.new.lanes }
+        ensures steps { AnswersWith self.old.lanes self.old.kept (M.disk self.old.medium).blocks (M.disk self.old.medium).failures (events.Lose channel lost) (λ _. replies.Done) result self.new.lanes }
+        ensures kept { self.new.kept ≡ self.old.kept }
+        ensures medium { self.new.medium ≡ self.old.medium }
+    {
+        // For the proof: a loss is a step of the machine; the channels are within limits.
+        losses_are_steps();
+        let _channels = self.settings.channels();
+        lose_in(&mut self.lanes, channel, lost)
+    }
+
+    /// How many messages of a channel were lost, because its lane was full or before they were offered, up to `u64::MAX`. Refused:
+    /// NoSuchChannel.
     pub fn lost(&self, channel: u16) -> Result<u64, Refusal>
         ensures lost { IfOk result (λ n. option_map (λ lane. lane.lost) (lane_in channel self.now.lanes) ≡ Some n) }
         ensures refused { IfErr result (λ r. (r ≡ refusals.NoSuchChannel) × (option_map (λ lane. lane.lost) (lane_in channel self.now.lanes) ≡ None)) }
@@ -70,6 +85,19 @@ fn offer_to(
         return Err(refuse_late(&lane.spec(), count, &message));
     };
     lane.offer(now, message)
+}
+
+/// So many messages of a channel were lost: its lane counts them.
+fn lose_in(lanes: &mut Vec<RingLane>, channel: u16, lost: u64) -> Result<(), Refusal>
+    ensures loses { LosesOn channel lanes.old.items lost result lanes.new.items }
+    ensures risen { HaveRisen lanes.old.items lanes.new.items }
+{
+    let Some(at) = place_of(lanes.as_slice(), channel) else {
+        return Err(Refusal::NoSuchChannel);
+    };
+    let lane = &mut lanes[at];
+    lane.lose(lost);
+    Ok(())
 }
 
 /// Why a message is refused whose count has more than 48 bits: what its channel refuses of it, or else its count.

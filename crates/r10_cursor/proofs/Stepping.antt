@@ -17,7 +17,7 @@ use Rattle.r10_machine.specs.SoundParts.{IsSoundCursor}
 use Rattle.r10_machine.specs.Needs.{shown_part}
 use Rattle.r10_medium.specs.Disk.{Image}
 use Rattle.r10_machine.specs.declared.event.Event.{Event as EventValue}
-use Rattle.r10_machine.specs.declared.event.Event.TheVariants.{Mount, Dismount, Tick, Start, Offer, Pump, Event, Commit, Stop, Seal, Erase, Files, Status, Cursor, Advance, Next, Close, Find, CountAt}
+use Rattle.r10_machine.specs.declared.event.Event.TheVariants.{Mount, Dismount, Tick, Start, Offer, Lose, Pump, Event, Commit, Stop, Seal, Erase, Files, Status, Cursor, Advance, Next, Close, Find, CountAt}
 use Rattle.r10_machine.specs.declared.reply.Reply.{Reply as ReplyValue}
 use Rattle.r10_machine.specs.declared.reply.Reply.TheVariants as replies
 use Rattle.r10_machine.specs.ControlCalls.{closed_in, event_entry}
@@ -102,6 +102,7 @@ does_more s old (Tick count parts) replies.Done new inside does again = by (is_r
 does_more s old (Start name setup) replies.Done new inside does again =
     some_then (ShowMore old.files new.files) old.tick _ does (λ tick is_tick made. subst (ShowMore old.files) (sym (ap (λ (m : Machine). m.files) made.1)) (one_behind old.files _))
 does_more s old (Offer channel count message) replies.Done new inside is again = same_files old new (ap (λ (m : Machine). m.files) is)
+does_more s old (Lose channel lost) replies.Done new inside is again = same_files old new (ap (λ (m : Machine). m.files) is)
 does_more s old (Pump channel most) (replies.Moved n) new inside does again =
     some_then (ShowMore old.files new.files) (lane_of channel old) _ does (λ lane is_lane pumps.
     some_then (ShowMore old.files new.files) (last_or None old.files) _ pumps (λ f last made.
@@ -171,6 +172,7 @@ refused_same (Offer channel count message) m = by (is_none (first_broken (offer_
     by : (b : Bool) → (cond b (with_lane channel overflowed m) m).files ≡ m.files
     by true = refl
     by false = refl
+refused_same (Lose channel lost) m = refl
 refused_same (Pump channel most) m = refl
 refused_same (Event number count) m = refl
 refused_same Commit m = refl
@@ -217,6 +219,7 @@ does_later s old (Tick count parts) replies.Done new does = by (is_recording old
     by true (room, is) = omega (arith, ap (λ (m : Machine). m.generation) is)
 does_later s old (Start name setup) replies.Done new does = some_then (old.generation ≤ new.generation) old.tick _ does (λ tick is_tick made. omega (arith, ap (λ (m : Machine). m.generation) made.1))
 does_later s old (Offer channel count message) replies.Done new is = omega (arith, ap (λ (m : Machine). m.generation) is)
+does_later s old (Lose channel lost) replies.Done new is = omega (arith, ap (λ (m : Machine). m.generation) is)
 does_later s old (Pump channel most) (replies.Moved n) new does =
     some_then (old.generation ≤ new.generation) (lane_of channel old) _ does (λ lane is_lane pumps.
     some_then (old.generation ≤ new.generation) (last_or None old.files) _ pumps (λ f last made. omega (arith, ap (λ (m : Machine). m.generation) made.2)))
@@ -253,6 +256,7 @@ refused_generation (Offer channel count message) m = by (is_none (first_broken (
     by : (b : Bool) → (cond b (with_lane channel overflowed m) m).generation ≡ m.generation
     by true = refl
     by false = refl
+refused_generation (Lose channel lost) m = refl
 refused_generation (Pump channel most) m = refl
 refused_generation (Event number count) m = refl
 refused_generation Commit m = refl

@@ -53,6 +53,14 @@ impl<M: BlockMedium> Desk<M> {
         number_of(&reply)
     }
 
+    /// So many messages of a channel were lost before they were offered: 0, or 6, 30.
+    pub fn lose(&mut self, channel: u16, lost: u64) -> u32
+        ensures { DoesEvent M.disk self.old.world (events.Lose channel lost) (λ reply. result ≡ number_of reply) self.new.world }
+    {
+        let reply = self.tell(Event::Lose { channel, lost });
+        number_of(&reply)
+    }
+
     /// Takes at most so many waiting messages of a channel into the file, and says how many: 0, or 1, 2, 5, 6, 25, 28, 30.
     pub fn pump(&mut self, channel: u16, most: usize, moved: &mut usize) -> u32
         ensures { DoesEvent M.disk self.old.world (events.Pump channel most) (λ reply. (result ≡ number_of reply) × (moved.new ≡ moved_in reply moved.old)) self.new.world }

@@ -389,6 +389,21 @@ pub extern "C" fn r10_offer_message(
     answer
 }
 
+/// So many messages of a channel were lost before they were offered. 0, or 6, 30.
+#[unsafe(no_mangle)]
+pub extern "C" fn r10_lost(alloc: Global, recorder: &mut Recorder, channel: u16, count: u64) -> u32
+    ensures does { IsOpen recorder.old → Does recorder.old recorder.new (λ old new. DoesEvent region_disk old (events.Lose channel count) (λ reply. result ≡ number_of reply) new) }
+    ensures closed { IsClosed recorder.old → (result ≡ 44) × (recorder.new ≡ recorder.old) }
+{
+    if !recorder.is_open() {
+        return CLOSED;
+    }
+    let mut held = recorder.take(alloc);
+    let answer = held.desk.lose(channel, count);
+    recorder.put(held);
+    answer
+}
+
 /// Takes at most so many waiting messages of a channel into the file. 0, or 1, 2, 5, 6, 25, 28, 30.
 #[unsafe(no_mangle)]
 pub extern "C" fn r10_pump(

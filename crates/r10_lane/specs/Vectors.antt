@@ -1,5 +1,5 @@
 -- A lane of two messages, offer by offer.
-use Rattle.std.specs.Prelude.{◌≡◌, ℕ, false, List, [], ◌∷◌, Option, Some, Ok, Err, refl}
+use Rattle.std.specs.Prelude.{◌≡◌, ℕ, false, List, [], ◌∷◌, Option, Some, None, Ok, Err, refl}
 use Rattle.std.proofs.Common.{lit≤}
 use Rattle.r10_body.specs.declared.entry.Sample.{Sample}
 use Rattle.r10_body.specs.declared.gap.Gap.{Gap}
@@ -9,6 +9,7 @@ use Rattle.r10_body.specs.declared.message.Message.{Message}
 use Rattle.r10_body.specs.declared.message.Message.TheVariants.{Uart}
 use Rattle.r10_body.specs.declared.refusal.Refusal.TheVariants.{CountBack, Overflow, BadMessage}
 use Rattle.r10_body.specs.declared.spec.ChannelSpec.{ChannelSpec}
+use Rattle.r10_machine.specs.Calls.{losing}
 use Rattle.r10_machine.specs.Machine.{Lane, fresh_lane}
 use Rattle.r10_lane.specs.Lanes.{Offers, TookWaiting, Waits, reached, refused_lane}
 
@@ -61,6 +62,23 @@ three_are_told = (refl, refl)
 -- the losses stay at the greatest of 64 bits
 losses_stay : refused_lane (lane (first ∷ second ∷ []) (Some 1002) 1 18446744073709551615) 1003 (text 0x43) ≡ lane (first ∷ second ∷ []) (Some 1002) 2 18446744073709551615
 losses_stay = refl
+
+-- losses that were never offered count with them, and the next message tells the sum
+more_are_lost : losing 40 (lane (first ∷ second ∷ []) (Some 1002) 1 1) ≡ lane (first ∷ second ∷ []) (Some 1002) 41 41
+more_are_lost = refl
+
+all_are_told : Offers (losing 40 (lane (second ∷ []) (Some 1002) 1 1)) 1004 (text 0x44) (Ok tt) (lane (second ∷ sample 1004 0x44 (Lost 41) ∷ []) (Some 1004) 0 41)
+all_are_told = (refl, refl)
+
+-- before the first message too
+first_is_marked : Offers (losing 2 (losing 40 (fresh_lane channel))) 1001 (text 0x41) (Ok tt) (lane (sample 1001 0x41 (Lost 42) ∷ []) (Some 1001) 0 42)
+first_is_marked = (refl, refl)
+
+none_are_lost : losing 0 full ≡ full
+none_are_lost = refl
+
+both_stay : losing 7 (lane [] None 18446744073709551609 18446744073709551614) ≡ lane [] None 18446744073709551615 18446744073709551615
+both_stay = refl
 
 -- the count is looked at before the room, and the message before the count; none of them is a loss
 a_count_back : Offers full 1001 (text 0x43) (Err CountBack) full

@@ -2,6 +2,7 @@
 
 ghost use Rattle.std.specs.Prelude.{◌≡◌, ◌≤◌, IfOk, length, option_copied, slice_get};
 ghost use Rattle.r10_count.specs.Count.{IsCount};
+ghost use Rattle.r10_machine.specs.Calls.{losing};
 ghost use Rattle.r10_machine.specs.Machine.{fresh_lane};
 ghost use Rattle.r10_machine.specs.SoundParts.{count_or_0};
 ghost use Rattle.r10_lane.specs.Lanes.{Offers, reached, Waits};
@@ -95,6 +96,14 @@ impl RingLane {
         }
     }
 
+    /// The channel lost so many messages that were never offered: the next one that is accepted has them in its gap.
+    pub fn lose(&mut self, lost: u64)
+        ensures { self.new ≡ losing lost self.old }
+    {
+        self.missed = self.missed.saturating_add(lost);
+        self.lost = self.lost.saturating_add(lost);
+    }
+
     /// How many samples wait: never more than the capacity.
     pub fn len(&self) -> usize
         ensures count { result ≡ length self.now.waiting }
@@ -118,7 +127,7 @@ impl RingLane {
         let _ = &self.waiting;
     }
 
-    /// How many messages were refused for want of room, up to `u64::MAX`, where it stays.
+    /// How many messages were lost: refused for want of room, or never offered, up to `u64::MAX`, where it stays.
     pub fn lost(&self) -> u64
         ensures { result ≡ self.now.lost }
     {

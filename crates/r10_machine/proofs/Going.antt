@@ -14,7 +14,7 @@ use Rattle.r10_machine.specs.Config.{Config}
 use Rattle.r10_machine.specs.Machine.{Machine, Lane, File, Cursor, Sets, SetsCursor, cursor_at, cursor_of, lane_of, lane_in, is_channel, with_lane}
 use Rattle.r10_machine.specs.Replay.{Ordered}
 use Rattle.r10_machine.specs.Checks.{message_checks, taking_checks, count_checks, room_checks, is_not_before, is_full, offer_checks}
-use Rattle.r10_machine.specs.Calls.{Opens, Advances, GivesQueued, fresh_cursor, wanted_since, accepted, overflowed}
+use Rattle.r10_machine.specs.Calls.{Opens, Advances, GivesQueued, fresh_cursor, wanted_since, accepted, losing, overflowed}
 use Rattle.r10_machine.specs.SoundParts.{IsSoundLane, IsSoundCursor, LaneClimbs, Climbs, counts_on, count_or_0}
 use Rattle.r10_machine.proofs.Climbing.{climbs_push, map-joined}
 use Rattle.r10_machine.proofs.Steady.{checks_pass, parts_pass, changed_all, same_specs}
@@ -175,6 +175,13 @@ offers_sound s m channel count message sound fine =
   where
     takes : (lane : Lane) → lane_in channel m.lanes ≡ Some lane → Takes lane count message
     takes lane there = takes_of lane count message (subst (λ (o : Option Lane). first_broken (offer_checks o count message ++ room_checks o) ≡ None) there fine)
+
+-- losses change neither what waits nor a count
+pub loses_sound : (s : Config) (m : Machine) (channel n : ℕ) → IsSound s m → IsSound s (with_lane channel (losing n) m)
+loses_sound s m channel n sound =
+    sound_lanes s m channel (losing n) sound (λ lane. refl)
+    (λ lane there sound. record { held = sound.held; messages = sound.messages; counts = sound.counts; gaps = sound.gaps; missed = omega arith })
+    (λ lane there climbs. climbs)
 
 pub overflows_sound : (s : Config) (m : Machine) (channel : ℕ) → IsSound s m → IsSound s (with_lane channel overflowed m)
 overflows_sound s m channel sound =

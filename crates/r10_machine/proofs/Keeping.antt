@@ -10,7 +10,7 @@ use Rattle.r10_machine.specs.Calls.{TicksIn, closed_whole, shown_whole, all_wait
 use Rattle.r10_machine.proofs.Steady.{last_shows}
 use Rattle.r10_machine.proofs.Growing.{append_there}
 use Rattle.r10_machine.specs.declared.event.Event.{Event as EventValue}
-use Rattle.r10_machine.specs.declared.event.Event.TheVariants.{Mount, Dismount, Tick, Start, Offer, Pump, Event, Commit, Stop, Seal, Erase, Files, Status, Cursor, Advance, Next, Close, Find, CountAt}
+use Rattle.r10_machine.specs.declared.event.Event.TheVariants.{Mount, Dismount, Tick, Start, Offer, Lose, Pump, Event, Commit, Stop, Seal, Erase, Files, Status, Cursor, Advance, Next, Close, Find, CountAt}
 use Rattle.r10_machine.specs.declared.reply.Reply.{Reply as ReplyValue}
 use Rattle.r10_machine.specs.declared.reply.Reply.TheVariants as replies
 use Rattle.r10_machine.specs.ControlCalls.{closed_in, event_entry}
@@ -77,6 +77,7 @@ does_keeps s old (Start name setup) replies.Done new sound does =
       files = λ again i n there. subst (λ (files : List File). IsSomeAnd (slice_get files i) (λ f. n ≤ f.shown)) (sym (ap (λ (m : Machine). m.files) made.1)) (append_there (λ f. n ≤ f.shown) old.files _ i there);
     })
 does_keeps s old (Offer channel count message) replies.Done new sound is = keeps_all old new (ap (λ (m : Machine). m.generation) is) (ap (λ (m : Machine). m.files) is)
+does_keeps s old (Lose channel lost) replies.Done new sound is = keeps_all old new (ap (λ (m : Machine). m.generation) is) (ap (λ (m : Machine). m.files) is)
 does_keeps s old (Pump channel most) (replies.Moved n) new sound does =
     some_then (Keeps old new) (lane_of channel old) _ does (λ lane is_lane pumps.
     some_then (Keeps old new) (last_or None old.files) _ pumps (λ f last made.

@@ -19,13 +19,13 @@ use Rattle.r10_machine.specs.SoundParts.{IsSoundLane, IsSoundCursor}
 use Rattle.r10_machine.proofs.Steady.{checks_pass, parts_pass, some_each, records_of, idle_works}
 use Rattle.r10_machine.proofs.Growing.{dropped_sound}
 use Rattle.r10_machine.specs.declared.event.Event.{Event as EventValue}
-use Rattle.r10_machine.specs.declared.event.Event.TheVariants.{Mount, Dismount, Tick, Start, Offer, Pump, Event, Commit, Stop, Seal, Erase, Files, Status, Cursor, Advance, Next, Close, Find, CountAt}
+use Rattle.r10_machine.specs.declared.event.Event.TheVariants.{Mount, Dismount, Tick, Start, Offer, Lose, Pump, Event, Commit, Stop, Seal, Erase, Files, Status, Cursor, Advance, Next, Close, Find, CountAt}
 use Rattle.r10_machine.specs.declared.reply.Reply.{Reply as ReplyValue}
 use Rattle.r10_machine.specs.declared.reply.Reply.TheVariants as replies
 use Rattle.r10_machine.specs.EventChecks.{refusal, start_checks, file_checks, event_checks, seal_checks, erase_checks, most_files}
 use Rattle.r10_machine.specs.Step.{Step, Run, Replies, Refuses, GivesUp, Does, FailsIn, LanesAfter, after_refusal}
 use Rattle.r10_machine.specs.Sound.{IsSound}
-use Rattle.r10_machine.proofs.Going.{sound_with, opens_sound, advances_sound, gives_sound, closes_sound, offers_sound, overflows_sound}
+use Rattle.r10_machine.proofs.Going.{sound_with, opens_sound, advances_sound, gives_sound, closes_sound, offers_sound, loses_sound, overflows_sound}
 use Rattle.r10_machine.proofs.Turning.{mounts_sound, dismounts_sound, seals_sound, erases_sound}
 use Rattle.r10_machine.proofs.Recording.{ticks_sound, marks_sound, commits_sound, pumps_sound, stops_sound, starts_sound}
 use Rattle.r10_machine.proofs.Keeping.{Keeps, keeps_same, does_keeps}
@@ -59,6 +59,7 @@ does_sound s old (Start name setup) replies.Done new config sound fine does =
     let parts = parts_pass (idle_checks old.mode) (start_checks s old name setup) fine in
     starts_sound s old name setup new config sound (idle_works old.mode parts.0) (few_files s old name setup parts.1) does
 does_sound s old (Offer channel count message) replies.Done new config sound fine is = subst (IsSound s) (sym is) (offers_sound s old channel count message sound fine)
+does_sound s old (Lose channel lost) replies.Done new config sound fine is = subst (IsSound s) (sym is) (loses_sound s old channel lost sound)
 does_sound s old (Pump channel most) (replies.Moved n) new config sound fine does =
     pumps_sound s old channel most n new config sound (records_of old.mode (parts_pass (recording_checks old.mode) (channel_checks (lane_of channel old)) fine).0) does
 does_sound s old (Event number count) replies.Done new config sound fine does =

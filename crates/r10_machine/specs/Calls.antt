@@ -29,6 +29,10 @@ accepted count message lane = record lane {
 abbrev pub overflowed : Lane → Lane
 overflowed lane = record lane { missed = saturated (lane.missed + 1); lost = saturated (lane.lost + 1) }
 
+-- a lane whose channel lost so many more, which were never offered
+abbrev pub losing : ℕ → Lane → Lane
+losing n lane = record lane { missed = saturated (lane.missed + n); lost = saturated (lane.lost + n) }
+
 -- a lane without its first n
 abbrev pub without : ℕ → Lane → Lane
 without n lane = record lane { waiting = drop n lane.waiting }

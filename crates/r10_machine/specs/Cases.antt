@@ -110,6 +110,16 @@ offer-unmounted = refl
 pub offer-failed : refusal settings failed_machine (events.Offer 5 1001 (text [])) ≡ None
 offer-failed = refl
 
+-- losses are taken in every mode too
+pub loss-unmounted : refusal settings new (events.Lose 5 1) ≡ None
+loss-unmounted = refl
+
+pub loss-failed : refusal settings failed_machine (events.Lose 5 1) ≡ None
+loss-failed = refl
+
+pub loss-idle : refusal settings mounted (events.Lose 6 (2 ^ 64 - 1)) ≡ None
+loss-idle = refl
+
 -- ---- starts and ticks
 
 pub no-time : refusal settings mounted (events.Start [] []) ≡ Some refusals.NoTime
@@ -200,6 +210,25 @@ other-channel = refl
 pub refused-uncounted : Step settings filled_lane (events.Offer 5 1001 (text [])) (replies.Refused refusals.CountBack) filled_lane
 refused-uncounted = (lit≤ tt, (refl, refl))
 
+-- losses outside: on no channel, of none, and beside an overflow
+pub loss-no-channel : Step settings started (events.Lose 99 1) (replies.Refused refusals.NoSuchChannel) started
+loss-no-channel = (lit≤ tt, (refl, refl))
+
+pub loss-of-none : Step settings lost (events.Lose 5 0) replies.Done lost
+loss-of-none = (lit≤ tt, (refl, refl))
+
+pub loss-outside : Step settings lost (events.Lose 5 41) replies.Done (record lost {
+  lanes = record {
+    spec = channel 5 2;
+    waiting = record { count = 1001; message = text (0x41 ∷ []); gap = Whole } ∷ record { count = 1002; message = text (0x42 ∷ []); gap = Whole } ∷ [];
+    last = Some 1002;
+    missed = 42;
+    lost = 42;
+    erased = 0;
+  } ∷ record { spec = channel 6 4; waiting = []; last = None; missed = 0; lost = 0; erased = 0 } ∷ [];
+})
+loss-outside = (lit≤ tt, (refl, refl))
+
 -- an entry that has room isn't left: a pump that moves nothing is no step
 pub moves-none : (next : Machine) → Replies settings 0 filled_lane (events.Pump 5 1) (replies.Moved 0) next → ⊥
 moves-none next (fine, (takes, some, is)) = omega (arith, some (lit< tt))
@@ -282,9 +311,15 @@ uncounted (more, (uses, room, rose, fails)) = omega (arith, rose (lit< tt))
 pub pump-fails : Step settings lost (events.Pump 5 1) (replies.Refused refusals.Medium) (record (with_lane 5 (without 1) lost) { mode = Failed; failures = 1 })
 pump-fails = (lit≤ tt, (refl, refl, λ less. lit< tt, record { end = record lost { failures = 1 }; either = inl refl; files = refl; lanes = ((1, lit≤ tt, refl), ((0, lit≤ tt, refl), tt)); rest = refl }))
 
--- an offer doesn't fail
+-- an offer doesn't fail, and nor does a loss that is told
 pub offer-fails : (next : Machine) → Step settings started (events.Offer 5 1001 (text [])) (replies.Refused refusals.Medium) next → ⊥
 offer-fails next (more, (uses, room, rose, fails)) = cc
+
+pub loss-fails : (next : Machine) → Step settings started (events.Lose 5 1) (replies.Refused refusals.Medium) next → ⊥
+loss-fails next (more, (uses, room, rose, fails)) = cc
+
+pub loss-lacks-memory : (next : Machine) → Step settings started (events.Lose 5 1) (replies.Refused refusals.OutOfMemory) next → ⊥
+loss-lacks-memory next (more, (asks, room, is)) = cc
 
 -- ---- recording events
 

@@ -1,13 +1,14 @@
 -- Whole recordings: each reply is one that the recorder may give, over the states of r10_machine's vectors.
-use Rattle.std.specs.Prelude.{◌≡◌, ◌≢◌, ℕ, List, [], ◌∷◌, drop, refl, Option, Some, None, slice_index_or}
+use Rattle.std.specs.Prelude.{◌≡◌, ◌≢◌, ℕ, true, List, [], ◌∷◌, ◌++◌, drop, map, refl, Option, Some, None, slice_index_or}
 use Rattle.std.proofs.Common.{lit<, lit≤, zero, suc}
+use Rattle.r10_body.specs.declared.entry.Entry.{Entry}
 use Rattle.r10_body.specs.declared.gap.Gap.TheVariants.{Whole, Lost}
 use Rattle.r10_body.specs.declared.refusal.Refusal.TheVariants as refusals
 use Rattle.r10_machine.specs.declared.mode.Mode.TheVariants.{Idle}
 use Rattle.r10_machine.specs.Config.{Config}
-use Rattle.r10_machine.specs.Machine.{Machine, Cursor, Sets, fresh, with_lane}
-use Rattle.r10_machine.specs.Calls.{accepted, overflowed}
-use Rattle.r10_machine.specs.Vectors.{settings, new, mounted, ticked, started, name, setup_text, leap_day, text, entry, read, small, small_started, two, two-in-order, abc_offered, both_offered, both_pumped, small_stopped, filled_lane, lost, pumped, resumed, stopped, replayed, replayed-in-order, lost_three, filled_stopped, ticked_again, second_name, started_again, offered_again, after_losses, pumped_again, committed_again, read_second, alone-in-order}
+use Rattle.r10_machine.specs.Machine.{Machine, Cursor, File, Lane, Sets, fresh, with_lane}
+use Rattle.r10_machine.specs.Calls.{accepted, losing, overflowed, without}
+use Rattle.r10_machine.specs.Vectors.{settings, new, mounted, ticked, started, begun, first_time, name, setup_text, leap_day, text, entry, read, small, small_started, two, two-in-order, abc_offered, both_offered, both_pumped, small_stopped, filled_lane, lost, pumped, resumed, stopped, replayed, replayed-in-order, lost_three, filled_stopped, ticked_again, second_name, started_again, offered_again, after_losses, pumped_again, committed_again, read_second, alone-in-order}
 use Rattle.r10_machine.specs.declared.event.Event.{Event}
 use Rattle.r10_machine.specs.declared.event.Event.TheVariants as ask
 use Rattle.r10_machine.specs.declared.reply.Reply.{Reply}
@@ -261,3 +262,93 @@ three-lost-messages = (
     ),
   ),
 )
+
+-- ---- a recording whose driver tells of losses: before the first message, of none, and beside an overflow
+
+abbrev told_first : Machine
+told_first = with_lane 5 (losing 2) (with_lane 5 (losing 40) started)
+
+abbrev told_between : Machine
+told_between = with_lane 5 (losing 5) (with_lane 5 (accepted 1001 (text (0x41 ∷ []))) told_first)
+
+abbrev told_full : Machine
+told_full = with_lane 5 (accepted 1002 (text (0x42 ∷ []))) told_between
+
+abbrev told_last : Machine
+told_last = with_lane 5 (losing 3) (with_lane 5 overflowed told_full)
+
+abbrev told_entries : List Entry
+told_entries = entry 5 1001 (text (0x41 ∷ [])) (Lost 42) ∷ entry 5 1002 (text (0x42 ∷ [])) (Lost 5) ∷ []
+
+abbrev told_pumped : Machine
+told_pumped = record (with_lane 5 (without 2) told_last) { files = record begun { entries = first_time ∷ told_entries } ∷ [] }
+
+abbrev told_resumed : Machine
+told_resumed = with_lane 5 (accepted 1004 (text (0x44 ∷ []))) told_pumped
+
+-- the steps leave its size to the packing
+abbrev told_file : File
+told_file = record begun { entries = first_time ∷ told_entries ++ entry 5 1004 (text (0x44 ∷ [])) (Lost 4) ∷ []; shown = 4; closed = true; size = 332 }
+
+abbrev told_stopped : Machine
+told_stopped = record (with_lane 5 (without 1) told_resumed) { mode = Idle; files = told_file ∷ [] }
+
+pub losses-outside : Goes settings started
+    (ask.Lose 5 40 ∷ ask.Lose 5 2 ∷ ask.Offer 5 1001 (text (0x41 ∷ [])) ∷ ask.Lose 5 5 ∷ ask.Lose 99 7 ∷ ask.Offer 5 1002 (text (0x42 ∷ []))
+    ∷ ask.Offer 5 1003 (text (0x43 ∷ [])) ∷ ask.Lose 5 3 ∷ ask.Pump 5 2 ∷ ask.Lose 5 0 ∷ ask.Offer 5 1004 (text (0x44 ∷ [])) ∷ ask.Stop ∷ [])
+    (say.Done ∷ say.Done ∷ say.Done ∷ say.Done ∷ say.Refused refusals.NoSuchChannel ∷ say.Done
+    ∷ say.Refused refusals.Overflow ∷ say.Done ∷ say.Moved 2 ∷ say.Done ∷ say.Done ∷ say.Stopped (record { taken = 1; left = 0 }) ∷ [])
+    told_stopped
+losses-outside = (
+  with_lane 5 (losing 40) started,
+  (lit≤ tt, (refl, refl)),
+  (
+    told_first,
+    (lit≤ tt, (refl, refl)),
+    (
+      with_lane 5 (accepted 1001 (text (0x41 ∷ []))) told_first,
+      (lit≤ tt, (refl, refl)),
+      (
+        told_between,
+        (lit≤ tt, (refl, refl)),
+        (
+          told_between,
+          (lit≤ tt, (refl, refl)),
+          (
+            told_full,
+            (lit≤ tt, (refl, refl)),
+            (
+              with_lane 5 overflowed told_full,
+              (lit≤ tt, (refl, refl)),
+              (
+                told_last,
+                (lit≤ tt, (refl, refl)),
+                (
+                  told_pumped,
+                  (lit≤ tt, (refl, (refl, λ some. lit< tt, refl))),
+                  (
+                    told_pumped,
+                    (lit≤ tt, (refl, refl)),
+                    (
+                      told_resumed,
+                      (lit≤ tt, (refl, refl)),
+                      (
+                        told_stopped,
+                        (lit≤ tt, (refl, (refl, refl, refl))),
+                        refl,
+                      ),
+                    ),
+                  ),
+                ),
+              ),
+            ),
+          ),
+        ),
+      ),
+    ),
+  ),
+)
+
+-- of all that was lost, told or refused, the lane keeps the number
+pub all-told : map (λ (l : Lane). l.lost) told_stopped.lanes ≡ 51 ∷ 0 ∷ []
+all-told = refl

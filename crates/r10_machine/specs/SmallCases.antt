@@ -11,7 +11,7 @@ use Rattle.r10_machine.specs.Machine.{Lane, File, with_entries, rising as in_ris
 use Rattle.r10_machine.specs.Room.{blocks_of, cost_of, area, fitting, room_for}
 use Rattle.r10_machine.specs.Checks.{is_setup}
 use Rattle.r10_machine.specs.Limits.{settings_rules}
-use Rattle.r10_machine.specs.Calls.{accepted, overflowed, all_waiting, lanes_without, waiting_count}
+use Rattle.r10_machine.specs.Calls.{accepted, losing, overflowed, all_waiting, lanes_without, waiting_count}
 use Rattle.r10_machine.specs.Replay.{wanted}
 use Rattle.r10_machine.specs.Vectors.{settings, channel, begun, text, entry}
 
@@ -116,6 +116,25 @@ one-gap = refl
 pub lost-at-most : overflowed (record { spec = channel 5 1; waiting = []; last = None; missed = 2 ^ 64 - 1; lost = 2 ^ 64 - 1; erased = 0 })
     ≡ record { spec = channel 5 1; waiting = []; last = None; missed = 2 ^ 64 - 1; lost = 2 ^ 64 - 1; erased = 0 }
 lost-at-most = refl
+
+-- what was lost outside counts beside overflows, before them and after them, and marks the next message alone
+pub lost-outside : overflowed (losing 40 lossy) ≡ record { spec = channel 5 2; waiting = []; last = None; missed = 43; lost = 50; erased = 0 }
+lost-outside = refl
+
+pub one-gap-of-all : map (λ x. x.gap) (accepted 2 (text []) (accepted 1 (text []) (overflowed (losing 40 lossy)))).waiting ≡ Lost 43 ∷ Whole ∷ []
+one-gap-of-all = refl
+
+-- a loss of none changes nothing, and marks none
+pub none-lost-outside : losing 0 lossy ≡ lossy
+none-lost-outside = refl
+
+pub no-gap : map (λ x. x.gap) (accepted 1 (text []) (losing 0 (record { spec = channel 5 2; waiting = []; last = None; missed = 0; lost = 7; erased = 0 }))).waiting ≡ Whole ∷ []
+no-gap = refl
+
+-- each number stays at the greatest by itself
+pub lost-outside-at-most : losing 3 (record { spec = channel 5 1; waiting = []; last = None; missed = 2 ^ 64 - 4; lost = 2 ^ 64 - 3; erased = 0 })
+    ≡ record { spec = channel 5 1; waiting = []; last = None; missed = 2 ^ 64 - 1; lost = 2 ^ 64 - 1; erased = 0 }
+lost-outside-at-most = refl
 
 -- ---- settings
 

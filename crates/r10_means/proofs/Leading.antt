@@ -21,7 +21,7 @@ use Rattle.r10_machine.specs.Sound.{IsSound}
 use Rattle.r10_machine.specs.ControlCalls.{erased_with, own_entries}
 use Rattle.r10_machine.specs.Step.{FailsIn, LanesAfter, Step, Refuses, after_refusal, asks_memory, entry_has_room, uses_medium}
 use Rattle.r10_machine.specs.declared.event.Event.{Event as EventValue}
-use Rattle.r10_machine.specs.declared.event.Event.TheVariants.{Mount, Dismount, Tick, Start, Offer, Pump, Event, Commit, Stop, Seal, Erase, Files, Status, Cursor, Advance, Next, Close, Find, CountAt}
+use Rattle.r10_machine.specs.declared.event.Event.TheVariants.{Mount, Dismount, Tick, Start, Offer, Lose, Pump, Event, Commit, Stop, Seal, Erase, Files, Status, Cursor, Advance, Next, Close, Find, CountAt}
 use Rattle.r10_machine.specs.declared.reply.Reply.{Reply as ReplyValue}
 use Rattle.r10_machine.specs.declared.reply.Reply.TheVariants as replies
 use Rattle.r10_means.specs.Kept.{Kept, Work, mode_of, unmounted, idle, failed}
@@ -42,6 +42,7 @@ same_refusal s m n Dismount = refl
 same_refusal s m n (Tick count parts) = refl
 same_refusal s m n (Start name setup) = refl
 same_refusal s m n (Offer channel count message) = refl
+same_refusal s m n (Lose channel lost) = refl
 same_refusal s m n (Pump channel most) = refl
 same_refusal s m n (Event number count) = refl
 same_refusal s m n Commit = refl
@@ -63,6 +64,7 @@ same_room s m n Dismount = refl
 same_room s m n (Tick count parts) = refl
 same_room s m n (Start name setup) = refl
 same_room s m n (Offer channel count message) = refl
+same_room s m n (Lose channel lost) = refl
 same_room s m n (Pump channel most) = refl
 same_room s m n (Event number count) = refl
 same_room s m n Commit = refl

@@ -16,7 +16,7 @@ use Rattle.r10_machine.specs.Sound.{IsSound}
 use Rattle.r10_machine.specs.Step.{Does, GivesUp, Refuses, Replies, Step, after_refusal}
 use Rattle.r10_machine.specs.declared.mode.Mode.TheVariants.{Failed}
 use Rattle.r10_machine.specs.declared.event.Event.{Event as EventValue}
-use Rattle.r10_machine.specs.declared.event.Event.TheVariants.{Mount, Dismount, Tick, Start, Offer, Pump, Event, Commit, Stop, Seal, Erase, Files, Status, Cursor, Advance, Next, Close, Find, CountAt}
+use Rattle.r10_machine.specs.declared.event.Event.TheVariants.{Mount, Dismount, Tick, Start, Offer, Lose, Pump, Event, Commit, Stop, Seal, Erase, Files, Status, Cursor, Advance, Next, Close, Find, CountAt}
 use Rattle.r10_machine.specs.declared.reply.Reply.{Reply as ReplyValue}
 use Rattle.r10_machine.specs.declared.reply.Reply.TheVariants as replies
 use Rattle.r10_means.specs.Quiet.{IsNoFailure, may_make}
@@ -49,6 +49,7 @@ does_show s old Mount replies.Done new all plain is = ap (λ (m : Machine). show
 does_show s old Dismount replies.Done new all plain is = ap (λ (m : Machine). shows m.files) is
 does_show s old (Tick count parts) replies.Done new all plain does = ticks_show (is_recording old.mode) s old new (record { count = count; civil = parts }) all does
 does_show s old (Offer channel count message) replies.Done new all plain is = ap (λ (m : Machine). shows m.files) is
+does_show s old (Lose channel lost) replies.Done new all plain is = ap (λ (m : Machine). shows m.files) is
 does_show s old (Pump channel most) (replies.Moved n) new all plain does =
     some_of (lane_of channel old) _ (shows new.files ≡ shows old.files) (λ lane in_lane. some_of (last_file old) _ (shows new.files ≡ shows old.files)
     (λ f in_file. ap (λ (m : Machine). shows m.files) in_file.2 ∙ last_shows (take n (waiting_entries lane)) old.files all) in_lane) does

@@ -1,4 +1,4 @@
--- Offers to lanes, and calls that only tell.
+-- Offers to lanes, losses, and calls that only tell.
 use Rattle.std.proofs.Common.{◌≡◌, ◌≤◌, ℕ, Bool, true, false, cond, List, [], ◌∷◌, map, Some, None, refl, sym, ◌∙◌, subst, arith}
 use Rattle.std.specs.Prelude.{IsSomeAnd, is_none, slice_get}
 use Rattle.r10_count.specs.Checks.{first_broken}
@@ -7,7 +7,7 @@ use Rattle.r10_body.specs.declared.message.Message.{Message}
 use Rattle.r10_body.specs.declared.refusal.Refusal.{Refusal}
 use Rattle.r10_body.specs.declared.spec.ChannelSpec.{ChannelSpec}
 use Rattle.r10_medium.specs.Disk.{Image}
-use Rattle.r10_machine.specs.Calls.{accepted, overflowed}
+use Rattle.r10_machine.specs.Calls.{accepted, losing, overflowed}
 use Rattle.r10_machine.specs.Checks.{offer_checks}
 use Rattle.r10_machine.specs.Limits.{IsConfig}
 use Rattle.r10_machine.specs.Machine.{File, Lane, Machine, change_first, is_channel, lane_of, with_lane}
@@ -15,7 +15,7 @@ use Rattle.r10_machine.specs.EventChecks.{refusal}
 use Rattle.r10_machine.specs.Sound.{IsSound}
 use Rattle.r10_machine.specs.Finding.{count_at, found, info_of, status_of}
 use Rattle.r10_machine.specs.Step.{Refuses, Step, after_refusal}
-use Rattle.r10_machine.specs.declared.event.Event.TheVariants.{CountAt, Files, Find, Offer, Status}
+use Rattle.r10_machine.specs.declared.event.Event.TheVariants.{CountAt, Files, Find, Lose, Offer, Status}
 use Rattle.r10_machine.specs.declared.reply.Reply.TheVariants as replies
 use Rattle.r10_means.specs.Kept.{Kept, Work, failed, idle, recording, unmounted}
 use Rattle.r10_means.specs.Means.{LanesAreCounted, KeptStepsTo, KeptStandsFor, NumbersAre}
@@ -85,6 +85,21 @@ offer_refused law k image n m channel count message r limits means is =
     by-means : (b : Bool) → IsSound k.config (cond b (with_lane channel overflowed m) m) → KeptStandsFor k image n (cond b (with_lane channel overflowed m) m)
     by-means true sound = lane_means overflowed (λ l. (refl, refl)) channel k image n m means sound
     by-means false sound = means
+
+-- ---- losses that are told
+
+pub loss_counted : StepsStaySound → (k : Kept) (image : Image) (n : ℕ) (m : Machine) (channel lost : ℕ) → IsConfig k.config → KeptStandsFor k image n m → refusal k.config m (Lose channel lost) ≡ None
+    → KeptStepsTo k m (Lose channel lost) replies.Done k image n (with_lane channel (losing lost) m)
+loss_counted law k image n m channel lost limits means fine =
+    let later : Machine = with_lane channel (losing lost) m in
+    let step : Step k.config m (Lose channel lost) replies.Done later = (omega arith, (fine, refl)) in
+    record { step = step; means = lane_means (losing lost) (λ l. (refl, refl)) channel k image n m means (law k.config m (Lose channel lost) replies.Done later limits means.sound step) }
+
+pub loss_refused : StepsStaySound → (k : Kept) (image : Image) (n : ℕ) (m : Machine) (channel lost : ℕ) (r : Refusal) → IsConfig k.config → KeptStandsFor k image n m → refusal k.config m (Lose channel lost) ≡ Some r
+    → KeptStepsTo k m (Lose channel lost) (replies.Refused r) k image n m
+loss_refused law k image n m channel lost r limits means is =
+    let step : Step k.config m (Lose channel lost) (replies.Refused r) m = (omega arith, subst (λ o. Refuses o k.config m.failures (failing m.failures m) (Lose channel lost) r m) (sym is) (refl, refl)) in
+    record { step = step; means = means }
 
 -- ---- calls that only tell
 

@@ -16,4 +16,4 @@ pub use laws::{
 pub use stopping::{
     an_image_is_found_again, other_events_show_no_more, shown_parts_are_said, synced_media_are_safe,
 };
-pub use telling::{offers_are_steps, tellings_are_steps};
+pub use telling::{losses_are_steps, offers_are_steps, tellings_are_steps};

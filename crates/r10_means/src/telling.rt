@@ -1,4 +1,4 @@
-//! Offers to lanes, and calls that only tell, as calls that do nothing.
+//! Offers to lanes, losses, and calls that only tell, as calls that do nothing.
 
 ghost use Rattle.std.specs.Prelude.{◌≡◌, ◌≤◌, ℕ, None, Some, map, slice_get};
 ghost use Rattle.r10_count.specs.declared.civil.Parts.{Parts};
@@ -6,7 +6,7 @@ ghost use Rattle.r10_medium.specs.Disk.{Image};
 ghost use Rattle.r10_body.specs.declared.message.Message.{Message};
 ghost use Rattle.r10_body.specs.declared.refusal.Refusal.{Refusal as RefusalValue};
 ghost use Rattle.r10_machine.specs.Limits.{IsConfig};
-ghost use Rattle.r10_machine.specs.Calls.{accepted};
+ghost use Rattle.r10_machine.specs.Calls.{accepted, losing};
 ghost use Rattle.r10_machine.specs.Machine.{File, Machine, with_lane};
 ghost use Rattle.r10_machine.specs.EventChecks.{refusal};
 ghost use Rattle.r10_machine.specs.Finding.{count_at, found, info_of, status_of};
@@ -24,6 +24,16 @@ pub fn offers_are_steps()
         → KeptStepsTo k m (events.Offer channel count message) replies.Done k image n (with_lane channel (accepted count message) m) }
     ensures refused { (k : Kept) (image : Image) (n : ℕ) (m : Machine) (channel count : ℕ) (message : Message) (r : RefusalValue) → IsConfig k.config → KeptStandsFor k image n m → refusal k.config m (events.Offer channel count message) ≡ Some r
         → KeptStepsTo k m (events.Offer channel count message) (replies.Refused r) k image n (after_refusal (events.Offer channel count message) m) }
+{
+    a_step_stays_sound();
+}
+
+/// A loss that is told is counted in its channel's lane, in whatever mode, or there is no such channel; what is kept is the same.
+pub fn losses_are_steps()
+    ensures counted { (k : Kept) (image : Image) (n : ℕ) (m : Machine) (channel lost : ℕ) → IsConfig k.config → KeptStandsFor k image n m → refusal k.config m (events.Lose channel lost) ≡ None
+        → KeptStepsTo k m (events.Lose channel lost) replies.Done k image n (with_lane channel (losing lost) m) }
+    ensures refused { (k : Kept) (image : Image) (n : ℕ) (m : Machine) (channel lost : ℕ) (r : RefusalValue) → IsConfig k.config → KeptStandsFor k image n m → refusal k.config m (events.Lose channel lost) ≡ Some r
+        → KeptStepsTo k m (events.Lose channel lost) (replies.Refused r) k image n m }
 {
     a_step_stays_sound();
 }

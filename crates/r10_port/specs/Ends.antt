@@ -12,7 +12,7 @@ use Rattle.r10_body.specs.declared.refusal.Refusal.TheVariants.{Overflow}
 use Rattle.r10_body.specs.declared.spec.ChannelSpec.{ChannelSpec}
 use Rattle.r10_machine.specs.Machine.{Lane}
 use Rattle.r10_machine.specs.Checks.{offer_checks}
-use Rattle.r10_machine.specs.Calls.{accepted, overflowed}
+use Rattle.r10_machine.specs.Calls.{accepted, losing, overflowed}
 use Rattle.r10_machine.specs.SoundParts.{count_or_0}
 use Rattle.r10_lane.specs.Lanes.{Gives}
 use Rattle.r10_port.specs.declared.item.Item.{Item}
@@ -49,6 +49,10 @@ Offered old count message result new = MatchOption (first_broken (offer_checks (
     (λ _. (new ≡ record old { lane = accepted count message old.lane; free = new.free }) × (old.free ≤ new.free + 1))
     (λ r. (r ≡ Overflow) × (old.free ≡ 0) × (new ≡ record old { lane = overflowed old.lane })))
     (λ r. (result ≡ Err r) × (new ≡ old))
+
+-- a port whose channel lost so many more, which were never offered
+abbrev pub with_losses : ℕ → Sending → Sending
+with_losses n port = record port { lane = losing n port.lane }
 
 -- ---- the receiving end
 

@@ -12,7 +12,7 @@ use Rattle.r10_body.specs.declared.spec.ChannelSpec.{ChannelSpec}
 use Rattle.r10_machine.specs.Machine.{fresh_lane}
 use Rattle.r10_port.specs.declared.item.Item.TheVariants.{Announce, Entry}
 use Rattle.r10_port.specs.Items.{ItemMayFollow}
-use Rattle.r10_port.specs.Ends.{Ring, Sending, Receiving, Offered, TookReceived, reached_by_outlet, next_known, unreceived}
+use Rattle.r10_port.specs.Ends.{Ring, Sending, Receiving, Offered, TookReceived, reached_by_outlet, next_known, unreceived, with_losses}
 
 abbrev channel : ChannelSpec
 channel = record { id = 5; kind = kinds.Uart; capacity = 2; check = 0; bytes = 524288; number = 65535; bits = 0 }
@@ -66,6 +66,19 @@ module _ (ring : Ring) where
   -- behind three losses the next tells three, however many were lost before
   three_are_told : Offered (port ring (first ∷ second ∷ []) (Some 2) 3 8 0) 4 (text 0x44) (Ok tt) (port ring (first ∷ second ∷ sample 4 0x44 (Lost 3) ∷ []) (Some 4) 0 8 0)
   three_are_told = (refl, lit≤ tt)
+
+  -- losses that were never offered are told with those that were refused
+  more_are_lost : with_losses 40 (port ring (first ∷ second ∷ []) (Some 2) 1 1 0) ≡ port ring (first ∷ second ∷ []) (Some 2) 41 41 0
+  more_are_lost = refl
+
+  all_are_told : Offered (with_losses 40 (port ring (first ∷ second ∷ []) (Some 2) 1 1 0)) 4 (text 0x44) (Ok tt) (port ring (first ∷ second ∷ sample 4 0x44 (Lost 41) ∷ []) (Some 4) 0 41 0)
+  all_are_told = (refl, lit≤ tt)
+
+  none_are_lost : with_losses 0 full ≡ full
+  none_are_lost = refl
+
+  both_stay : with_losses 7 (port ring [] None 18446744073709551609 18446744073709551614 1) ≡ port ring [] None 18446744073709551615 18446744073709551615 1
+  both_stay = refl
 
   two_are_taken : TookReceived (outlet ring (first ∷ [])) (second ∷ fourth ∷ []) (outlet ring (first ∷ second ∷ fourth ∷ []))
   two_are_taken = record { same = (refl, refl); received = refl; gives = record { passes = (refl, (refl, tt)); gaps = (tt, ((lit< tt, lit< tt), tt)); counts = (lit≤ tt, (lit≤ tt, tt)); climbs = (lit≤ tt, (lit≤ tt, lit≤ tt)) }; rises = lit≤ tt; room = λ e. absurd (cc) }

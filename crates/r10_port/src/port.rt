@@ -4,7 +4,7 @@ ghost use Rattle.std.specs.Prelude.{◌≡◌, ◌<◌, ◌≤◌, ◌+◌, ◌+
 ghost use Rattle.rtrb.specs.Ring.{SameProducer, known_free, sent as pushed};
 ghost use Rattle.r10_machine.specs.Machine.{saturated};
 ghost use Rattle.r10_port.specs.Items.{ItemMayFollow};
-ghost use Rattle.r10_port.specs.Ends.{Offered, sent};
+ghost use Rattle.r10_port.specs.Ends.{Offered, sent, with_losses};
 
 use crate::item::Item;
 use crate::rule::InOrder;
@@ -91,6 +91,15 @@ impl Port {
         }
     }
 
+    /// The channel lost so many messages that were never offered: the next one that is sent has them in its gap. This takes no
+    /// memory and waits for nobody.
+    pub fn lose(&mut self, lost: u64)
+        ensures { self.new ≡ with_losses lost self.old }
+    {
+        self.missed = self.missed.saturating_add(lost);
+        self.lost = self.lost.saturating_add(lost);
+    }
+
     /// How many messages were sent, up to `u64::MAX`, where it stays.
     pub fn sent(&self) -> u64
         ensures { result ≡ saturated (length (sent self.now)) }
@@ -98,7 +107,7 @@ impl Port {
         self.sent
     }
 
-    /// How many messages were refused for want of room, up to `u64::MAX`, where it stays.
+    /// How many messages were lost: refused for want of room, or never offered, up to `u64::MAX`, where it stays.
     pub fn lost(&self) -> u64
         ensures { result ≡ self.now.lane.lost }
     {

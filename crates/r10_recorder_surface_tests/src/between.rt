@@ -14,7 +14,7 @@ use r10_held::new_recorders_account_for_their_lanes;
 use r10_medium::{BlockMedium, Memory};
 use r10_port::{Outlet, Port, lane};
 use r10_shared::{Cabinet, Pass, Rings};
-use r10_source::{ChannelSource, Given};
+use r10_source::{ChannelSource, Given, Turn};
 use r10_volume::format;
 use std::alloc::{AllocError, Global};
 use std::collections::VecDeque;
@@ -175,7 +175,7 @@ pub(crate) fn send(alloc: Global, port: Port) -> bool {
 /// A source that gives what it was made of.
 #[derive(Drop)]
 pub(crate) struct Listed {
-    left: VecDeque<Timed>,
+    left: VecDeque<Turn>,
 }
 
 impl ChannelSource for Listed {
@@ -183,7 +183,8 @@ impl ChannelSource for Listed {
 
     fn next(&mut self) -> Given {
         match self.left.pop_front() {
-            Some(Timed { count, message }) => Given::Item(count, message),
+            Some(Turn::Message(Timed { count, message })) => Given::Item(count, message),
+            Some(Turn::Lost(lost)) => Given::Lost(lost),
             None => Given::End,
         }
     }
@@ -194,7 +195,7 @@ pub(crate) fn two(alloc: Global) -> Result<Listed, AllocError> {
     let mut left = VecDeque::new(alloc);
     for units in [1001, 1002] {
         let (count, message) = (count(units), empty(alloc));
-        left.push_back(Timed { count, message })?;
+        left.push_back(Turn::Message(Timed { count, message }))?;
     }
     Ok(Listed { left })
 }

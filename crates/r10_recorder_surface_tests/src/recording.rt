@@ -83,6 +83,19 @@ fn a_recorder_says_how_it_is(rt: HostRuntime) -> Result<(), Fail> {
     Ok(())
 }
 
+#[test]
+fn a_recorder_counts_losses_from_outside(rt: HostRuntime) -> Result<(), Fail> {
+    let mut recorder = asked(rt.alloc(), WAITING, &[])?;
+    let told = [
+        recorder.lose(5, 41),
+        recorder.lose(6, 1),
+        recorder.lose(5, 0),
+    ];
+    assert_eq!(rt; told, [Ok(()), Err(Refusal::NoSuchChannel), Ok(())]);
+    assert_eq!(rt; recorder.lost(5), Ok(42));
+    Ok(())
+}
+
 /// Whether its one file is the one that is meant.
 fn lists(recorder: &Desk) -> bool {
     let Ok(files) = recorder.files() else {

@@ -1,7 +1,7 @@
 //! Events that are told to a world, and its replies: `r10_world`.
 
 use crate::made::{CHANNEL, LAST, LATER, LEAP_DAY, channels, medium, settings, text, uart};
-use r10_body::Refusal;
+use r10_body::{Gap, Refusal};
 use r10_count::Items;
 use r10_medium::{BlockMedium, Memory};
 use r10_world::{ChannelStatus, Event, FileInfo, Found, Mode, Reply, Status, Stopped, World, run};
@@ -255,5 +255,59 @@ fn a_world_replies_to_events(rt: HostRuntime) -> Result<(), Fail> {
     let done = run(&mut world, &events, &mut replies);
     assert_eq!(rt; (done, same(&replies)), (Ok(19), 19));
     assert_eq!(rt; world.into_medium().failures(), 0);
+    Ok(())
+}
+
+/// Steps before and after a loss of 41 messages that is told of channel 5, and one of channel 6, which is not there.
+const BEFORE_LOSS: &[Ask] = &[Ask::Mount, Ask::Tick, Ask::Start];
+
+const AFTER_LOSS: &[Ask] = &[
+    Ask::Offer,
+    Ask::Pump,
+    Ask::Commit,
+    Ask::Cursor,
+    Ask::Advance,
+    Ask::Next,
+];
+
+fn events_around_losses(alloc: Global) -> Result<Vec<Event>, AllocError> {
+    let mut events = Vec::new(alloc);
+    for ask in BEFORE_LOSS {
+        events.push(event_of(alloc, *ask)?)?;
+    }
+    for channel in [5, 6] {
+        events.push(Event::Lose { channel, lost: 41 })?;
+    }
+    for ask in AFTER_LOSS {
+        events.push(event_of(alloc, *ask)?)?;
+    }
+    Ok(events)
+}
+
+/// The gap of an entry that a cursor gave.
+fn gap_in(reply: Option<&Reply>) -> Option<Gap> {
+    match reply {
+        Some(Reply::Next(Some(entry))) => Some(entry.gap),
+        _ => None,
+    }
+}
+
+/// The first message is marked with what was lost before it was offered.
+#[test]
+fn a_world_marks_losses_from_outside(rt: HostRuntime) -> Result<(), Fail> {
+    let alloc = rt.alloc();
+    let events = events_around_losses(alloc)?;
+    let mut world = world(alloc)?;
+    let mut replies = Vec::new(alloc);
+    let done = run(&mut world, &events, &mut replies);
+    assert_eq!(rt;
+        (done, gap_in(replies.last())),
+        (Ok(11), Some(Gap::Lost(41)))
+    );
+    assert_eq!(rt; replies.get(3).map(said), Some(Told::Done));
+    assert_eq!(rt;
+        replies.get(4).map(said),
+        Some(Told::Refused(Refusal::NoSuchChannel))
+    );
     Ok(())
 }

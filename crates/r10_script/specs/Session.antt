@@ -12,6 +12,8 @@ use Rattle.r10_script.specs.Kinds.{item_keys}
 use Rattle.r10_script.specs.Offers.{AreValues}
 use Rattle.r10_script.specs.Script.{ItemsAsk, script_keys}
 use Rattle.r10_script.specs.Steps.{IsStep}
+use Rattle.r10_script.specs.declared.session.FeedItem.{FeedItem}
+use Rattle.r10_script.specs.declared.session.FeedItem.TheVariants as items
 use Rattle.r10_script.specs.declared.session.FeedTable.{FeedTable}
 use Rattle.r10_script.specs.declared.session.ReaderTable.{ReaderTable}
 
@@ -36,8 +38,13 @@ abbrev pub AreOrders : List ChannelSpec → Members → List ℕ → List Event 
 AreOrders channels table key events = ItemsAsk (IsOrder channels) (items_or_none_at table key) events
 
 -- a count, and the keys of a message of the channel's kind, with no other key
-abbrev pub IsItem : Kind → Members → Timed → Type 0
-IsItem kind table item = (integer_at table (codes "count") ≡ Some (pos item.count)) × HasOnly (item_keys kind) table × AreValues kind table item.message
+abbrev pub IsTimed : Kind → Members → Timed → Type 0
+IsTimed kind table item = (integer_at table (codes "count") ≡ Some (pos item.count)) × HasOnly (item_keys kind) table × AreValues kind table item.message
+
+-- a message so, or how many were lost, with no other key
+abbrev pub IsItem : Kind → Members → FeedItem → Type 0
+IsItem kind table (items.Message item) = IsTimed kind table item
+IsItem kind table (items.Lost lost) = (integer_at table (codes "lost") ≡ Some (pos lost)) × HasOnly (codes "lost" ∷ []) table
 
 -- the items for a channel of the settings
 abbrev pub IsFeed : List ChannelSpec → Members → FeedTable → Type 0

@@ -42,6 +42,11 @@ IsStep channels table (events.Offer channel count message) =
     × (integer_at table (codes "channel") ≡ Some (pos channel))
     × (integer_at table (codes "count") ≡ Some (pos count))
     × IsOffered channels channel table message
+IsStep channels table (events.Lose channel lost) =
+    (text_at table (codes "do") ≡ Some (codes "lose"))
+    × (integer_at table (codes "channel") ≡ Some (pos channel))
+    × (integer_at table (codes "count") ≡ Some (pos lost))
+    × HasOnly (codes "do" ∷ codes "channel" ∷ codes "count" ∷ []) table
 IsStep channels table (events.Pump channel most) =
     (text_at table (codes "do") ≡ Some (codes "pump"))
     × (integer_at table (codes "channel") ≡ Some (pos channel))

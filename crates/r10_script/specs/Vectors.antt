@@ -62,6 +62,12 @@ noting = member (codes "count") (integer (pos 1010)) (member (codes "do") (strin
 pub event-step : HasOnly (codes "do" ∷ codes "number" ∷ codes "count" ∷ []) noting → IsStep [] noting (events.Event 3 1010)
 event-step only = (refl, refl, refl, only)
 
+abbrev losing : Members
+losing = member (codes "channel") (integer (pos 5)) (member (codes "count") (integer (pos 40)) (member (codes "do") (string (codes "lose")) no_members))
+
+pub lose-step : HasOnly (codes "do" ∷ codes "channel" ∷ codes "count" ∷ []) losing → IsStep [] losing (events.Lose 5 40)
+lose-step only = (refl, refl, refl, only)
+
 abbrev finding : Members
 finding = member (codes "channel") (integer (pos 5)) (member (codes "count") (integer (pos 1500)) (member (codes "do") (string (codes "find")) (member (codes "file") (integer (pos 1)) no_members)))
 

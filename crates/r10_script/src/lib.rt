@@ -11,4 +11,4 @@ mod step;
 mod table;
 
 pub use script::{Script, read_script};
-pub use session::{FeedTable, ReaderTable, SessionScript, read_session};
+pub use session::{FeedItem, FeedTable, ReaderTable, SessionScript, read_session};

@@ -1,13 +1,13 @@
 //! Session scripts.
 
-ghost use Rattle.std.specs.Prelude.{◌≡◌, ◌==◌, true, Some, codes, IfOk, IsUtf8};
+ghost use Rattle.std.specs.Prelude.{◌≡◌, ◌==◌, ◌∷◌, [], true, pos, Some, codes, IfOk, IsUtf8};
 ghost use Rattle.std.specs.List.{list_any};
 ghost use Rattle.toml.specs.Data.{Members};
 ghost use Rattle.toml.specs.Parse.{parse_document};
 ghost use Rattle.toml.specs.View.{table_view};
-ghost use Rattle.r10_script.specs.Keys.{items_at, items_or_none_at, HasOnly};
+ghost use Rattle.r10_script.specs.Keys.{integer_at, items_at, items_or_none_at, HasOnly};
 ghost use Rattle.r10_script.specs.Script.{AreScriptSettings, ItemsAsk};
-ghost use Rattle.r10_script.specs.Session.{AreApart, AreOrders, IsFeed, IsItem, IsOrder, IsReader, is_order, session_keys};
+ghost use Rattle.r10_script.specs.Session.{AreApart, AreOrders, IsFeed, IsItem, IsOrder, IsReader, IsTimed, is_order, session_keys};
 
 use crate::offer::{message_of, only_item, spec_of};
 use crate::script::toml_fault;
@@ -29,11 +29,20 @@ const OTHER_CHANNEL: &str = "the ID of a channel that no other feed has";
 
 const COUNT: &str = "a whole number from 0 to 281474976710655";
 
-/// What is offered to a channel, in turn.
+/// An item of a feed.
+#[derive(Debug, Drop)]
+pub enum FeedItem {
+    /// A message to be offered, with its count.
+    Message(Timed),
+    /// So many messages were lost before the next one.
+    Lost(u64),
+}
+
+/// What is offered to a channel, or lost on it, in turn.
 #[derive(Debug, Drop)]
 pub struct FeedTable {
     pub channel: u16,
-    pub items: Items<Timed>,
+    pub items: Items<FeedItem>,
 }
 
 /// What a reader replays: of a file the entries on these channels, all where none is named, whose counts are in this range, both
@@ -232,7 +241,7 @@ fn items_of(
     kind: Kind,
     fields: Fields<'_>,
     feed: usize,
-) -> Result<Vec<Timed>, ScriptFault>
+) -> Result<Vec<FeedItem>, ScriptFault>
     ensures { IfOk result (λ items. ItemsAsk (IsItem kind) (items_at (table_view fields.entry.table.now) (codes "items")) items.items) }
 {
     let mut items = Vec::new(alloc);
@@ -246,8 +255,27 @@ fn items_of(
     Ok(items)
 }
 
-fn item_of(kind: Kind, fields: Fields<'_>) -> Result<Timed, ScriptFault>
+fn item_of(kind: Kind, fields: Fields<'_>) -> Result<FeedItem, ScriptFault>
     ensures { IfOk result (λ item. IsItem kind (table_view fields.entry.table.now) item) }
+{
+    if fields.has("lost") {
+        let lost = lost_of(fields)?;
+        return Ok(FeedItem::Lost(lost));
+    }
+    let timed = timed_of(kind, fields)?;
+    Ok(FeedItem::Message(timed))
+}
+
+/// How many messages were lost, the one key of such an item.
+fn lost_of(fields: Fields<'_>) -> Result<u64, ScriptFault>
+    ensures { IfOk result (λ lost. (integer_at (table_view fields.entry.table.now) (codes "lost") ≡ Some (pos lost)) × HasOnly (codes "lost" ∷ []) (table_view fields.entry.table.now)) }
+{
+    fields.only(&["lost"])?;
+    fields.count("lost")
+}
+
+fn timed_of(kind: Kind, fields: Fields<'_>) -> Result<Timed, ScriptFault>
+    ensures { IfOk result (λ timed. IsTimed kind (table_view fields.entry.table.now) timed) }
 {
     only_item(kind, fields)?;
     let Some(count) = Count::of(fields.count("count")?) else {

@@ -18,7 +18,7 @@ const CIVIL: &str = "a text of the form YYYY-MM-DD hh:mm:ss.cc";
 
 /// The words of the steps, as a fault says them.
 const STEPS: &str =
-    "one of: mount, dismount, tick, start, offer, pump, event, commit, stop, seal, erase, files, status, cursor, advance, next, close, find, count_at";
+    "one of: mount, dismount, tick, start, offer, lose, pump, event, commit, stop, seal, erase, files, status, cursor, advance, next, close, find, count_at";
 
 /// The event that a step's table spells.
 pub fn event_of(channels: &[ChannelSpec], fields: Fields<'_>) -> Result<Event, ScriptFault>
@@ -33,6 +33,7 @@ pub fn event_of(channels: &[ChannelSpec], fields: Fields<'_>) -> Result<Event, S
         "tick" => tick_of(fields),
         "start" => start_of(fields),
         "offer" => offer_of(channels, fields),
+        "lose" => lose_of(fields),
         "pump" => pump_of(fields),
         "event" => recorded_of(fields),
         "cursor" => cursor_of(fields),
@@ -113,6 +114,15 @@ fn offer_of(channels: &[ChannelSpec], fields: Fields<'_>) -> Result<Event, Scrip
         count,
         message,
     })
+}
+
+fn lose_of(fields: Fields<'_>) -> Result<Event, ScriptFault>
+    ensures { IfOk result (λ event. (channels : List ChannelSpecValue) → text_at (table_view fields.entry.table.now) (codes "do") ≡ Some (codes "lose") → IsStep channels (table_view fields.entry.table.now) event) }
+{
+    fields.only(&["do", "channel", "count"])?;
+    let channel = fields.short("channel")?;
+    let lost = fields.count("count")?;
+    Ok(Event::Lose { channel, lost })
 }
 
 fn pump_of(fields: Fields<'_>) -> Result<Event, ScriptFault>

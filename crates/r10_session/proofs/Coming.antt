@@ -5,7 +5,6 @@ use Rattle.std.specs.List.{AllZip}
 use Rattle.r10_body.specs.Files.{on_channel}
 use Rattle.r10_body.specs.declared.entry.Entry.{Entry}
 use Rattle.r10_body.specs.declared.entry.Sample.{Sample}
-use Rattle.r10_body.specs.declared.entry.Timed.{Timed}
 use Rattle.r10_body.specs.declared.spec.ChannelSpec.{ChannelSpec}
 use Rattle.r10_machine.specs.Machine.{Lane, fresh_lane, saturated}
 use Rattle.r10_port.specs.Ends.{sent}
@@ -18,19 +17,21 @@ use Rattle.r10_shared.specs.Settling.{IsSettledReport}
 use Rattle.r10_shared.specs.declared.report.FeedReport.{FeedReport}
 use Rattle.r10_shared.specs.declared.source.Tally.{Tally}
 use Rattle.r10_source.specs.Pumps.{accepted_of, is_accepted, is_refused}
+use Rattle.r10_source.specs.declared.source.Turn.{Turn}
+use Rattle.r10_session.specs.Turns.{turns_in}
 
 -- ---- from places to pairs
 
-module _ {S F : Type 0} (rest_of : S → List Timed) (own : List Entry) (source_of : F → Option S) (line_of : F → SendingLine) (tally_of : F → Tally) where
-  one_comes : (items : List Timed) (source : Option S) (line later : SendingLine) (tally told : Tally) (report : FeedReport) → IsSomeAnd source (λ s. rest_of s ≡ items) → HasRun rest_of source line tally later told → IsSettledReport own later told report
+module _ {S F : Type 0} (rest_of : S → List Turn) (own : List Entry) (source_of : F → Option S) (line_of : F → SendingLine) (tally_of : F → Tally) where
+  one_comes : (items : List Turn) (source : Option S) (line later : SendingLine) (tally told : Tally) (report : FeedReport) → IsSomeAnd source (λ s. rest_of s ≡ items) → HasRun rest_of source line tally later told → IsSettledReport own later told report
       → Comes own items line report
-  one_comes items (Some s) line later tally told report given run settled = record { later = later; told = told; fed = subst (λ (l : List Timed). FedLine l line later told) given run; settled = settled }
+  one_comes items (Some s) line later tally told report given run settled = record { later = later; told = told; fed = subst (λ (l : List Turn). FedLine l line later told) given run; settled = settled }
   one_comes items None line later tally told report given run settled = absurd given
 
   pub came_each : (feeds later : List F) (reports : List FeedReport) → length later ≡ length feeds
       → ((i : ℕ) (d : F) → i < length feeds → HasRun rest_of (source_of (get_or feeds i d)) (line_of (get_or feeds i d)) (tally_of (get_or feeds i d)) (line_of (get_or later i d)) (tally_of (get_or later i d)))
       → length reports ≡ length later → ((i : ℕ) (d : F) (r : FeedReport) → i < length later → IsSettledReport own (line_of (get_or later i d)) (tally_of (get_or later i d)) (get_or reports i r))
-      → AllZip (λ (feed : F) (report : FeedReport). (items : List Timed) → IsSomeAnd (source_of feed) (λ s. rest_of s ≡ items) → Comes own items (line_of feed) report) feeds reports
+      → AllZip (λ (feed : F) (report : FeedReport). (items : List Turn) → IsSomeAnd (source_of feed) (λ s. rest_of s ≡ items) → Comes own items (line_of feed) report) feeds reports
   came_each [] [] [] same run many settled = tt
   came_each (f ∷ feeds) (g ∷ later) (r ∷ reports) same run many settled = (
     λ items given. one_comes items (source_of f) (line_of f) (line_of g) (tally_of f) (tally_of g) r given (run 0 f (omega arith)) (settled 0 g r (omega arith)),
@@ -50,7 +51,7 @@ sent_there lane spec more all new is = is ∙ ap (λ (l : Lane). l.waiting ++ mo
 none_missed : (lane : Lane) (spec : ChannelSpec) → lane ≡ fresh_lane spec → lane.missed ≡ 0
 none_missed lane spec new = ap (λ (l : Lane). l.missed) new
 
-one_came : (specs : List ChannelSpec) (own : List Entry) (table : FeedTable) (line : SendingLine) (report : FeedReport) → WaitsAsLine specs table line → Comes own table.items line report → FeedCame specs own table (feed_end report)
+one_came : (specs : List ChannelSpec) (own : List Entry) (table : FeedTable) (line : SendingLine) (report : FeedReport) → WaitsAsLine specs table line → Comes own (turns_in table.items) line report → FeedCame specs own table (feed_end report)
 one_came specs own table line report waits comes =
     let fed = comes.fed.1 in
     let settled = comes.settled in
@@ -97,7 +98,7 @@ zip_map R f (a ∷ as') [] each = absurd each
 
 -- by pairs of a table and its feed, whatever they are, that give a line that waits and its items
 pub all_came : {F : Type 0} (specs : List ChannelSpec) (own : List Entry) (P : FeedTable → F → Type 0) (Q : F → FeedReport → Type 0) (tables : List FeedTable) (feeds : List F) (reports : List FeedReport) → AllZip P tables feeds → AllZip Q feeds reports
-    → ((t : FeedTable) (f : F) (r : FeedReport) → P t f → Q f r → (line : SendingLine) × WaitsAsLine specs t line × Comes own t.items line r) → AllZip (FeedCame specs own) tables (map feed_end reports)
+    → ((t : FeedTable) (f : F) (r : FeedReport) → P t f → Q f r → (line : SendingLine) × WaitsAsLine specs t line × Comes own (turns_in t.items) line r) → AllZip (FeedCame specs own) tables (map feed_end reports)
 all_came {F} specs own P Q tables feeds reports waits comes both =
     zip_map (FeedCame specs own) feed_end tables reports
     (zip_join P Q (λ (t : FeedTable) (r : FeedReport). FeedCame specs own t (feed_end r)) (λ t f r p q. let one = both t f r p q in one_came specs own t one.0 r one.1 one.2) tables feeds reports waits comes)

@@ -4,7 +4,6 @@ use Rattle.std.specs.List.{AllZip}
 use Rattle.r10_body.specs.Files.{on_channel}
 use Rattle.r10_body.specs.declared.entry.Entry.{Entry}
 use Rattle.r10_body.specs.declared.entry.Sample.{Sample}
-use Rattle.r10_body.specs.declared.entry.Timed.{Timed}
 use Rattle.r10_body.specs.declared.spec.ChannelSpec.{ChannelSpec}
 use Rattle.r10_session.specs.declared.ended.FeedEnd.{FeedEnd}
 use Rattle.r10_machine.specs.Machine.{saturated}
@@ -17,7 +16,9 @@ use Rattle.r10_shared.specs.Naming.{SendingLine}
 use Rattle.r10_shared.specs.Settling.{IsSettledReport}
 use Rattle.r10_shared.specs.declared.report.FeedReport.{FeedReport}
 use Rattle.r10_shared.specs.declared.source.Tally.{Tally}
-use Rattle.r10_source.specs.Pumps.{OffersAll, Tried, accepted_of, is_refused}
+use Rattle.r10_source.specs.Pumps.{OffersAll, Tried, accepted_of, is_refused, turn_of}
+use Rattle.r10_source.specs.declared.source.Turn.{Turn}
+use Rattle.r10_session.specs.Turns.{turns_in}
 
 -- each of these, with the one at its place
 abbrev pub Zipped : {A B : Type 0} → List A → List B → (A → B → Type 0) → Type 0
@@ -29,7 +30,7 @@ pub record WaitsAsLine (specs : List ChannelSpec) (table : FeedTable) (line : Se
   pub unused : IsUnused specs table.channel line.port
 
 -- a feed of these items was run, and its report tells what became of its messages, by the entries of the recorder's own files
-pub record Comes (own : List Entry) (items : List Timed) (line : SendingLine) (report : FeedReport) : Type 0 where
+pub record Comes (own : List Entry) (items : List Turn) (line : SendingLine) (report : FeedReport) : Type 0 where
   pub later : SendingLine
   pub told : Tally
   pub fed : FedLine items line later told
@@ -38,15 +39,15 @@ pub record Comes (own : List Entry) (items : List Timed) (line : SendingLine) (r
 abbrev pub feed_end : FeedReport → FeedEnd
 feed_end r = record { channel = r.channel; accepted = r.accepted; refused = r.refused; erased = r.erased; filed = r.filed; rest = length r.rest.items }
 
--- Of a table's items the first were offered in turn to a new lane of its channel, which answered as a lane does. Those that it accepted, each telling how many were lost before it,
+-- Of a table's items the first were offered in turn, or counted as losses, to a new lane of its channel, which answered as a lane does. Those that it accepted, each telling how many were lost before it,
 -- are what erases took, then what the recorder's own files have of the channel, and then the rest, each once and in order; and the numbers are theirs.
 pub record FeedCame (specs : List ChannelSpec) (own : List Entry) (table : FeedTable) (end : FeedEnd) : Type 0 where
   pub channel_is : end.channel ≡ table.channel
   pub port : Sending
   pub unused : IsUnused specs table.channel port
   pub tried : List Tried
-  pub left : List Timed
-  pub given : table.items ≡ map (λ t. t.item) tried ++ left
+  pub left : List Turn
+  pub given : turns_in table.items ≡ map turn_of tried ++ left
   pub later : Sending
   pub offers : OffersAll port tried later
   pub gone : List Sample

@@ -6,5 +6,6 @@ pub mod Ends
 pub mod Text
 pub mod Vectors
 pub mod Command
+pub mod Turns
 pub mod Feeds
 pub mod Came

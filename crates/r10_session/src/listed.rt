@@ -1,21 +1,22 @@
-//! A source of messages that are there from the start.
+//! A source of messages and losses that are there from the start.
 
 ghost use Rattle.std.specs.Prelude.{◌≡◌};
 
 use r10_body::Timed;
 use r10_count::Items;
+use r10_script::FeedItem;
 use r10_source::{ChannelSource, Given};
 use std::collections::VecDeque;
 
-/// A source that gives the messages of a list, in turn.
+/// A source that gives the items of a list, in turn.
 #[derive(Drop)]
 pub struct Listed {
-    left: VecDeque<Timed>,
+    left: VecDeque<FeedItem>,
 }
 
 impl Listed {
-    /// A source of these messages.
-    pub fn of(items: Items<Timed>) -> Listed
+    /// A source of these items.
+    pub fn of(items: Items<FeedItem>) -> Listed
         ensures { result.left.items ≡ items }
     {
         Listed {
@@ -25,11 +26,14 @@ impl Listed {
 }
 
 impl ChannelSource for Listed {
-    ghost rest = { λ source. source.left.items };
+    ghost use Rattle.r10_session.specs.Turns.{turns_in};
+
+    ghost rest = { λ source. turns_in source.left.items };
 
     fn next(&mut self) -> Given {
         match self.left.pop_front() {
-            Some(Timed { count, message }) => Given::Item(count, message),
+            Some(FeedItem::Message(Timed { count, message })) => Given::Item(count, message),
+            Some(FeedItem::Lost(lost)) => Given::Lost(lost),
             None => Given::End,
         }
     }

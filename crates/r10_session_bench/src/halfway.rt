@@ -3,7 +3,7 @@
 use r10_body::{Message, Timed};
 use r10_count::{Bytes, Count};
 use r10_shared::Gate;
-use r10_source::{ChannelSource, Given};
+use r10_source::{ChannelSource, Given, Turn};
 use std::alloc::{AllocError, Global};
 use std::collections::VecDeque;
 use std::sync::Arc;
@@ -17,7 +17,7 @@ const TURNS: u32 = 1_000_000;
 /// A source of messages that are there already.
 #[derive(Drop)]
 pub struct Listed {
-    left: VecDeque<Timed>,
+    left: VecDeque<Turn>,
     half: usize,
     signal: Arc<AtomicBool, Global>,
 }
@@ -30,7 +30,8 @@ impl ChannelSource for Listed {
             self.signal.store(true, Ordering::SeqCst);
         }
         match self.left.pop_front() {
-            Some(Timed { count, message }) => Given::Item(count, message),
+            Some(Turn::Message(Timed { count, message })) => Given::Item(count, message),
+            Some(Turn::Lost(lost)) => Given::Lost(lost),
             None => Given::End,
         }
     }
@@ -59,7 +60,7 @@ pub fn source_of(
     let signal = Arc::try_clone(signal)?;
     let mut left = VecDeque::new(alloc);
     for number in 0..messages {
-        left.push_back(message(alloc, number, bytes)?)?;
+        left.push_back(Turn::Message(message(alloc, number, bytes)?))?;
     }
     let half = left.len() / 2;
     Ok(Listed { left, half, signal })

@@ -2,7 +2,7 @@
 
 use r10_body::{Message, Timed};
 use r10_count::{Bytes, Count};
-use r10_source::{ChannelSource, Given};
+use r10_source::{ChannelSource, Given, Turn};
 use std::alloc::Global;
 use std::collections::VecDeque;
 use std::test::Fail;
@@ -10,7 +10,7 @@ use std::test::Fail;
 /// Messages that wait.
 #[derive(Drop)]
 pub struct Listed {
-    pub left: VecDeque<Timed>,
+    pub left: VecDeque<Turn>,
 }
 
 impl ChannelSource for Listed {
@@ -18,7 +18,8 @@ impl ChannelSource for Listed {
 
     fn next(&mut self) -> Given {
         match self.left.pop_front() {
-            Some(Timed { count, message }) => Given::Item(count, message),
+            Some(Turn::Message(Timed { count, message })) => Given::Item(count, message),
+            Some(Turn::Lost(lost)) => Given::Lost(lost),
             None => Given::End,
         }
     }
@@ -35,7 +36,7 @@ impl Listed {
                 sub: 0,
                 bytes: Bytes::of(Vec::new(alloc)),
             };
-            left.push_back(Timed { count, message })?;
+            left.push_back(Turn::Message(Timed { count, message }))?;
         }
         Ok(Listed { left })
     }

@@ -2,24 +2,24 @@
 use Rattle.std.proofs.Common.{◌≡◌, ℕ, ◌+◌, List, [], ◌++◌, map, cond, refl, sym, ap, ◌∙◌, append_assoc, arith}
 use Rattle.std.proofs.lemmas.List.{append-nil, map-append}
 use Rattle.std.proofs.lemmas.List.Sums.{sum_by-append}
-use Rattle.r10_body.specs.declared.entry.Timed.{Timed}
 use Rattle.r10_machine.specs.Machine.{saturated}
 use Rattle.r10_port.specs.Ends.{Sending, sent}
 use Rattle.r10_source.specs.declared.pump.Pumped.{Pumped}
-use Rattle.r10_source.specs.Pumps.{Tried, PumpsSource, is_accepted, is_refused}
+use Rattle.r10_source.specs.Pumps.{Tried, PumpsSource, is_accepted, is_refused, turn_of}
+use Rattle.r10_source.specs.declared.source.Turn.{Turn}
 use Rattle.r10_source.proofs.Feeding.{offers_join, offers_sent, offers_same}
 use Rattle.r10_shared.specs.Feeding.{FedFrom}
 use Rattle.r10_shared.specs.declared.source.Tally.{Tally}
 
 -- so much was done, and this is left
-abbrev pub FedTo : List Timed → List Timed → Sending → Sending → Tally → Type 0
+abbrev pub FedTo : List Turn → List Turn → Sending → Sending → Tally → Type 0
 FedTo a b p q tally = (fed : FedFrom a p q tally) × (fed.left ≡ b)
 
 abbrev none_tallied : Tally
 none_tallied = record { accepted = 0; refused = 0 }
 
 -- nothing yet
-pub fed_none : (a : List Timed) (p : Sending) → FedTo a a p p none_tallied
+pub fed_none : (a : List Turn) (p : Sending) → FedTo a a p p none_tallied
 fed_none a p = (
   record {
     tried = [];
@@ -34,11 +34,11 @@ fed_none a p = (
   refl,
 )
 
-abbrev items_of : List Tried → List Timed
-items_of tried = map (λ (t : Tried). t.item) tried
+abbrev turns_of : List Tried → List Turn
+turns_of tried = map turn_of tried
 
 -- so far, and then a pump of the rest
-pub fed_join : (n : ℕ) (a b c : List Timed) (p q r : Sending) (x : Pumped) (tally : Tally) (accepted refused : ℕ) → FedTo a b p q tally → PumpsSource n b c q r x
+pub fed_join : (n : ℕ) (a b c : List Turn) (p q r : Sending) (x : Pumped) (tally : Tally) (accepted refused : ℕ) → FedTo a b p q tally → PumpsSource n b c q r x
     → accepted ≡ saturated (tally.accepted + x.accepted) → refused ≡ saturated (tally.refused + x.refused) → FedTo a c p r (record { accepted = accepted; refused = refused })
 fed_join n a b c p q r x tally accepted refused (fed, left) pumps more others =
     let tried = fed.tried ++ pumps.tried in
@@ -46,8 +46,8 @@ fed_join n a b c p q r x tally accepted refused (fed, left) pumps more others =
       record {
         tried = tried;
         left = c;
-        given = fed.given ∙ ap (λ (l : List Timed). items_of fed.tried ++ l) (left ∙ pumps.given) ∙ sym (append_assoc (items_of fed.tried) (items_of pumps.tried) c)
-            ∙ ap (λ (l : List Timed). l ++ c) (sym (map-append (λ (t : Tried). t.item) fed.tried pumps.tried));
+        given = fed.given ∙ ap (λ (l : List Turn). turns_of fed.tried ++ l) (left ∙ pumps.given) ∙ sym (append_assoc (turns_of fed.tried) (turns_of pumps.tried) c)
+            ∙ ap (λ (l : List Turn). l ++ c) (sym (map-append turn_of fed.tried pumps.tried));
         offers = offers;
         same = offers_same p r tried offers;
         sent_is = offers_sent p r tried offers;
@@ -58,6 +58,6 @@ fed_join n a b c p q r x tally accepted refused (fed, left) pumps more others =
     )
 
 -- where it has come to an end, which is known by other names
-pub fed_ends : (a b : List Timed) (p q r : Sending) (accepted refused accepted' refused' : ℕ) → FedTo a b p q (record { accepted = accepted; refused = refused }) → r ≡ q → accepted' ≡ accepted → refused' ≡ refused
+pub fed_ends : (a b : List Turn) (p q r : Sending) (accepted refused accepted' refused' : ℕ) → FedTo a b p q (record { accepted = accepted; refused = refused }) → r ≡ q → accepted' ≡ accepted → refused' ≡ refused
     → FedFrom a p r (record { accepted = accepted'; refused = refused' })
 fed_ends a b p q r accepted refused accepted' refused' (fed, left) at more others = rw (at, more, others) fed

@@ -1,18 +1,18 @@
 -- What became of a feed.
 use Rattle.std.specs.Prelude.{◌≡◌, ℕ, ◌++◌, List, map, count_by, Option, Some, None}
-use Rattle.r10_body.specs.declared.entry.Timed.{Timed}
 use Rattle.r10_machine.specs.Machine.{saturated}
 use Rattle.r10_port.specs.Ends.{Sending, sent}
-use Rattle.r10_source.specs.Pumps.{Tried, OffersAll, is_accepted, is_refused, accepted_of}
+use Rattle.r10_source.specs.Pumps.{Tried, OffersAll, is_accepted, is_refused, accepted_of, turn_of}
+use Rattle.r10_source.specs.declared.source.Turn.{Turn}
 use Rattle.r10_shared.specs.Naming.{SendingLine}
 use Rattle.r10_shared.specs.declared.source.Tally.{Tally}
 
--- the source's list begins with what was tried, each offered in turn, accepted or refused; what was sent has grown by the accepted ones, each with
+-- the source's list begins with what was tried, each offered in turn, accepted or refused, or counted as a loss; what was sent has grown by the accepted ones, each with
 -- the number of those lost before it, over the same ring; and so many were accepted and refused
-pub record FedFrom (before : List Timed) (old new : Sending) (tally : Tally) : Type 0 where
+pub record FedFrom (before : List Turn) (old new : Sending) (tally : Tally) : Type 0 where
   pub tried : List Tried
-  pub left : List Timed
-  pub given : before ≡ map (λ t. t.item) tried ++ left
+  pub left : List Turn
+  pub given : before ≡ map turn_of tried ++ left
   pub offers : OffersAll old tried new
   pub same : (new.ring ≡ old.ring) × (new.lane.spec ≡ old.lane.spec)
   pub sent_is : sent new ≡ sent old ++ accepted_of old.lane.missed tried
@@ -20,10 +20,10 @@ pub record FedFrom (before : List Timed) (old new : Sending) (tally : Tally) : T
   pub refused_is : tally.refused ≡ saturated (count_by is_refused tried)
 
 -- on the same channel
-abbrev pub FedLine : List Timed → SendingLine → SendingLine → Tally → Type 0
+abbrev pub FedLine : List Turn → SendingLine → SendingLine → Tally → Type 0
 FedLine before old new tally = (new.channel ≡ old.channel) × FedFrom before old.port new.port tally
 
 -- a source that waited was fed to its line; where none waited all is as it was
-abbrev pub HasRun : {S : Type 0} → (S → List Timed) → Option S → SendingLine → Tally → SendingLine → Tally → Type 0
+abbrev pub HasRun : {S : Type 0} → (S → List Turn) → Option S → SendingLine → Tally → SendingLine → Tally → Type 0
 HasRun rest_of (Some source) line tally line' tally' = FedLine (rest_of source) line line' tally'
 HasRun rest_of None line tally line' tally' = (line' ≡ line) × (tally' ≡ tally)

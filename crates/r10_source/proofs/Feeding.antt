@@ -11,10 +11,12 @@ use Rattle.r10_body.specs.declared.refusal.Refusal.TheVariants.{Overflow}
 use Rattle.r10_machine.specs.Checks.{offer_checks}
 use Rattle.r10_machine.specs.Calls.{accepted, overflowed}
 use Rattle.r10_machine.specs.Machine.{saturated}
-use Rattle.r10_port.specs.Ends.{Sending, Offered, sent}
+use Rattle.r10_port.specs.Ends.{Sending, Offered, sent, with_losses}
 use Rattle.r10_port.proofs.Offers.{offered_same}
 use Rattle.r10_source.specs.declared.pump.Pumped.{Pumped}
-use Rattle.r10_source.specs.Pumps.{Tried, OffersAll, PumpsSource, is_accepted, is_refused, is_overflow, missed_after, accepted_with, accepted_of}
+use Rattle.r10_source.specs.declared.source.Turn.{Turn}
+use Rattle.r10_source.specs.declared.source.Turn.TheVariants as brings
+use Rattle.r10_source.specs.Pumps.{Tried, tries, counts, turn_of, OffersAll, PumpsSource, is_accepted, is_refused, is_overflow, missed_after, accepted_with, accepted_of}
 
 -- ---- one offer
 
@@ -62,51 +64,55 @@ became old item answer new offered = by (first_broken (offer_checks (Some old.la
 
 pub offers_join : (a b c : Sending) (xs ys : List Tried) → OffersAll a xs b → OffersAll b ys c → OffersAll a (xs ++ ys) c
 offers_join a b c [] ys first second = subst (λ (p : Sending). OffersAll p ys c) first second
-offers_join a b c (x ∷ xs) ys (next, offered, rest) second = (next, offered, offers_join next b c xs ys rest second)
+offers_join a b c (tries item answer ∷ xs) ys (next, offered, rest) second = (next, offered, offers_join next b c xs ys rest second)
+offers_join a b c (counts n ∷ xs) ys first second = offers_join (with_losses n a) b c xs ys first second
 
 pub offers_sent : (old new : Sending) (tried : List Tried) → OffersAll old tried new → sent new ≡ sent old ++ accepted_of (missed_at old) tried
 offers_sent old new [] same = ap sent same ∙ sym (append-nil (sent old))
-offers_sent old new (t ∷ tried) (next, offered, rest) =
-    let one = became old t.item t.answer next offered in
-    let more : sent next ++ accepted_of (missed_at next) tried ≡ (sent old ++ accepted_with (missed_at old) t.item t.answer) ++ accepted_of (missed_after (missed_at old) t.answer) tried =
+offers_sent old new (tries item answer ∷ tried) (next, offered, rest) =
+    let one = became old item answer next offered in
+    let more : sent next ++ accepted_of (missed_at next) tried ≡ (sent old ++ accepted_with (missed_at old) item answer) ++ accepted_of (missed_after (missed_at old) answer) tried =
     λ i. one.0 i ++ accepted_of (one.1 i) tried in
-    offers_sent next new tried rest ∙ more ∙ append_assoc (sent old) (accepted_with (missed_at old) t.item t.answer) (accepted_of (missed_after (missed_at old) t.answer) tried)
+    offers_sent next new tried rest ∙ more ∙ append_assoc (sent old) (accepted_with (missed_at old) item answer) (accepted_of (missed_after (missed_at old) answer) tried)
+offers_sent old new (counts n ∷ tried) all = offers_sent (with_losses n old) new tried all
 
 pub offers_same : (old new : Sending) (tried : List Tried) → OffersAll old tried new → (new.ring ≡ old.ring) × (new.lane.spec ≡ old.lane.spec)
 offers_same old new [] is = (ap (λ (p : Sending). p.ring) is, ap (λ (p : Sending). p.lane.spec) is)
-offers_same old new (t ∷ tried) (next, offered, rest) =
-    let one = offered_same old t.item.count t.item.message t.answer next offered in
+offers_same old new (tries item answer ∷ tried) (next, offered, rest) =
+    let one = offered_same old item.count item.message answer next offered in
     let others = offers_same next new tried rest in
     (others.0 ∙ one.0, others.1 ∙ one.1)
+offers_same old new (counts n ∷ tried) all = offers_same (with_losses n old) new tried all
 
 -- ---- turns
 
-abbrev items_of : List Tried → List Timed
-items_of tried = map (λ (t : Tried). t.item) tried
+abbrev turns_of : List Tried → List Turn
+turns_of tried = map turn_of tried
 
-accepted_or_refused : (tried : List Tried) → count_by is_accepted tried + count_by is_refused tried ≡ length tried
-accepted_or_refused [] = refl
+one_or_none : (t : Tried) → cond (is_accepted t) 1 0 + cond (is_refused t) 1 0 ≤ 1
+one_or_none (tries item (Ok x)) = omega arith
+one_or_none (tries item (Err r)) = omega arith
+one_or_none (counts n) = omega arith
+
+accepted_or_refused : (tried : List Tried) → count_by is_accepted tried + count_by is_refused tried ≤ length tried
+accepted_or_refused [] = omega arith
 accepted_or_refused (t ∷ tried) =
-    omega (arith, sum_by-cons (λ (t : Tried). cond (is_accepted t) 1 0) t tried, sum_by-cons (λ (t : Tried). cond (is_refused t) 1 0) t tried, one t.answer, accepted_or_refused tried)
-  where
-    one : (a : Result (Unit {0}) Refusal) → cond (is_ok a) 1 0 + cond (is_err a) 1 0 ≡ 1
-    one (Ok x) = refl
-    one (Err r) = refl
+    omega (arith, sum_by-cons (λ (t : Tried). cond (is_accepted t) 1 0) t tried, sum_by-cons (λ (t : Tried). cond (is_refused t) 1 0) t tried, one_or_none t, accepted_or_refused tried)
 
 -- no more is accepted and refused than there are turns
-pub in_turns : (turns : ℕ) (a b : List Timed) (p q : Sending) (pumped : Pumped) → PumpsSource turns a b p q pumped → pumped.accepted + pumped.refused ≤ turns
+pub in_turns : (turns : ℕ) (a b : List Turn) (p q : Sending) (pumped : Pumped) → PumpsSource turns a b p q pumped → pumped.accepted + pumped.refused ≤ turns
 in_turns turns a b p q pumped pumps = omega (arith, pumps.accepted, pumps.refused, accepted_or_refused pumps.tried, pumps.turns)
 
 -- turns, and then more
-pub pumps_join : (n m : ℕ) (a b c : List Timed) (p q r : Sending) (x y : Pumped) → PumpsSource n a b p q x → PumpsSource m b c q r y
+pub pumps_join : (n m : ℕ) (a b c : List Turn) (p q r : Sending) (x y : Pumped) → PumpsSource n a b p q x → PumpsSource m b c q r y
     → PumpsSource (n + m) a c p r (record { accepted = x.accepted + y.accepted; refused = x.refused + y.refused; ended = y.ended })
 pumps_join n m a b c p q r x y first second =
     let tried = first.tried ++ second.tried in
     let offers = offers_join p q r first.tried second.tried first.offers second.offers in
     record {
       tried = tried;
-      given = first.given ∙ ap (λ (l : List Timed). items_of first.tried ++ l) second.given ∙ sym (append_assoc (items_of first.tried) (items_of second.tried) c)
-          ∙ ap (λ (l : List Timed). l ++ c) (sym (map-append (λ (t : Tried). t.item) first.tried second.tried));
+      given = first.given ∙ ap (λ (l : List Turn). turns_of first.tried ++ l) second.given ∙ sym (append_assoc (turns_of first.tried) (turns_of second.tried) c)
+          ∙ ap (λ (l : List Turn). l ++ c) (sym (map-append turn_of first.tried second.tried));
       offers = offers;
       same = offers_same p r tried offers;
       sent = offers_sent p r tried offers;
@@ -117,7 +123,7 @@ pumps_join n m a b c p q r x y first second =
     }
 
 -- a turn without a message
-pub pumps_nothing : (turns : ℕ) (a b : List Timed) (p : Sending) (ended : Bool) → b ≡ a → (ended ≡ true → b ≡ []) → PumpsSource turns a b p p (record { accepted = 0; refused = 0; ended = ended })
+pub pumps_nothing : (turns : ℕ) (a b : List Turn) (p : Sending) (ended : Bool) → b ≡ a → (ended ≡ true → b ≡ []) → PumpsSource turns a b p p (record { accepted = 0; refused = 0; ended = ended })
 pumps_nothing turns a b p ended same none = record {
   tried = [];
   given = sym same;
@@ -131,7 +137,7 @@ pumps_nothing turns a b p ended same none = record {
 }
 
 -- more turns may be made
-pub pumps_most : (n m : ℕ) (a b : List Timed) (p q : Sending) (x : Pumped) → n ≤ m → PumpsSource n a b p q x → PumpsSource m a b p q x
+pub pumps_most : (n m : ℕ) (a b : List Turn) (p q : Sending) (x : Pumped) → n ≤ m → PumpsSource n a b p q x → PumpsSource m a b p q x
 pumps_most n m a b p q x less pumps = record {
   tried = pumps.tried;
   given = pumps.given;
@@ -149,10 +155,10 @@ one_if true = refl
 one_if false = refl
 
 -- a turn with one
-pub pumps_one : (item : Timed) (answer : Result (Unit {0}) Refusal) (after : List Timed) (p q : Sending) (taken : ℕ) → Offered p item.count item.message answer q → taken ≡ cond (is_ok answer) 1 0
-    → PumpsSource 1 (item ∷ after) after p q (record { accepted = taken; refused = 1 - taken; ended = false })
+pub pumps_one : (item : Timed) (answer : Result (Unit {0}) Refusal) (after : List Turn) (p q : Sending) (taken : ℕ) → Offered p item.count item.message answer q → taken ≡ cond (is_ok answer) 1 0
+    → PumpsSource 1 (brings.Message item ∷ after) after p q (record { accepted = taken; refused = 1 - taken; ended = false })
 pumps_one item answer after p q taken offered is =
-    let t : Tried = record { item = item; answer = answer } in
+    let t : Tried = tries item answer in
     let offers : OffersAll p (t ∷ []) q = (q, offered, refl) in
     record {
       tried = t ∷ [];
@@ -169,3 +175,17 @@ pumps_one item answer after p q taken offered is =
     others : (a : Result (Unit {0}) Refusal) → 1 - cond (is_ok a) 1 0 ≡ cond (is_err a) 1 0
     others (Ok x) = refl
     others (Err r) = refl
+
+-- a turn with a loss
+pub pumps_loss : (lost : ℕ) (after : List Turn) (p q : Sending) → q ≡ with_losses lost p → PumpsSource 1 (brings.Lost lost ∷ after) after p q (record { accepted = 0; refused = 0; ended = false })
+pumps_loss lost after p q is = record {
+  tried = counts lost ∷ [];
+  given = refl;
+  offers = is;
+  same = (ap (λ (s : Sending). s.ring) is, ap (λ (s : Sending). s.lane.spec) is);
+  sent = ap sent is ∙ sym (append-nil (sent p));
+  accepted = refl;
+  refused = refl;
+  turns = omega arith;
+  ended = λ e. absurd (cc);
+}

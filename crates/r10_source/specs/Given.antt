@@ -1,11 +1,13 @@
 -- What a source gives.
 use Rattle.std.specs.Prelude.{◌≡◌, List, [], ◌∷◌}
-use Rattle.r10_body.specs.declared.entry.Timed.{Timed}
 use Rattle.r10_source.specs.declared.source.Given.{Given}
-use Rattle.r10_source.specs.declared.source.Given.TheVariants.{Item, Later, End}
+use Rattle.r10_source.specs.declared.source.Given.TheVariants as given
+use Rattle.r10_source.specs.declared.source.Turn.{Turn}
+use Rattle.r10_source.specs.declared.source.Turn.TheVariants as brings
 
--- the next message of what was left; or nothing yet, and all of it is left still; or nothing because nothing was left
-abbrev pub GivesNext : Given → List Timed → List Timed → Type 0
-GivesNext (Item count message) before after = before ≡ record { count = count; message = message } ∷ after
-GivesNext Later before after = after ≡ before
-GivesNext End before after = (before ≡ []) × (after ≡ [])
+-- the next message of what was left, or the next loss; or nothing yet, and all of it is left still; or nothing because nothing was left
+abbrev pub GivesNext : Given → List Turn → List Turn → Type 0
+GivesNext (given.Item count message) before after = before ≡ brings.Message (record { count = count; message = message }) ∷ after
+GivesNext (given.Lost lost) before after = before ≡ brings.Lost lost ∷ after
+GivesNext given.Later before after = after ≡ before
+GivesNext given.End before after = (before ≡ []) × (after ≡ [])

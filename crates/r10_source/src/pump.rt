@@ -1,9 +1,9 @@
 //! The pump.
 
 ghost use Rattle.std.specs.Prelude.{◌≡◌, ◌+◌, ◌<◌, ◌^◌, List};
-ghost use Rattle.r10_body.specs.declared.entry.Timed.{Timed as TimedValue};
 ghost use Rattle.r10_source.specs.Given.{GivesNext};
 ghost use Rattle.r10_source.specs.Pumps.{PumpsSource};
+ghost use Rattle.r10_source.specs.declared.source.Turn.{Turn as TurnValue};
 
 use crate::source::{ChannelSource, Given};
 use r10_port::Port;
@@ -31,9 +31,9 @@ impl Pumped {
 /// A source of any kind, that may go to another thread.
 type AnySource = Box<dyn ChannelSource + Send>;
 
-/// Offers what was given, if it is a message.
+/// Offers what was given, if it is a message, or counts it, if it is a loss.
 fn offer_given(given: Given, port: &mut Port) -> Pumped
-    ensures { (before after : List TimedValue) → GivesNext given before after → PumpsSource 1 before after port.old port.new result }
+    ensures { (before after : List TurnValue) → GivesNext given before after → PumpsSource 1 before after port.old port.new result }
 {
     match given {
         Given::Item(count, message) => {
@@ -41,6 +41,14 @@ fn offer_given(given: Given, port: &mut Port) -> Pumped
             Pumped {
                 accepted,
                 refused: 1 - accepted,
+                ended: false,
+            }
+        }
+        Given::Lost(lost) => {
+            port.lose(lost);
+            Pumped {
+                accepted: 0,
+                refused: 0,
                 ended: false,
             }
         }
@@ -59,8 +67,8 @@ fn turn(source: &mut AnySource, port: &mut Port) -> Pumped
     offer_given(source.next(), port)
 }
 
-/// Offers to the port what the source gives: one message a turn, in so many turns, or until the source ends. A message that the
-/// port refuses is gone.
+/// Offers to the port what the source gives: one message or loss a turn, in so many turns, or until the source ends. A message that
+/// the port refuses is gone.
 ///
 /// This takes no memory but what the source takes.
 pub fn pump_source(

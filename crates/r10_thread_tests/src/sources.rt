@@ -3,14 +3,14 @@
 use crate::made::{CHANNEL, count, empty};
 use r10_body::Timed;
 use r10_port::lane;
-use r10_source::{ChannelSource, Given, Pumped, pump_source};
+use r10_source::{ChannelSource, Given, Pumped, Turn, pump_source};
 use std::alloc::{AllocError, Global};
 use std::collections::VecDeque;
 use std::test::Fail;
 
 #[derive(Drop)]
 struct Listed {
-    left: VecDeque<Timed>,
+    left: VecDeque<Turn>,
 }
 
 impl ChannelSource for Listed {
@@ -18,7 +18,8 @@ impl ChannelSource for Listed {
 
     fn next(&mut self) -> Given {
         match self.left.pop_front() {
-            Some(Timed { count, message }) => Given::Item(count, message),
+            Some(Turn::Message(Timed { count, message })) => Given::Item(count, message),
+            Some(Turn::Lost(lost)) => Given::Lost(lost),
             None => Given::End,
         }
     }
@@ -28,7 +29,7 @@ fn three(alloc: Global) -> Result<Listed, AllocError> {
     let mut left = VecDeque::new(alloc);
     for units in [1, 2, 3] {
         let (count, message) = (count(units), empty(alloc));
-        left.push_back(Timed { count, message })?;
+        left.push_back(Turn::Message(Timed { count, message }))?;
     }
     Ok(Listed { left })
 }

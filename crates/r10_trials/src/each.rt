@@ -251,10 +251,10 @@ pub fn is_reply(wanted: Option<&Reply>, reply: &Reply) -> bool {
     }
 }
 
-/// Whether a recorder that failed may answer so: offers, and what a cursor has queued, are as before.
+/// Whether a recorder that failed may answer so: offers, losses, and what a cursor has queued, are as before.
 fn is_failed(event: &Event, reply: &Reply) -> bool {
     match event {
-        Event::Offer { .. } | Event::Next { .. } | Event::Close { .. } => true,
+        Event::Offer { .. } | Event::Lose { .. } | Event::Next { .. } | Event::Close { .. } => true,
         Event::Status => match reply {
             Reply::Status(status) => status.mode == Mode::Failed,
             _ => false,

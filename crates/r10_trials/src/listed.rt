@@ -2,7 +2,7 @@
 
 use r10_body::{Gap, Message, Timed};
 use r10_count::{Bytes, Count};
-use r10_source::{ChannelSource, Given};
+use r10_source::{ChannelSource, Given, Turn};
 use std::alloc::{AllocError, Global};
 use std::collections::VecDeque;
 
@@ -15,7 +15,7 @@ const FIRST: u64 = 2000;
 /// Messages that wait.
 #[derive(Drop)]
 pub struct Listed {
-    left: VecDeque<Timed>,
+    left: VecDeque<Turn>,
 }
 
 impl ChannelSource for Listed {
@@ -23,7 +23,8 @@ impl ChannelSource for Listed {
 
     fn next(&mut self) -> Given {
         match self.left.pop_front() {
-            Some(Timed { count, message }) => Given::Item(count, message),
+            Some(Turn::Message(Timed { count, message })) => Given::Item(count, message),
+            Some(Turn::Lost(lost)) => Given::Lost(lost),
             None => Given::End,
         }
     }
@@ -51,7 +52,7 @@ fn message(alloc: Global, number: u8) -> Result<Timed, AllocError> {
 pub fn source(alloc: Global) -> Result<Listed, AllocError> {
     let mut left = VecDeque::new(alloc);
     for number in 0..MESSAGES {
-        left.push_back(message(alloc, number)?)?;
+        left.push_back(Turn::Message(message(alloc, number)?))?;
     }
     Ok(Listed { left })
 }

@@ -161,6 +161,7 @@ pub fn word_of(event: &Event) -> &'static str {
         Event::Tick { .. } => "tick",
         Event::Start { .. } => "start",
         Event::Offer { .. } => "offer",
+        Event::Lose { .. } => "lose",
         Event::Pump { .. } => "pump",
         Event::Event { .. } => "event",
         Event::Commit => "commit",

@@ -130,7 +130,7 @@ A whole script:
   [[step]]
   do = \"stop\"
 
-What a step may do: mount, dismount, tick, start, offer, pump, event, commit, stop, seal, erase,
+What a step may do: mount, dismount, tick, start, offer, lose, pump, event, commit, stop, seal, erase,
 files, status, cursor, advance, next, close, find, count_at.
 nodes is how many node packets of an index a root names: a file ends with groups of so many nodes and a root.
 docs/FORMAT.md has the keys of scripts, the form of the lines, the format of the

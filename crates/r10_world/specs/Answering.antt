@@ -9,14 +9,14 @@ use Rattle.r10_body.specs.declared.entry.Entry.{Entry as EntryValue}
 use Rattle.r10_body.specs.declared.refusal.Refusal.{Refusal}
 use Rattle.r10_body.specs.declared.refusal.Refusal.TheVariants as refusals
 use Rattle.r10_medium.specs.Disk.{Disk, Rose, IsSynced, Unchanged}
-use Rattle.r10_machine.specs.Calls.{accepted, overflowed}
+use Rattle.r10_machine.specs.Calls.{accepted, losing, overflowed}
 use Rattle.r10_machine.specs.Config.{Config}
-use Rattle.r10_machine.specs.Checks.{Check, mounted_checks, offer_checks, offer_refusal}
+use Rattle.r10_machine.specs.Checks.{Check, channel_checks, mounted_checks, offer_checks, offer_refusal}
 use Rattle.r10_machine.specs.Finding.{count_after, first_from, last_until, ticks_of}
 use Rattle.r10_machine.specs.Limits.{channel_ids}
 use Rattle.r10_machine.specs.Machine.{Lane, change_first, is_channel, lane_in, rising}
 use Rattle.r10_machine.specs.declared.event.Event.{Event as EventValue}
-use Rattle.r10_machine.specs.declared.event.Event.TheVariants.{Mount, Dismount, Tick, Start, Offer, Pump, Event, Commit, Stop, Seal, Erase, Files, Status, Cursor, Advance, Next, Close, Find, CountAt}
+use Rattle.r10_machine.specs.declared.event.Event.TheVariants.{Mount, Dismount, Tick, Start, Offer, Lose, Pump, Event, Commit, Stop, Seal, Erase, Files, Status, Cursor, Advance, Next, Close, Find, CountAt}
 use Rattle.r10_machine.specs.declared.reply.Reply.{Reply as ReplyValue}
 use Rattle.r10_machine.specs.declared.reply.Reply.TheVariants as replies
 use Rattle.r10_control.specs.Told.{info_in, status_in}
@@ -48,6 +48,7 @@ slot_checks slot = (is_some slot, refusals.NoCursor) ∷ []
 -- the first of an event's checks that doesn't hold, by what the recorder keeps, its lanes, and its readers' cursors
 abbrev pub first_refusal : Kept → List Lane → List (Option CursorValue) → EventValue → Option Refusal
 first_refusal k lanes slots (Offer channel count message) = offer_refusal (lane_in channel lanes) count message
+first_refusal k lanes slots (Lose channel lost) = first_broken (channel_checks (lane_in channel lanes))
 first_refusal k lanes slots (Advance id) = first_broken (mounted_checks (mode_of k.work) ++ read_checks k.generation (slot_at slots id))
 first_refusal k lanes slots (Next id) = first_broken (slot_checks (slot_at slots id))
 first_refusal k lanes slots (Close id) = first_broken (slot_checks (slot_at slots id))
@@ -82,6 +83,7 @@ MayLack disk old slots Dismount new r = MediumOr nothing_lacks r
 MayLack disk old slots (Tick count parts) new r = IsEntryRefusal old.kept.config old.kept.work 112 r
 MayLack disk old slots (Start name setup) new r = EitherOr (IsStartRefusal old.kept setup) r
 MayLack disk old slots (Offer channel count message) new r = nothing_lacks r
+MayLack disk old slots (Lose channel lost) new r = nothing_lacks r
 MayLack disk old slots (Pump channel most) new r = EitherOr (FirstLacks (λ (lane : Lane). Some lane.waiting) (λ (lane : Lane). lane.spec) old.lanes new.kept.config new.kept.work channel most) r
 MayLack disk old slots (Event number count) new r = IsEntryRefusal old.kept.config old.kept.work 116 r
 MayLack disk old slots Commit new r = IsCommitRefusal r
@@ -221,6 +223,8 @@ DoesSo disk old slots (Tick count parts) replies.Done new later = DoesAlone (Tic
 DoesSo disk old slots (Start name setup) replies.Done new later = DoesAlone (StartEffect name setup old.kept (disk old.medium) new.kept (disk new.medium)) (KeepsOwn disk old new) old.lanes slots new.lanes later
 DoesSo disk old slots (Offer channel count message) replies.Done new later =
     (new.lanes ≡ change_first (is_channel channel) (accepted count message) old.lanes) × (new.kept ≡ old.kept) × (new.medium ≡ old.medium) × (later ≡ slots)
+DoesSo disk old slots (Lose channel lost) replies.Done new later =
+    (new.lanes ≡ change_first (is_channel channel) (losing lost) old.lanes) × (new.kept ≡ old.kept) × (new.medium ≡ old.medium) × (later ≡ slots)
 DoesSo disk old slots (Pump channel most) (replies.Moved n) new later =
     PumpEffect old.kept (disk old.medium) new.kept (disk new.medium) × TakesParts (channel ∷ []) (λ _. most) (CountsMoved n) old.kept (disk old.medium) old.lanes new.kept (disk new.medium) new.lanes × (later ≡ slots)
 DoesSo disk old slots (Event number count) replies.Done new later = DoesAlone (EventEffect number count old.kept (disk old.medium) new.kept (disk new.medium)) (KeepsOwn disk old new) old.lanes slots new.lanes later

@@ -13,8 +13,8 @@ ghost use Rattle.r10_machine.specs.Says.{MediumHas, MediumSays};
 
 use crate::a_new_recorder_stands;
 use crate::control::{
-    commit, count_at, dismount, erase, files, find, mark, mount, offer, pump, seal, start, status,
-    stop, tick,
+    commit, count_at, dismount, erase, files, find, lose, mark, mount, offer, pump, seal, start,
+    status, stop, tick,
 };
 use crate::readers::{advance, close, next, open};
 use r10_body::{ChannelSpec, Message, Refusal};
@@ -155,6 +155,7 @@ fn answer<M: BlockMedium>(
             Some(message) => offer(recorder, *channel, *count, message),
             None => Reply::Refused(Refusal::OutOfMemory),
         },
+        Event::Lose { channel, lost } => lose(recorder, *channel, *lost),
         Event::Pump { channel, most } => pump(recorder, *channel, *most),
         Event::Event { number, count } => mark(recorder, *number, *count),
         Event::Commit => commit(recorder),

@@ -160,6 +160,7 @@ unsafe extern "C" {
     pub fn r10_offer_arinc(recorder: *mut r10, channel: u16, count: u64, bus: u8, format: bool, parity: bool, high: bool, word: u32) -> u32;
     pub fn r10_offer_discrete(recorder: *mut r10, channel: u16, count: u64, states: u32) -> u32;
     pub fn r10_offer_message(recorder: *mut r10, channel: u16, count: u64, data_error: bool, format: bool, sub: u16, bytes: *const u8, length: usize) -> u32;
+    pub fn r10_lost(recorder: *mut r10, channel: u16, count: u64) -> u32;
     pub fn r10_files(recorder: *mut r10, count: *mut usize) -> u32;
     pub fn r10_file(recorder: *mut r10, number: usize, info: *mut r10_file_info, name: *mut u8, name_room: usize) -> u32;
     pub fn r10_status(recorder: *mut r10, info: *mut r10_status_info) -> u32;

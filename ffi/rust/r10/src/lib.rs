@@ -265,6 +265,11 @@ impl Recorder {
         })
     }
 
+    /// So many of a channel's messages were lost before they were offered: the next one that is accepted has them in its gap.
+    pub fn lose(&mut self, channel: u16, count: u64) -> Result<(), Error> {
+        answer(unsafe { sys::r10_lost(&mut self.raw, channel, count) })
+    }
+
     /// Takes at most so many of a channel's messages into the file, and says how many.
     pub fn pump(&mut self, channel: u16, most: usize) -> Result<usize, Error> {
         let mut moved = 0;

@@ -166,6 +166,21 @@ fn runs_make_the_disk_what_the_region_is() -> Result<(), Error> {
 }
 
 #[test]
+fn losses_outside_mark_the_next_message() -> Result<(), Error> {
+    let mut recorder = recording(Region::memory(64))?;
+    recorder.lose(3, 40)?;
+    recorder.lose(3, 0)?;
+    recorder.lose(3, 2)?;
+    assert_eq!(recorder.lose(8, 1), Err(Error::NO_CHANNEL));
+    recorder.offer(3, 1001, Message::Uart { parity: false, sub: 0, bytes: b"one" })?;
+    recorder.pump(3, 1)?;
+    recorder.commit()?;
+    assert_eq!(recorder.find(0, 3, 0)?.map(|(_, entry)| entry.gap), Some(Gap::Lost(42)));
+    assert_eq!(recorder.channel(3)?.map(|channel| channel.lost), Some(42));
+    Ok(())
+}
+
+#[test]
 fn a_failed_disk_fails_the_recorder() -> Result<(), Error> {
     let mut recorder = recording(Region::memory(64))?;
     recorder.offer(3, 1001, Message::Uart { parity: false, sub: 0, bytes: b"one" })?;
