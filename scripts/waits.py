@@ -48,37 +48,57 @@ TEXTS: dict[str, list[tuple[str, str]]] = {
         ('reader: loads shown', 'self.shown.load(Ordering::SeqCst)'),
     ],
     SHARED + 'source.rt': [
-        ('feed: passes the gate, is stopped', 'let turns = if gate.pass(worker) { u64::MAX } else { 0 };'),
+        ('feed: passes the gate, is stopped', 'let passed = gate.pass(worker); if passed { feed_all(rt, source, port, progress) } else {'),
         ('feed: has more, pushes, is refused', 'let pumped = pump_source(&mut source, port, 1);'),
-        ('feed: has no more', 'if pumped.ended { break; }'),
+        ('feed: has no more', 'if pumped.ended { return Tally { accepted, refused }; }'),
         ('feed: looks for who waits', 'if pumped.accepted > 0 { progress.come(); }'),
     ],
     SHARED + 'running.rt': [
-        ('feed: pushes', 'feed.tally = feed.line.feed(gate, worker, source, progress);'),
+        ('feed: pushes', 'feed.tally = feed.line.feed(rt, gate, worker, source, progress);'),
         ('feed: over', 'progress.end_one();'),
     ],
-    SHARED + 'working.rt': [
-        ('writer: has a lane more, pumps, has gone round', 'for place in 0..held.channels().len() { match pump_at(held, place) {'),
+    SHARED + 'rounds.rt': [
+        ('writer: has a lane more, pumps, has gone round', 'for place in 0..channels { match pump_at(held, place) {'),
         ('writer: pump ends it', 'Turn::Over => return Turn::Over,'),
-        ('writer: commits, adds to shown', 'let committed = held.commit(rt); progress.show();'),
-        ('writer: locks, unlocks', 'let mut held = cabinet.hold(rt); let turn = go_round(&mut held);'),
-        ('writer: commits, commit ends it', 'if (turn == Turn::Moved || last) && !commit(rt, &mut held, progress) {'),
-        ('writer: loads over, turns', 'let last = progress.is_over(); let turn = go_and_show(rt, cabinet, last, progress); if last && turn == Turn::Idle { return Turn::Over; }'),
-        ('writer: announces, loads the epoch, goes on', 'let wait = progress.await_more(); match go_on(rt, cabinet, progress) { Turn::Moved => true,'),
-        ('writer: is told, is not told, sleeps, does not sleep', 'Turn::Idle => { wait.wait(rt); true }'),
-        ('writer: turns', 'Turn::Idle => wait_for_more(rt, cabinet, progress),'),
-        ('writer: passes the gate, is stopped, stores written', 'if gate.pass(worker) { go_round_and_round(rt, cabinet, progress); } progress.end_writing();'),
-        ('control: locks, orders, unlocks', 'let mut held = cabinet.hold(rt); match order.perform(rt, &mut held) {'),
-        ('control: passes the gate, is stopped, has more, has no more', 'if gate.pass(worker) { for order in orders {'),
-        ('control: looks for who waits, order ends it', 'let goes_on = ask(rt, cabinet, order); progress.come(); if !goes_on { break; }'),
-        ('control: over', 'progress.end_one();'),
+        ('writer: commits, commit ends it', 'let turn = match held.commit_all(rt) {'),
+    ],
+    SHARED + 'writing.rt': [
+        ('writer: adds to shown', 'if round.committed { at.tell(); }'),
+        ('writer: loads over, turns', 'let last = at.is_over(); let round = at.round(last); tell_of(at, round); after(last, round.turn)'),
+        ('writer: announces, loads the epoch, goes on', 'let wait = at.announce(); match turn(at) { Turn::Moved => true,'),
+        ('writer: is told, is not told, sleeps, does not sleep', 'Turn::Idle => { at.sleep(wait); true }'),
+        ('writer: turns', 'Turn::Idle => wait_for_more(at),'),
+    ],
+    SHARED + 'giving.rt': [
+        ('control: looks for who waits, order ends it', 'let on = goes_on(at.ask(order)); at.wake(); on'),
+        ('control: has more, has no more', 'for order in orders { if !give_one(at, order) { return; } }'),
+    ],
+    SHARED + 'watching.rt': [
+        ('reader: announces, loads the epoch, loads written, loads shown', 'let wait = at.announce(); let last = at.is_ended(); let shown = at.shown();'),
+        ('reader: is told, is not told, sleeps, does not sleep', 'if !is_due(last, shown, seen) { at.sleep(wait); return Looked { shown, on: true }; }'),
+        ('reader: goes on, reads, read ends it', 'drop(wait); let answer = at.read(reading);'),
+    ],
+    SHARED + 'desk.rt': [
+        ('writer: loads over', 'self.progress.is_over()'),
+        ('writer: locks, unlocks', 'held.look(); go_round(self.rt, held, last)'),
+        ('writer: adds to shown, looks for who waits', 'self.progress.show();'),
+        ('writer: announces', 'self.progress.await_more()'),
+        ('control: locks, orders, unlocks', 'held.look(); order.perform(self.rt, held)'),
+        ('control: looks for who waits', 'self.progress.come();'),
+        ('reader: announces', 'self.progress.await_shown()'),
+        ('reader: loads written', 'self.progress.is_written()'),
+        ('reader: loads shown', 'self.progress.shown()'),
+        ('reader: reads', 'reading.read_next(self.rt, self.alloc, self.cabinet)'),
+    ],
+    SHARED + 'working.rt': [
+        ('writer: passes the gate, is stopped, stores written', 'if gate.pass(worker) { let mut desk = Desk { rt, cabinet, progress, }; write(rt, &mut desk); } progress.end_writing();'),
+        ('control: passes the gate, is stopped, over', 'if gate.pass(worker) { let mut desk = Desk { rt, cabinet, progress, }; give(&mut desk, orders); } progress.end_one();'),
+    ],
+    SHARED + 'readers.rt': [
+        ('reader: passes the gate, is stopped', 'if gate.pass(worker) { reading.pass_over(alloc); let mut desk = ReadersDesk { rt, alloc, cabinet, progress, }; watch(rt, &mut desk, reading); }'),
     ],
     SHARED + 'reading.rt': [
         ('reader: locks, reads, read ends it, unlocks', 'match self.player.advance(rt, cabinet) {'),
-        ('reader: announces, loads the epoch, loads written, loads shown', 'let wait = progress.await_shown(); let last = progress.is_written(); let shown = progress.shown();'),
-        ('reader: is told, is not told, sleeps, does not sleep, goes on', 'let due = last || shown != seen; if !due { wait.wait(rt); } else { drop(wait); }'),
-        ('reader: reads, read ends it', 'if !self.read_if_due(rt, alloc, cabinet, due) || last { return; } seen = shown;'),
-        ('reader: passes the gate, is stopped', 'if gate.pass(worker) { let _passed_over = self.player.rest(alloc); self.read_on(rt, alloc, cabinet, progress); }'),
     ],
     SHARED + 'session.rt': [
         ('writer: begins', '|| write_on(rt, cabinet, gate, first, progress), || give_orders(rt, cabinet, gate, first.wrapping_add(1), orders, progress),'),
@@ -313,15 +333,15 @@ class Model:
             yield ('pumps', now, me._replace(at='round', place=me.place + 1, due=me.due or moved))
             yield ('pump ends it', s, me._replace(at='unlock', place=0, end=True))
         elif me.at == 'commit':
-            yield ('commits', s, me._replace(at='shown', back='unlock'))
-            yield ('commit ends it', s, me._replace(at='shown', back='unlock', end=True))
+            yield ('commits', s, me._replace(at='unlock', back='shown'))
+            yield ('commit ends it', s, me._replace(at='unlock', back='shown', end=True))
         elif me.at == 'shown':
             told = s.told | self.all_readers if self.slip == 'old-reader' else s.told
             yield ('adds to shown', s._replace(fresh=self.all_readers, told=told), me._replace(at='look'))
         elif me.at in TELLING:
             yield from self.tells(worker, s, me, self.all_readers, s.showing > 0 or self.slip == 'old-reader')
         elif me.at == 'unlock':
-            yield ('unlocks', s._replace(lock=False), me._replace(at='turn'))
+            yield ('unlocks', s._replace(lock=False), me._replace(at='shown', back='turn') if me.back else me._replace(at='turn'))
         elif me.at == 'turn':
             asks_again = me.announced and self.slip != 'no-announce'
             if me.end or (me.last and not me.due):

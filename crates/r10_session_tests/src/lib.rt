@@ -7,6 +7,8 @@ mod asks;
 #[cfg(test)]
 mod beside;
 #[cfg(test)]
+mod fakes;
+#[cfg(test)]
 mod lock;
 #[cfg(test)]
 mod losing;
@@ -22,3 +24,5 @@ mod run;
 mod sessions;
 #[cfg(test)]
 mod sources;
+#[cfg(test)]
+mod workers;

@@ -8,3 +8,8 @@ pub mod Accounts
 pub mod Settles
 pub mod Moved
 pub mod Written
+pub mod Pumping
+pub mod Stepping
+pub mod Looks
+pub mod Given
+pub mod Channels

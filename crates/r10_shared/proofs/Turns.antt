@@ -1,5 +1,5 @@
 -- What turns of a feed come to.
-use Rattle.std.proofs.Common.{◌≡◌, ℕ, ◌+◌, List, [], ◌++◌, map, cond, refl, sym, ap, ◌∙◌, append_assoc, arith}
+use Rattle.std.proofs.Common.{◌≡◌, ℕ, Bool, true, false, subst, ◌+◌, List, [], ◌++◌, map, cond, refl, sym, ap, ◌∙◌, append_assoc, arith}
 use Rattle.std.proofs.lemmas.List.{append-nil, map-append}
 use Rattle.std.proofs.lemmas.List.Sums.{sum_by-append}
 use Rattle.r10_machine.specs.Machine.{saturated}
@@ -8,7 +8,7 @@ use Rattle.r10_source.specs.declared.pump.Pumped.{Pumped}
 use Rattle.r10_source.specs.Pumps.{Tried, PumpsSource, is_accepted, is_refused, turn_of}
 use Rattle.r10_source.specs.declared.source.Turn.{Turn}
 use Rattle.r10_source.proofs.Feeding.{offers_join, offers_sent, offers_same}
-use Rattle.r10_shared.specs.Feeding.{FedFrom}
+use Rattle.r10_shared.specs.Feeding.{FedBehind, FedFrom, FedWhole}
 use Rattle.r10_shared.specs.declared.source.Tally.{Tally}
 
 -- so much was done, and this is left
@@ -61,3 +61,31 @@ fed_join n a b c p q r x tally accepted refused (fed, left) pumps more others =
 pub fed_ends : (a b : List Turn) (p q r : Sending) (accepted refused accepted' refused' : ℕ) → FedTo a b p q (record { accepted = accepted; refused = refused }) → r ≡ q → accepted' ≡ accepted → refused' ≡ refused
     → FedFrom a p r (record { accepted = accepted'; refused = refused' })
 fed_ends a b p q r accepted refused accepted' refused' (fed, left) at more others = rw (at, more, others) fed
+
+-- where the source has ended, all that it had was offered
+pub fed_whole : (n : ℕ) (a b c : List Turn) (p q r : Sending) (x : Pumped) (tally : Tally) (accepted refused : ℕ) → FedTo a b p q tally → PumpsSource n b c q r x → accepted ≡ saturated (tally.accepted + x.accepted) → refused ≡ saturated (tally.refused + x.refused) → x.ended ≡ true
+    → FedWhole a p r (record { accepted = accepted; refused = refused })
+fed_whole n a b c p q r x tally accepted refused so pumps more others ended =
+    subst (λ (l : List Turn). FedTo a l p r (record { accepted = accepted; refused = refused })) (pumps.ended ended) (fed_join n a b c p q r x tally accepted refused so pumps more others)
+
+-- behind the gate: all that the source had was offered, or nothing
+pub fed_let : (answers : Bool → Type 0) (a : List Turn) (p q : Sending) (tally : Tally) (answer : Bool) → answers answer → answer ≡ true → FedWhole a p q tally → FedBehind answers a p q tally
+fed_let answers a p q tally answer answered is (fed, whole) = record { fed = fed; answer = answer; answered = answered; whole = λ let_in. whole; none = λ shut. absurd (cc) }
+
+pub fed_shut : (answers : Bool → Type 0) (a : List Turn) (p q : Sending) (tally : Tally) (answer : Bool) → answers answer → answer ≡ false → q ≡ p → tally ≡ none_tallied → FedBehind answers a p q tally
+fed_shut answers a p q tally answer answered is same none = subst (λ (s : Sending). FedBehind answers a p s tally) (sym same) (subst (λ (t : Tally). FedBehind answers a p p t) (sym none) (record {
+  fed = record {
+    tried = [];
+    left = a;
+    given = refl;
+    offers = refl;
+    same = (refl, refl);
+    sent_is = sym (append-nil (sent p));
+    accepted_is = refl;
+    refused_is = refl;
+  };
+  answer = answer;
+  answered = answered;
+  whole = λ let_in. absurd (cc);
+  none = λ shut. refl;
+}))

@@ -10,23 +10,7 @@ use Rattle.r10_held.specs.declared.player.Player.{Player}
 use Rattle.r10_shared.specs.Readings.{EachGoesOn, HasReadAll, IsAlike, IsTakenFrom, ReadsFrom, ReadsOn}
 use Rattle.r10_shared.specs.declared.reading.Reading.{Reading}
 use Rattle.r10_held.specs.declared.transcript.Instalment.{Instalment}
-use Rattle.r10_machine.proofs.Growing.{all_joined as all_join}
-
-goes_join : (a b c : ℕ) (xs ys : List Instalment) → EachGoesOn a xs b → EachGoesOn b ys c → EachGoesOn a (xs ++ ys) c
-goes_join a b c [] ys first second = subst (λ (n : ℕ). EachGoesOn n ys c) first second
-goes_join a b c (x ∷ xs) ys first second = (first.0, goes_join x.to b c xs ys first.1 second)
-
-alike_stays : (a : Cursor) → IsAlike a a
-alike_stays a = record { file = refl; generation = refl; channels = refl; first = refl; last = refl }
-
-alike_joins : (a b c : Cursor) → IsAlike a b → IsAlike b c → IsAlike a c
-alike_joins a b c one other = record {
-  file = other.file ∙ one.file;
-  generation = other.generation ∙ one.generation;
-  channels = other.channels ∙ one.channels;
-  first = other.first ∙ one.first;
-  last = other.last ∙ one.last;
-}
+use Rattle.r10_shared.specs.ReadingLaws.{alike_stays}
 
 -- nothing is written
 pub reads_none : (player : Player) (before : List Instalment) (new : Reading) → new.player.pass.cell ≡ player.pass.cell → IsAlike player.cursor new.player.cursor → new.player.cursor.reading.covered ≡ player.cursor.reading.covered
@@ -79,20 +63,6 @@ module _ (player : Player) (b : Cursor) (n : ℕ) (takes : TakesInstalment playe
       → new.instalments.items ≡ before → ReadsFrom player before new
   reads_idle before new covered gauge same written =
       reads_none player before new gauge (subst (IsAlike player.cursor) (sym same) alike_emptied) (ap (λ (c : Cursor). c.reading.covered) same ∙ covered) written
-
--- one turn, and then others
-pub reads_join : (player : Player) (before : List Instalment) (mid new : Reading) → ReadsFrom player before mid → ReadsOn mid new → ReadsFrom player before new
-reads_join player before mid new first second = record {
-  gauge = second.gauge ∙ first.gauge;
-  alike = alike_joins player.cursor mid.player.cursor new.player.cursor first.alike second.alike;
-  more = first.more ++ second.more;
-  written = second.written ∙ ap (λ (l : List Instalment). l ++ second.more) first.written ∙ append_assoc before first.more second.more;
-  goes_on = goes_join player.cursor.reading.covered mid.player.cursor.reading.covered new.player.cursor.reading.covered first.more second.more first.goes_on second.goes_on;
-  taken = all_join (IsTakenFrom player.cursor.reading.channels player.cursor.reading.from player.cursor.reading.to) first.more second.more first.taken
-      (subst (λ (cs : List ℕ). AllByRecursion (IsTakenFrom cs player.cursor.reading.from player.cursor.reading.to) second.more) first.alike.channels
-      (subst (λ (n : ℕ). AllByRecursion (IsTakenFrom mid.player.cursor.reading.channels n player.cursor.reading.to) second.more) first.alike.first
-      (subst (λ (n : ℕ). AllByRecursion (IsTakenFrom mid.player.cursor.reading.channels mid.player.cursor.reading.from n) second.more) first.alike.last second.taken)));
-}
 
 -- ---- players, at first and at last
 

@@ -1,5 +1,5 @@
 -- What became of a feed.
-use Rattle.std.specs.Prelude.{◌≡◌, ℕ, ◌++◌, List, map, count_by, Option, Some, None}
+use Rattle.std.specs.Prelude.{◌≡◌, ℕ, Bool, true, false, ◌++◌, List, [], map, count_by, Option, Some, None}
 use Rattle.r10_machine.specs.Machine.{saturated}
 use Rattle.r10_port.specs.Ends.{Sending, sent}
 use Rattle.r10_source.specs.Pumps.{Tried, OffersAll, is_accepted, is_refused, accepted_of, turn_of}
@@ -19,6 +19,18 @@ pub record FedFrom (before : List Turn) (old new : Sending) (tally : Tally) : Ty
   pub accepted_is : tally.accepted ≡ saturated (count_by is_accepted tried)
   pub refused_is : tally.refused ≡ saturated (count_by is_refused tried)
 
+-- all that the source had was offered so
+abbrev pub FedWhole : List Turn → Sending → Sending → Tally → Type 0
+FedWhole before old new tally = (fed : FedFrom before old new tally) × (fed.left ≡ [])
+
+-- A feed behind a gate. If the gate let it through, all that the source had was offered, up to its end. Else nothing was.
+pub record FedBehind (answers : Bool → Type 0) (before : List Turn) (old new : Sending) (tally : Tally) : Type 0 where
+  pub fed : FedFrom before old new tally
+  pub answer : Bool
+  pub answered : answers answer
+  pub whole : answer ≡ true → fed.left ≡ []
+  pub none : answer ≡ false → fed.tried ≡ []
+
 -- on the same channel
 abbrev pub FedLine : List Turn → SendingLine → SendingLine → Tally → Type 0
 FedLine before old new tally = (new.channel ≡ old.channel) × FedFrom before old.port new.port tally
@@ -27,3 +39,8 @@ FedLine before old new tally = (new.channel ≡ old.channel) × FedFrom before o
 abbrev pub HasRun : {S : Type 0} → (S → List Turn) → Option S → SendingLine → Tally → SendingLine → Tally → Type 0
 HasRun rest_of (Some source) line tally line' tally' = FedLine (rest_of source) line line' tally'
 HasRun rest_of None line tally line' tally' = (line' ≡ line) × (tally' ≡ tally)
+
+-- a source that waited was fed to its line behind the gate, and to its end if that let it through
+abbrev pub HasRunWhole : {S : Type 0} → (Bool → Type 0) → (S → List Turn) → Option S → SendingLine → SendingLine → Tally → Type 0
+HasRunWhole answers rest_of (Some source) line line' tally' = (line'.channel ≡ line.channel) × FedBehind answers (rest_of source) line.port line'.port tally'
+HasRunWhole answers rest_of None line line' tally' = Unit {0}

@@ -1,5 +1,12 @@
 pub mod Naming
+pub mod Asking
+pub mod Rounds
+pub mod Giving
+pub mod Watching
+pub mod Desk
+pub mod DeskLaws
 pub mod Feeding
 pub mod Orders
 pub mod Readings
+pub mod ReadingLaws
 pub mod Settling

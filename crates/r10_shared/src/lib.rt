@@ -1,28 +1,38 @@
 //! A recorder between threads: workers that feed its lanes from sources, write, give orders and read, and what became of each message.
 #![tactic(auto)]
 
+mod desk;
 mod ending;
 mod feed;
 mod gate;
+mod giving;
 mod line;
 mod order;
+mod readers;
 mod reading;
 mod report;
 mod room;
+mod rounds;
 mod running;
 mod session;
 mod source;
 mod waiting;
+mod watching;
 mod working;
+mod writing;
 
 pub use ending::{end_held, end_session};
 pub use feed::Feed;
 pub use gate::{Gate, Open};
+pub use giving::{Control, give};
 pub use line::Line;
 pub use order::Order;
 pub use r10_gauge::Pass;
 pub use r10_held::{Cabinet, Held, Instalment, Player, Rings, Transcript};
 pub use reading::Reading;
 pub use report::{FeedReport, SessionReport, audit};
+pub use rounds::{Recording, Round, Turn, go_round};
 pub use session::{Session, run_session};
 pub use source::{AnySource, Tally};
+pub use watching::{Watching, watch};
+pub use writing::{Writing, write};

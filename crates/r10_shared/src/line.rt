@@ -3,7 +3,7 @@
 ghost use Rattle.std.specs.Prelude.{◌≡◌, ◌-◌, ◌++◌, Some, length, take, vec_capacity};
 ghost use Rattle.r10_machine.specs.Machine.{saturated};
 ghost use Rattle.r10_port.specs.Ends.{TookReceived, sent, unreceived};
-ghost use Rattle.r10_shared.specs.Feeding.{FedFrom};
+ghost use Rattle.r10_shared.specs.Feeding.{FedBehind};
 ghost use Rattle.r10_held.specs.Naming.{ring_for};
 
 use crate::gate::Gate;
@@ -13,6 +13,7 @@ use r10_body::Sample;
 use r10_held::Rings;
 use r10_port::{Outlet, Port};
 use std::marker::{Model, PhantomData};
+use std::sync::Wait;
 
 /// A channel, with the sending end of its lane: that of the ring which `N` names for the channel. Contracts see both.
 #[derive(Drop)]
@@ -69,17 +70,18 @@ impl<N: Rings> Line<N> {
     }
 
     /// Passes the gate, and then offers to the port what the source gives, until the source ends.
-    pub(crate) fn feed<G: Gate>(
+    pub(crate) fn feed<R: Wait, G: Gate>(
         &mut self,
+        rt: &R,
         gate: &G,
         worker: usize,
         source: AnySource,
         progress: &Progress,
     ) -> Tally
         ensures channel { self.new.channel ≡ self.old.channel }
-        ensures fed { FedFrom (rest source) self.old.port self.new.port result }
+        ensures fed { FedBehind (G.answers gate.now worker) (rest source) self.old.port self.new.port result }
     {
-        feed_port(gate, worker, source, &mut self.port, progress)
+        feed_port(rt, gate, worker, source, &mut self.port, progress)
     }
 
     /// Moves what is left between the two ends behind what `into` has, as much of it as `into` has room for. It takes no memory.

@@ -1,13 +1,18 @@
 //! A session: all workers at the same time.
 
-ghost use Rattle.std.specs.Prelude.{◌≡◌, ◌<◌, ◌≤◌, ℕ, All, IfErr, IfOk, [], length, map, slice_index_or, vec_capacity, vec_len};
-ghost use Rattle.r10_shared.specs.Feeding.{HasRun};
+ghost use Rattle.std.specs.Prelude.{◌≡◌, ◌<◌, ◌≤◌, ℕ, All, IfErr, IfOk, OnOk, [], length, map, slice_index_or, vec_capacity, vec_len};
+ghost use Rattle.r10_shared.specs.Desk.{IsNoted, WasAsked, WasTurned, Worked, number_after};
+ghost use Rattle.r10_shared.specs.Feeding.{HasRun, HasRunWhole};
+ghost use Rattle.r10_shared.specs.Giving.{GivesInTurn};
 ghost use Rattle.r10_shared.specs.Readings.{HasReadAll, ReadsOn};
+ghost use Rattle.r10_shared.specs.Rounds.{IsWriting};
+ghost use Rattle.r10_shared.specs.Watching.{IsWatching};
 
 use crate::feed::Feed;
 use crate::gate::Gate;
 use crate::order::Order;
-use crate::reading::{Reading, read_all};
+use crate::readers::read_all;
+use crate::reading::Reading;
 use crate::running::run_feeds;
 use crate::waiting::Progress;
 use crate::working::{give_orders, write_on};
@@ -42,9 +47,14 @@ fn write_and_read<
     progress: &Progress,
 )
     requires { All (λ reading. reading.player.pass.cell ≡ cabinet.now) readings.old }
-    ensures { (i : ℕ) (d : _) → i < length readings.old → ReadsOn (slice_index_or readings.old i d) (slice_index_or readings.new i d) }
+    ensures writes { Worked (G.answers gate.now first) IsWriting (WasTurned M.disk N.rings) }
+    ensures gives { Worked (G.answers gate.now (number_after first 1)) (GivesInTurn orders.now) (WasAsked M.disk N.rings) }
+    ensures watch { (i : ℕ) → i < length readings.old → Worked (G.answers gate.now (number_after (number_after first 2) i)) IsWatching IsNoted }
+    ensures read { (i : ℕ) (d : _) → i < length readings.old → ReadsOn (slice_index_or readings.old i d) (slice_index_or readings.new i d) }
 {
-    let mut writing = || {
+    let mut writing = ||
+        ensures { Worked (G.answers gate.entry.now first) IsWriting (WasTurned M.disk N.rings) × Worked (G.answers gate.entry.now (number_after first 1)) (GivesInTurn orders.entry.now) (WasAsked M.disk N.rings) }
+    {
         thread::join(
             rt,
             || write_on(rt, cabinet, gate, first, progress),
@@ -53,7 +63,8 @@ fn write_and_read<
     };
     let mut reading = ||
         requires { All (λ reading. reading.player.pass.cell ≡ cabinet.now) readings.now }
-        ensures { (i : ℕ) (d : _) → i < length readings.entry.now → ReadsOn (slice_index_or readings.entry.now i d) (slice_index_or readings.exit.now i d) }
+        ensures { ((i : ℕ) → i < length readings.entry.now → Worked (G.answers gate.entry.now (number_after (number_after first 2) i)) IsWatching IsNoted)
+            × ((i : ℕ) (d : _) → i < length readings.entry.now → ReadsOn (slice_index_or readings.entry.now i d) (slice_index_or readings.exit.now i d)) }
     {
         read_all(
             rt,
@@ -80,17 +91,25 @@ fn run_all<M: BlockMedium + Send, N: Rings + Send + Sync, R: Threads + Wait + Sy
 )
     requires { All (λ reading. reading.player.pass.cell ≡ cabinet.now) readings.old }
     ensures feeds { (i : ℕ) (d : _) → i < length feeds.old → HasRun (λ s. rest s) (slice_index_or feeds.old i d).source (slice_index_or feeds.old i d).line (slice_index_or feeds.old i d).tally (slice_index_or feeds.new i d).line (slice_index_or feeds.new i d).tally }
+    ensures whole { (i : ℕ) (d : _) → i < length feeds.old → HasRunWhole (G.answers gate.now i) (λ s. rest s) (slice_index_or feeds.old i d).source (slice_index_or feeds.old i d).line (slice_index_or feeds.new i d).line (slice_index_or feeds.new i d).tally }
+    ensures writes { Worked (G.answers gate.now (length feeds.old)) IsWriting (WasTurned M.disk N.rings) }
+    ensures gives { Worked (G.answers gate.now (number_after (length feeds.old) 1)) (GivesInTurn orders.now) (WasAsked M.disk N.rings) }
+    ensures watch { (i : ℕ) → i < length readings.old → Worked (G.answers gate.now (number_after (number_after (length feeds.old) 2) i)) IsWatching IsNoted }
     ensures readings { (i : ℕ) (d : _) → i < length readings.old → ReadsOn (slice_index_or readings.old i d) (slice_index_or readings.new i d) }
 {
     let first = feeds.len();
     let progress = Progress::of(first);
     let along = &progress;
     let mut feeding = ||
-        ensures { (i : ℕ) (d : _) → i < length feeds.entry.now → HasRun (λ s. rest s) (slice_index_or feeds.entry.now i d).source (slice_index_or feeds.entry.now i d).line (slice_index_or feeds.entry.now i d).tally (slice_index_or feeds.exit.now i d).line (slice_index_or feeds.exit.now i d).tally }
+        ensures { ((i : ℕ) (d : _) → i < length feeds.entry.now → HasRunWhole (G.answers gate.entry.now i) (λ s. rest s) (slice_index_or feeds.entry.now i d).source (slice_index_or feeds.entry.now i d).line (slice_index_or feeds.exit.now i d).line (slice_index_or feeds.exit.now i d).tally)
+            × ((i : ℕ) (d : _) → i < length feeds.entry.now → HasRun (λ s. rest s) (slice_index_or feeds.entry.now i d).source (slice_index_or feeds.entry.now i d).line (slice_index_or feeds.entry.now i d).tally (slice_index_or feeds.exit.now i d).line (slice_index_or feeds.exit.now i d).tally) }
     { run_feeds(rt, gate, feeds, along) };
     let mut others = ||
         requires { All (λ reading. reading.player.pass.cell ≡ cabinet.now) readings.now }
-        ensures { (i : ℕ) (d : _) → i < length readings.entry.now → ReadsOn (slice_index_or readings.entry.now i d) (slice_index_or readings.exit.now i d) }
+        ensures { Worked (G.answers gate.entry.now first) IsWriting (WasTurned M.disk N.rings)
+            × Worked (G.answers gate.entry.now (number_after first 1)) (GivesInTurn orders.entry.now) (WasAsked M.disk N.rings)
+            × ((i : ℕ) → i < length readings.entry.now → Worked (G.answers gate.entry.now (number_after (number_after first 2) i)) IsWatching IsNoted)
+            × ((i : ℕ) (d : _) → i < length readings.entry.now → ReadsOn (slice_index_or readings.entry.now i d) (slice_index_or readings.exit.now i d)) }
     { write_and_read(rt, alloc, cabinet, gate, first, orders, readings, along) };
     thread::join_mut(rt, &mut others, &mut feeding);
 }
@@ -138,6 +157,10 @@ pub fn run_session<
     requires { All (λ player. player.pass.cell ≡ cabinet.now) players.items }
     ensures feeds { IfOk result (λ session. (length session.feeds.items ≡ length feeds.items) × ((i : ℕ) (d : _) → i < length feeds.items → HasRun (λ s. rest s) (slice_index_or feeds.items i d).source (slice_index_or feeds.items i d).line (slice_index_or feeds.items i d).tally (slice_index_or session.feeds.items i d).line (slice_index_or session.feeds.items i d).tally)) }
     ensures players { IfOk result (λ session. (length session.readings.items ≡ length players.items) × ((i : ℕ) (d : _) (e : _) → i < length players.items → HasReadAll (slice_index_or players.items i d) (slice_index_or session.readings.items i e))) }
+    ensures whole { IfOk result (λ session. (i : ℕ) (d : _) → i < length feeds.items → HasRunWhole (G.answers gate.now i) (λ s. rest s) (slice_index_or feeds.items i d).source (slice_index_or feeds.items i d).line (slice_index_or session.feeds.items i d).line (slice_index_or session.feeds.items i d).tally) }
+    ensures writes { OnOk result (Worked (G.answers gate.now (length feeds.items)) IsWriting (WasTurned M.disk N.rings)) }
+    ensures gives { OnOk result (Worked (G.answers gate.now (number_after (length feeds.items) 1)) (GivesInTurn orders.items) (WasAsked M.disk N.rings)) }
+    ensures watch { OnOk result ((i : ℕ) → i < length players.items → Worked (G.answers gate.now (number_after (number_after (length feeds.items) 2) i)) IsWatching IsNoted) }
     ensures refused { IfErr result (λ back. (back.0.items ≡ feeds.items) × (back.1.items ≡ orders.items) × (back.2.items ≡ players.items)) }
 {
     let Ok(room) = Vec::with_capacity(alloc, players.len()) else {

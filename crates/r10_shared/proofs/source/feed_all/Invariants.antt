@@ -1,6 +1,6 @@
 use Rattle.std.proofs.Common.{◌≡◌}
 use Rattle.r10_shared.specs.Feeding.{FedFrom}
-use Rattle.r10_shared.proofs.source.feed_port.Given as goal
+use Rattle.r10_shared.proofs.source.feed_all.Given as goal
 
 abbrev pub invariant-loop : goal.invariant-loop
 invariant-loop g l =

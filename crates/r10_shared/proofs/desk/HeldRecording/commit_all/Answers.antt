@@ -1,0 +1,16 @@
+use Rattle.std.proofs.Common.{refl}
+use Rattle.r10_shared.proofs.desk.HeldRecording.commit_all.Goals as goal
+
+pub returns : goal.returns
+returns g c = (
+  c.commit.new.self,
+  record {
+    passed = c.commit.ensures.passed;
+    steps = c.commit.ensures.steps;
+    effect = c.commit.ensures.effect;
+    publishes = c.commit.ensures.publishes;
+    lanes = c.commit.ensures.lanes;
+    config = c.commit.ensures.config;
+  },
+  refl,
+)

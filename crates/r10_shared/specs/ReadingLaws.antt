@@ -1,0 +1,47 @@
+-- What a player read first and then, it read in this order.
+use Rattle.std.proofs.Common.{◌≡◌, ◌∙◌, ℕ, List, [], ◌∷◌, ◌++◌, refl, sym, subst, ap, append_assoc}
+use Rattle.std.specs.List.{AllByRecursion}
+use Rattle.std.proofs.lemmas.List.{append-nil}
+use Rattle.r10_cursor.specs.declared.cursor.Cursor.{Cursor}
+use Rattle.r10_held.specs.declared.player.Player.{Player}
+use Rattle.r10_held.specs.declared.transcript.Instalment.{Instalment}
+use Rattle.r10_shared.specs.DeskLaws.{all_join}
+use Rattle.r10_shared.specs.Readings.{EachGoesOn, IsAlike, IsTakenFrom, ReadsFrom, ReadsOn}
+use Rattle.r10_shared.specs.declared.reading.Reading.{Reading}
+
+goes_join : (a b c : ℕ) (xs ys : List Instalment) → EachGoesOn a xs b → EachGoesOn b ys c → EachGoesOn a (xs ++ ys) c
+goes_join a b c [] ys first second = subst (λ (n : ℕ). EachGoesOn n ys c) first second
+goes_join a b c (x ∷ xs) ys first second = (first.0, goes_join x.to b c xs ys first.1 second)
+
+pub alike_stays : (a : Cursor) → IsAlike a a
+alike_stays a = record { file = refl; generation = refl; channels = refl; first = refl; last = refl }
+
+alike_joins : (a b c : Cursor) → IsAlike a b → IsAlike b c → IsAlike a c
+alike_joins a b c one other = record {
+  file = other.file ∙ one.file;
+  generation = other.generation ∙ one.generation;
+  channels = other.channels ∙ one.channels;
+  first = other.first ∙ one.first;
+  last = other.last ∙ one.last;
+}
+
+-- nothing was read
+pub reads_stay : (r : Reading) → ReadsOn r r
+reads_stay r = record { gauge = refl; alike = alike_stays r.player.cursor; more = []; written = sym (append-nil r.instalments.items); goes_on = refl; taken = tt }
+
+-- one turn, and then others
+pub reads_join : (player : Player) (before : List Instalment) (mid new : Reading) → ReadsFrom player before mid → ReadsOn mid new → ReadsFrom player before new
+reads_join player before mid new first second = record {
+  gauge = second.gauge ∙ first.gauge;
+  alike = alike_joins player.cursor mid.player.cursor new.player.cursor first.alike second.alike;
+  more = first.more ++ second.more;
+  written = second.written ∙ ap (λ (l : List Instalment). l ++ second.more) first.written ∙ append_assoc before first.more second.more;
+  goes_on = goes_join player.cursor.reading.covered mid.player.cursor.reading.covered new.player.cursor.reading.covered first.more second.more first.goes_on second.goes_on;
+  taken = all_join (IsTakenFrom player.cursor.reading.channels player.cursor.reading.from player.cursor.reading.to) first.more second.more first.taken
+      (subst (λ (cs : List ℕ). AllByRecursion (IsTakenFrom cs player.cursor.reading.from player.cursor.reading.to) second.more) first.alike.channels
+      (subst (λ (n : ℕ). AllByRecursion (IsTakenFrom mid.player.cursor.reading.channels n player.cursor.reading.to) second.more) first.alike.first
+      (subst (λ (n : ℕ). AllByRecursion (IsTakenFrom mid.player.cursor.reading.channels mid.player.cursor.reading.from n) second.more) first.alike.last second.taken)));
+}
+
+pub reads_both : (r s t : Reading) → ReadsOn r s → ReadsOn s t → ReadsOn r t
+reads_both r s t first then = reads_join r.player r.instalments.items s t first then
