@@ -1,0 +1,36 @@
+//! What is durable, for a program that has to know: after each commit a line `durable FILE CHANNEL MESSAGES` for each channel that got some, in a file or a pipe.
+use std::fmt::Write as _;
+use std::fs::{File, OpenOptions};
+use std::io::{self, Write};
+use std::path::Path;
+
+use crate::warning;
+
+pub struct Acknowledge {
+    to: Option<File>,
+    lines: String,
+}
+
+impl Acknowledge {
+    pub fn open(path: &Path) -> io::Result<Acknowledge> {
+        let to = OpenOptions::new().append(true).create(true).open(path).map_err(|it| io::Error::new(it.kind(), format!("acknowledge = {path:?}: {it}; give a file that may be written")))?;
+        Ok(Acknowledge { to: Some(to), lines: String::new() })
+    }
+
+    /// So many messages of a channel are durable in the file of this number, from 0.
+    pub fn line(&mut self, file: usize, channel: u16, messages: u64) {
+        let _ = writeln!(self.lines, "durable {file} {channel} {messages}");
+    }
+
+    /// Writes the lines down. Where that fails once, it is not tried again: recording goes on.
+    pub fn flush(&mut self) {
+        if let Some(to) = &mut self.to
+            && !self.lines.is_empty()
+            && let Err(error) = to.write_all(self.lines.as_bytes())
+        {
+            warning!("what is durable cannot be written down any more: {error}");
+            self.to = None;
+        }
+        self.lines.clear();
+    }
+}

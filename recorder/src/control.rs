@@ -1,0 +1,219 @@
+//! Control over a UNIX socket, and over TCP where the settings say so: lines in, answers out. What the words mean is in `words`.
+use std::io::{self, BufRead, BufReader, ErrorKind, Read, Write};
+use std::net::{IpAddr, TcpListener, TcpStream};
+use std::os::unix::net::{UnixListener, UnixStream};
+use std::path::Path;
+use std::sync::Arc;
+use std::sync::atomic::{AtomicUsize, Ordering::Relaxed};
+use std::sync::mpsc::{Receiver, RecvTimeoutError, Sender, channel};
+use std::thread::{self, Thread};
+use std::time::Duration;
+
+use nix::sys::stat::{Mode, umask};
+
+use crate::settings::Settings;
+use crate::{info, warning};
+
+/// Where a command came from: some are for the socket alone.
+#[derive(Clone, Copy, Debug, PartialEq, Eq)]
+pub enum Origin {
+    Socket,
+    Tcp,
+}
+
+pub struct Command {
+    pub line: String,
+    pub origin: Origin,
+    pub reply: Sender<Reply>,
+}
+
+pub enum Reply {
+    /// lines, each with its end
+    Text(String),
+    /// lines as they come, until either end goes
+    Stream(Receiver<String>, Arc<AtomicUsize>),
+}
+
+/// Asks the recorder's thread.
+#[derive(Clone)]
+pub struct Asking {
+    to: Sender<Command>,
+    owner: Thread,
+}
+
+impl Asking {
+    pub fn new(to: Sender<Command>, owner: Thread) -> Asking {
+        Asking { to, owner }
+    }
+
+    pub fn ask(&self, line: &str, origin: Origin) -> Option<Reply> {
+        let (reply, answer) = channel();
+        self.to.send(Command { line: line.to_string(), origin, reply }).ok()?;
+        self.owner.unpark();
+        answer.recv().ok()
+    }
+}
+
+/// How many may be connected at a time.
+const MOST: usize = 32;
+/// A command of more bytes is none.
+const LONGEST: u64 = 4096;
+
+trait Connection: Read + Write + Send + Sized + 'static {
+    fn copy(&self) -> io::Result<Self>;
+    fn limit(&self, read: Option<Duration>, write: Option<Duration>) -> io::Result<()>;
+}
+
+impl Connection for UnixStream {
+    fn copy(&self) -> io::Result<UnixStream> {
+        self.try_clone()
+    }
+    fn limit(&self, read: Option<Duration>, write: Option<Duration>) -> io::Result<()> {
+        self.set_read_timeout(read)?;
+        self.set_write_timeout(write)
+    }
+}
+
+impl Connection for TcpStream {
+    fn copy(&self) -> io::Result<TcpStream> {
+        self.try_clone()
+    }
+    fn limit(&self, read: Option<Duration>, write: Option<Duration>) -> io::Result<()> {
+        self.set_read_timeout(read)?;
+        self.set_write_timeout(write)
+    }
+}
+
+/// Makes the socket anew where nobody listens on it, for its owner and group.
+fn bind(path: &Path) -> io::Result<UnixListener> {
+    if UnixStream::connect(path).is_ok() {
+        return Err(io::Error::new(ErrorKind::AddrInUse, "another service listens there; end it, or give control.socket another name"));
+    }
+    let _ = std::fs::remove_file(path);
+    let before = umask(Mode::from_bits_truncate(0o117));
+    let listener = UnixListener::bind(path);
+    umask(before);
+    listener
+}
+
+/// Starts to listen.
+pub fn start(settings: &Settings, asking: &Asking) -> io::Result<()> {
+    let open = Arc::new(AtomicUsize::new(0));
+    let path = &settings.socket;
+    let failed = |it: io::Error| io::Error::new(it.kind(), format!("control.socket = {path:?}: {it}"));
+    let listener = bind(path).map_err(failed)?;
+    let (asking_here, open_here) = (asking.clone(), open.clone());
+    thread::Builder::new().name("control".to_string()).spawn(move || {
+        for stream in listener.incoming().flatten() {
+            connect(stream, Origin::Socket, &asking_here, &open_here);
+        }
+    })?;
+    let Some(address) = settings.tcp else { return Ok(()) };
+    let listener = TcpListener::bind(address).map_err(|it| io::Error::new(it.kind(), format!("control.tcp = \"{address}\": {it}; give a free port of this machine")))?;
+    let (asking, peers) = (asking.clone(), settings.peers.clone());
+    thread::Builder::new().name("control tcp".to_string()).spawn(move || {
+        for stream in listener.incoming().flatten() {
+            match stream.peer_addr() {
+                Ok(peer) if is_welcome(peer.ip(), &peers) => connect(stream, Origin::Tcp, &asking, &open),
+                Ok(peer) => warning!("control: {peer} is not one of control.peers, and is not heard"),
+                Err(_) => (),
+            }
+        }
+    })?;
+    info!("control: listens on TCP {address}");
+    Ok(())
+}
+
+fn is_welcome(peer: IpAddr, peers: &[IpAddr]) -> bool {
+    let peer = peer.to_canonical();
+    if peers.is_empty() { peer.is_loopback() } else { peers.contains(&peer) }
+}
+
+fn connect<S: Connection>(stream: S, origin: Origin, asking: &Asking, open: &Arc<AtomicUsize>) {
+    if open.fetch_add(1, Relaxed) >= MOST {
+        open.fetch_sub(1, Relaxed);
+        let mut stream = stream;
+        let _ = stream.write_all(b"E 05 COMMAND FAILED: too many are connected; close another connection first\n*\n");
+        return;
+    }
+    let (asking, counted) = (asking.clone(), open.clone());
+    let started = thread::Builder::new().name("client".to_string()).spawn(move || {
+        let _ = serve(stream, origin, &asking);
+        counted.fetch_sub(1, Relaxed);
+    });
+    if started.is_err() {
+        open.fetch_sub(1, Relaxed);
+    }
+}
+
+/// Answers a client's lines until it goes.
+fn serve<S: Connection>(mut to: S, origin: Origin, asking: &Asking) -> io::Result<()> {
+    let slow = Some(Duration::from_secs(60));
+    to.limit(None, slow)?;
+    let mut from = BufReader::new(to.copy()?);
+    let mut line = Vec::new();
+    loop {
+        line.clear();
+        if from.by_ref().take(LONGEST).read_until(b'\n', &mut line)? == 0 {
+            return Ok(());
+        }
+        if !line.ends_with(b"\n") && line.len() as u64 >= LONGEST {
+            to.write_all(b"E 00 INVALID COMMAND: a line has at most 4096 bytes\n*\n")?;
+            return Ok(());
+        }
+        match asking.ask(String::from_utf8_lossy(&line).trim(), origin) {
+            None => return Ok(()),
+            Some(Reply::Text(text)) => to.write_all(format!("{text}*\n").as_bytes())?,
+            Some(Reply::Stream(chunks, queued)) => {
+                to.limit(Some(Duration::from_millis(1)), slow)?;
+                stream(&mut to, &mut from, &chunks, &queued)?;
+                to.limit(None, slow)?;
+                to.write_all(b"*\n")?;
+            }
+        }
+    }
+}
+
+/// Hands on what comes, until the recorder ends it, or the client sends a line.
+fn stream<S: Connection>(to: &mut S, from: &mut BufReader<S>, chunks: &Receiver<String>, queued: &AtomicUsize) -> io::Result<()> {
+    let mut looked = std::time::Instant::now();
+    loop {
+        match chunks.recv_timeout(Duration::from_millis(200)) {
+            Ok(text) => {
+                let done = to.write_all(text.as_bytes());
+                queued.fetch_sub(text.len(), Relaxed);
+                done?;
+            }
+            Err(RecvTimeoutError::Disconnected) => return Ok(()),
+            Err(RecvTimeoutError::Timeout) => (),
+        }
+        if looked.elapsed() < Duration::from_millis(200) {
+            continue;
+        }
+        looked = std::time::Instant::now();
+        match from.fill_buf() {
+            Ok([]) => return Err(ErrorKind::UnexpectedEof.into()),
+            Ok(bytes) => {
+                let count = bytes.iter().position(|it| *it == b'\n').map_or(bytes.len(), |it| it + 1);
+                from.consume(count);
+                return Ok(());
+            }
+            Err(error) if matches!(error.kind(), ErrorKind::WouldBlock | ErrorKind::TimedOut | ErrorKind::Interrupted) => (),
+            Err(error) => return Err(error),
+        }
+    }
+}
+
+#[cfg(test)]
+mod tests {
+    use super::*;
+
+    #[test]
+    fn peers_are_those_of_the_list_or_this_machine() {
+        let of = |text: &str| text.parse::<IpAddr>().unwrap();
+        assert!(is_welcome(of("127.0.0.1"), &[]) && is_welcome(of("::1"), &[]) && is_welcome(of("::ffff:127.0.0.1"), &[]));
+        assert!(!is_welcome(of("10.0.0.5"), &[]));
+        assert!(is_welcome(of("10.0.0.5"), &[of("10.0.0.5")]) && !is_welcome(of("10.0.0.6"), &[of("10.0.0.5")]));
+        assert!(!is_welcome(of("127.0.0.1"), &[of("10.0.0.5")]));
+    }
+}

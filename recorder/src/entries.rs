@@ -1,0 +1,215 @@
+//! Entries as text: the form of a script's offers, as a line of a pipe has it, and the form in which `r10 play` prints them.
+use std::fmt::Write;
+
+use r10::{Content, Entry, Gap};
+use serde::Deserialize;
+
+use crate::clock;
+use crate::feed::Head;
+use crate::settings::Kind;
+
+/// A line's keys are those of a script's step `offer`: which of them there are depends on the kind of the channel.
+#[derive(Deserialize, Default)]
+#[serde(deny_unknown_fields, default)]
+struct Keys {
+    r#do: Option<String>,
+    channel: Option<u16>,
+    #[allow(dead_code, reason = "a script's offers have it; here the recorder's clock gives the count")]
+    count: Option<u64>,
+    kind: Option<String>,
+    parity: Option<bool>,
+    sub: Option<u16>,
+    bytes: Option<String>,
+    status: Option<u16>,
+    gap: Option<u16>,
+    words: Option<String>,
+    bus: Option<u8>,
+    format: Option<bool>,
+    high: Option<bool>,
+    data: Option<Data>,
+    states: Option<u32>,
+}
+
+/// `data` is a word of ARINC 429, or whether a message has a data error.
+#[derive(Deserialize)]
+#[serde(untagged)]
+enum Data {
+    IsWrong(bool),
+    Word(u32),
+}
+
+/// An entry of a line: its channel, where the line says one, and the message.
+#[derive(Debug, PartialEq, Eq)]
+pub struct Offer {
+    pub channel: Option<u16>,
+    pub head: Head,
+    pub bytes: Vec<u8>,
+}
+
+fn digit(it: u8) -> Option<u8> {
+    char::from(it).to_digit(16).map(|it| it as u8)
+}
+
+pub fn from_hex(text: &str) -> Option<Vec<u8>> {
+    let text = text.as_bytes();
+    (text.len() % 2 == 0).then(|| text.chunks(2).map(|it| Some(digit(it[0])? << 4 | digit(it[1])?)).collect())?
+}
+
+pub fn to_hex(out: &mut String, bytes: &[u8]) {
+    if bytes.is_empty() {
+        out.push('-');
+    }
+    for it in bytes {
+        out.extend([char::from_digit((it >> 4).into(), 16), char::from_digit((it & 15).into(), 16)].into_iter().flatten());
+    }
+}
+
+/// Reads a line. `kind_of` says of which kind a channel is; the channel is `only` where the line says none.
+pub fn read(line: &str, only: Option<u16>, kind_of: impl Fn(u16) -> Option<Kind>) -> Result<Offer, String> {
+    let bare = line.trim().trim_end_matches(',').trim();
+    let inner = bare.strip_prefix('{').and_then(|it| it.strip_suffix('}')).unwrap_or(bare);
+    #[derive(Deserialize)]
+    struct Whole {
+        it: Keys,
+    }
+    let keys = toml::from_str::<Whole>(&format!("it = {{ {inner} }}")).map_err(|error| error.to_string())?.it;
+    if keys.r#do.as_deref().is_some_and(|it| it != "offer") {
+        return Err("a line is an offer: take out the key do, or give \"offer\"".to_string());
+    }
+    let channel = keys.channel.or(only).ok_or("the line has no key channel, and the pipe has several")?;
+    let kind = kind_of(channel).ok_or_else(|| format!("channel {channel} does not read this pipe"))?;
+    if keys.kind.as_deref().is_some_and(|it| it != kind.name()) {
+        return Err(format!("channel {channel} is of kind {}", kind.name()));
+    }
+    let is_there = [
+        ("parity", keys.parity.is_some(), matches!(kind, Kind::Uart | Kind::Arinc)),
+        ("sub", keys.sub.is_some(), kind.is_bytes()),
+        ("bytes", keys.bytes.is_some(), kind.is_bytes()),
+        ("status", keys.status.is_some(), kind == Kind::Bus1553),
+        ("gap", keys.gap.is_some(), kind == Kind::Bus1553),
+        ("words", keys.words.is_some(), kind == Kind::Bus1553),
+        ("bus", keys.bus.is_some(), kind == Kind::Arinc),
+        ("format", keys.format.is_some(), matches!(kind, Kind::Arinc | Kind::Message)),
+        ("high", keys.high.is_some(), kind == Kind::Arinc),
+        ("data", keys.data.is_some(), matches!(kind, Kind::Arinc | Kind::Message)),
+        ("states", keys.states.is_some(), kind == Kind::Discrete),
+    ];
+    if let Some((key, ..)) = is_there.iter().find(|(_, is_there, is_right)| *is_there && !is_right) {
+        return Err(format!("a message of kind {} has no key {key}", kind.name()));
+    }
+    let hex = |text: &Option<String>| text.as_deref().map_or(Some(Vec::new()), from_hex).ok_or("bytes and words are pairs of hex digits");
+    let (sub, flag) = (keys.sub.unwrap_or(0), |it: Option<bool>| it.unwrap_or(false));
+    let (head, bytes) = match (kind, keys.data) {
+        (Kind::Uart, _) => (Head::Uart { parity: flag(keys.parity), sub }, hex(&keys.bytes)?),
+        (Kind::Bus1553, _) => {
+            // four digits a word, the high ones first; messages keep their words with the low byte first
+            let mut bytes = hex(&keys.words)?;
+            if bytes.len() % 2 == 1 {
+                return Err("a word has four hex digits".to_string());
+            }
+            bytes.chunks_mut(2).for_each(|it| it.swap(0, 1));
+            (Head::Bus1553 { status: keys.status.unwrap_or(0), gap_times: keys.gap.unwrap_or(0) }, bytes)
+        }
+        (Kind::Arinc, Some(Data::IsWrong(_))) => return Err("data of an ARINC word is a number".to_string()),
+        (Kind::Arinc, data) => {
+            let word = if let Some(Data::Word(word)) = data { word } else { 0 };
+            (Head::Arinc { bus: keys.bus.unwrap_or(0), format: flag(keys.format), parity: flag(keys.parity), high: flag(keys.high), word }, Vec::new())
+        }
+        (Kind::Discrete, _) => (Head::Discrete { states: keys.states.unwrap_or(0) }, Vec::new()),
+        (Kind::Message, Some(Data::Word(_))) => return Err("data of a message is true or false".to_string()),
+        (Kind::Message, data) => {
+            (Head::Message { data_error: matches!(data, Some(Data::IsWrong(true))), format: flag(keys.format), sub }, hex(&keys.bytes)?)
+        }
+    };
+    Ok(Offer { channel: Some(channel), head, bytes })
+}
+
+/// Prints an entry as `r10 play` does, with the end of the line.
+pub fn print(out: &mut String, entry: &Entry) {
+    let gap = match entry.gap {
+        Gap::None => "0".to_string(),
+        Gap::Lost(lost) => lost.to_string(),
+        Gap::Unknown => "1+".to_string(),
+    };
+    let _ = write!(out, "entry {} {} {gap} ", entry.channel, entry.count);
+    let bit = u8::from;
+    let _ = match &entry.content {
+        Content::Uart { parity, sub, bytes } => {
+            let _ = write!(out, "uart {} {sub} ", bit(*parity));
+            to_hex(out, bytes);
+            Ok(())
+        }
+        Content::Bus1553 { status, gap_times, words } => {
+            let _ = write!(out, "1553 {status:04x} {gap_times:04x} ");
+            let bytes: Vec<u8> = words.iter().flat_map(|it| it.to_be_bytes()).collect();
+            to_hex(out, &bytes);
+            Ok(())
+        }
+        Content::Arinc { bus, format, parity, high, word } => write!(out, "arinc {bus} {} {} {} {word:08x}", bit(*format), bit(*parity), bit(*high)),
+        Content::Discrete { states } => write!(out, "discrete {states:08x}"),
+        Content::Message { data_error, format, sub, bytes } => {
+            let _ = write!(out, "message {} {} {sub} ", bit(*data_error), bit(*format));
+            to_hex(out, bytes);
+            Ok(())
+        }
+        Content::Time { civil } => write!(out, "time {}", clock::text(civil)),
+        Content::Event { number, occurrence } => write!(out, "event {number} {occurrence}"),
+    };
+    out.push('\n');
+}
+
+#[cfg(test)]
+mod tests {
+    use super::*;
+
+    fn kind_of(channel: u16) -> Option<Kind> {
+        Some(match channel {
+            10 => Kind::Uart,
+            20 => Kind::Bus1553,
+            30 => Kind::Arinc,
+            40 => Kind::Discrete,
+            50 => Kind::Message,
+            _ => return None,
+        })
+    }
+
+    fn of(line: &str) -> Result<(u16, Head, Vec<u8>), String> {
+        read(line, None, kind_of).map(|it| (it.channel.unwrap_or(0), it.head, it.bytes))
+    }
+
+    #[test]
+    fn lines_of_a_script_are_read() {
+        let word = Head::Arinc { bus: 1, format: false, parity: false, high: true, word: 0x6000_00c1 };
+        assert_eq!(of("{ do = \"offer\", channel = 30, count = 43000000, bus = 1, high = true, data = 0x600000c1 },"), Ok((30, word, vec![])));
+        assert_eq!(of("channel = 10, parity = true, bytes = \"4142fF\""), Ok((10, Head::Uart { parity: true, sub: 0 }, vec![0x41, 0x42, 0xff])));
+        assert_eq!(of("channel = 20, words = \"284203e8\""), Ok((20, Head::Bus1553 { status: 0, gap_times: 0 }, vec![0x42, 0x28, 0xe8, 0x03])));
+        assert_eq!(of("channel = 40, states = 0x03"), Ok((40, Head::Discrete { states: 3 }, vec![])));
+        assert_eq!(of("channel = 50, data = true, sub = 3"), Ok((50, Head::Message { data_error: true, format: false, sub: 3 }, vec![])));
+        assert_eq!(read("states = 1", Some(40), kind_of).map(|it| it.channel), Ok(Some(40)));
+    }
+
+    #[test]
+    fn other_lines_are_refused_and_none_panics() {
+        for line in [
+            "", "}{", "channel", "channel = 9, states = 1", "states = 1", "channel = 40, bytes = \"41\"", "channel = 10, bytes = \"4\"", "channel = 10, bytes = \"4x\"",
+            "channel = 20, words = \"41\"", "channel = 30, data = true", "channel = 50, data = 7", "do = \"stop\"", "channel = 40, states = -1", "channel = 70000",
+            "channel = 40, states = 1 }\nevil = { a = 1", "channel = 40, kind = \"uart\"", "channel = 10, bytes = \"\u{e9}\u{e9}\"", "channel = 40, bus = 300",
+        ] {
+            assert!(of(line).is_err(), "{line}");
+        }
+    }
+
+    #[test]
+    fn entries_print_as_play_prints_them() {
+        let print = |content| {
+            let mut out = String::new();
+            super::print(&mut out, &Entry { count: 7, channel: 5, gap: Gap::Lost(2), content });
+            out
+        };
+        assert_eq!(print(Content::Uart { parity: true, sub: 3, bytes: vec![0x0a, 0xf0] }), "entry 5 7 2 uart 1 3 0af0\n");
+        assert_eq!(print(Content::Message { data_error: false, format: true, sub: 0, bytes: vec![] }), "entry 5 7 2 message 0 1 0 -\n");
+        assert_eq!(print(Content::Discrete { states: 0x5a }), "entry 5 7 2 discrete 0000005a\n");
+        assert_eq!(print(Content::Arinc { bus: 1, format: false, parity: true, high: true, word: 0xc1 }), "entry 5 7 2 arinc 1 0 1 1 000000c1\n");
+        assert_eq!(print(Content::Event { number: 4095, occurrence: 1 }), "entry 5 7 2 event 4095 1\n");
+    }
+}

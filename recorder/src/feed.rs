@@ -1,0 +1,191 @@
+//! What lies between an input's thread and the recorder's: a queue that is bounded in bytes, and counts what does not fit.
+//!
+//! Each input has a queue of its own, so none can take another's room. What is lost goes with the next message of its channel, so its place is known.
+use std::sync::Arc;
+use std::sync::atomic::{AtomicU64, AtomicUsize, Ordering::Relaxed};
+use std::sync::mpsc::{Receiver, Sender, channel};
+use std::thread::Thread;
+
+use crate::clock::Counter;
+
+/// What a message has besides its bytes.
+#[derive(Clone, Copy, Debug, PartialEq, Eq)]
+pub enum Head {
+    Uart { parity: bool, sub: u16 },
+    Bus1553 { status: u16, gap_times: u16 },
+    Arinc { bus: u8, format: bool, parity: bool, high: bool, word: u32 },
+    Discrete { states: u32 },
+    Message { data_error: bool, format: bool, sub: u16 },
+}
+
+#[derive(Clone, Copy, Debug)]
+pub struct Item {
+    /// the channel's place in the settings
+    pub place: usize,
+    pub count: u64,
+    /// messages of the channel that were lost right before this one
+    pub lost: u64,
+    pub head: Head,
+    pub length: usize,
+}
+
+/// Messages side by side.
+#[derive(Debug, Default)]
+pub struct Batch {
+    pub items: Vec<Item>,
+    pub bytes: Vec<u8>,
+}
+
+impl Batch {
+    fn size(&self) -> usize {
+        self.bytes.len() + self.items.len() * size_of::<Item>()
+    }
+}
+
+/// What an input counts of a channel, and who asks reads.
+#[derive(Debug, Default)]
+pub struct Came {
+    pub messages: AtomicU64,
+    pub bytes: AtomicU64,
+    /// lost in the system, on the line, or for want of room in the queue
+    pub lost: AtomicU64,
+    /// taken for no message: a line that cannot be read, or bytes that are none of the channel's kind
+    pub bad: AtomicU64,
+}
+
+const MOST_ITEMS: usize = 512;
+const MOST_BYTES: usize = 1 << 16;
+
+/// The end that an input's thread has.
+pub struct Feed {
+    to: Sender<Batch>,
+    owner: Thread,
+    queued: Arc<AtomicUsize>,
+    limit: usize,
+    batch: Batch,
+    counter: Counter,
+    channels: Vec<Ending>,
+}
+
+struct Ending {
+    place: usize,
+    came: Arc<Came>,
+    lost: u64,
+    last: u64,
+}
+
+/// The end that the recorder's thread has.
+pub struct Outlet {
+    from: Receiver<Batch>,
+    queued: Arc<AtomicUsize>,
+}
+
+/// A queue for the channels of these places: of so many bytes, messages and all.
+pub fn feed(owner: Thread, counter: Counter, limit: usize, channels: &[(usize, Arc<Came>)]) -> (Feed, Outlet) {
+    let (to, from) = channel();
+    let queued = Arc::new(AtomicUsize::new(0));
+    let channels = channels.iter().map(|(place, came)| Ending { place: *place, came: came.clone(), lost: 0, last: 0 }).collect();
+    let feed = Feed { to, owner, queued: queued.clone(), limit, batch: Batch::default(), counter, channels };
+    (feed, Outlet { from, queued })
+}
+
+impl Feed {
+    /// A message came, and so many of its channel were lost before it. `channel` is its number among the feed's channels. Where there is no room it is lost too.
+    pub fn message(&mut self, channel: usize, lost: u64, head: Head, bytes: &[u8]) {
+        let count = self.counter.count();
+        let Some(it) = self.channels.get_mut(channel) else { return };
+        it.came.messages.fetch_add(1, Relaxed);
+        it.came.bytes.fetch_add(bytes.len() as u64, Relaxed);
+        it.lost += lost;
+        it.came.lost.fetch_add(lost, Relaxed);
+        let size = self.batch.size() + bytes.len() + size_of::<Item>();
+        if self.queued.load(Relaxed) + size > self.limit {
+            it.lost += 1;
+            it.came.lost.fetch_add(1, Relaxed);
+            return;
+        }
+        // no two messages of a channel have the same count, so each can be found by it
+        it.last = count.max(it.last + 1);
+        self.batch.items.push(Item { place: it.place, count: it.last, lost: std::mem::take(&mut it.lost), head, length: bytes.len() });
+        self.batch.bytes.extend_from_slice(bytes);
+        if self.batch.items.len() >= MOST_ITEMS || self.batch.bytes.len() >= MOST_BYTES {
+            self.flush();
+        }
+    }
+
+    /// Something came that is no message of its channel.
+    pub fn bad(&mut self, channel: usize) {
+        if let Some(it) = self.channels.get_mut(channel) {
+            it.came.bad.fetch_add(1, Relaxed);
+            it.lost += 1;
+        }
+    }
+
+    /// Hands over what there is. An input does so before it waits.
+    pub fn flush(&mut self) {
+        if self.batch.items.is_empty() {
+            return;
+        }
+        let batch = std::mem::take(&mut self.batch);
+        self.queued.fetch_add(batch.size(), Relaxed);
+        // where the recorder's thread is gone the process ends
+        let _ = self.to.send(batch);
+        self.owner.unpark();
+    }
+}
+
+impl Outlet {
+    pub fn take(&self) -> Option<Batch> {
+        let batch = self.from.try_recv().ok()?;
+        self.queued.fetch_sub(batch.size(), Relaxed);
+        Some(batch)
+    }
+
+    /// The bytes that wait.
+    pub fn queued(&self) -> usize {
+        self.queued.load(Relaxed)
+    }
+}
+
+#[cfg(test)]
+mod tests {
+    use super::*;
+
+    const HEAD: Head = Head::Message { data_error: false, format: false, sub: 0 };
+
+    #[test]
+    fn what_does_not_fit_is_counted_and_goes_with_the_next_message() {
+        let came = Arc::new(Came::default());
+        let room = 3 * (size_of::<Item>() + 100);
+        let (mut feed, outlet) = feed(std::thread::current(), Counter::new(), room, &[(7, came.clone())]);
+        for _ in 0..5 {
+            feed.message(0, 0, HEAD, &[0; 100]);
+        }
+        feed.flush();
+        assert_eq!((came.messages.load(Relaxed), came.lost.load(Relaxed), outlet.queued()), (5, 2, room));
+        let first = outlet.take().unwrap();
+        assert_eq!(first.items.iter().map(|it| (it.place, it.lost)).collect::<Vec<_>>(), [(7, 0); 3]);
+        assert!(first.items.windows(2).all(|it| it[0].count < it[1].count));
+        assert_eq!((outlet.queued(), outlet.take().is_none()), (0, true));
+        feed.message(0, 4, HEAD, b"next");
+        feed.message(0, 0, HEAD, b"one more");
+        feed.flush();
+        let next = outlet.take().unwrap();
+        assert_eq!(next.items.iter().map(|it| it.lost).collect::<Vec<_>>(), [6, 0]);
+        assert_eq!(next.bytes, b"nextone more");
+        assert_eq!(came.lost.load(Relaxed), 6);
+    }
+
+    #[test]
+    fn a_long_batch_is_handed_over_by_itself() {
+        let (mut feed, outlet) = feed(std::thread::current(), Counter::new(), 1 << 24, &[(0, Arc::default())]);
+        for _ in 0..MOST_ITEMS {
+            feed.message(0, 0, HEAD, b"");
+        }
+        assert_eq!(outlet.take().map(|it| it.items.len()), Some(MOST_ITEMS));
+        feed.message(0, 0, HEAD, &vec![0; MOST_BYTES]);
+        assert!(outlet.take().is_some());
+        feed.message(0, 0, HEAD, b"");
+        assert!(outlet.take().is_none());
+    }
+}

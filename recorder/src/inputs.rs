@@ -1,0 +1,105 @@
+//! The inputs: a thread for each socket, each serial line and each pipe, which hands messages to the recorder's thread.
+use std::collections::BTreeMap;
+use std::io;
+use std::path::PathBuf;
+use std::sync::Arc;
+use std::thread::{self, Thread};
+use std::time::Duration;
+
+use crate::clock::Counter;
+use crate::feed::{Came, Feed, Head, Outlet, feed};
+use crate::settings::{Channel, Input, Kind, Settings};
+use crate::{info, pipe, serial, udp, warning};
+
+/// How long an input waits before it opens its line or pipe again.
+pub const AGAIN: Duration = Duration::from_millis(200);
+
+/// Starts a thread for each input, and gives the ends of their queues. A socket that cannot be had is a fault of the settings.
+pub fn start(settings: &Settings, counter: Counter, came: &[Arc<Came>], owner: &Thread) -> io::Result<Vec<Outlet>> {
+    let mut outlets = Vec::new();
+    let mut pipes: BTreeMap<Option<PathBuf>, Vec<usize>> = BTreeMap::new();
+    let mut queue = |places: &[usize]| -> Feed {
+        let limit = places.iter().map(|it| settings.channels[*it].queue).sum();
+        let channels: Vec<_> = places.iter().map(|it| (*it, came[*it].clone())).collect();
+        let (feed, outlet) = feed(owner.clone(), counter, limit, &channels);
+        outlets.push(outlet);
+        feed
+    };
+    for (place, channel) in settings.channels.iter().enumerate() {
+        match &channel.input {
+            None => info!("channel {}: it has no input", channel.id),
+            Some(Input::Udp { address, group, receive_mib }) => {
+                let socket = udp::open(*address, *group, *receive_mib)
+                    .map_err(|it| io::Error::new(it.kind(), format!("channel {}: UDP {address}: {it}; give an address of this machine and a free port", channel.id)))?;
+                let (feed, channel) = (queue(&[place]), channel.clone());
+                thread::Builder::new().name(format!("udp {}", channel.id)).spawn(move || udp::run(socket, feed, &channel))?;
+            }
+            Some(Input::Serial { path, baud, end, length, pause }) => {
+                let framer = serial::Framer::new(*end, *length, pause.is_some());
+                let (feed, channel, path, baud, pause) = (queue(&[place]), channel.clone(), path.clone(), *baud, *pause);
+                thread::Builder::new().name(format!("serial {}", channel.id)).spawn(move || serial::run(&path, baud, framer, pause, feed, &channel))?;
+            }
+            Some(Input::Lines { path }) => pipes.entry(path.clone()).or_default().push(place),
+        }
+    }
+    for (path, places) in pipes {
+        let feed = queue(&places);
+        let channels: Vec<_> = places.iter().map(|it| settings.channels[*it].clone()).collect();
+        thread::Builder::new().name("lines".to_string()).spawn(move || pipe::run(path.as_deref(), feed, &channels))?;
+    }
+    Ok(outlets)
+}
+
+/// What the bytes of a datagram or a serial line are on a channel: a message, or none. The bytes of a word come with the low one first, as in the file.
+pub fn message_of(channel: &Channel, bytes: &[u8]) -> Option<(Head, usize)> {
+    let word = || Some(u32::from_le_bytes(bytes.try_into().ok()?));
+    Some(match channel.kind {
+        Kind::Uart => (Head::Uart { parity: false, sub: channel.sub }, bytes.len()),
+        Kind::Message => (Head::Message { data_error: false, format: false, sub: channel.sub }, bytes.len()),
+        Kind::Bus1553 if bytes.len().is_multiple_of(2) && bytes.len() <= 72 => (Head::Bus1553 { status: 0, gap_times: 0 }, bytes.len()),
+        Kind::Bus1553 => return None,
+        Kind::Arinc => (Head::Arinc { bus: 0, format: false, parity: false, high: false, word: word()? }, 0),
+        Kind::Discrete => (Head::Discrete { states: word()? }, 0),
+    })
+}
+
+/// Says a thing of a channel, but not more than once a minute: inputs are fast.
+#[derive(Default)]
+pub struct Seldom {
+    last: Option<std::time::Instant>,
+    unsaid: u64,
+}
+
+impl Seldom {
+    pub fn warn(&mut self, text: impl FnOnce() -> String) {
+        if self.last.is_some_and(|it| it.elapsed() < Duration::from_secs(60)) {
+            self.unsaid += 1;
+            return;
+        }
+        match std::mem::take(&mut self.unsaid) {
+            0 => warning!("{}", text()),
+            more => warning!("{} (and {more} more like it in the last minute)", text()),
+        }
+        self.last = Some(std::time::Instant::now());
+    }
+}
+
+#[cfg(test)]
+mod tests {
+    use super::*;
+
+    #[test]
+    fn bytes_are_messages_of_their_kind() {
+        let of = |kind, bytes: &[u8]| {
+            message_of(&Channel { id: 1, kind, name: String::new(), capacity: 1, input: None, queue: 0, sub: 9 }, bytes)
+        };
+        assert_eq!(of(Kind::Uart, b"abc"), Some((Head::Uart { parity: false, sub: 9 }, 3)));
+        assert_eq!(of(Kind::Message, b""), Some((Head::Message { data_error: false, format: false, sub: 9 }, 0)));
+        assert_eq!(of(Kind::Bus1553, &[0x42, 0x28]), Some((Head::Bus1553 { status: 0, gap_times: 0 }, 2)));
+        assert_eq!((of(Kind::Bus1553, &[0; 3]), of(Kind::Bus1553, &[0; 74])), (None, None));
+        assert_eq!(of(Kind::Discrete, &[0x5a, 0, 0, 1]), Some((Head::Discrete { states: 0x0100_005a }, 0)));
+        let word = Head::Arinc { bus: 0, format: false, parity: false, high: false, word: 0x6000_00c1 };
+        assert_eq!(of(Kind::Arinc, &[0xc1, 0, 0, 0x60]), Some((word, 0)));
+        assert_eq!((of(Kind::Arinc, &[0; 3]), of(Kind::Discrete, &[0; 8])), (None, None));
+    }
+}

@@ -1,0 +1,23 @@
+//! A recorder of IRIG 106 chapter 10 files as a service: what `r10d` and `r10ctl` are made of.
+//!
+//! The recorder itself is the library under the crate `r10`. Here are its inputs, its disk, its clock, and those who ask it things. One thread owns it: [`owner`].
+#![forbid(unsafe_code)]
+
+pub mod acknowledge;
+pub mod clock;
+pub mod control;
+pub mod entries;
+pub mod feed;
+pub mod figures;
+pub mod inputs;
+pub mod live;
+pub mod log;
+pub mod medium;
+pub mod metrics;
+pub mod owner;
+pub mod pipe;
+pub mod readers;
+pub mod serial;
+pub mod settings;
+pub mod udp;
+pub mod words;

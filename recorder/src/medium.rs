@@ -1,0 +1,208 @@
+//! The medium: a file, which is made and allocated where it is not there, or a block device. What the disk below it is like is looked at, and said.
+use std::fs::{self, File};
+use std::io;
+use std::ops::Range;
+use std::os::unix::fs::{FileExt, FileTypeExt, MetadataExt};
+use std::path::{Path, PathBuf};
+use std::time::Instant;
+
+use nix::sys::stat::{major, minor};
+use r10::{Disk, Error, Recorder};
+
+use crate::settings::Settings;
+use crate::{info, warning};
+
+/// How many operations may wait before the library asks for memory.
+const ROOM: usize = 4096;
+
+/// The bytes of a plain read.
+const PART: u64 = 1 << 20;
+
+pub struct Medium {
+    path: PathBuf,
+    blocks: usize,
+    directory: usize,
+    script: String,
+}
+
+/// Why a medium cannot be used, and what to do.
+#[derive(Debug)]
+pub enum Refusal {
+    /// another program has it: nothing here may touch it
+    Taken(String),
+    /// it cannot be used as it is, and another try changes nothing
+    Wrong(String),
+    /// the disk failed: another try may do
+    Failed(String),
+}
+
+impl Refusal {
+    pub fn text(&self) -> &str {
+        match self {
+            Refusal::Taken(text) | Refusal::Wrong(text) | Refusal::Failed(text) => text,
+        }
+    }
+}
+
+impl Medium {
+    pub fn new(settings: &Settings) -> Medium {
+        Medium { path: settings.medium.clone(), blocks: settings.blocks, directory: settings.directory, script: settings.script.clone() }
+    }
+
+    fn name(&self) -> String {
+        self.path.display().to_string()
+    }
+
+    /// Makes the file, where nothing of its name is there.
+    pub fn make(&self) -> Result<(), Refusal> {
+        if self.path.exists() {
+            return Ok(());
+        }
+        let start = Instant::now();
+        Disk::make(&self.path, self.blocks, &self.script).map_err(|error| {
+            let mut fresh = self.path.clone().into_os_string();
+            fresh.push(".new");
+            let _ = fs::remove_file(fresh);
+            Refusal::Wrong(format!(
+                "the medium {} cannot be made with {} MiB: {error}; give a folder that is there, may be written and has the room, or fewer blocks",
+                self.name(),
+                self.blocks >> 11
+            ))
+        })?;
+        info!("medium {}: made and allocated, {} MiB in {} ms", self.name(), self.blocks >> 11, start.elapsed().as_millis());
+        Ok(())
+    }
+
+    /// Writes an empty directory, as a block device needs it once. A medium that has a directory is left as it is.
+    pub fn format(&self) -> Result<(), Refusal> {
+        let disk = self.take()?;
+        let mut recorder = Recorder::open(disk.into(), ROOM, &self.script).map_err(|it| Refusal::Wrong(it.0.to_string()))?;
+        if recorder.mount() != Err(Error::BAD_DIRECTORY) {
+            return Err(Refusal::Wrong(format!("the medium {} has a recorder's directory already: to empty it, start the service and give .ERASE", self.name())));
+        }
+        let region = recorder.close();
+        let mut recorder = Recorder::format(region, ROOM, &self.script).map_err(|it| Refusal::Wrong(it.0.to_string()))?;
+        recorder.settle().map_err(|it| Refusal::Failed(format!("the medium {} cannot be written: {it}", self.name())))
+    }
+
+    /// Says what the disk is like: the size of its sectors, its cache, its free room.
+    pub fn describe(&self) {
+        let Ok(found) = fs::metadata(&self.path) else { return };
+        let is_device = found.file_type().is_block_device();
+        let device = if is_device { found.rdev() } else { found.dev() };
+        let of_disk = |key: &str| {
+            ["", "../"].iter().find_map(|up| fs::read_to_string(format!("/sys/dev/block/{}:{}/{up}queue/{key}", major(device), minor(device))).ok()).map(|it| it.trim().to_string())
+        };
+        let sector = of_disk("physical_block_size").and_then(|it| it.parse::<u32>().ok());
+        let cache = of_disk("write_cache").unwrap_or_else(|| "not known".to_string());
+        let room = nix::sys::statvfs::statvfs(&self.path).map(|it| it.blocks_available() as u64 * it.fragment_size() as u64 >> 20);
+        info!(
+            "medium {}: {} of {} MiB, sectors of {} bytes, the disk's cache is {cache}{}",
+            self.name(),
+            if is_device { "a block device" } else { "a file" },
+            self.blocks >> 11,
+            sector.map_or("unknown size, not 512".to_string(), |it| it.to_string()),
+            room.ok().filter(|_| !is_device).map_or(String::new(), |it| format!(", {it} MiB are free beside it"))
+        );
+        if sector != Some(512) {
+            warning!("medium {}: a loss of power amid a write may tear eight blocks of a disk whose sectors are not of 512 bytes; prefer a disk of 512", self.name());
+        }
+        if !is_device && found.blocks() * 512 < 512 * self.blocks as u64 {
+            warning!("medium {}: the file is not allocated whole, so a full disk ends the service; make it anew: copy it with `cp --sparse=never`", self.name());
+        }
+    }
+
+    /// Takes the medium for this program alone.
+    fn take(&self) -> Result<Disk, Refusal> {
+        Disk::open(&self.path, self.blocks).map_err(|error| match error.kind() {
+            io::ErrorKind::WouldBlock => Refusal::Taken(format!("the medium {} is used by another program: end that one, or give this one a medium of its own", self.name())),
+            io::ErrorKind::InvalidInput => {
+                Refusal::Wrong(format!("the medium {} has fewer than {} blocks: give the number of blocks that it was made with", self.name(), self.blocks))
+            }
+            io::ErrorKind::NotFound | io::ErrorKind::PermissionDenied => {
+                Refusal::Wrong(format!("the medium {} cannot be opened: {error}; let the service's user read and write it", self.name()))
+            }
+            _ => Refusal::Failed(format!("the medium {} cannot be opened: {error}", self.name())),
+        })
+    }
+
+    /// Opens a recorder over the medium and mounts it. The directory is read plainly first: a block of a mapping that cannot be read ends a program.
+    pub fn mount(&self) -> Result<Recorder, Refusal> {
+        let disk = self.take()?;
+        self.read_plainly(0..1 + self.directory as u64)?;
+        let mut recorder = Recorder::open(disk.into(), ROOM, &self.script).map_err(|(error, _)| Refusal::Wrong(format!("the recorder cannot be opened: {error}")))?;
+        match recorder.mount() {
+            Ok(()) => (),
+            Err(Error::BAD_DIRECTORY) => {
+                return Err(Refusal::Wrong(format!(
+                    "the medium {} has no directory of this recorder: a new device wants `r10d --format SETTINGS`; of one that has recordings keep a copy first",
+                    self.name()
+                )));
+            }
+            Err(error) => return Err(Refusal::Failed(format!("the medium {} cannot be mounted: {error}", self.name()))),
+        }
+        let start = Instant::now();
+        recorder.settle().map_err(|it| Refusal::Failed(format!("the medium {} cannot be written: {it}", self.name())))?;
+        info!("medium {}: mounted; to write its directory and sync took {:.1} ms", self.name(), start.elapsed().as_secs_f64() * 1e3);
+        Ok(recorder)
+    }
+
+    /// The first block of a file, by the blocks of those before it.
+    pub fn first_block(&self, files: &[r10::File]) -> u64 {
+        1 + self.directory as u64 + files.iter().map(|it| it.blocks).sum::<u64>()
+    }
+
+    /// Reads blocks into nothing, so that one that cannot be read is found and named, where a mapping would end the program. What was read stays in the system's cache.
+    pub fn read_plainly(&self, blocks: Range<u64>) -> Result<(), Refusal> {
+        let failed = |it: io::Error| Refusal::Failed(format!("the medium {} cannot be read: {it}", self.name()));
+        let file = File::open(&self.path).map_err(failed)?;
+        match first_unreadable(blocks.start * 512..blocks.end.min(self.blocks as u64) * 512, |bytes, at| file.read_exact_at(bytes, at)) {
+            None => Ok(()),
+            Some((block, error)) => Err(Refusal::Failed(format!("block {block} of the medium {} cannot be read: {error}; record on another disk, and copy this one with ddrescue", self.name()))),
+        }
+    }
+
+    pub fn path(&self) -> &Path {
+        &self.path
+    }
+}
+
+/// The first block in a range of bytes that cannot be read, and why. A mapping reads by pages of 4,096 bytes, so these count.
+fn first_unreadable(bytes: Range<u64>, read: impl Fn(&mut [u8], u64) -> io::Result<()>) -> Option<(u64, io::Error)> {
+    let mut buffer = vec![0; PART as usize];
+    let mut at = bytes.start & !4095;
+    while at < bytes.end {
+        let count = PART.min(bytes.end - at) as usize;
+        if read(&mut buffer[..count], at).is_err() {
+            for block in at / 512..(at + count as u64).div_ceil(512) {
+                if let Err(error) = read(&mut buffer[..512], 512 * block) {
+                    return Some((block, error));
+                }
+            }
+        }
+        at += count as u64;
+    }
+    None
+}
+
+#[cfg(test)]
+mod tests {
+    use super::*;
+
+    #[test]
+    fn the_first_block_that_cannot_be_read_is_named() {
+        let bad = |block: u64| {
+            move |bytes: &mut [u8], at: u64| if (at..at + bytes.len() as u64).contains(&(512 * block)) { Err(io::Error::from_raw_os_error(5)) } else { Ok(()) }
+        };
+        for (range, block, found) in [
+            (0..1 << 22, 5000, Some(5000)),
+            (512 * 100..512 * 200, 200, None),
+            (512 * 100..512 * 200, 96, Some(96)),
+            (512 * 100..512 * 200, 95, None),
+            (0..512, 0, Some(0)),
+            (0..0, 0, None),
+        ] {
+            assert_eq!(first_unreadable(range, bad(block)).map(|it| it.0), found);
+        }
+    }
+}

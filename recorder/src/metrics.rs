@@ -1,0 +1,88 @@
+//! Metrics in the text form that Prometheus reads, at a local port.
+use std::fmt::Write as _;
+use std::io::{self, Read, Write};
+use std::net::{SocketAddr, TcpListener};
+use std::thread;
+use std::time::Duration;
+
+use serde_json::Value;
+
+use crate::control::{Asking, Origin, Reply};
+use crate::info;
+
+pub fn start(address: SocketAddr, asking: Asking) -> io::Result<()> {
+    let listener = TcpListener::bind(address).map_err(|it| io::Error::new(it.kind(), format!("metrics = \"{address}\": {it}; give a free port of this machine")))?;
+    thread::Builder::new().name("metrics".to_string()).spawn(move || {
+        for mut stream in listener.incoming().flatten() {
+            let wait = Some(Duration::from_secs(2));
+            let _ = stream.set_read_timeout(wait).and_then(|()| stream.set_write_timeout(wait));
+            // whatever is asked, the answer is the same: so the request is read, as far as it fits, and not looked at
+            let mut request = [0; 4096];
+            let _ = stream.read(&mut request);
+            let text = match asking.ask(".FIGURES", Origin::Tcp) {
+                Some(Reply::Text(text)) => serde_json::from_str(&text).map(|it| of(&it)).unwrap_or_default(),
+                _ => String::new(),
+            };
+            let head = format!("HTTP/1.0 200 OK\r\nContent-Type: text/plain; version=0.0.4\r\nContent-Length: {}\r\n\r\n", text.len());
+            let _ = stream.write_all(head.as_bytes()).and_then(|()| stream.write_all(text.as_bytes()));
+        }
+    })?;
+    info!("metrics: at http://{address}/metrics");
+    Ok(())
+}
+
+const WHOLE: [(&str, &str, &str, &str); 9] = [
+    ("files", "files", "gauge", "Files on the medium."),
+    ("free", "free_bytes", "gauge", "Bytes of the medium that no file has."),
+    ("commits", "commits_total", "counter", "Commits."),
+    ("failures", "disk_failures_total", "counter", "Failures of the disk."),
+    ("clock_steps", "clock_steps_total", "counter", "Steps of the system's clock."),
+    ("queued_bytes", "queued_bytes", "gauge", "Bytes that wait between inputs and recorder."),
+    ("datagrams_out", "datagrams_out_total", "counter", "Datagrams sent live."),
+    ("datagrams_dropped", "datagrams_dropped_total", "counter", "Live datagrams that the system did not take."),
+    ("memory_kib", "memory_kibibytes", "gauge", "Memory of the service's own."),
+];
+
+const OF_CHANNELS: [(&str, &str, &str); 7] = [
+    ("came", "messages_total", "Messages that came."),
+    ("bytes", "bytes_total", "Bytes that came."),
+    ("durable", "durable_total", "Messages that are durable."),
+    ("lost", "lost_total", "Messages that were lost."),
+    ("refused", "refused_total", "Messages that the recorder refused."),
+    ("bad", "bad_total", "Lines and datagrams that are no message."),
+    ("passed", "passed_total", "Messages that came while nothing was recorded."),
+];
+
+/// The metrics of the figures.
+fn of(figures: &Value) -> String {
+    let mut out = String::new();
+    let recording = u8::from(figures["state"] == "recording");
+    let _ = writeln!(out, "# HELP r10_recording Whether a file is recorded.\n# TYPE r10_recording gauge\nr10_recording {recording}");
+    for (key, name, kind, help) in WHOLE {
+        let _ = writeln!(out, "# HELP r10_{name} {help}\n# TYPE r10_{name} {kind}\nr10_{name} {}", figures[key].as_u64().unwrap_or(0));
+    }
+    for (key, name, help) in OF_CHANNELS {
+        let _ = writeln!(out, "# HELP r10_{name} {help}\n# TYPE r10_{name} counter");
+        for channel in figures["channels"].as_array().map_or(&[][..], Vec::as_slice) {
+            // a name is the settings' own text, so what would end it is taken out
+            let label: String = channel["name"].as_str().unwrap_or("").chars().filter(|it| !it.is_control() && !"\"\\".contains(*it)).collect();
+            let _ = writeln!(out, "r10_{name}{{channel=\"{}\",name=\"{label}\"}} {}", channel["id"], channel[key].as_u64().unwrap_or(0));
+        }
+    }
+    out
+}
+
+#[cfg(test)]
+mod tests {
+    use super::*;
+
+    #[test]
+    fn figures_become_lines() {
+        let figures = serde_json::json!({ "state": "recording", "free": 512, "channels": [{ "id": 5, "name": "GPS \"1\"", "came": 7, "lost": 2 }] });
+        let text = of(&figures);
+        for line in ["r10_recording 1", "r10_free_bytes 512", "r10_messages_total{channel=\"5\",name=\"GPS 1\"} 7", "r10_lost_total{channel=\"5\",name=\"GPS 1\"} 2"] {
+            assert!(text.lines().any(|it| it == line), "{line} in\n{text}");
+        }
+        assert_eq!(text.lines().filter(|it| it.starts_with("# TYPE")).count(), 1 + WHOLE.len() + OF_CHANNELS.len());
+    }
+}

@@ -1,0 +1,703 @@
+//! The thread that owns the recorder: it takes in what the inputs hand over, keeps the clock, commits, ends files and begins the next, and goes on after failures.
+use std::collections::VecDeque;
+use std::fmt;
+use std::sync::Arc;
+use std::sync::atomic::{AtomicBool, Ordering::Relaxed};
+use std::sync::mpsc::Receiver;
+use std::time::{Duration, Instant};
+
+use r10::{Error, Message, Recorder};
+use time::OffsetDateTime;
+
+use crate::acknowledge::Acknowledge;
+use crate::clock::{self, Counter, Steps};
+use crate::control::Command;
+use crate::feed::{Batch, Came, Head, Item, Outlet};
+use crate::figures::Times;
+use crate::inputs::Seldom;
+use crate::live::Live;
+use crate::medium::{Medium, Refusal};
+use crate::readers::Reader;
+use crate::settings::{self, Begin, Settings};
+use crate::words::Point;
+use crate::{error, info, warning};
+
+/// What stops the thread in what it does.
+#[derive(Debug)]
+pub enum Trouble {
+    /// the file's area, or the directory, has no room
+    Full,
+    /// the recorder refused a call, and nothing has changed
+    Refused(Error),
+    /// the disk failed, or the recorder did
+    Failed(String),
+}
+
+impl From<Error> for Trouble {
+    fn from(error: Error) -> Trouble {
+        match error {
+            Error::MEDIUM_FULL | Error::DIRECTORY_FULL => Trouble::Full,
+            Error::MEDIUM | Error::FAILED | Error::NO_MEMORY => Trouble::Failed(format!("the recorder failed: {error} ({})", error.number())),
+            _ => Trouble::Refused(error),
+        }
+    }
+}
+
+impl fmt::Display for Trouble {
+    fn fmt(&self, f: &mut fmt::Formatter) -> fmt::Result {
+        match self {
+            Trouble::Full => f.write_str("the medium is full"),
+            Trouble::Refused(error) => write!(f, "the recorder refused a call: {error} ({})", error.number()),
+            Trouble::Failed(why) => f.write_str(why),
+        }
+    }
+}
+
+#[derive(Clone, Copy, Debug, PartialEq, Eq)]
+pub enum State {
+    Idle,
+    Recording,
+    /// it recorded, and there is no room for more
+    Full,
+    /// the disk failed: at this moment it is tried again, if at all
+    Failed(Option<Instant>),
+}
+
+/// A channel on its way.
+pub struct Lane {
+    pub channel: settings::Channel,
+    pub came: Arc<Came>,
+    /// messages in the recorder's lane
+    waiting: usize,
+    /// counts of the messages that were accepted and are not durable, those that wait last
+    pending: VecDeque<u64>,
+    pub durable: u64,
+    /// durable ones in the file that is recorded
+    pub durable_in_file: u64,
+    pub lost: u64,
+    /// what of the lost the recorder was not given yet
+    untold: u64,
+    pub refused: u64,
+    /// messages that came while nothing was recorded
+    pub passed: u64,
+    longest: usize,
+    /// count, length and first bytes of the last message
+    pub last: Option<(u64, usize, Vec<u8>)>,
+    seldom: Seldom,
+}
+
+/// What came in and was not offered yet.
+#[derive(Default)]
+struct Taken {
+    batch: Batch,
+    item: usize,
+    byte: usize,
+}
+
+pub struct Owner {
+    pub settings: Settings,
+    counter: Counter,
+    pub medium: Medium,
+    pub recorder: Option<Recorder>,
+    pub state: State,
+    pub lanes: Vec<Lane>,
+    pub outlets: Vec<Outlet>,
+    taken: Taken,
+    commands: Receiver<Command>,
+    pub ending: Arc<AtomicBool>,
+    pub point: Point,
+    pub readers: Vec<Reader>,
+    pub live: Live,
+    acknowledge: Option<Acknowledge>,
+    /// number and name of the file that is or was recorded
+    pub file: Option<(usize, String)>,
+    began: Instant,
+    committed: Instant,
+    ticked: Instant,
+    pub has_news: bool,
+    steps: Steps,
+    pub clock_steps: u64,
+    pub failures: u32,
+    /// failures since the last commit that went through
+    tries: u32,
+    pub why: String,
+    pub commits: u64,
+    pub times: Times,
+    watchdog: Option<(Duration, Instant)>,
+}
+
+/// Bytes that are pumped before the disk does what waits.
+const PUMPED: usize = 4 << 20;
+/// Operations that may wait before the disk does them.
+const OPERATIONS: usize = 8192;
+/// How long batches are taken in before something else has its turn.
+const TURN: Duration = Duration::from_millis(20);
+/// Blocks that are read plainly where a file begins: a mapped one that cannot be read would end the process.
+const AHEAD: u64 = 8 << 11;
+
+impl Owner {
+    pub fn new(settings: Settings, counter: Counter, came: Vec<Arc<Came>>, commands: Receiver<Command>, ending: Arc<AtomicBool>) -> std::io::Result<Owner> {
+        let lanes = settings.channels.iter().zip(came).map(|(channel, came)| Lane {
+            channel: channel.clone(),
+            came,
+            waiting: 0,
+            pending: VecDeque::new(),
+            durable: 0,
+            durable_in_file: 0,
+            lost: 0,
+            untold: 0,
+            refused: 0,
+            passed: 0,
+            longest: 1,
+            last: None,
+            seldom: Seldom::default(),
+        });
+        let now = Instant::now();
+        let mut micros = 0;
+        let watchdog = sd_notify::watchdog_enabled(false, &mut micros).then(|| (Duration::from_micros(micros / 2), now));
+        Ok(Owner {
+            medium: Medium::new(&settings),
+            lanes: lanes.collect(),
+            live: Live::new(settings.publish)?,
+            acknowledge: settings.acknowledge.as_deref().map(Acknowledge::open).transpose()?,
+            settings,
+            counter,
+            recorder: None,
+            state: State::Failed(None),
+            outlets: Vec::new(),
+            taken: Taken::default(),
+            commands,
+            ending,
+            point: Point::default(),
+            readers: Vec::new(),
+            file: None,
+            began: now,
+            committed: now,
+            ticked: now,
+            has_news: false,
+            steps: Steps::default(),
+            clock_steps: 0,
+            failures: 0,
+            tries: 0,
+            why: String::new(),
+            commits: 0,
+            times: Times::default(),
+            watchdog,
+        })
+    }
+
+    /// Takes up the medium at the start of the service, and says whether a recording begins by itself. Only a medium that another program has, or that
+    /// cannot be made, is no start.
+    pub fn begin(&mut self) -> Result<bool, Refusal> {
+        self.medium.make()?;
+        self.medium.describe();
+        match self.open() {
+            Ok(was_cut) => Ok(self.settings.begin == Begin::Record || self.settings.begin == Begin::Resume && was_cut),
+            Err(refusal @ Refusal::Taken(_)) => Err(refusal),
+            Err(refusal) => {
+                self.down(&refusal);
+                Ok(false)
+            }
+        }
+    }
+
+    /// Works until it is asked to end, and ends the file then. Whether all went well.
+    pub fn run(&mut self, outlets: Vec<Outlet>, records: bool) -> bool {
+        self.outlets = outlets;
+        if records {
+            self.resume();
+        }
+        loop {
+            let done = self.turn();
+            self.mind(done);
+            if self.ending.load(Relaxed) {
+                return self.end();
+            }
+        }
+    }
+
+    /// What is done about trouble.
+    fn mind(&mut self, done: Result<(), Trouble>) {
+        match done {
+            Ok(()) => (),
+            Err(Trouble::Full) => {
+                if let Err(trouble) = self.next_file("is full") {
+                    self.fail(&trouble.to_string());
+                }
+            }
+            Err(trouble) => self.fail(&trouble.to_string()),
+        }
+    }
+
+    /// One turn: what came, what is asked, what is due.
+    fn turn(&mut self) -> Result<(), Trouble> {
+        self.beat();
+        self.retry();
+        let has_more = self.take_in()?;
+        while let Ok(command) = self.commands.try_recv() {
+            self.answer(command)?;
+        }
+        let now = Instant::now();
+        if self.recorder.is_some() && now >= self.ticked + Duration::from_secs(1) {
+            self.tick()?;
+        }
+        if self.state == State::Recording {
+            if self.has_news && now >= self.committed + self.settings.commit {
+                self.commit()?;
+            }
+            if now >= self.began + self.settings.file_for {
+                self.next_file("has been recorded for as long as the settings say")?;
+            }
+        }
+        let is_reading = self.read_on()?;
+        if !has_more && !is_reading {
+            self.wait();
+        }
+        Ok(())
+    }
+
+    /// Waits until an input or a command wakes the thread, or something is due.
+    fn wait(&self) {
+        let now = Instant::now();
+        let mut until = now + Duration::from_millis(250);
+        if self.recorder.is_some() {
+            until = until.min(self.ticked + Duration::from_secs(1));
+        }
+        if self.state == State::Recording && self.has_news {
+            until = until.min(self.committed + self.settings.commit);
+        }
+        if let State::Failed(Some(at)) = self.state {
+            until = until.min(at);
+        }
+        std::thread::park_timeout(until.saturating_duration_since(now));
+        // messages that come one by one are taken in together: what the thread does at once is what a commit needs
+        if self.state == State::Recording && self.settings.commit >= Duration::from_millis(5) {
+            let due = (self.committed + self.settings.commit).saturating_duration_since(Instant::now());
+            std::thread::sleep(due.min(Duration::from_millis(2)));
+        }
+    }
+
+    fn beat(&mut self) {
+        if let Some((each, last)) = &mut self.watchdog
+            && last.elapsed() >= *each
+        {
+            *last = Instant::now();
+            let _ = sd_notify::notify(false, &[sd_notify::NotifyState::Watchdog]);
+        }
+    }
+
+    pub fn recorder(&mut self) -> Result<&mut Recorder, Trouble> {
+        self.recorder.as_mut().ok_or_else(|| Trouble::Failed("no medium is mounted".to_string()))
+    }
+
+    /// Does on the disk what waits.
+    pub fn settle(&mut self) -> Result<(), Trouble> {
+        self.recorder()?.settle().map_err(|it| Trouble::Failed(format!("a write or a sync failed: {it}")))
+    }
+
+    pub fn count(&self) -> u64 {
+        self.counter.count()
+    }
+
+    // ---- what comes
+
+    /// Takes in what the inputs handed over, for a turn at most. Whether there may be more.
+    pub fn take_in(&mut self) -> Result<bool, Trouble> {
+        let until = Instant::now() + TURN;
+        loop {
+            self.offer_taken()?;
+            // while the disk is tried again what comes stays in the queues, which count what does not fit
+            if matches!(self.state, State::Failed(Some(_))) {
+                return Ok(false);
+            }
+            let mut is_empty = true;
+            for at in 0..self.outlets.len() {
+                if let Some(batch) = self.outlets[at].take() {
+                    self.taken = Taken { batch, item: 0, byte: 0 };
+                    is_empty = false;
+                    self.offer_taken()?;
+                }
+            }
+            if is_empty {
+                return Ok(false);
+            }
+            if Instant::now() > until {
+                return Ok(true);
+            }
+        }
+    }
+
+    /// Offers what was taken. After trouble it goes on with the message that met it.
+    fn offer_taken(&mut self) -> Result<(), Trouble> {
+        while let Some(item) = self.taken.batch.items.get(self.taken.item).copied() {
+            self.offer(item)?;
+            self.taken.item += 1;
+            self.taken.byte += item.length;
+        }
+        self.taken = Taken::default();
+        Ok(())
+    }
+
+    fn offer(&mut self, item: Item) -> Result<(), Trouble> {
+        let place = item.place;
+        // a lane that is full is pumped first, which may meet trouble: until then nothing is changed, so that the message can be offered again
+        if self.state == State::Recording && self.lanes[place].waiting >= self.lanes[place].channel.capacity {
+            self.pump(place)?;
+            if self.committed.elapsed() >= self.settings.commit / 4 {
+                self.commit()?;
+            }
+        }
+        if item.lost > 0 {
+            self.note_lost(place, item.lost);
+        }
+        let bytes = &self.taken.batch.bytes[self.taken.byte..self.taken.byte + item.length];
+        let lane = &mut self.lanes[place];
+        lane.last = Some((item.count, bytes.len(), bytes[..bytes.len().min(16)].to_vec()));
+        match (self.state, &mut self.recorder) {
+            (State::Recording, Some(recorder)) => {
+                lane.longest = lane.longest.max(bytes.len());
+                match give(recorder, lane.channel.id, &item, bytes) {
+                    Ok(()) => {
+                        lane.waiting += 1;
+                        lane.pending.push_back(item.count);
+                        self.has_news = true;
+                    }
+                    Err(error) => {
+                        let id = lane.channel.id;
+                        lane.refused += 1;
+                        lane.seldom.warn(|| format!("channel {id}: a message of {} bytes is refused: {error}", item.length));
+                        self.note_lost(place, 1);
+                    }
+                }
+            }
+            (State::Idle, _) => lane.passed += 1,
+            _ => self.note_lost(place, 1),
+        }
+        Ok(())
+    }
+
+    /// So many messages of a channel came, or would have come, before the next one that is offered, and are in no file. They are counted, logged and shown.
+    fn note_lost(&mut self, place: usize, count: u64) {
+        let lane = &mut self.lanes[place];
+        lane.lost += count;
+        lane.untold += count;
+        let (id, lost) = (lane.channel.id, lane.lost);
+        lane.seldom.warn(|| format!("channel {id}: {count} messages were lost, {lost} since the start"));
+        // The library has no call yet that puts the number in front of the channel's next message in the file. Once it has, it stands here:
+        // if let Some(recorder) = &mut self.recorder { recorder.lose(id, std::mem::take(&mut lane.untold)) }
+    }
+
+    // ---- what is recorded
+
+    /// Takes a channel's messages from its lane into the file.
+    fn pump(&mut self, place: usize) -> Result<(), Trouble> {
+        while self.lanes[place].waiting > 0 {
+            let lane = &mut self.lanes[place];
+            let most = (PUMPED / (lane.longest + 64)).max(1);
+            let id = lane.channel.id;
+            let moved = self.recorder()?.pump(id, most)?;
+            if moved == 0 {
+                return Err(Trouble::Failed(format!("channel {id}: the recorder takes none of what waits")));
+            }
+            self.lanes[place].waiting -= moved;
+            if self.recorder()?.queue()?.waiting > OPERATIONS {
+                self.settle()?;
+            }
+        }
+        Ok(())
+    }
+
+    /// Makes all durable that was accepted.
+    fn commit(&mut self) -> Result<(), Trouble> {
+        for place in 0..self.lanes.len() {
+            self.pump(place)?;
+        }
+        self.recorder()?.commit()?;
+        self.settle()?;
+        self.is_durable();
+        self.tries = 0;
+        self.has_news = false;
+        self.committed = Instant::now();
+        self.show()
+    }
+
+    /// What was taken into the file is durable now.
+    fn is_durable(&mut self) {
+        let now = self.counter.count();
+        self.commits += 1;
+        for lane in &mut self.lanes {
+            let count = lane.pending.len() - lane.waiting.min(lane.pending.len());
+            lane.pending.drain(..count).for_each(|it| self.times.add(now.saturating_sub(it)));
+            lane.durable += count as u64;
+            lane.durable_in_file += count as u64;
+            if count > 0
+                && let (Some(to), Some((number, _))) = (&mut self.acknowledge, &self.file)
+            {
+                to.line(*number, lane.channel.id, lane.durable_in_file);
+            }
+        }
+        if let Some(to) = &mut self.acknowledge {
+            to.flush();
+        }
+    }
+
+    fn tick(&mut self) -> Result<(), Trouble> {
+        let (now, civil) = (Instant::now(), OffsetDateTime::now_utc());
+        self.ticked = now;
+        let (count, stepped) = (self.counter.count_at(now), self.steps.look(now, civil));
+        self.recorder()?.tick(count, &clock::civil(civil))?;
+        if let Some(step) = stepped {
+            self.clock_steps += 1;
+            warning!("the system's clock stepped by {step:+.3} s; recordings have times before and after it");
+            if self.state == State::Recording {
+                let number = self.settings.clock_event;
+                self.recorder()?.event(number, count)?;
+            }
+        }
+        self.has_news |= self.state == State::Recording;
+        if self.state != State::Recording {
+            self.settle()?;
+        }
+        if let Some((number, name)) = self.file.as_ref().filter(|_| self.state == State::Recording) {
+            let text = format!("recording file {} {name}", number + 1);
+            let _ = sd_notify::notify(false, &[sd_notify::NotifyState::Status(&text)]);
+        }
+        Ok(())
+    }
+
+    /// Begins a file. One without a name gets the settings' and the time.
+    pub fn start(&mut self, name: Option<&str>) -> Result<(), Trouble> {
+        self.tick()?;
+        let files = self.recorder()?.files()?;
+        let first = self.medium.first_block(&files);
+        self.medium.read_plainly(first..first + AHEAD).map_err(|it| Trouble::Failed(it.text().to_string()))?;
+        let name = name.map_or_else(|| fresh_name(&self.settings.prefix, &files), str::to_string);
+        let setup = std::mem::take(&mut self.settings.setup);
+        let started = self.recorder()?.start(&name, &setup);
+        self.settings.setup = setup;
+        started?;
+        self.settle()?;
+        info!("file {} {name}: recording", files.len() + 1);
+        self.file = Some((files.len(), name));
+        self.live.begin();
+        self.state = State::Recording;
+        self.began = Instant::now();
+        self.has_news = true;
+        self.lanes.iter_mut().for_each(|it| it.durable_in_file = 0);
+        Ok(())
+    }
+
+    /// Ends the file, with all that waits, as far as there is room.
+    pub fn stop(&mut self, why: &str) -> Result<(), Trouble> {
+        let mut is_full = false;
+        for place in 0..self.lanes.len() {
+            match self.pump(place) {
+                Err(Trouble::Full) => is_full = true,
+                other => other?,
+            }
+        }
+        let stopped = self.recorder()?.stop()?;
+        self.settle()?;
+        for place in 0..self.lanes.len() {
+            self.lanes[place].waiting = self.recorder()?.channel_at(place)?.waiting;
+        }
+        self.is_durable();
+        self.show()?;
+        self.state = State::Idle;
+        self.has_news = false;
+        let (number, name) = self.file.clone().unwrap_or_default();
+        info!("file {} {name}: ended, it {why}", number + 1);
+        if stopped.left > 0 || is_full {
+            warning!("file {} {name}: {} messages had no room in it, and come first in the next one", number + 1, stopped.left);
+        }
+        Ok(())
+    }
+
+    /// Ends the file and begins the next. Where there is no room for one, nothing is recorded until an erase.
+    fn next_file(&mut self, why: &str) -> Result<(), Trouble> {
+        let is_empty = self.lanes.iter().all(|it| it.durable_in_file == 0);
+        if self.state == State::Recording {
+            self.stop(why)?;
+        }
+        let is_empty = is_empty && self.lanes.iter().all(|it| it.durable_in_file == 0);
+        let begun = if is_empty && self.file.is_some() && why == "is full" { Err(Trouble::Full) } else { self.start(None) };
+        match begun {
+            Err(Trouble::Full) => {
+                self.state = State::Full;
+                error!("the medium is full: nothing is recorded, and what comes is counted as lost; copy the files, then give .ERASE and .RECORD");
+                Ok(())
+            }
+            other => other,
+        }
+    }
+
+    // ---- when the disk fails
+
+    /// Mounts the medium, and closes a file that was cut off. Whether there was one.
+    fn open(&mut self) -> Result<bool, Refusal> {
+        let failed = |it: Error| Refusal::Failed(it.to_string());
+        let mut recorder = self.medium.mount()?;
+        recorder.tick(self.counter.count(), &clock::civil(OffsetDateTime::now_utc())).map_err(failed)?;
+        let files = recorder.files().map_err(failed)?;
+        let cut = files.last().filter(|it| !it.closed);
+        if let Some(file) = cut {
+            let (start, first) = (Instant::now(), self.medium.first_block(&files[..files.len() - 1]));
+            self.medium.read_plainly(first..first + file.blocks)?;
+            match recorder.seal() {
+                Ok(()) => (),
+                Err(Error::BAD_FILE) => {
+                    return Err(Refusal::Wrong(format!(
+                        "the last file, {}, was cut off and cannot be closed: it is not as this recorder writes it; copy the medium, then record on another one",
+                        file.name
+                    )));
+                }
+                Err(error) => return Err(failed(error)),
+            }
+            recorder.settle().map_err(|it| Refusal::Failed(format!("the medium cannot be written: {it}")))?;
+            info!("file {} {}: it was cut off, and is closed now, {} bytes in {} ms", files.len(), file.name, file.size, start.elapsed().as_millis());
+        }
+        let was_cut = cut.is_some();
+        self.account(&mut recorder, &files).map_err(failed)?;
+        self.recorder = Some(recorder);
+        self.state = State::Idle;
+        Ok(was_cut)
+    }
+
+    /// What of the messages that waited for a commit, when the recorder failed, is in its file after all: the rest is lost, and is said so.
+    fn account(&mut self, recorder: &mut Recorder, files: &[r10::File]) -> Result<(), Error> {
+        let file = self.file.as_ref().filter(|it| files.get(it.0).is_some_and(|file| file.name == it.1)).map(|it| it.0);
+        for place in 0..self.lanes.len() {
+            let lane = &mut self.lanes[place];
+            let pending: Vec<u64> = std::mem::take(&mut lane.pending).into();
+            lane.waiting = 0;
+            let mut is_there = |count: u64| -> Result<bool, Error> { Ok(match file {
+                Some(file) => recorder.find(file, lane.channel.id, count)?.is_some(),
+                None => false,
+            }) };
+            // what is in the file is a front of what was accepted, and counts rise: so the first that is not there is found by halves
+            let (mut there, mut not) = (0, pending.len());
+            while there < not {
+                let middle = (there + not) / 2;
+                if is_there(pending[middle])? { there = middle + 1 } else { not = middle }
+            }
+            lane.durable += there as u64;
+            if pending.len() > there {
+                self.note_lost(place, (pending.len() - there) as u64);
+            }
+        }
+        Ok(())
+    }
+
+    /// The disk failed: as after a loss of power. The recorder and the mapping go, with what the system kept, and all is opened again.
+    fn fail(&mut self, why: &str) {
+        self.failures += 1;
+        self.tries += 1;
+        self.why = why.to_string();
+        error!("{why}; what was not committed may be lost; the medium is opened again (try {} of {})", self.tries, self.settings.tries);
+        self.recorder = None;
+        self.readers.clear();
+        self.state = State::Failed((self.tries <= self.settings.tries).then(Instant::now));
+        if self.tries > self.settings.tries {
+            self.down(&Refusal::Failed(why.to_string()));
+        }
+    }
+
+    fn down(&mut self, refusal: &Refusal) {
+        self.state = State::Failed(None);
+        self.recorder = None;
+        self.why = refusal.text().to_string();
+        error!("recording is down: {}; then give .RECORD", refusal.text());
+        let _ = sd_notify::notify(false, &[sd_notify::NotifyState::Status("FAIL: recording is down; see the log")]);
+    }
+
+    /// Opens the medium again, where that is due, and goes on in a new file.
+    fn retry(&mut self) {
+        let State::Failed(Some(at)) = self.state else { return };
+        if Instant::now() < at {
+            return;
+        }
+        match self.open() {
+            Ok(_) => self.resume(),
+            Err(Refusal::Failed(why)) if self.tries < self.settings.tries => {
+                self.tries += 1;
+                self.failures += 1;
+                warning!("{why}; it is tried again (try {} of {})", self.tries, self.settings.tries);
+                self.state = State::Failed(Some(Instant::now() + Duration::from_millis(100 << self.tries.min(6))));
+            }
+            Err(refusal) => self.down(&refusal),
+        }
+    }
+
+    /// Opens a medium that is down, by a command.
+    pub fn open_again(&mut self) -> Result<(), Refusal> {
+        self.tries = 0;
+        self.open().map(|_| ())
+    }
+
+    fn resume(&mut self) {
+        let begun = self.start(None);
+        match begun {
+            Err(Trouble::Full) => {
+                let done = self.next_file("is full");
+                self.mind(done);
+            }
+            other => self.mind(other),
+        }
+    }
+
+    // ---- the end
+
+    /// Ends the file and the use of the medium. Whether all went well.
+    fn end(&mut self) -> bool {
+        let _ = sd_notify::notify(false, &[sd_notify::NotifyState::Stopping]);
+        let done = self.take_in().map(|_| ());
+        self.mind(done);
+        let done = if self.state == State::Recording { self.stop("was stopped by the end of the service") } else { Ok(()) };
+        let done = done.and_then(|()| match &mut self.recorder {
+            Some(recorder) => {
+                recorder.dismount()?;
+                self.settle()
+            }
+            None => Err(Trouble::Failed("no medium is mounted".to_string())),
+        });
+        match done {
+            Ok(()) => {
+                info!("the service has ended; the medium can be taken away");
+                true
+            }
+            Err(trouble) => {
+                error!("the service ends without closing the file: {trouble}; its next start closes it");
+                false
+            }
+        }
+    }
+}
+
+fn give(recorder: &mut Recorder, id: u16, item: &Item, bytes: &[u8]) -> Result<(), Error> {
+    let mut words = [0; 36];
+    let message = match item.head {
+        Head::Uart { parity, sub } => Message::Uart { parity, sub, bytes },
+        Head::Bus1553 { status, gap_times } => {
+            let count = (bytes.len() / 2).min(words.len());
+            for (word, it) in words.iter_mut().zip(bytes.chunks_exact(2)) {
+                *word = u16::from_le_bytes([it[0], it[1]]);
+            }
+            if bytes.len() > 72 {
+                return Err(Error::TOO_LONG);
+            }
+            Message::Bus1553 { status, gap_times, words: &words[..count] }
+        }
+        Head::Arinc { bus, format, parity, high, word } => Message::Arinc { bus, format, parity, high, word },
+        Head::Discrete { states } => Message::Discrete { states },
+        Head::Message { data_error, format, sub } => Message::Message { data_error, format, sub, bytes },
+    };
+    recorder.offer(id, item.count, message)
+}
+
+/// A name that no file has: the prefix, the time in UTC, and where that is taken a number.
+fn fresh_name(prefix: &str, files: &[r10::File]) -> String {
+    let it = clock::civil(OffsetDateTime::now_utc());
+    let base = format!("{prefix}{:04}{:02}{:02}-{:02}{:02}{:02}", it.year, it.month, it.day, it.hour, it.minute, it.second);
+    let is_taken = |name: &str| files.iter().any(|it| it.name == name);
+    (1..).map(|number| if number == 1 { base.clone() } else { format!("{base}_{number}") }).find(|it| !is_taken(it)).unwrap_or(base)
+}

@@ -1,0 +1,96 @@
+//! `r10d`: the recorder as a service. See docs/RECORDER.md.
+#![forbid(unsafe_code)]
+use std::path::{Path, PathBuf};
+use std::process::ExitCode;
+use std::sync::Arc;
+use std::sync::atomic::AtomicBool;
+use std::sync::mpsc::channel;
+
+use clap::Parser;
+use r10_recorder::clock::Counter;
+use r10_recorder::control::{self, Asking};
+use r10_recorder::feed::Came;
+use r10_recorder::medium::{Medium, Refusal};
+use r10_recorder::owner::Owner;
+use r10_recorder::settings::{self, Settings};
+use r10_recorder::{error, info, inputs, metrics};
+use signal_hook::consts::{SIGINT, SIGTERM};
+
+#[derive(Parser)]
+#[command(version, about = "Records live inputs as IRIG 106 chapter 10 files on a disk, and can be watched and controlled meanwhile (r10ctl).")]
+struct Words {
+    /// The settings, in TOML: see docs/RECORDER.md
+    settings: PathBuf,
+    /// Says what is wrong with the settings, by line, key, value and limit, and ends
+    #[arg(long, conflicts_with = "format")]
+    check: bool,
+    /// Writes an empty directory to a medium that has none, as a new block device, and ends
+    #[arg(long)]
+    format: bool,
+}
+
+/// Statuses: 0 all went well, 2 the settings are wrong, 3 the service cannot start, 4 it ended with a file that is not closed.
+const WRONG: u8 = 2;
+const NO_START: u8 = 3;
+const NOT_CLOSED: u8 = 4;
+
+fn read(path: &Path) -> Result<Settings, Vec<String>> {
+    let text = std::fs::read_to_string(path).map_err(|it| vec![format!("{}: {it}; give the file with the settings", path.display())])?;
+    let folder = path.parent().map(Path::to_path_buf).unwrap_or_default();
+    let folder = std::path::absolute(if folder.as_os_str().is_empty() { Path::new(".") } else { &folder }).unwrap_or(folder);
+    settings::read(&text, &folder).map_err(|faults| faults.iter().map(|it| format!("{}: {it}", path.display())).collect())
+}
+
+fn main() -> ExitCode {
+    let words = Words::parse();
+    let settings = match read(&words.settings) {
+        Ok(it) => it,
+        Err(faults) => {
+            faults.iter().for_each(|it| eprintln!("{it}"));
+            return WRONG.into();
+        }
+    };
+    if words.check {
+        println!("{}: good, {} channels", words.settings.display(), settings.channels.len());
+        return ExitCode::SUCCESS;
+    }
+    if words.format {
+        return match Medium::new(&settings).format() {
+            Ok(()) => ExitCode::SUCCESS,
+            Err(refusal) => {
+                eprintln!("{}", refusal.text());
+                NO_START.into()
+            }
+        };
+    }
+    match serve(settings) {
+        Ok(true) => ExitCode::SUCCESS,
+        Ok(false) => NOT_CLOSED.into(),
+        Err(why) => {
+            error!("the service does not start: {why}");
+            NO_START.into()
+        }
+    }
+}
+
+fn serve(settings: Settings) -> Result<bool, String> {
+    let ending = Arc::new(AtomicBool::new(false));
+    for signal in [SIGTERM, SIGINT] {
+        signal_hook::flag::register(signal, ending.clone()).map_err(|it| it.to_string())?;
+    }
+    let counter = Counter::new();
+    let came: Vec<Arc<Came>> = settings.channels.iter().map(|_| Arc::default()).collect();
+    let (to, commands) = channel();
+    let mut owner = Owner::new(settings.clone(), counter, came.clone(), commands, ending).map_err(|it| it.to_string())?;
+    let records = owner.begin().map_err(|it: Refusal| it.text().to_string())?;
+    let thread = std::thread::current();
+    let asking = Asking::new(to, thread.clone());
+    let outlets = inputs::start(&settings, counter, &came, &thread).map_err(|it| it.to_string())?;
+    control::start(&settings, &asking).map_err(|it| it.to_string())?;
+    if let Some(address) = settings.metrics {
+        metrics::start(address, asking).map_err(|it| it.to_string())?;
+    }
+    info!("r10d {} is ready: {} channels, control at {}", env!("CARGO_PKG_VERSION"), settings.channels.len(), settings.socket.display());
+    let _ = sd_notify::notify(false, &[sd_notify::NotifyState::Ready]);
+    Ok(owner.run(outlets, records))
+}

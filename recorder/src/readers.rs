@@ -1,0 +1,195 @@
+//! Those who read while it records: they get what became durable, or what a file has, as text. One that reads too slowly is left out, and hears so.
+use std::sync::Arc;
+use std::sync::atomic::{AtomicUsize, Ordering::Relaxed};
+use std::sync::mpsc::{Sender, channel};
+
+use r10::{Cursor, Error};
+
+use crate::clock::COUNTS;
+use crate::control::Reply;
+use crate::entries;
+use crate::owner::{Owner, State, Trouble};
+
+/// The bytes of text that may wait for a client.
+const WAITING: usize = 1 << 20;
+/// How many counts a replay reads at first: a second.
+const SECOND: u64 = 10_000_000;
+/// Entries that a step of a replay is to have about.
+const STEP: usize = 2000;
+/// How many may read at a time.
+pub const MOST: usize = 16;
+
+#[derive(Debug)]
+enum What {
+    /// what becomes durable from now on
+    Follow { file: usize, cursor: Option<Cursor>, from: u64, skipped: bool },
+    /// what a file has, by counts
+    Replay { file: usize, from: u64, to: u64, span: u64 },
+}
+
+pub struct Reader {
+    what: What,
+    channels: Vec<u16>,
+    to: Sender<String>,
+    queued: Arc<AtomicUsize>,
+}
+
+fn reader(what: What, channels: Vec<u16>) -> (Reader, Reply) {
+    let (to, from) = channel();
+    let queued = Arc::new(AtomicUsize::new(0));
+    (Reader { what, channels, to, queued: queued.clone() }, Reply::Stream(from, queued))
+}
+
+pub fn follow(file: usize, from: u64, channels: Vec<u16>) -> (Reader, Reply) {
+    reader(What::Follow { file, cursor: None, from, skipped: false }, channels)
+}
+
+pub fn replay(file: usize, from: u64, to: u64, channels: Vec<u16>) -> (Reader, Reply) {
+    reader(What::Replay { file, from, to, span: SECOND }, channels)
+}
+
+impl Reader {
+    fn is_replay(&self) -> bool {
+        matches!(self.what, What::Replay { .. })
+    }
+
+    /// False where the client is gone.
+    fn give(&self, text: String) -> bool {
+        self.queued.fetch_add(text.len(), Relaxed);
+        text.is_empty() || self.to.send(text).is_ok()
+    }
+
+    fn has_room(&self) -> bool {
+        self.queued.load(Relaxed) < WAITING
+    }
+}
+
+impl Owner {
+    /// Something became durable: who follows gets it, and it goes out.
+    pub fn show(&mut self) -> Result<(), Trouble> {
+        if self.live.is_on()
+            && let (Some(recorder), Some((number, _))) = (&mut self.recorder, &self.file)
+        {
+            let bytes = recorder.shown(self.settings.directory, *number, self.live.shown)?;
+            self.live.send(bytes);
+        }
+        self.step(|it| !it.is_replay()).map(|_| ())
+    }
+
+    /// Goes on with replays. Whether one has more that can be given now.
+    pub fn read_on(&mut self) -> Result<bool, Trouble> {
+        self.step(Reader::is_replay)
+    }
+
+    /// A step of each reader of a kind. One that the recorder refuses ends.
+    fn step(&mut self, wanted: impl Fn(&Reader) -> bool) -> Result<bool, Trouble> {
+        let (mut more, mut at) = (false, 0);
+        while at < self.readers.len() {
+            if !wanted(&self.readers[at]) {
+                at += 1;
+                continue;
+            }
+            let mut it = self.readers.swap_remove(at);
+            let done = match it.what {
+                What::Follow { .. } => self.follow_on(&mut it).map(|goes_on| (goes_on, false)),
+                What::Replay { .. } => self.replay_on(&mut it),
+            };
+            match done {
+                Ok((true, has_more)) => {
+                    more |= has_more;
+                    self.readers.push(it);
+                    // the last one stands here now, and this one at the end: it has had its turn
+                    let last = self.readers.len() - 1;
+                    self.readers.swap(at, last);
+                    at += 1;
+                }
+                Ok((false, _)) => self.close(&it),
+                Err(Trouble::Refused(error)) => {
+                    it.give(format!("E 05 COMMAND FAILED: {error}\n"));
+                    self.close(&it);
+                }
+                Err(trouble) => return Err(trouble),
+            }
+        }
+        Ok(more)
+    }
+
+    fn close(&mut self, it: &Reader) {
+        if let (What::Follow { cursor: Some(cursor), .. }, Some(recorder)) = (&it.what, &mut self.recorder) {
+            let _ = recorder.close_cursor(*cursor);
+        }
+    }
+
+    /// What became durable since the last time. False where the client is gone.
+    fn follow_on(&mut self, it: &mut Reader) -> Result<bool, Trouble> {
+        let now = self.count();
+        let Some(current) = self.file.as_ref().map(|it| it.0) else { return Ok(true) };
+        let has_room = it.has_room();
+        let What::Follow { file, cursor, from, skipped } = &mut it.what else { return Ok(true) };
+        let recorder = self.recorder.as_mut().ok_or_else(|| Trouble::Failed("no medium is mounted".to_string()))?;
+        if !has_room {
+            // its place is given up, so that nothing waits for it in memory
+            if let Some(it) = cursor.take() {
+                recorder.close_cursor(it)?;
+            }
+            (*from, *skipped) = (now, true);
+            return Ok(true);
+        }
+        if *file != current {
+            if let Some(it) = cursor.take() {
+                recorder.close_cursor(it)?;
+            }
+            (*file, *from) = (current, 0);
+        }
+        let place = match *cursor {
+            Some(it) => it,
+            None => *cursor.insert(recorder.cursor(*file, &it.channels, *from..=COUNTS - 1)?),
+        };
+        let mut text = if std::mem::take(skipped) { format!("skipped: it was read too slowly; what came before count {from} is in the file\n") } else { String::new() };
+        recorder.advance(place)?;
+        while let Some(entry) = recorder.next(place)? {
+            entries::print(&mut text, &entry);
+            if text.len() >= 1 << 16 && !it.give(std::mem::take(&mut text)) {
+                return Ok(false);
+            }
+        }
+        Ok(it.give(text))
+    }
+
+    /// The next counts of a replay, where the client has room: whether it goes on, and whether there is more now.
+    fn replay_on(&mut self, it: &mut Reader) -> Result<(bool, bool), Trouble> {
+        if !it.has_room() {
+            return Ok((true, false));
+        }
+        let What::Replay { file, from, to, span } = &mut it.what else { return Ok((false, false)) };
+        let end = from.saturating_add(*span - 1).min(*to);
+        let recorder = self.recorder.as_mut().ok_or_else(|| Trouble::Failed("no medium is mounted".to_string()))?;
+        let place = recorder.cursor(*file, &it.channels, *from..=end)?;
+        let count = recorder.advance(place)?;
+        let mut text = String::new();
+        while let Some(entry) = recorder.next(place)? {
+            entries::print(&mut text, &entry);
+        }
+        recorder.close_cursor(place)?;
+        *span = if count > 2 * STEP { (*span / 2).max(1) } else if count < STEP / 2 { span.saturating_mul(2).min(COUNTS) } else { *span };
+        let is_last = end >= *to;
+        *from = end + 1;
+        let goes_on = it.give(text) && !is_last;
+        Ok((goes_on, goes_on && it.has_room()))
+    }
+
+    /// Whether files are read just now.
+    pub fn is_read(&self) -> bool {
+        self.readers.iter().any(Reader::is_replay)
+    }
+
+    /// Whether a file may be read now: while one is recorded, another one that is long would hold up what comes.
+    pub fn may_read(&mut self, file: usize) -> Result<bool, Error> {
+        const LONG: u64 = 64 << 20;
+        if self.state != State::Recording || self.file.as_ref().is_some_and(|it| it.0 == file) {
+            return Ok(true);
+        }
+        let files = self.recorder.as_mut().map_or(Ok(Vec::new()), r10::Recorder::files)?;
+        Ok(files.get(file).is_none_or(|it| it.size <= LONG))
+    }
+}

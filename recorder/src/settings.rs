@@ -1,0 +1,520 @@
+//! The settings file: what may stand in it, and what is wrong with one, by line, key, value and limit.
+use std::collections::{BTreeMap, BTreeSet};
+use std::fmt;
+use std::net::{IpAddr, SocketAddr};
+use std::ops::RangeInclusive;
+use std::path::{Path, PathBuf};
+use std::time::Duration;
+
+use serde::Deserialize;
+use toml::Spanned;
+
+/// The kinds of channels, as a script names them.
+#[derive(Clone, Copy, Debug, PartialEq, Eq)]
+pub enum Kind {
+    Uart,
+    Bus1553,
+    Arinc,
+    Discrete,
+    Message,
+}
+
+impl Kind {
+    pub const NAMES: [(&'static str, Kind); 5] =
+        [("uart", Kind::Uart), ("1553", Kind::Bus1553), ("arinc", Kind::Arinc), ("discrete", Kind::Discrete), ("message", Kind::Message)];
+
+    pub fn of(name: &str) -> Option<Kind> {
+        Kind::NAMES.iter().find(|it| it.0 == name).map(|it| it.1)
+    }
+
+    pub fn name(self) -> &'static str {
+        Kind::NAMES.iter().find(|it| it.1 == self).map_or("", |it| it.0)
+    }
+
+    /// Whether its messages are bytes, so that a serial line can be its input.
+    pub fn is_bytes(self) -> bool {
+        matches!(self, Kind::Uart | Kind::Message)
+    }
+}
+
+/// Where a channel's messages come from.
+#[derive(Clone, Debug, PartialEq, Eq)]
+pub enum Input {
+    /// A datagram is a message.
+    Udp { address: SocketAddr, group: Option<IpAddr>, receive_mib: u64 },
+    /// A message ends at a byte, a length or a pause.
+    Serial { path: PathBuf, baud: Option<u32>, end: Option<u8>, length: usize, pause: Option<Duration> },
+    /// A line is an entry, in the form of a script's offers. None is standard input.
+    Lines { path: Option<PathBuf> },
+}
+
+/// Whether a recording begins by itself at the start of the service.
+#[derive(Clone, Copy, Debug, PartialEq, Eq)]
+pub enum Begin {
+    Record,
+    /// where the last file was cut off: by a loss of power, or a kill
+    Resume,
+    Wait,
+}
+
+#[derive(Clone, Debug)]
+pub struct Channel {
+    pub id: u16,
+    pub kind: Kind,
+    pub name: String,
+    pub capacity: usize,
+    pub input: Option<Input>,
+    /// bytes that may wait between the input's thread and the recorder
+    pub queue: usize,
+    pub sub: u16,
+}
+
+#[derive(Clone, Debug)]
+pub struct Settings {
+    pub medium: PathBuf,
+    pub blocks: usize,
+    pub directory: usize,
+    /// the settings as the text of a script, which the library takes
+    pub script: String,
+    pub setup: Vec<u8>,
+    pub begin: Begin,
+    pub prefix: String,
+    pub commit: Duration,
+    pub file_for: Duration,
+    pub tries: u32,
+    pub clock_event: u16,
+    pub socket: PathBuf,
+    pub tcp: Option<SocketAddr>,
+    pub peers: Vec<IpAddr>,
+    pub metrics: Option<SocketAddr>,
+    pub publish: Option<SocketAddr>,
+    pub acknowledge: Option<PathBuf>,
+    pub channels: Vec<Channel>,
+}
+
+/// What is wrong, and on which line.
+#[derive(Clone, Debug, PartialEq, Eq)]
+pub struct Fault {
+    pub line: usize,
+    pub text: String,
+}
+
+impl fmt::Display for Fault {
+    fn fmt(&self, f: &mut fmt::Formatter) -> fmt::Result {
+        write!(f, "line {}: {}", self.line, self.text)
+    }
+}
+
+#[derive(Deserialize)]
+#[serde(deny_unknown_fields)]
+struct Document {
+    medium: Spanned<PathBuf>,
+    blocks: Spanned<u64>,
+    directory: Option<Spanned<u64>>,
+    volume: Spanned<String>,
+    nodes: Option<Spanned<u64>>,
+    time: Option<Spanned<u64>>,
+    event: Option<Spanned<u64>>,
+    setup: Option<Spanned<PathBuf>>,
+    start: Option<Spanned<String>>,
+    prefix: Option<Spanned<String>>,
+    commit_ms: Option<Spanned<u64>>,
+    file_minutes: Option<Spanned<u64>>,
+    tries: Option<Spanned<u64>>,
+    clock_event: Option<Spanned<u64>>,
+    acknowledge: Option<PathBuf>,
+    control: ControlTable,
+    metrics: Option<Spanned<String>>,
+    publish: Option<Spanned<String>>,
+    channel: Vec<ChannelTable>,
+}
+
+#[derive(Deserialize)]
+#[serde(deny_unknown_fields)]
+struct ControlTable {
+    socket: PathBuf,
+    tcp: Option<Spanned<String>>,
+    #[serde(default)]
+    peers: Vec<Spanned<String>>,
+}
+
+#[derive(Deserialize)]
+#[serde(deny_unknown_fields)]
+struct ChannelTable {
+    id: Spanned<u64>,
+    kind: Spanned<String>,
+    name: Option<String>,
+    capacity: Option<Spanned<u64>>,
+    check: Option<Spanned<u64>>,
+    bytes: Option<Spanned<u64>>,
+    number: Option<Spanned<u64>>,
+    bits: Option<Spanned<u64>>,
+    queue_mib: Option<Spanned<u64>>,
+    sub: Option<Spanned<u64>>,
+    input: Option<Spanned<InputTable>>,
+}
+
+#[derive(Deserialize)]
+#[serde(deny_unknown_fields)]
+struct InputTable {
+    udp: Option<Spanned<String>>,
+    group: Option<Spanned<String>>,
+    receive_mib: Option<Spanned<u64>>,
+    serial: Option<Spanned<PathBuf>>,
+    baud: Option<Spanned<u64>>,
+    end: Option<Spanned<u64>>,
+    length: Option<Spanned<u64>>,
+    pause_ms: Option<Spanned<u64>>,
+    lines: Option<Spanned<PathBuf>>,
+}
+
+/// The rates that a serial line may have.
+pub const RATES: [u32; 13] = [1200, 2400, 4800, 9600, 19200, 38400, 57600, 115200, 230400, 460800, 500000, 921600, 1000000];
+
+/// Reads the text of a settings file. Paths that are not absolute are taken from the folder of the file.
+pub fn read(text: &str, folder: &Path) -> Result<Settings, Vec<Fault>> {
+    let document: Document = toml::from_str(text).map_err(|error| {
+        let line = error.line_col().map_or(1, |it| it.0 + 1);
+        let said = error.to_string();
+        vec![Fault { line, text: said.rsplit_once(" at line").map_or(said.clone(), |it| it.0.to_string()) }]
+    })?;
+    let mut reader = Reader { text, folder, faults: Vec::new() };
+    let settings = reader.settings(document);
+    reader.faults.sort_by_key(|it| it.line);
+    if reader.faults.is_empty() { Ok(settings) } else { Err(reader.faults) }
+}
+
+struct Reader<'a> {
+    text: &'a str,
+    folder: &'a Path,
+    faults: Vec<Fault>,
+}
+
+impl Reader<'_> {
+    fn fault<T>(&mut self, at: &Spanned<T>, text: String) {
+        let line = 1 + self.text.as_bytes()[..at.start().min(self.text.len())].iter().filter(|it| **it == b'\n').count();
+        self.faults.push(Fault { line, text });
+    }
+
+    /// A number that has to be within a limit.
+    fn number(&mut self, key: &str, value: &Spanned<u64>, limit: RangeInclusive<u64>) -> u64 {
+        let it = *value.get_ref();
+        if !limit.contains(&it) {
+            self.fault(value, format!("{key} = {it}: give a number from {} to {}", limit.start(), limit.end()));
+        }
+        it
+    }
+
+    fn number_or(&mut self, key: &str, value: &Option<Spanned<u64>>, other: u64, limit: RangeInclusive<u64>) -> u64 {
+        value.as_ref().map_or(other, |it| self.number(key, it, limit))
+    }
+
+    fn word(&mut self, key: &str, value: &Spanned<String>, longest: usize) -> String {
+        let it = value.get_ref();
+        if it.is_empty() || it.len() > longest || !it.bytes().all(|b| b.is_ascii_alphanumeric() || b"._-".contains(&b)) {
+            self.fault(value, format!("{key} = {it:?}: give 1 to {longest} letters, digits, '.', '_' or '-'"));
+        }
+        it.clone()
+    }
+
+    fn address(&mut self, key: &str, value: &Spanned<String>) -> Option<SocketAddr> {
+        let found = value.get_ref().parse().ok();
+        if found.is_none() {
+            self.fault(value, format!("{key} = {:?}: give an address and a port, as \"127.0.0.1:20005\"", value.get_ref()));
+        }
+        found
+    }
+
+    fn host(&mut self, key: &str, value: &Spanned<String>) -> Option<IpAddr> {
+        let found = value.get_ref().parse().ok();
+        if found.is_none() {
+            self.fault(value, format!("{key} = {:?}: give an address, as \"10.0.0.5\"", value.get_ref()));
+        }
+        found
+    }
+
+    fn path(&self, it: &Path) -> PathBuf {
+        self.folder.join(it)
+    }
+
+    fn settings(&mut self, it: Document) -> Settings {
+        let directory = self.number_or("directory", &it.directory, 64, 1..=64);
+        let blocks = self.number("blocks", &it.blocks, directory + 2..=16_777_216);
+        let volume = self.word("volume", &it.volume, 32);
+        let nodes = self.number_or("nodes", &it.nodes, 1000, 1..=32_765);
+        let time = self.number_or("time", &it.time, 1, 1..=65_535);
+        let event = self.number_or("event", &it.event, 2, 1..=65_535);
+        let mut script = format!("blocks = {blocks}\ndirectory = {directory}\nvolume = \"{volume}\"\nnodes = {nodes}\ntime = {time}\nevent = {event}\n");
+        let mut taken = BTreeSet::from([time]);
+        if !taken.insert(event) {
+            let text = format!("event = {event}: the channel of times has this ID; give another one");
+            match (&it.event, &it.time) {
+                (Some(at), _) | (None, Some(at)) => self.fault(at, text),
+                _ => (),
+            }
+        }
+        if !(1..=64).contains(&it.channel.len()) {
+            self.faults.push(Fault { line: 1, text: format!("{} channels: give 1 to 64 tables [[channel]]", it.channel.len()) });
+        }
+        let mut inputs = BTreeMap::new();
+        let channels = it.channel.iter().map(|it| self.channel(it, &mut taken, &mut inputs, &mut script)).collect();
+        let setup = self.setup(&it);
+        let begin = it.start.as_ref().map_or(Begin::Resume, |at| match at.get_ref().as_str() {
+            "record" => Begin::Record,
+            "resume" => Begin::Resume,
+            "wait" => Begin::Wait,
+            other => {
+                self.fault(at, format!("start = {other:?}: give \"record\", \"resume\" or \"wait\""));
+                Begin::Wait
+            }
+        });
+        let tcp = it.control.tcp.as_ref().and_then(|at| self.address("control.tcp", at));
+        let peers: Vec<IpAddr> = it.control.peers.iter().filter_map(|at| self.host("control.peers", at)).collect();
+        if let (Some(address), Some(at)) = (tcp, &it.control.tcp)
+            && !address.ip().is_loopback()
+            && peers.is_empty()
+        {
+            self.fault(at, format!("control.tcp = \"{address}\": beyond this machine it wants a list of peers; give control.peers = [\"ADDRESS\", ..]"));
+        }
+        Settings {
+            medium: self.path(it.medium.get_ref()),
+            blocks: blocks as usize,
+            directory: directory as usize,
+            script,
+            setup,
+            begin,
+            prefix: it.prefix.as_ref().map_or("R".to_string(), |at| self.word("prefix", at, 24)),
+            commit: Duration::from_millis(self.number_or("commit_ms", &it.commit_ms, 100, 1..=10_000)),
+            file_for: Duration::from_secs(60 * self.number_or("file_minutes", &it.file_minutes, 60, 1..=1440)),
+            tries: self.number_or("tries", &it.tries, 5, 1..=100) as u32,
+            clock_event: self.number_or("clock_event", &it.clock_event, 4095, 0..=4095) as u16,
+            socket: self.path(&it.control.socket),
+            tcp,
+            peers,
+            metrics: it.metrics.as_ref().and_then(|at| self.address("metrics", at)),
+            publish: it.publish.as_ref().and_then(|at| self.address("publish", at)),
+            acknowledge: it.acknowledge.as_ref().map(|it| self.path(it)),
+            channels,
+        }
+    }
+
+    fn setup(&mut self, it: &Document) -> Vec<u8> {
+        let Some(at) = &it.setup else { return Vec::new() };
+        let path = self.path(at.get_ref());
+        match std::fs::read(&path) {
+            Ok(bytes) if bytes.len() > 524_260 => {
+                self.fault(at, format!("setup = {path:?}: the file has {} bytes; a setup text has at most 524260", bytes.len()));
+                Vec::new()
+            }
+            Ok(bytes) => bytes,
+            Err(error) => {
+                self.fault(at, format!("setup = {path:?}: {error}; give a file with the setup text (TMATS)"));
+                Vec::new()
+            }
+        }
+    }
+
+    fn channel(&mut self, it: &ChannelTable, taken: &mut BTreeSet<u64>, inputs: &mut BTreeMap<String, u64>, script: &mut String) -> Channel {
+        let id = self.number("id", &it.id, 1..=65_535);
+        if !taken.insert(id) {
+            self.fault(&it.id, format!("id = {id}: another channel has this ID; give each channel, time and event an ID of its own"));
+        }
+        let kind = Kind::of(it.kind.get_ref()).unwrap_or_else(|| {
+            self.fault(&it.kind, format!("kind = {:?}: give \"uart\", \"1553\", \"arinc\", \"discrete\" or \"message\"", it.kind.get_ref()));
+            Kind::Message
+        });
+        let capacity = self.number_or("capacity", &it.capacity, 16_384, 1..=65_536);
+        let check = self.number_or("check", &it.check, 16, 0..=32);
+        if let Some(at) = &it.check
+            && ![0, 8, 16, 32].contains(&check)
+        {
+            self.fault(at, format!("check = {check}: give 0, 8, 16 or 32 (bits)"));
+        }
+        let bytes = self.number_or("bytes", &it.bytes, 131_072, 128..=524_288);
+        if let Some(at) = &it.bytes
+            && bytes % 4 != 0
+        {
+            self.fault(at, format!("bytes = {bytes}: give a multiple of 4"));
+        }
+        let number = self.number_or("number", &it.number, 4096, 1..=65_535);
+        *script += &format!(
+            "[[channel]]\nid = {id}\nkind = \"{}\"\ncapacity = {capacity}\ncheck = {check}\nbytes = {bytes}\nnumber = {number}\n",
+            kind.name()
+        );
+        match (&it.bits, kind) {
+            (Some(at), Kind::Discrete) => *script += &format!("bits = {}\n", self.number("bits", at, 1..=31)),
+            (Some(at), _) => self.fault(at, format!("bits = {}: only a discrete channel has bits; take the key out", at.get_ref())),
+            (None, Kind::Discrete) => self.fault(&it.kind, "bits is missing: give a discrete channel bits = 1 to 31".to_string()),
+            (None, _) => (),
+        }
+        let sub = self.number_or("sub", &it.sub, 0, 0..=16_383);
+        if let Some(at) = &it.sub
+            && !kind.is_bytes()
+        {
+            self.fault(at, format!("sub = {sub}: only a channel of kind uart or message has subchannels; take the key out"));
+        }
+        let queue_mib = self.number_or("queue_mib", &it.queue_mib, 16, 1..=1024);
+        let input = it.input.as_ref().and_then(|at| self.input(at, kind, id, inputs));
+        Channel {
+            id: id as u16,
+            kind,
+            name: it.name.clone().unwrap_or_else(|| format!("CH{id}")),
+            capacity: capacity as usize,
+            input,
+            queue: (queue_mib as usize) << 20,
+            sub: sub as u16,
+        }
+    }
+
+    fn input(&mut self, at: &Spanned<InputTable>, kind: Kind, id: u64, inputs: &mut BTreeMap<String, u64>) -> Option<Input> {
+        let it = at.get_ref();
+        let count = usize::from(it.udp.is_some()) + usize::from(it.serial.is_some()) + usize::from(it.lines.is_some());
+        if count != 1 {
+            self.fault(at, format!("input of channel {id} has {count} of udp, serial and lines: give one of them"));
+            return None;
+        }
+        for (key, is_there, needs, needed) in [
+            ("group", it.group.is_some(), "udp", it.udp.is_some()),
+            ("receive_mib", it.receive_mib.is_some(), "udp", it.udp.is_some()),
+            ("baud", it.baud.is_some(), "serial", it.serial.is_some()),
+            ("end", it.end.is_some(), "serial", it.serial.is_some()),
+            ("length", it.length.is_some(), "serial", it.serial.is_some()),
+            ("pause_ms", it.pause_ms.is_some(), "serial", it.serial.is_some()),
+        ] {
+            if is_there && !needed {
+                self.fault(at, format!("input of channel {id} has the key {key}, which is one of {needs} inputs: take it out"));
+            }
+        }
+        let (found, what) = if let Some(at) = &it.udp {
+            let address = self.address("udp", at)?;
+            let group = it.group.as_ref().and_then(|at| self.host("group", at));
+            if let (Some(group), Some(at)) = (group, &it.group)
+                && !group.is_multicast()
+            {
+                self.fault(at, format!("group = \"{group}\": give a multicast address"));
+            }
+            let receive_mib = self.number_or("receive_mib", &it.receive_mib, 8, 1..=1024);
+            (Input::Udp { address, group, receive_mib }, format!("udp {address}"))
+        } else if let Some(at) = &it.serial {
+            if !kind.is_bytes() {
+                self.fault(at, format!("a serial line gives bytes: channel {id} of kind {} wants an input udp or lines", kind.name()));
+            }
+            (self.serial(at, it, id), format!("serial {}", at.get_ref().display()))
+        } else {
+            let path = it.lines.as_ref()?.get_ref();
+            let path = (path != Path::new("-")).then(|| self.path(path));
+            return Some(Input::Lines { path });
+        };
+        if let Some(other) = inputs.insert(what.clone(), id) {
+            self.fault(at, format!("input {what}: channel {other} has it already; give each channel an input of its own"));
+        }
+        Some(found)
+    }
+
+    fn serial(&mut self, at: &Spanned<PathBuf>, it: &InputTable, id: u64) -> Input {
+        let baud = it.baud.as_ref().map(|at| {
+            let rate = self.number("baud", at, 1200..=1_000_000) as u32;
+            if !RATES.contains(&rate) {
+                self.fault(at, format!("baud = {rate}: give one of {RATES:?}"));
+            }
+            rate
+        });
+        let end = it.end.as_ref().map(|at| self.number("end", at, 0..=255) as u8);
+        let length = self.number_or("length", &it.length, 1024, 1..=65_535) as usize;
+        let pause = it.pause_ms.as_ref().map(|at| Duration::from_millis(self.number("pause_ms", at, 1..=60_000)));
+        if end.is_none() && it.length.is_none() && pause.is_none() {
+            self.fault(at, format!("the serial line of channel {id} has no end of a message: give end (a byte), length or pause_ms"));
+        }
+        Input::Serial { path: self.path(at.get_ref()), baud, end, length, pause }
+    }
+}
+
+#[cfg(test)]
+mod tests {
+    use super::*;
+
+    const GOOD: &str = "medium = \"m\"
+blocks = 4096
+volume = \"VOL\"
+[control]
+socket = \"c\"
+[[channel]]
+id = 5
+kind = \"message\"
+input = { udp = \"127.0.0.1:20005\" }
+";
+
+    fn faults(text: &str) -> Vec<String> {
+        read(text, Path::new("/f")).err().unwrap_or_default().iter().map(ToString::to_string).collect()
+    }
+
+    #[test]
+    fn a_short_file_is_taken() {
+        let it = read(GOOD, Path::new("/f")).unwrap();
+        assert_eq!((it.medium, it.socket), (PathBuf::from("/f/m"), PathBuf::from("/f/c")));
+        assert_eq!((it.commit, it.begin, it.channels.len()), (Duration::from_millis(100), Begin::Resume, 1));
+        assert!(it.script.contains("blocks = 4096\ndirectory = 64\n"));
+    }
+
+    #[test]
+    fn each_fault_has_line_key_value_and_limit() {
+        for (old, new, wanted) in [
+            ("blocks = 4096", "blocks = 65", "line 2: blocks = 65: give a number from 66 to 16777216"),
+            ("blocks = 4096", "blocks = 16777217", "line 2: blocks = 16777217: give a number from 66 to 16777216"),
+            ("\"VOL\"", "\"A B\"", "line 3: volume = \"A B\": give 1 to 32 letters, digits, '.', '_' or '-'"),
+            ("id = 5", "id = 0", "line 7: id = 0: give a number from 1 to 65535"),
+            ("id = 5", "id = 2", "line 7: id = 2: another channel has this ID; give each channel, time and event an ID of its own"),
+            ("id = 5", "id = 5\ncapacity = 65537", "line 8: capacity = 65537: give a number from 1 to 65536"),
+            ("id = 5", "id = 5\ncheck = 7", "line 8: check = 7: give 0, 8, 16 or 32 (bits)"),
+            ("id = 5", "id = 5\nbytes = 130", "line 8: bytes = 130: give a multiple of 4"),
+            ("id = 5", "id = 5\nbytes = 124", "line 8: bytes = 124: give a number from 128 to 524288"),
+            ("id = 5", "id = 5\nbits = 3", "line 8: bits = 3: only a discrete channel has bits; take the key out"),
+            ("id = 5", "id = 5\nsub = 16384", "line 8: sub = 16384: give a number from 0 to 16383"),
+            ("\"message\"", "\"discrete\"", "line 8: bits is missing: give a discrete channel bits = 1 to 31"),
+            ("\"message\"", "\"pcm\"", "line 8: kind = \"pcm\": give \"uart\", \"1553\", \"arinc\", \"discrete\" or \"message\""),
+            ("127.0.0.1:20005", "127.0.0.1", "line 9: udp = \"127.0.0.1\": give an address and a port, as \"127.0.0.1:20005\""),
+            ("udp = \"127.0.0.1:20005\"", "serial = \"/dev/x\"", "line 9: the serial line of channel 5 has no end of a message: give end (a byte), length or pause_ms"),
+            ("udp = \"127.0.0.1:20005\"", "serial = \"/dev/x\", end = 10, baud = 9601",
+             "line 9: baud = 9601: give one of [1200, 2400, 4800, 9600, 19200, 38400, 57600, 115200, 230400, 460800, 500000, 921600, 1000000]"),
+            ("udp = \"127.0.0.1:20005\"", "lines = \"-\", end = 10", "line 9: input of channel 5 has the key end, which is one of serial inputs: take it out"),
+            ("udp = \"127.0.0.1:20005\"", "udp = \"127.0.0.1:1\", lines = \"-\"", "line 9: input of channel 5 has 2 of udp, serial and lines: give one of them"),
+            ("socket = \"c\"", "socket = \"c\"\ntcp = \"0.0.0.0:7\"",
+             "line 6: control.tcp = \"0.0.0.0:7\": beyond this machine it wants a list of peers; give control.peers = [\"ADDRESS\", ..]"),
+            ("volume", "start = \"now\"\nvolume", "line 3: start = \"now\": give \"record\", \"resume\" or \"wait\""),
+            ("volume", "commit_ms = 0\nvolume", "line 3: commit_ms = 0: give a number from 1 to 10000"),
+        ] {
+            assert!(GOOD.contains(old), "{old}");
+            assert_eq!(faults(&GOOD.replacen(old, new, 1)), [wanted]);
+        }
+        assert!(faults(&GOOD.replace("volume", "colour = 1\nvolume"))[0].starts_with("line 3: unknown field `colour`"));
+        assert!(faults(&GOOD.replace("4096", "\"many\""))[0].starts_with("line 2: invalid type: string \"many\", expected u64"));
+        assert!(faults(&GOOD.replace("blocks = 4096", "blocks = "))[0].starts_with("line 2: "));
+        let twice = format!("{GOOD}[[channel]]\nid = 6\nkind = \"uart\"\ninput = {{ udp = \"127.0.0.1:20005\" }}\n");
+        assert_eq!(faults(&twice), ["line 13: input udp 127.0.0.1:20005: channel 5 has it already; give each channel an input of its own"]);
+    }
+
+    /// The library takes what stands at the limits here, and refuses what is one beyond: the limits are its own.
+    #[test]
+    fn the_limits_are_those_of_the_library() {
+        let takes = |script: &str| r10::Recorder::open(r10::Region::memory(1), 1, script).err().map(|it| it.0) == Some(r10::Error::BLOCKS);
+        let script = read(GOOD, Path::new("/f")).unwrap().script;
+        assert!(takes(&script));
+        for (line, least, most) in [
+            ("blocks = 4096", 66, 16_777_216),
+            ("directory = 64", 1, 64),
+            ("nodes = 1000", 1, 32_765),
+            ("time = 1", 1, 65_535),
+            ("id = 5", 1, 65_535),
+            ("capacity = 16384", 1, 65_536),
+            ("bytes = 131072", 128, 524_288),
+            ("number = 4096", 1, 65_535),
+        ] {
+            let key = line.split(' ').next().unwrap();
+            let with = |value: u64| takes(&script.replace("event = 2", "event = 77").replacen(line, &format!("{key} = {value}"), 1));
+            let step = if key == "bytes" { 4 } else { 1 };
+            // a time of 1 is there already, so the least ID is another one's
+            assert!(with(if key == "id" { 2 } else { least }) && with(most), "{key}");
+            assert!(!with(least - step) && !with(most + step), "{key}");
+        }
+    }
+}

@@ -1,0 +1,135 @@
+//! UDP in: a datagram is a message. What the system dropped for want of room in its buffer is counted, by the number that it gives with each datagram.
+use std::io::{self, IoSliceMut};
+use std::net::{IpAddr, Ipv4Addr, Ipv6Addr, SocketAddr, UdpSocket};
+use std::os::fd::AsRawFd;
+
+use nix::errno::Errno;
+use nix::sys::socket::{ControlMessageOwned, MsgFlags, SockaddrStorage, recvmsg, setsockopt, sockopt};
+
+use crate::feed::Feed;
+use crate::info;
+use crate::inputs::{Seldom, message_of};
+use crate::settings::Channel;
+
+/// Opens the socket, with so many MiB for what the system holds. An unprivileged user gets as much as net.core.rmem_max says.
+pub fn open(address: SocketAddr, group: Option<IpAddr>, receive_mib: u64) -> io::Result<UdpSocket> {
+    let socket = UdpSocket::bind(address)?;
+    match group {
+        None => (),
+        Some(IpAddr::V4(group)) => socket.join_multicast_v4(&group, &Ipv4Addr::UNSPECIFIED)?,
+        Some(IpAddr::V6(group)) => socket.join_multicast_v6(&group, 0)?,
+    }
+    let wanted = (receive_mib as usize) << 20;
+    let fd = socket.as_raw_fd();
+    if setsockopt(fd, sockopt::RcvBufForce, &wanted).is_err() {
+        setsockopt(fd, sockopt::RcvBuf, &wanted)?;
+        // the system says twice what it was asked for
+        let got = nix::sys::socket::getsockopt(fd, sockopt::RcvBuf)? / 2;
+        if got < wanted {
+            info!("UDP {address}: the system holds {got} bytes, not {wanted}; for more raise net.core.rmem_max (sysctl)");
+        }
+    }
+    setsockopt(fd, sockopt::RxqOvfl, &1)?;
+    Ok(socket)
+}
+
+/// How many were dropped since the last datagram, of a number of 32 bits that goes on from its start.
+fn dropped(last: &mut u32, now: u32) -> u64 {
+    now.wrapping_sub(std::mem::replace(last, now)).into()
+}
+
+pub fn run(socket: UdpSocket, mut feed: Feed, channel: &Channel) {
+    let mut bytes = vec![0; 1 << 16];
+    let mut space = nix::cmsg_space!(u32);
+    let (mut drops, mut bad, mut failed) = (0, Seldom::default(), Seldom::default());
+    let mut flags = MsgFlags::empty();
+    loop {
+        let mut slices = [IoSliceMut::new(&mut bytes)];
+        let (length, lost) = match recvmsg::<SockaddrStorage>(socket.as_raw_fd(), &mut slices, Some(&mut space), flags) {
+            Ok(it) => {
+                let count = it.cmsgs().find_map(|it| if let ControlMessageOwned::RxqOvfl(count) = it { Some(count) } else { None });
+                (it.bytes, count.map_or(0, |count| dropped(&mut drops, count)))
+            }
+            Err(Errno::EAGAIN) => {
+                // nothing more is there: what came goes over, and then the thread waits
+                feed.flush();
+                flags = MsgFlags::empty();
+                continue;
+            }
+            Err(Errno::EINTR) => continue,
+            Err(error) => {
+                failed.warn(|| format!("channel {}: the socket failed: {error}", channel.id));
+                std::thread::sleep(crate::inputs::AGAIN);
+                continue;
+            }
+        };
+        flags = MsgFlags::MSG_DONTWAIT;
+        match message_of(channel, &bytes[..length]) {
+            Some((head, length)) => feed.message(0, lost, head, &bytes[..length]),
+            None => {
+                feed.bad(0);
+                bad.warn(|| format!("channel {}: a datagram of {length} bytes is no message of kind {}", channel.id, channel.kind.name()));
+            }
+        }
+    }
+}
+
+/// A socket from which datagrams go out, to an address of the same family.
+pub fn sender(to: SocketAddr) -> io::Result<UdpSocket> {
+    let from: IpAddr = if to.is_ipv4() { Ipv4Addr::UNSPECIFIED.into() } else { Ipv6Addr::UNSPECIFIED.into() };
+    let socket = UdpSocket::bind((from, 0))?;
+    socket.set_nonblocking(true)?;
+    Ok(socket)
+}
+
+#[cfg(test)]
+mod tests {
+    use super::*;
+    use crate::clock::Counter;
+    use crate::feed::{Came, feed};
+    use std::sync::Arc;
+    use std::sync::atomic::Ordering::Relaxed;
+
+    #[test]
+    fn the_number_of_drops_goes_round() {
+        let mut last = 0;
+        assert_eq!((dropped(&mut last, 0), dropped(&mut last, 5), dropped(&mut last, 5)), (0, 5, 0));
+        last = u32::MAX - 1;
+        assert_eq!((dropped(&mut last, 3), last), (5, 3));
+    }
+
+    /// More datagrams than the system holds: what did not come is counted, with the next one that comes.
+    #[test]
+    fn what_the_system_dropped_is_counted() {
+        let socket = UdpSocket::bind("127.0.0.1:0").unwrap();
+        setsockopt(socket.as_raw_fd(), sockopt::RcvBuf, &4096).unwrap();
+        setsockopt(socket.as_raw_fd(), sockopt::RxqOvfl, &1).unwrap();
+        let (to, from) = (socket.local_addr().unwrap(), UdpSocket::bind("127.0.0.1:0").unwrap());
+        for _ in 0..500 {
+            from.send_to(&[7; 100], to).unwrap();
+        }
+        let came = Arc::new(Came::default());
+        let (feed, outlet) = feed(std::thread::current(), Counter::new(), 1 << 20, &[(0, came.clone())]);
+        let text = "medium = \"m\"\nblocks = 99\nvolume = \"V\"\n[control]\nsocket = \"c\"\n[[channel]]\nid = 5\nkind = \"message\"\n";
+        let channel = crate::settings::read(text, std::path::Path::new("/")).unwrap().channels.remove(0);
+        std::thread::spawn(move || run(socket, feed, &channel));
+        let (mut messages, mut lost) = (0, 0);
+        let wait = |want: u64| {
+            let start = std::time::Instant::now();
+            while came.messages.load(Relaxed) < want && start.elapsed().as_secs() < 5 {
+                std::thread::sleep(std::time::Duration::from_millis(5));
+            }
+            std::thread::sleep(std::time::Duration::from_millis(20));
+        };
+        wait(1);
+        let first = came.messages.load(Relaxed);
+        from.send_to(b"the next one", to).unwrap();
+        wait(first + 1);
+        while let Some(batch) = outlet.take() {
+            messages += batch.items.len() as u64;
+            lost += batch.items.iter().map(|it| it.lost).sum::<u64>();
+        }
+        assert_eq!(messages + lost, 501);
+        assert!(lost > 0 && messages < 500, "{messages} came, {lost} lost");
+    }
+}

@@ -1,0 +1,423 @@
+//! The commands, as chapter 6 of the standard names them, and some of this recorder's own: what each does, and what is answered.
+use std::fmt::Write;
+use std::net::{IpAddr, SocketAddr};
+use std::sync::atomic::Ordering::Relaxed;
+use std::time::Duration;
+
+use r10::Error;
+use serde_json::json;
+
+use crate::clock::{self, COUNTS};
+use crate::control::{Command, Origin, Reply};
+use crate::owner::{Lane, Owner, State, Trouble};
+use crate::readers::{self, MOST};
+use crate::{entries, figures, info};
+
+/// Why a command is not done, by the numbers of the standard, with what to do.
+#[derive(Clone, Debug, PartialEq, Eq)]
+pub enum No {
+    Invalid(String),
+    Parameter(String),
+    Mode(String),
+    NoMedia(String),
+    Full(String),
+    Failed(String),
+}
+
+impl No {
+    fn line(&self) -> String {
+        let (number, name, text) = match self {
+            No::Invalid(text) => (0, "INVALID COMMAND", text),
+            No::Parameter(text) => (1, "INVALID PARAMETER", text),
+            No::Mode(text) => (2, "INVALID MODE", text),
+            No::NoMedia(text) => (3, "NO MEDIA", text),
+            No::Full(text) => (4, "MEMORY FULL", text),
+            No::Failed(text) => (5, "COMMAND FAILED", text),
+        };
+        format!("E {number:02} {name}: {text}\n")
+    }
+}
+
+/// The words, what follows them, and what they do: `.HELP` prints them.
+pub const WORDS: [(&str, &str, &str); 15] = [
+    (".STATUS", "", "state, warnings, and how much of the medium is used"),
+    (".RECORD", "[NAME]", "begins a file"),
+    (".STOP", "", "ends the file"),
+    (".ERASE", "", "takes all files from the medium; over the UNIX socket alone"),
+    (".EVENT", "NUMBER", "records an event, 0 to 4095"),
+    (".FILES", "", "number, name, first block, bytes and closed or open of each file"),
+    (".HEALTH", "[FEATURE]", "the recorder and each channel, with bits for what is wrong"),
+    (".FIND", "[FILE [COUNT|TIME]]", "where it records and where a replay begins, or sets that"),
+    (".REPLAY", "[CHANNEL..]", "prints the file of the last .FIND from there on"),
+    (".PUBLISH", "[START|STOP ADDRESS PORT | LIST]", "sends what became durable by UDP"),
+    (".FOLLOW", "[CHANNEL..]", "prints entries as they become durable"),
+    (".FIGURES", "", "all figures in one line of JSON"),
+    (".MEDIUM", "", "what the medium is, and where"),
+    (".SHUTDOWN", "", "ends the service; over the UNIX socket alone"),
+    (".HELP", "", "these lines"),
+];
+
+/// Bits of `.HEALTH`.
+const BITS: [(u32, &str); 6] = [
+    (1, "messages were lost"),
+    (2, "messages were refused, or could not be read"),
+    (4, "nothing came in the last ten seconds"),
+    (8, "the system's clock stepped"),
+    (0x4000_0000, "the medium is full"),
+    (0x8000_0000, "the disk failed"),
+];
+
+/// Where a replay begins: it is kept for all who ask, as the standard's recorder has one place to play from.
+#[derive(Clone, Copy, Debug, Default)]
+pub struct Point {
+    pub file: usize,
+    pub count: u64,
+}
+
+/// What a call's trouble is to a command. What failed is trouble still.
+fn no(trouble: Trouble) -> Result<No, Trouble> {
+    match trouble {
+        Trouble::Full => Ok(No::Full("there is no room for it; copy the files, then give .ERASE".to_string())),
+        Trouble::Refused(error @ (Error::BAD_NAME | Error::NAME_TAKEN | Error::BAD_EVENT)) => Ok(No::Parameter(format!("{error}; give another one"))),
+        Trouble::Refused(error @ (Error::NO_FILE | Error::PLACE | Error::NO_CHANNEL)) => Ok(No::Parameter(format!("{error}; .FILES and .HEALTH list what there is"))),
+        Trouble::Refused(error) => Ok(No::Failed(error.to_string())),
+        Trouble::Failed(why) => Err(Trouble::Failed(why)),
+    }
+}
+
+impl Owner {
+    /// Answers a command.
+    pub fn answer(&mut self, command: Command) -> Result<(), Trouble> {
+        let done = self.command(&command.line, command.origin);
+        let (reply, trouble) = match done {
+            Ok(Ok(reply)) => (reply, None),
+            Ok(Err(no)) => (Reply::Text(no.line()), None),
+            Err(trouble) => match no(trouble) {
+                Ok(no) => (Reply::Text(no.line()), None),
+                Err(trouble) => (Reply::Text(No::Failed(format!("{trouble}; see the log")).line()), Some(trouble)),
+            },
+        };
+        // who is gone wants no answer
+        let _ = command.reply.send(reply);
+        trouble.map_or(Ok(()), Err)
+    }
+
+    fn command(&mut self, line: &str, origin: Origin) -> Result<Result<Reply, No>, Trouble> {
+        let mut words = line.split_whitespace();
+        let word = words.next().unwrap_or("").to_ascii_uppercase();
+        let words: Vec<&str> = words.collect();
+        let Some((_, wanted, _)) = WORDS.iter().find(|it| it.0 == word) else {
+            return Ok(Err(No::Invalid(format!("there is no command {:?}; .HELP lists them", word.chars().take(40).collect::<String>()))));
+        };
+        if wanted.is_empty() && !words.is_empty() {
+            return Ok(Err(No::Parameter(format!("{word} has nothing after it"))));
+        }
+        if origin == Origin::Tcp && matches!(word.as_str(), ".ERASE" | ".SHUTDOWN") {
+            return Ok(Err(No::Mode(format!("{word} is for the UNIX socket of the recorder's own machine"))));
+        }
+        let text = match word.as_str() {
+            ".STATUS" => self.status_line(),
+            ".HEALTH" => match self.health(&words) {
+                Ok(text) => text,
+                Err(no) => return Ok(Err(no)),
+            },
+            ".FIGURES" => self.figures()?,
+            ".HELP" => WORDS.iter().fold(String::new(), |mut out, it| {
+                let _ = writeln!(out, "{:36} {}", format!("{} {}", it.0, it.1), it.2);
+                out
+            }),
+            ".MEDIUM" => format!("{} {} {}\n", self.medium.path().display(), self.settings.blocks, self.settings.directory),
+            ".SHUTDOWN" => {
+                info!("the service was asked to end");
+                self.ending.store(true, Relaxed);
+                String::new()
+            }
+            ".PUBLISH" => return Ok(self.publish(&words).map(Reply::Text)),
+            _ if self.recorder.is_none() && word != ".RECORD" => {
+                return Ok(Err(No::NoMedia(format!("recording is down: {}; then give .RECORD", self.why))));
+            }
+            ".RECORD" => return self.record(&words),
+            ".STOP" if self.state == State::Recording => {
+                self.take_in()?;
+                self.stop("was stopped by a command")?;
+                String::new()
+            }
+            ".STOP" => return Ok(Err(No::Mode("no file is recorded; .RECORD begins one".to_string()))),
+            ".ERASE" if self.state == State::Recording => return Ok(Err(No::Mode("a file is recorded; give .STOP first".to_string()))),
+            ".ERASE" => {
+                self.readers.clear();
+                self.recorder()?.erase()?;
+                self.settle()?;
+                self.state = State::Idle;
+                self.file = None;
+                self.point = Point::default();
+                info!("the medium was erased by a command");
+                String::new()
+            }
+            ".EVENT" => return self.event(&words),
+            ".FILES" => self.files()?,
+            ".FIND" => return self.find(&words),
+            ".REPLAY" => return self.replay(&words),
+            _ => return self.follow(&words),
+        };
+        Ok(Ok(Reply::Text(text)))
+    }
+
+    fn record(&mut self, words: &[&str]) -> Result<Result<Reply, No>, Trouble> {
+        if self.state == State::Recording {
+            return Ok(Err(No::Mode("a file is recorded already; .STOP ends it".to_string())));
+        }
+        if words.len() > 1 {
+            return Ok(Err(No::Parameter("give one name, or none".to_string())));
+        }
+        if self.recorder.is_none()
+            && let Err(refusal) = self.open_again()
+        {
+            self.why = refusal.text().to_string();
+            return Ok(Err(No::NoMedia(self.why.clone())));
+        }
+        self.start(words.first().copied())?;
+        Ok(Ok(Reply::Text(String::new())))
+    }
+
+    fn event(&mut self, words: &[&str]) -> Result<Result<Reply, No>, Trouble> {
+        let [number] = words else { return Ok(Err(No::Parameter("give the number of the event, 0 to 4095".to_string()))) };
+        let Ok(number) = number.parse::<u16>() else { return Ok(Err(No::Parameter(format!("{number} is no event: give 0 to 4095")))) };
+        if self.state != State::Recording {
+            return Ok(Err(No::Mode("no file is recorded; give .RECORD first".to_string())));
+        }
+        let count = self.count();
+        self.recorder()?.event(number, count)?;
+        self.has_news = true;
+        Ok(Ok(Reply::Text(String::new())))
+    }
+
+    fn files(&mut self) -> Result<String, Trouble> {
+        let files = self.recorder()?.files()?;
+        let mut text = String::new();
+        for (number, file) in files.iter().enumerate() {
+            let first = self.medium.first_block(&files[..number]);
+            let _ = writeln!(text, "{} {} {first} {} {}", number + 1, file.name, file.size, if file.closed { "closed" } else { "open" });
+        }
+        Ok(text)
+    }
+
+    /// The used part of the medium, in percent.
+    fn used(&mut self) -> u64 {
+        let files = self.recorder.as_mut().and_then(|it| it.files().ok()).unwrap_or_default();
+        100 * self.medium.first_block(&files).min(self.settings.blocks as u64) / self.settings.blocks as u64
+    }
+
+    fn status_line(&mut self) -> String {
+        let state = match self.state {
+            State::Failed(None) => "00",
+            State::Failed(Some(_)) => "09",
+            State::Recording if self.is_read() => "07",
+            State::Recording => "05",
+            _ if self.is_read() => "06",
+            _ => "01",
+        };
+        let losses = self.lanes.iter().filter(|it| health_of(it) & 3 != 0).count() + usize::from(self.clock_steps > 0);
+        let critical = u32::from(self.state == State::Full) + u32::from(self.failures > 0) + u32::from(self.state == State::Failed(None));
+        format!("S {state} {losses} {critical} {}%\n", self.used())
+    }
+
+    fn health(&mut self, words: &[&str]) -> Result<String, No> {
+        let mut whole = if self.clock_steps > 0 { 8 } else { 0 };
+        whole |= if self.state == State::Full { 0x4000_0000 } else { 0 };
+        whole |= if self.failures > 0 || matches!(self.state, State::Failed(_)) { 0x8000_0000 } else { 0 };
+        let all: Vec<(u32, &str)> =
+            [(whole, "RECORDER")].into_iter().chain(self.lanes.iter().map(|it| (self.silence(it) | health_of(it), it.channel.name.as_str()))).collect();
+        let mut text = String::new();
+        match words {
+            [] => {
+                for (number, (bits, name)) in all.iter().enumerate() {
+                    let _ = writeln!(text, "{number} {bits:08X} {name}");
+                }
+            }
+            [number] => {
+                let Some((number, (bits, _))) = number.parse::<usize>().ok().and_then(|it| Some((it, all.get(it)?))) else {
+                    return Err(No::Parameter(format!("there is no feature {number}; .HEALTH lists them")));
+                };
+                for (bit, what) in BITS.iter().filter(|it| bits & it.0 != 0) {
+                    let _ = writeln!(text, "{number} {bit:08X} {what}");
+                }
+                if *bits & 0x8000_0000 != 0 {
+                    let _ = writeln!(text, "{number} {bits:08X} {}", self.why);
+                }
+            }
+            _ => return Err(No::Parameter("give the number of one feature, or nothing".to_string())),
+        }
+        Ok(text)
+    }
+
+    fn silence(&self, lane: &Lane) -> u32 {
+        let since = lane.last.as_ref().map(|it| self.count().saturating_sub(it.0));
+        if lane.channel.input.is_some() && since.is_none_or(|it| it > 10 * 10_000_000) { 4 } else { 0 }
+    }
+
+    fn find(&mut self, words: &[&str]) -> Result<Result<Reply, No>, Trouble> {
+        let files = self.recorder()?.files()?;
+        if let Some(file) = words.first() {
+            let Some(file) = file.parse::<usize>().ok().filter(|it| (1..=files.len()).contains(it)) else {
+                return Ok(Err(No::Parameter(format!("there is no file {file}; .FILES lists them"))));
+            };
+            let rest = words[1..].join(" ");
+            let count = match (rest.parse::<u64>(), clock::parse(&rest)) {
+                _ if rest.is_empty() => Some(0),
+                (Ok(count), _) => Some(count).filter(|it| *it < COUNTS),
+                (_, Some(civil)) => {
+                    if !self.may_read(file - 1)? {
+                        return Ok(Err(too_long()));
+                    }
+                    match self.recorder()?.count_at(file - 1, &civil) {
+                        Err(error @ (Error::BAD_CIVIL | Error::BAD_FILE)) => return Ok(Err(No::Parameter(error.to_string()))),
+                        other => Some(other?.unwrap_or(0)),
+                    }
+                }
+                _ => None,
+            };
+            let Some(count) = count else {
+                return Ok(Err(No::Parameter(format!("{rest:?} is no count and no time; give a number below 2^48, or as 2026-05-17 09:00:04.00"))));
+            };
+            self.point = Point { file: file - 1, count };
+        }
+        let record = if self.state == State::Recording { self.medium.first_block(&files) } else { 0 };
+        Ok(Ok(Reply::Text(format!("F {record} {} {}\n", self.point.file + 1, self.point.count))))
+    }
+
+    fn channels(&self, words: &[&str]) -> Result<Vec<u16>, No> {
+        let is_there = |id: u16| self.lanes.iter().any(|it| it.channel.id == id);
+        let found: Option<Vec<u16>> = words.iter().map(|it| it.parse().ok().filter(|id| is_there(*id))).collect();
+        found.ok_or_else(|| No::Parameter("give IDs of channels of the settings, or none for all".to_string()))
+    }
+
+    fn replay(&mut self, words: &[&str]) -> Result<Result<Reply, No>, Trouble> {
+        let channels = match self.channels(words) {
+            Ok(it) => it,
+            Err(no) => return Ok(Err(no)),
+        };
+        let Point { file, count } = self.point;
+        if file >= self.recorder()?.files()?.len() {
+            return Ok(Err(No::Parameter("there is no such file; .FILES lists them, .FIND chooses one".to_string())));
+        }
+        if !self.may_read(file)? {
+            return Ok(Err(too_long()));
+        }
+        // what stands behind this count comes later than now
+        let to = if self.file.as_ref().is_some_and(|it| it.0 == file) { self.count() } else { COUNTS - 1 };
+        Ok(self.add(readers::replay(file, count, to.max(count), channels)))
+    }
+
+    fn follow(&mut self, words: &[&str]) -> Result<Result<Reply, No>, Trouble> {
+        let channels = match self.channels(words) {
+            Ok(it) => it,
+            Err(no) => return Ok(Err(no)),
+        };
+        let (file, from) = (self.file.as_ref().map_or(0, |it| it.0), self.count());
+        Ok(self.add(readers::follow(file, from, channels)))
+    }
+
+    fn add(&mut self, (reader, reply): (readers::Reader, Reply)) -> Result<Reply, No> {
+        if self.readers.len() >= MOST {
+            return Err(No::Failed(format!("{MOST} read already; end one of them first")));
+        }
+        self.readers.push(reader);
+        Ok(reply)
+    }
+
+    fn publish(&mut self, words: &[&str]) -> Result<String, No> {
+        let usage = || No::Parameter("give .PUBLISH START ADDRESS PORT, .PUBLISH STOP [ADDRESS PORT], or .PUBLISH LIST".to_string());
+        let address = |host: &str, port: &str| Some(SocketAddr::from((host.parse::<IpAddr>().ok()?, port.parse().ok()?)));
+        let upper: Vec<String> = words.iter().map(|it| it.to_ascii_uppercase()).collect();
+        match upper.iter().map(String::as_str).collect::<Vec<_>>().as_slice() {
+            [] | ["LIST"] => Ok(self.live.addresses().fold(String::new(), |mut out, it| {
+                let _ = writeln!(out, "{} {} ALL", it.ip(), it.port());
+                out
+            })),
+            ["START", host, port] | ["START", host, port, "ALL"] => {
+                let address = address(host, port).ok_or_else(usage)?;
+                // what the file has up to now does not go out
+                if !self.live.is_on()
+                    && let (Some(recorder), Some((number, _))) = (&mut self.recorder, &self.file)
+                {
+                    let size = recorder.files().ok().and_then(|it| Some(it.get(*number)?.size));
+                    self.live.shown = size.unwrap_or(0);
+                }
+                match self.live.add(address) {
+                    Ok(true) => {
+                        info!("what becomes durable goes to UDP {address}");
+                        Ok(String::new())
+                    }
+                    Ok(false) => Err(No::Mode("it goes there already, or to too many; .PUBLISH LIST lists them".to_string())),
+                    Err(error) => Err(No::Failed(format!("UDP {address}: {error}"))),
+                }
+            }
+            ["STOP"] if self.live.remove(None) => Ok(String::new()),
+            ["STOP", host, port] if self.live.remove(Some(address(host, port).ok_or_else(usage)?)) => Ok(String::new()),
+            ["STOP", ..] => Err(No::Mode("nothing goes there; .PUBLISH LIST lists where to".to_string())),
+            _ => Err(usage()),
+        }
+    }
+
+    /// All figures, as `r10ctl watch` and the metrics take them.
+    fn figures(&mut self) -> Result<String, Trouble> {
+        let files = self.recorder.as_mut().map_or(Ok(Vec::new()), r10::Recorder::files)?;
+        let left = self.recorder.as_mut().map(r10::Recorder::status).transpose()?.map_or(0, |it| it.free);
+        let free = (self.settings.blocks as u64).saturating_sub(self.medium.first_block(&files)) * 512;
+        let state = match self.state {
+            State::Idle => "idle",
+            State::Recording => "recording",
+            State::Full => "full",
+            State::Failed(Some(_)) => "retrying",
+            State::Failed(None) => "failed",
+        };
+        let queued: Vec<usize> = self.outlets.iter().map(crate::feed::Outlet::queued).collect();
+        let mut channels = Vec::new();
+        for lane in &mut self.lanes {
+            let overflow = match &mut self.recorder {
+                Some(recorder) => recorder.channel(lane.channel.id)?.map_or(0, |it| it.lost),
+                None => 0,
+            };
+            let (count, length, bytes) = lane.last.clone().unwrap_or_default();
+            let mut hex = String::new();
+            entries::to_hex(&mut hex, &bytes);
+            let input = match &lane.channel.input {
+                None => String::new(),
+                Some(crate::settings::Input::Udp { address, .. }) => format!("udp {address}"),
+                Some(crate::settings::Input::Serial { path, .. }) => format!("serial {}", path.display()),
+                Some(crate::settings::Input::Lines { path }) => path.as_ref().map_or("standard input".to_string(), |it| format!("lines {}", it.display())),
+            };
+            channels.push(json!({
+                "id": lane.channel.id, "name": lane.channel.name, "kind": lane.channel.kind.name(), "input": input,
+                "came": lane.came.messages.load(Relaxed), "bytes": lane.came.bytes.load(Relaxed), "bad": lane.came.bad.load(Relaxed),
+                "durable": lane.durable, "in_file": lane.durable_in_file, "lost": lane.lost + overflow, "refused": lane.refused, "passed": lane.passed,
+                "last_count": count, "last_length": length, "last_bytes": hex,
+            }));
+        }
+        let times = std::mem::take(&mut self.times);
+        let file = self.file.as_ref().map(|(number, name)| json!({ "number": number + 1, "name": name, "bytes": files.get(*number).map_or(0, |it| it.size) }));
+        let all = json!({
+            "state": state, "why": self.why, "count": self.count(), "file": file, "files": files.len(), "free": free, "left_in_file": left,
+            "medium_bytes": self.settings.blocks as u64 * 512, "commits": self.commits, "failures": self.failures, "clock_steps": self.clock_steps,
+            "queued_bytes": queued.iter().sum::<usize>(), "readers": self.readers.len(), "datagrams_out": self.live.datagrams, "datagrams_dropped": self.live.dropped,
+            "memory_kib": figures::own_memory(), "commit_us": self.settings.commit.as_micros() as u64,
+            "durable_after_us": { "half": times.below(500), "of_100_99": times.below(990), "most": times.most(), "messages": times.count() },
+            "channels": channels,
+        });
+        Ok(format!("{all}\n"))
+    }
+}
+
+fn too_long() -> No {
+    No::Mode("that file is long, and reading it would hold up what is recorded; give .STOP first, or read a copy with r10 play".to_string())
+}
+
+fn health_of(lane: &Lane) -> u32 {
+    let lost = lane.lost + lane.came.lost.load(Relaxed);
+    let wrong = lane.refused + lane.came.bad.load(Relaxed);
+    u32::from(lost > 0) | u32::from(wrong > 0) << 1
+}
+
+/// How long a client waits for the service at most, before it says so.
+pub const PATIENCE: Duration = Duration::from_secs(120);

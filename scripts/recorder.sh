@@ -1,0 +1,84 @@
+#!/usr/bin/env bash
+# The recorder as a service, r10d and r10ctl (docs/RECORDER.md): builds it, and tries it.
+#
+#     scripts/recorder.sh build [--quick]   # builds both over the library, and prints the folder that they are in
+#     scripts/recorder.sh check             # what the gate runs: tests of its parts, and recordings through the running service, in under a minute
+#     scripts/recorder.sh long [WORDS..]    # 200 kills, 1,000 power cuts, failures at each operation, a flood: recorder/tests/long.py says more
+#     scripts/recorder.sh soak HOURS        # records for so long, and draws memory and acknowledged messages
+#
+# Crates come from Debian's packages where those are there (apt-get install the librust-*-dev packages of PACKAGES below), so no network is needed;
+# else from the registry, as cargo is set up. With --quick the library is the one without proofs. `check` takes the library that is there, says in a
+# line what it cannot try, and fails of nothing that is only missing.
+set -u
+
+top=$(cd "$(dirname "$(readlink -f "${BASH_SOURCE[0]}")")/.." && pwd)
+readonly PACKAGES="librust-clap-dev librust-nix-dev librust-sd-notify-dev librust-serde-dev librust-serde-derive-dev librust-serde-json-dev librust-signal-hook-dev
+ librust-time-dev librust-toml-dev"
+readonly REGISTRY=/usr/share/cargo/registry
+
+give_up() {
+    echo "recorder: $1" >&2
+    exit 1
+}
+
+not_tried() {
+    echo "recorder: NOT TRIED: $1"
+    exit 0
+}
+
+# Where crates come from: words for cargo.
+from=()
+if [ -d "$REGISTRY/clap-4.0.32" ] || compgen -G "$REGISTRY/clap-4*" >/dev/null; then
+    from=(--config "$top/recorder/debian.toml" --offline)
+fi
+
+# cargo over the library, in a folder of its own.
+build_by() {
+    R10_LIB_DIR=$library R10_STATIC=1 CARGO_TARGET_DIR=$top/out/recorder/target nice -n 5 cargo "${from[@]}" "$@" --manifest-path "$top/recorder/Cargo.toml"
+}
+
+# The folder with libr10.a.
+library() {
+    if [ -n "${R10_LIB_DIR:-}" ]; then
+        echo "$R10_LIB_DIR"
+        return
+    fi
+    local made
+    made=$("$top/scripts/ffi.sh" build "$@" --shared) || return
+    dirname "$made"
+}
+
+build() {
+    local jobs
+    jobs=$(($(nproc) > 2 ? 2 : $(nproc)))
+    build_by build --release --quiet -j "$jobs"
+}
+
+case ${1:-} in
+build)
+    command -v cargo >/dev/null || give_up "there is no cargo: install a Rust of 1.89 or later"
+    library=$(library ${2:+"$2"}) || give_up "there is no library: scripts/ffi.sh build says why"
+    build || give_up "r10d was not built; without a network its crates come from Debian: apt-get install $PACKAGES"
+    echo "$top/out/recorder/target/release"
+    ;;
+check)
+    command -v cargo >/dev/null || not_tried "there is no cargo to build r10d with"
+    # cargo says whether all crates are there, without building one
+    [ "${#from[@]}" != 0 ] || from=(--offline)
+    library=/nonexistent build_by metadata --format-version 1 >/dev/null 2>&1 || not_tried "the crates of r10d are not there: apt-get install $PACKAGES"
+    kept=$("$top/scripts/ffi.sh" kept) || give_up "there is no library to build r10d over"
+    library=$(library "$([[ $kept == */out/builds/* ]] && echo --quick)") || give_up "there is no library to build r10d over"
+    build || give_up "r10d was not built"
+    build_by test --release --quiet --lib --bins -j 2 || give_up "a test of its parts failed"
+    "$top/recorder/tests/check.py" "$top/out/recorder/target/release" || give_up "a recording through the service failed"
+    ;;
+long | soak)
+    library=$(library --quick) || give_up "there is no library to build r10d over"
+    build || give_up "r10d was not built"
+    exec "$top/recorder/tests/$1.py" "$top/out/recorder/target/release" "${@:2}"
+    ;;
+*)
+    sed -n '2,12s/^# \{0,1\}//p' "${BASH_SOURCE[0]}" >&2
+    exit 2
+    ;;
+esac
