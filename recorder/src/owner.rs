@@ -115,6 +115,8 @@ pub struct Owner {
     committed: Instant,
     ticked: Instant,
     pub has_news: bool,
+    /// whether a recording goes on after a failure
+    wants: bool,
     steps: Steps,
     pub clock_steps: u64,
     pub failures: u32,
@@ -175,6 +177,7 @@ impl Owner {
             committed: now,
             ticked: now,
             has_news: false,
+            wants: false,
             steps: Steps::default(),
             clock_steps: 0,
             failures: 0,
@@ -194,6 +197,11 @@ impl Owner {
         match self.open() {
             Ok(was_cut) => Ok(self.settings.begin == Begin::Record || self.settings.begin == Begin::Resume && was_cut),
             Err(refusal @ Refusal::Taken(_)) => Err(refusal),
+            Err(Refusal::Failed(why)) => {
+                self.wants = self.settings.begin == Begin::Record;
+                self.fail(&why);
+                Ok(false)
+            }
             Err(refusal) => {
                 self.down(&refusal);
                 Ok(false)
@@ -467,6 +475,13 @@ impl Owner {
 
     /// Begins a file. One without a name gets the settings' and the time.
     pub fn start(&mut self, name: Option<&str>) -> Result<(), Trouble> {
+        let done = self.start_by(name);
+        // where the disk fails in it, it is begun again
+        self.wants = matches!(done, Ok(()) | Err(Trouble::Failed(_)));
+        done
+    }
+
+    fn start_by(&mut self, name: Option<&str>) -> Result<(), Trouble> {
         self.tick()?;
         let files = self.recorder()?.files()?;
         let first = self.medium.first_block(&files);
@@ -504,6 +519,7 @@ impl Owner {
         self.is_durable();
         self.show()?;
         self.state = State::Idle;
+        self.wants = false;
         self.has_news = false;
         let (number, name) = self.file.clone().unwrap_or_default();
         info!("file {} {name}: ended, it {why}", number + 1);
@@ -617,7 +633,8 @@ impl Owner {
             return;
         }
         match self.open() {
-            Ok(_) => self.resume(),
+            Ok(was_cut) if self.wants || was_cut && self.settings.begin != Begin::Wait => self.resume(),
+            Ok(_) => info!("the medium is mounted again"),
             Err(Refusal::Failed(why)) if self.tries < self.settings.tries => {
                 self.tries += 1;
                 self.failures += 1;

@@ -26,7 +26,7 @@ struct Words {
     #[arg(long)]
     json: bool,
     /// A word of chapter 6, with a dot before it or without: status, record, stop, erase, event, files, health, find, replay, publish; or watch, follow, figures
-    #[arg(required = true, trailing_var_arg = true)]
+    #[arg(required = true)]
     words: Vec<String>,
 }
 
