@@ -2,13 +2,16 @@
 //!
 //!     load PORT.. rate=N size=N seconds=N run=N count=N
 //!
-//! A message has its run and its number on its port, eight bytes each, the low ones first, and then bytes that follow from the number.
+//! A message has its run and its number on its port, eight bytes each, the low ones first, and then bytes that follow from the
+//! number.
 use std::net::UdpSocket;
 use std::time::{Duration, Instant};
 
 fn main() {
     let words: Vec<String> = std::env::args().skip(1).collect();
-    let get = |key: &str, other: u64| words.iter().find_map(|it| it.strip_prefix(&format!("{key}=")).map(|it| it.parse().unwrap_or(other))).unwrap_or(other);
+    let get = |key: &str, other: u64| {
+        words.iter().find_map(|it| it.strip_prefix(&format!("{key}=")).map(|it| it.parse().unwrap_or(other))).unwrap_or(other)
+    };
     let ports: Vec<u16> = words.iter().filter_map(|it| it.parse().ok()).collect();
     let (rate, size, run) = (get("rate", 10_000), get("size", 40).max(16) as usize, get("run", 0));
     let (seconds, count) = (Duration::from_secs(get("seconds", 10)), get("count", u64::MAX));

@@ -1,8 +1,10 @@
-//! What a recorder is measured beside: a plain program that logs the same datagrams into a file, with two syncs each so many milliseconds, as a commit has.
+//! What a recorder is measured beside: a plain program that logs the same datagrams into a file, with two syncs each so many
+//! milliseconds, as a commit has.
 //!
 //!     plain FILE MIB COMMIT_MS PORT..
 //!
-//! A datagram's bytes go into the file after its length. At SIGTERM it says how many it had, and how long they took to be on the disk.
+//! A datagram's bytes go into the file after its length. At SIGTERM it says how many it had, and how long they took to be on the
+//! disk.
 use std::fs::OpenOptions;
 use std::os::unix::fs::FileExt;
 use std::sync::Arc;
@@ -57,8 +59,17 @@ fn main() -> Result<(), Box<dyn std::error::Error>> {
         }
         bytes.clear();
         if ending.load(Relaxed) {
-            let cpu = std::fs::read_to_string("/proc/self/stat")?.rsplit(')').next().map(|it| it.split_whitespace().skip(11).take(2).filter_map(|it| it.parse::<u64>().ok()).sum::<u64>());
-            println!("{{\"durable\":{total},\"half_us\":{},\"of_100_99_us\":{},\"most_us\":{},\"cpu_ticks\":{}}}", times.below(500), times.below(990), times.most(), cpu.unwrap_or(0));
+            let cpu = std::fs::read_to_string("/proc/self/stat")?
+                .rsplit(')')
+                .next()
+                .map(|it| it.split_whitespace().skip(11).take(2).filter_map(|it| it.parse::<u64>().ok()).sum::<u64>());
+            println!(
+                "{{\"durable\":{total},\"half_us\":{},\"of_100_99_us\":{},\"most_us\":{},\"cpu_ticks\":{}}}",
+                times.below(500),
+                times.below(990),
+                times.most(),
+                cpu.unwrap_or(0)
+            );
             return Ok(());
         }
     }

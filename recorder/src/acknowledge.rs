@@ -1,4 +1,5 @@
-//! What is durable, for a program that has to know: after each commit a line `durable FILE CHANNEL MESSAGES` for each channel that got some, in a file or a pipe.
+//! What is durable, for a program that has to know: after each commit a line `durable FILE CHANNEL MESSAGES` for each channel
+//! that got some, in a file or a pipe.
 use std::fmt::Write as _;
 use std::fs::{File, OpenOptions};
 use std::io::{self, Write};
@@ -13,7 +14,10 @@ pub struct Acknowledge {
 
 impl Acknowledge {
     pub fn open(path: &Path) -> io::Result<Acknowledge> {
-        let to = OpenOptions::new().append(true).create(true).open(path).map_err(|it| io::Error::new(it.kind(), format!("acknowledge = {path:?}: {it}; give a file that may be written")))?;
+        let to =
+            OpenOptions::new().append(true).create(true).open(path).map_err(|it| {
+                io::Error::new(it.kind(), format!("acknowledge = {path:?}: {it}; give a file that may be written"))
+            })?;
         Ok(Acknowledge { to: Some(to), lines: String::new() })
     }
 

@@ -58,7 +58,8 @@ pub fn parse(text: &str) -> Option<r10::Civil> {
     let (time, centi) = time.split_once('.').unwrap_or((time, "00"));
     let numbers = |text: &str, by: char, digits: [usize; 3]| -> Option<[u16; 3]> {
         let mut parts = text.split(by);
-        let mut part = |count: usize| parts.next().filter(|it| it.len() == count && it.bytes().all(|b| b.is_ascii_digit()))?.parse().ok();
+        let mut part =
+            |count: usize| parts.next().filter(|it| it.len() == count && it.bytes().all(|b| b.is_ascii_digit()))?.parse().ok();
         let found = [part(digits[0])?, part(digits[1])?, part(digits[2])?];
         parts.next().is_none().then_some(found)
     };
@@ -95,7 +96,15 @@ mod tests {
             assert_eq!(parse(text_of_it).map(|it| text(&it)), Some("2024-02-29 12:34:56.78".to_string()));
         }
         assert_eq!(parse("2024-02-29 12:34:56").map(|it| it.centi), Some(0));
-        for wrong in ["", "2024-02-29", "2024-2-29 12:34:56", "2024-02-29 12:34", "2024-02-29 12:34:56.7", "2024-02-29-01 12:34:56", "+024-02-29 12:34:56"] {
+        for wrong in [
+            "",
+            "2024-02-29",
+            "2024-2-29 12:34:56",
+            "2024-02-29 12:34",
+            "2024-02-29 12:34:56.7",
+            "2024-02-29-01 12:34:56",
+            "+024-02-29 12:34:56",
+        ] {
             assert_eq!(parse(wrong), None, "{wrong}");
         }
     }

@@ -87,7 +87,10 @@ impl Connection for TcpStream {
 /// Makes the socket anew where nobody listens on it, for its owner and group.
 fn bind(path: &Path) -> io::Result<UnixListener> {
     if UnixStream::connect(path).is_ok() {
-        return Err(io::Error::new(ErrorKind::AddrInUse, "another service listens there; end it, or give control.socket another name"));
+        return Err(io::Error::new(
+            ErrorKind::AddrInUse,
+            "another service listens there; end it, or give control.socket another name",
+        ));
     }
     let _ = std::fs::remove_file(path);
     let before = umask(Mode::from_bits_truncate(0o117));
@@ -109,7 +112,8 @@ pub fn start(settings: &Settings, asking: &Asking) -> io::Result<()> {
         }
     })?;
     let Some(address) = settings.tcp else { return Ok(()) };
-    let listener = TcpListener::bind(address).map_err(|it| io::Error::new(it.kind(), format!("control.tcp = \"{address}\": {it}; give a free port of this machine")))?;
+    let listener = TcpListener::bind(address)
+        .map_err(|it| io::Error::new(it.kind(), format!("control.tcp = \"{address}\": {it}; give a free port of this machine")))?;
     let (asking, peers) = (asking.clone(), settings.peers.clone());
     thread::Builder::new().name("control tcp".to_string()).spawn(move || {
         for stream in listener.incoming().flatten() {

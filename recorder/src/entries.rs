@@ -52,7 +52,7 @@ fn digit(it: u8) -> Option<u8> {
 
 pub fn from_hex(text: &str) -> Option<Vec<u8>> {
     let text = text.as_bytes();
-    (text.len() % 2 == 0).then(|| text.chunks(2).map(|it| Some(digit(it[0])? << 4 | digit(it[1])?)).collect())?
+    text.len().is_multiple_of(2).then(|| text.chunks(2).map(|it| Some(digit(it[0])? << 4 | digit(it[1])?)).collect())?
 }
 
 pub fn to_hex(out: &mut String, bytes: &[u8]) {
@@ -69,6 +69,7 @@ pub fn read(line: &str, only: Option<u16>, kind_of: impl Fn(u16) -> Option<Kind>
     let bare = line.trim().trim_end_matches(',').trim();
     let inner = bare.strip_prefix('{').and_then(|it| it.strip_suffix('}')).unwrap_or(bare);
     #[derive(Deserialize)]
+    #[serde(deny_unknown_fields)]
     struct Whole {
         it: Keys,
     }
@@ -97,7 +98,8 @@ pub fn read(line: &str, only: Option<u16>, kind_of: impl Fn(u16) -> Option<Kind>
     if let Some((key, ..)) = is_there.iter().find(|(_, is_there, is_right)| *is_there && !is_right) {
         return Err(format!("a message of kind {} has no key {key}", kind.name()));
     }
-    let hex = |text: &Option<String>| text.as_deref().map_or(Some(Vec::new()), from_hex).ok_or("bytes and words are pairs of hex digits");
+    let hex =
+        |text: &Option<String>| text.as_deref().map_or(Some(Vec::new()), from_hex).ok_or("bytes and words are pairs of hex digits");
     let (sub, flag) = (keys.sub.unwrap_or(0), |it: Option<bool>| it.unwrap_or(false));
     let (head, bytes) = match (kind, keys.data) {
         (Kind::Uart, _) => (Head::Uart { parity: flag(keys.parity), sub }, hex(&keys.bytes)?),
@@ -113,13 +115,23 @@ pub fn read(line: &str, only: Option<u16>, kind_of: impl Fn(u16) -> Option<Kind>
         (Kind::Arinc, Some(Data::IsWrong(_))) => return Err("data of an ARINC word is a number".to_string()),
         (Kind::Arinc, data) => {
             let word = if let Some(Data::Word(word)) = data { word } else { 0 };
-            (Head::Arinc { bus: keys.bus.unwrap_or(0), format: flag(keys.format), parity: flag(keys.parity), high: flag(keys.high), word }, Vec::new())
+            (
+                Head::Arinc {
+                    bus: keys.bus.unwrap_or(0),
+                    format: flag(keys.format),
+                    parity: flag(keys.parity),
+                    high: flag(keys.high),
+                    word,
+                },
+                Vec::new(),
+            )
         }
         (Kind::Discrete, _) => (Head::Discrete { states: keys.states.unwrap_or(0) }, Vec::new()),
         (Kind::Message, Some(Data::Word(_))) => return Err("data of a message is true or false".to_string()),
-        (Kind::Message, data) => {
-            (Head::Message { data_error: matches!(data, Some(Data::IsWrong(true))), format: flag(keys.format), sub }, hex(&keys.bytes)?)
-        }
+        (Kind::Message, data) => (
+            Head::Message { data_error: matches!(data, Some(Data::IsWrong(true))), format: flag(keys.format), sub },
+            hex(&keys.bytes)?,
+        ),
     };
     Ok(Offer { channel: Some(channel), head, bytes })
 }
@@ -145,7 +157,9 @@ pub fn print(out: &mut String, entry: &Entry) {
             to_hex(out, &bytes);
             Ok(())
         }
-        Content::Arinc { bus, format, parity, high, word } => write!(out, "arinc {bus} {} {} {} {word:08x}", bit(*format), bit(*parity), bit(*high)),
+        Content::Arinc { bus, format, parity, high, word } => {
+            write!(out, "arinc {bus} {} {} {} {word:08x}", bit(*format), bit(*parity), bit(*high))
+        }
         Content::Discrete { states } => write!(out, "discrete {states:08x}"),
         Content::Message { data_error, format, sub, bytes } => {
             let _ = write!(out, "message {} {} {sub} ", bit(*data_error), bit(*format));
@@ -180,20 +194,47 @@ mod tests {
     #[test]
     fn lines_of_a_script_are_read() {
         let word = Head::Arinc { bus: 1, format: false, parity: false, high: true, word: 0x6000_00c1 };
-        assert_eq!(of("{ do = \"offer\", channel = 30, count = 43000000, bus = 1, high = true, data = 0x600000c1 },"), Ok((30, word, vec![])));
-        assert_eq!(of("channel = 10, parity = true, bytes = \"4142fF\""), Ok((10, Head::Uart { parity: true, sub: 0 }, vec![0x41, 0x42, 0xff])));
-        assert_eq!(of("channel = 20, words = \"284203e8\""), Ok((20, Head::Bus1553 { status: 0, gap_times: 0 }, vec![0x42, 0x28, 0xe8, 0x03])));
+        assert_eq!(
+            of("{ do = \"offer\", channel = 30, count = 43000000, bus = 1, high = true, data = 0x600000c1 },"),
+            Ok((30, word, vec![]))
+        );
+        assert_eq!(
+            of("channel = 10, parity = true, bytes = \"4142fF\""),
+            Ok((10, Head::Uart { parity: true, sub: 0 }, vec![0x41, 0x42, 0xff]))
+        );
+        assert_eq!(
+            of("channel = 20, words = \"284203e8\""),
+            Ok((20, Head::Bus1553 { status: 0, gap_times: 0 }, vec![0x42, 0x28, 0xe8, 0x03]))
+        );
         assert_eq!(of("channel = 40, states = 0x03"), Ok((40, Head::Discrete { states: 3 }, vec![])));
-        assert_eq!(of("channel = 50, data = true, sub = 3"), Ok((50, Head::Message { data_error: true, format: false, sub: 3 }, vec![])));
+        assert_eq!(
+            of("channel = 50, data = true, sub = 3"),
+            Ok((50, Head::Message { data_error: true, format: false, sub: 3 }, vec![]))
+        );
         assert_eq!(read("states = 1", Some(40), kind_of).map(|it| it.channel), Ok(Some(40)));
     }
 
     #[test]
     fn other_lines_are_refused_and_none_panics() {
         for line in [
-            "", "}{", "channel", "channel = 9, states = 1", "states = 1", "channel = 40, bytes = \"41\"", "channel = 10, bytes = \"4\"", "channel = 10, bytes = \"4x\"",
-            "channel = 20, words = \"41\"", "channel = 30, data = true", "channel = 50, data = 7", "do = \"stop\"", "channel = 40, states = -1", "channel = 70000",
-            "channel = 40, states = 1 }\nevil = { a = 1", "channel = 40, kind = \"uart\"", "channel = 10, bytes = \"\u{e9}\u{e9}\"", "channel = 40, bus = 300",
+            "",
+            "}{",
+            "channel",
+            "channel = 9, states = 1",
+            "states = 1",
+            "channel = 40, bytes = \"41\"",
+            "channel = 10, bytes = \"4\"",
+            "channel = 10, bytes = \"4x\"",
+            "channel = 20, words = \"41\"",
+            "channel = 30, data = true",
+            "channel = 50, data = 7",
+            "do = \"stop\"",
+            "channel = 40, states = -1",
+            "channel = 70000",
+            "channel = 40, states = 1 }\nevil = { a = 1",
+            "channel = 40, kind = \"uart\"",
+            "channel = 10, bytes = \"\u{e9}\u{e9}\"",
+            "channel = 40, bus = 300",
         ] {
             assert!(of(line).is_err(), "{line}");
         }
@@ -207,9 +248,15 @@ mod tests {
             out
         };
         assert_eq!(print(Content::Uart { parity: true, sub: 3, bytes: vec![0x0a, 0xf0] }), "entry 5 7 2 uart 1 3 0af0\n");
-        assert_eq!(print(Content::Message { data_error: false, format: true, sub: 0, bytes: vec![] }), "entry 5 7 2 message 0 1 0 -\n");
+        assert_eq!(
+            print(Content::Message { data_error: false, format: true, sub: 0, bytes: vec![] }),
+            "entry 5 7 2 message 0 1 0 -\n"
+        );
         assert_eq!(print(Content::Discrete { states: 0x5a }), "entry 5 7 2 discrete 0000005a\n");
-        assert_eq!(print(Content::Arinc { bus: 1, format: false, parity: true, high: true, word: 0xc1 }), "entry 5 7 2 arinc 1 0 1 1 000000c1\n");
+        assert_eq!(
+            print(Content::Arinc { bus: 1, format: false, parity: true, high: true, word: 0xc1 }),
+            "entry 5 7 2 arinc 1 0 1 1 000000c1\n"
+        );
         assert_eq!(print(Content::Event { number: 4095, occurrence: 1 }), "entry 5 7 2 event 4095 1\n");
     }
 }

@@ -1,6 +1,7 @@
 //! What lies between an input's thread and the recorder's: a queue that is bounded in bytes, and counts what does not fit.
 //!
-//! Each input has a queue of its own, so none can take another's room. What is lost goes with the next message of its channel, so its place is known.
+//! Each input has a queue of its own, so none can take another's room. What is lost goes with the next message of its channel, so
+//! its place is known.
 use std::sync::Arc;
 use std::sync::atomic::{AtomicU64, AtomicUsize, Ordering::Relaxed};
 use std::sync::mpsc::{Receiver, Sender, channel};
@@ -90,7 +91,8 @@ pub fn feed(owner: Thread, counter: Counter, limit: usize, channels: &[(usize, A
 }
 
 impl Feed {
-    /// A message came, and so many of its channel were lost before it. `channel` is its number among the feed's channels. Where there is no room it is lost too.
+    /// A message came, and so many of its channel were lost before it. `channel` is its number among the feed's channels. Where
+    /// there is no room it is lost too.
     pub fn message(&mut self, channel: usize, lost: u64, head: Head, bytes: &[u8]) {
         let count = self.counter.count();
         let Some(it) = self.channels.get_mut(channel) else { return };
@@ -106,7 +108,13 @@ impl Feed {
         }
         // no two messages of a channel have the same count, so each can be found by it
         it.last = count.max(it.last + 1);
-        self.batch.items.push(Item { place: it.place, count: it.last, lost: std::mem::take(&mut it.lost), head, length: bytes.len() });
+        self.batch.items.push(Item {
+            place: it.place,
+            count: it.last,
+            lost: std::mem::take(&mut it.lost),
+            head,
+            length: bytes.len(),
+        });
         self.batch.bytes.extend_from_slice(bytes);
         if self.batch.items.len() >= MOST_ITEMS || self.batch.bytes.len() >= MOST_BYTES {
             self.flush();

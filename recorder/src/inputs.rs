@@ -29,15 +29,21 @@ pub fn start(settings: &Settings, counter: Counter, came: &[Arc<Came>], owner: &
         match &channel.input {
             None => info!("channel {}: it has no input", channel.id),
             Some(Input::Udp { address, group, receive_mib }) => {
-                let socket = udp::open(*address, *group, *receive_mib)
-                    .map_err(|it| io::Error::new(it.kind(), format!("channel {}: UDP {address}: {it}; give an address of this machine and a free port", channel.id)))?;
+                let socket = udp::open(*address, *group, *receive_mib).map_err(|it| {
+                    io::Error::new(
+                        it.kind(),
+                        format!("channel {}: UDP {address}: {it}; give an address of this machine and a free port", channel.id),
+                    )
+                })?;
                 let (feed, channel) = (queue(&[place]), channel.clone());
                 thread::Builder::new().name(format!("udp {}", channel.id)).spawn(move || udp::run(socket, feed, &channel))?;
             }
             Some(Input::Serial { path, baud, end, length, pause }) => {
                 let framer = serial::Framer::new(*end, *length, pause.is_some());
                 let (feed, channel, path, baud, pause) = (queue(&[place]), channel.clone(), path.clone(), *baud, *pause);
-                thread::Builder::new().name(format!("serial {}", channel.id)).spawn(move || serial::run(&path, baud, framer, pause, feed, &channel))?;
+                thread::Builder::new()
+                    .name(format!("serial {}", channel.id))
+                    .spawn(move || serial::run(&path, baud, framer, pause, feed, &channel))?;
             }
             Some(Input::Lines { path }) => pipes.entry(path.clone()).or_default().push(place),
         }
@@ -50,13 +56,16 @@ pub fn start(settings: &Settings, counter: Counter, came: &[Arc<Came>], owner: &
     Ok(outlets)
 }
 
-/// What the bytes of a datagram or a serial line are on a channel: a message, or none. The bytes of a word come with the low one first, as in the file.
+/// What the bytes of a datagram or a serial line are on a channel: a message, or none. The bytes of a word come with the low one
+/// first, as in the file.
 pub fn message_of(channel: &Channel, bytes: &[u8]) -> Option<(Head, usize)> {
     let word = || Some(u32::from_le_bytes(bytes.try_into().ok()?));
     Some(match channel.kind {
         Kind::Uart => (Head::Uart { parity: false, sub: channel.sub }, bytes.len()),
         Kind::Message => (Head::Message { data_error: false, format: false, sub: channel.sub }, bytes.len()),
-        Kind::Bus1553 if bytes.len().is_multiple_of(2) && bytes.len() <= 72 => (Head::Bus1553 { status: 0, gap_times: 0 }, bytes.len()),
+        Kind::Bus1553 if bytes.len().is_multiple_of(2) && bytes.len() <= 72 => {
+            (Head::Bus1553 { status: 0, gap_times: 0 }, bytes.len())
+        }
         Kind::Bus1553 => return None,
         Kind::Arinc => (Head::Arinc { bus: 0, format: false, parity: false, high: false, word: word()? }, 0),
         Kind::Discrete => (Head::Discrete { states: word()? }, 0),

@@ -1,6 +1,7 @@
 //! A recorder of IRIG 106 chapter 10 files as a service: what `r10d` and `r10ctl` are made of.
 //!
-//! The recorder itself is the library under the crate `r10`. Here are its inputs, its disk, its clock, and those who ask it things. One thread owns it: [`owner`].
+//! The recorder itself is the library under the crate `r10`. Here are its inputs, its disk, its clock, and those who ask it
+//! things. One thread owns it: [`owner`].
 #![forbid(unsafe_code)]
 
 pub mod acknowledge;
@@ -17,6 +18,8 @@ pub mod metrics;
 pub mod owner;
 pub mod pipe;
 pub mod readers;
+pub mod recording;
+pub mod recovery;
 pub mod serial;
 pub mod settings;
 pub mod udp;

@@ -1,6 +1,7 @@
 //! Live out: packets that became durable go out as UDP in transfer format 1 of chapter 10.
 //!
-//! This is the one place that reads a packet: its channel, its sequence number and its length, as each header of chapter 11 has them.
+//! This is the one place that reads a packet: its channel, its sequence number and its length, as each header of chapter 11 has
+//! them.
 use std::io;
 use std::net::{SocketAddr, UdpSocket};
 
@@ -97,7 +98,8 @@ fn packets(mut bytes: &[u8]) -> impl Iterator<Item = &[u8]> {
     })
 }
 
-/// The header of a datagram: the format, whether it is a segment, and the sequence number; of a segment also the packet's channel, its sequence number, and
+/// The header of a datagram: the format, whether it is a segment, and the sequence number; of a segment also the packet's
+/// channel, its sequence number, and
 /// where in the packet it begins.
 fn header(out: &mut Vec<u8>, sequence: u32, packet: &[u8], segment: Option<usize>) {
     out.extend((1 | u32::from(segment.is_some()) << 4 | sequence << 8).to_le_bytes());
@@ -128,7 +130,7 @@ mod tests {
         let file = [packet(5, 0, 24), packet(6, 0, 1440), packet(5, 1, 1444), packet(5, 2, 5000)].concat();
         live.send(&file[..24 + 1440]);
         live.send(&file[24 + 1440..]);
-        let (mut found, mut bytes) = (Vec::new(), [0; 2000]);
+        let (mut found, mut bytes) = (Vec::<u8>::new(), [0; 2000]);
         for (number, kind) in [0, 0, 1, 1, 1, 1, 1, 1].into_iter().enumerate() {
             let count = receiver.recv(&mut bytes).unwrap();
             let head = u32::from_le_bytes(bytes[..4].try_into().unwrap());

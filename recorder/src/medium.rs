@@ -1,4 +1,5 @@
-//! The medium: a file, which is made and allocated where it is not there, or a block device. What the disk below it is like is looked at, and said.
+//! The medium: a file, which is made and allocated where it is not there, or a block device. What the disk below it is like is
+//! looked at, and said.
 use std::fs::{self, File};
 use std::io;
 use std::ops::Range;
@@ -46,7 +47,12 @@ impl Refusal {
 
 impl Medium {
     pub fn new(settings: &Settings) -> Medium {
-        Medium { path: settings.medium.clone(), blocks: settings.blocks, directory: settings.directory, script: settings.script.clone() }
+        Medium {
+            path: settings.medium.clone(),
+            blocks: settings.blocks,
+            directory: settings.directory,
+            script: settings.script.clone(),
+        }
     }
 
     fn name(&self) -> String {
@@ -64,7 +70,8 @@ impl Medium {
             fresh.push(".new");
             let _ = fs::remove_file(fresh);
             Refusal::Wrong(format!(
-                "the medium {} cannot be made with {} MiB: {error}; give a folder that is there, may be written and has the room, or fewer blocks",
+                "the medium {} cannot be made with {} MiB: {error}; give a folder that is there, may be written and has the room, \
+                 or fewer blocks",
                 self.name(),
                 self.blocks >> 11
             ))
@@ -78,7 +85,10 @@ impl Medium {
         let disk = self.take()?;
         let mut recorder = Recorder::open(disk.into(), ROOM, &self.script).map_err(|it| Refusal::Wrong(it.0.to_string()))?;
         if recorder.mount() != Err(Error::BAD_DIRECTORY) {
-            return Err(Refusal::Wrong(format!("the medium {} has a recorder's directory already: to empty it, start the service and give .ERASE", self.name())));
+            return Err(Refusal::Wrong(format!(
+                "the medium {} has a recorder's directory already: to empty it, start the service and give .ERASE",
+                self.name()
+            )));
         }
         let region = recorder.close();
         let mut recorder = Recorder::format(region, ROOM, &self.script).map_err(|it| Refusal::Wrong(it.0.to_string()))?;
@@ -91,11 +101,16 @@ impl Medium {
         let is_device = found.file_type().is_block_device();
         let device = if is_device { found.rdev() } else { found.dev() };
         let of_disk = |key: &str| {
-            ["", "../"].iter().find_map(|up| fs::read_to_string(format!("/sys/dev/block/{}:{}/{up}queue/{key}", major(device), minor(device))).ok()).map(|it| it.trim().to_string())
+            ["", "../"]
+                .iter()
+                .find_map(|up| {
+                    fs::read_to_string(format!("/sys/dev/block/{}:{}/{up}queue/{key}", major(device), minor(device))).ok()
+                })
+                .map(|it| it.trim().to_string())
         };
         let sector = of_disk("physical_block_size").and_then(|it| it.parse::<u32>().ok());
         let cache = of_disk("write_cache").unwrap_or_else(|| "not known".to_string());
-        let room = nix::sys::statvfs::statvfs(&self.path).map(|it| it.blocks_available() as u64 * it.fragment_size() as u64 >> 20);
+        let room = nix::sys::statvfs::statvfs(&self.path).map(|it| (it.blocks_available() * it.fragment_size()) >> 20);
         info!(
             "medium {}: {} of {} MiB, sectors of {} bytes, the disk's cache is {cache}{}",
             self.name(),
@@ -105,37 +120,54 @@ impl Medium {
             room.ok().filter(|_| !is_device).map_or(String::new(), |it| format!(", {it} MiB are free beside it"))
         );
         if sector != Some(512) {
-            warning!("medium {}: a loss of power amid a write may tear eight blocks of a disk whose sectors are not of 512 bytes; prefer a disk of 512", self.name());
+            warning!(
+                "medium {}: a loss of power amid a write may tear eight blocks of a disk whose sectors are not of 512 bytes; \
+                 prefer a disk of 512",
+                self.name()
+            );
         }
         if !is_device && found.blocks() * 512 < 512 * self.blocks as u64 {
-            warning!("medium {}: the file is not allocated whole, so a full disk ends the service; make it anew: copy it with `cp --sparse=never`", self.name());
+            warning!(
+                "medium {}: the file is not allocated whole, so a full disk ends the service; make it anew: copy it with \
+                 `cp --sparse=never`",
+                self.name()
+            );
         }
     }
 
     /// Takes the medium for this program alone.
     fn take(&self) -> Result<Disk, Refusal> {
         Disk::open(&self.path, self.blocks).map_err(|error| match error.kind() {
-            io::ErrorKind::WouldBlock => Refusal::Taken(format!("the medium {} is used by another program: end that one, or give this one a medium of its own", self.name())),
-            io::ErrorKind::InvalidInput => {
-                Refusal::Wrong(format!("the medium {} has fewer than {} blocks: give the number of blocks that it was made with", self.name(), self.blocks))
-            }
-            io::ErrorKind::NotFound | io::ErrorKind::PermissionDenied => {
-                Refusal::Wrong(format!("the medium {} cannot be opened: {error}; let the service's user read and write it", self.name()))
-            }
+            io::ErrorKind::WouldBlock => Refusal::Taken(format!(
+                "the medium {} is used by another program: end that one, or give this one a medium of its own",
+                self.name()
+            )),
+            io::ErrorKind::InvalidInput => Refusal::Wrong(format!(
+                "the medium {} has fewer than {} blocks: give the number of blocks that it was made with",
+                self.name(),
+                self.blocks
+            )),
+            io::ErrorKind::NotFound | io::ErrorKind::PermissionDenied => Refusal::Wrong(format!(
+                "the medium {} cannot be opened: {error}; let the service's user read and write it",
+                self.name()
+            )),
             _ => Refusal::Failed(format!("the medium {} cannot be opened: {error}", self.name())),
         })
     }
 
-    /// Opens a recorder over the medium and mounts it. The directory is read plainly first: a block of a mapping that cannot be read ends a program.
+    /// Opens a recorder over the medium and mounts it. The directory is read plainly first: a block of a mapping that cannot be
+    /// read ends a program.
     pub fn mount(&self) -> Result<Recorder, Refusal> {
         let disk = self.take()?;
         self.read_plainly(0..1 + self.directory as u64)?;
-        let mut recorder = Recorder::open(disk.into(), ROOM, &self.script).map_err(|(error, _)| Refusal::Wrong(format!("the recorder cannot be opened: {error}")))?;
+        let mut recorder = Recorder::open(disk.into(), ROOM, &self.script)
+            .map_err(|(error, _)| Refusal::Wrong(format!("the recorder cannot be opened: {error}")))?;
         match recorder.mount() {
             Ok(()) => (),
             Err(Error::BAD_DIRECTORY) => {
                 return Err(Refusal::Wrong(format!(
-                    "the medium {} has no directory of this recorder: a new device wants `r10d --format SETTINGS`; of one that has recordings keep a copy first",
+                    "the medium {} has no directory of this recorder: a new device wants `r10d --format SETTINGS`; \
+                     of one that has recordings keep a copy first",
                     self.name()
                 )));
             }
@@ -143,7 +175,11 @@ impl Medium {
         }
         let start = Instant::now();
         recorder.settle().map_err(|it| Refusal::Failed(format!("the medium {} cannot be written: {it}", self.name())))?;
-        info!("medium {}: mounted; to write its directory and sync took {:.1} ms", self.name(), start.elapsed().as_secs_f64() * 1e3);
+        info!(
+            "medium {}: mounted; to write its directory and sync took {:.1} ms",
+            self.name(),
+            start.elapsed().as_secs_f64() * 1e3
+        );
         Ok(recorder)
     }
 
@@ -152,13 +188,19 @@ impl Medium {
         1 + self.directory as u64 + files.iter().map(|it| it.blocks).sum::<u64>()
     }
 
-    /// Reads blocks into nothing, so that one that cannot be read is found and named, where a mapping would end the program. What was read stays in the system's cache.
+    /// Reads blocks into nothing, so that one that cannot be read is found and named, where a mapping would end the program. What
+    /// was read stays in the system's cache.
     pub fn read_plainly(&self, blocks: Range<u64>) -> Result<(), Refusal> {
         let failed = |it: io::Error| Refusal::Failed(format!("the medium {} cannot be read: {it}", self.name()));
         let file = File::open(&self.path).map_err(failed)?;
-        match first_unreadable(blocks.start * 512..blocks.end.min(self.blocks as u64) * 512, |bytes, at| file.read_exact_at(bytes, at)) {
+        match first_unreadable(blocks.start * 512..blocks.end.min(self.blocks as u64) * 512, |bytes, at| {
+            file.read_exact_at(bytes, at)
+        }) {
             None => Ok(()),
-            Some((block, error)) => Err(Refusal::Failed(format!("block {block} of the medium {} cannot be read: {error}; record on another disk, and copy this one with ddrescue", self.name()))),
+            Some((block, error)) => Err(Refusal::Failed(format!(
+                "block {block} of the medium {} cannot be read: {error}; record on another disk, and copy this one with ddrescue",
+                self.name()
+            ))),
         }
     }
 
@@ -192,7 +234,9 @@ mod tests {
     #[test]
     fn the_first_block_that_cannot_be_read_is_named() {
         let bad = |block: u64| {
-            move |bytes: &mut [u8], at: u64| if (at..at + bytes.len() as u64).contains(&(512 * block)) { Err(io::Error::from_raw_os_error(5)) } else { Ok(()) }
+            move |bytes: &mut [u8], at: u64| {
+                if (at..at + bytes.len() as u64).contains(&(512 * block)) { Err(io::Error::from_raw_os_error(5)) } else { Ok(()) }
+            }
         };
         for (range, block, found) in [
             (0..1 << 22, 5000, Some(5000)),

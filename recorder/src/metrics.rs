@@ -11,7 +11,8 @@ use crate::control::{Asking, Origin, Reply};
 use crate::info;
 
 pub fn start(address: SocketAddr, asking: Asking) -> io::Result<()> {
-    let listener = TcpListener::bind(address).map_err(|it| io::Error::new(it.kind(), format!("metrics = \"{address}\": {it}; give a free port of this machine")))?;
+    let listener = TcpListener::bind(address)
+        .map_err(|it| io::Error::new(it.kind(), format!("metrics = \"{address}\": {it}; give a free port of this machine")))?;
     thread::Builder::new().name("metrics".to_string()).spawn(move || {
         for mut stream in listener.incoming().flatten() {
             let wait = Some(Duration::from_secs(2));
@@ -23,7 +24,8 @@ pub fn start(address: SocketAddr, asking: Asking) -> io::Result<()> {
                 Some(Reply::Text(text)) => serde_json::from_str(&text).map(|it| of(&it)).unwrap_or_default(),
                 _ => String::new(),
             };
-            let head = format!("HTTP/1.0 200 OK\r\nContent-Type: text/plain; version=0.0.4\r\nContent-Length: {}\r\n\r\n", text.len());
+            let head =
+                format!("HTTP/1.0 200 OK\r\nContent-Type: text/plain; version=0.0.4\r\nContent-Length: {}\r\n\r\n", text.len());
             let _ = stream.write_all(head.as_bytes()).and_then(|()| stream.write_all(text.as_bytes()));
         }
     })?;
@@ -57,16 +59,24 @@ const OF_CHANNELS: [(&str, &str, &str); 7] = [
 fn of(figures: &Value) -> String {
     let mut out = String::new();
     let recording = u8::from(figures["state"] == "recording");
-    let _ = writeln!(out, "# HELP r10_recording Whether a file is recorded.\n# TYPE r10_recording gauge\nr10_recording {recording}");
+    let _ =
+        writeln!(out, "# HELP r10_recording Whether a file is recorded.\n# TYPE r10_recording gauge\nr10_recording {recording}");
     for (key, name, kind, help) in WHOLE {
-        let _ = writeln!(out, "# HELP r10_{name} {help}\n# TYPE r10_{name} {kind}\nr10_{name} {}", figures[key].as_u64().unwrap_or(0));
+        let _ =
+            writeln!(out, "# HELP r10_{name} {help}\n# TYPE r10_{name} {kind}\nr10_{name} {}", figures[key].as_u64().unwrap_or(0));
     }
     for (key, name, help) in OF_CHANNELS {
         let _ = writeln!(out, "# HELP r10_{name} {help}\n# TYPE r10_{name} counter");
         for channel in figures["channels"].as_array().map_or(&[][..], Vec::as_slice) {
             // a name is the settings' own text, so what would end it is taken out
-            let label: String = channel["name"].as_str().unwrap_or("").chars().filter(|it| !it.is_control() && !"\"\\".contains(*it)).collect();
-            let _ = writeln!(out, "r10_{name}{{channel=\"{}\",name=\"{label}\"}} {}", channel["id"], channel[key].as_u64().unwrap_or(0));
+            let label: String =
+                channel["name"].as_str().unwrap_or("").chars().filter(|it| !it.is_control() && !"\"\\".contains(*it)).collect();
+            let _ = writeln!(
+                out,
+                "r10_{name}{{channel=\"{}\",name=\"{label}\"}} {}",
+                channel["id"],
+                channel[key].as_u64().unwrap_or(0)
+            );
         }
     }
     out
@@ -78,9 +88,15 @@ mod tests {
 
     #[test]
     fn figures_become_lines() {
-        let figures = serde_json::json!({ "state": "recording", "free": 512, "channels": [{ "id": 5, "name": "GPS \"1\"", "came": 7, "lost": 2 }] });
+        let figures = serde_json::json!({ "state": "recording", "free": 512, "channels": [{ "id": 5, "name": "GPS \"1\"",
+        "came": 7, "lost": 2 }] });
         let text = of(&figures);
-        for line in ["r10_recording 1", "r10_free_bytes 512", "r10_messages_total{channel=\"5\",name=\"GPS 1\"} 7", "r10_lost_total{channel=\"5\",name=\"GPS 1\"} 2"] {
+        for line in [
+            "r10_recording 1",
+            "r10_free_bytes 512",
+            "r10_messages_total{channel=\"5\",name=\"GPS 1\"} 7",
+            "r10_lost_total{channel=\"5\",name=\"GPS 1\"} 2",
+        ] {
             assert!(text.lines().any(|it| it == line), "{line} in\n{text}");
         }
         assert_eq!(text.lines().filter(|it| it.starts_with("# TYPE")).count(), 1 + WHOLE.len() + OF_CHANNELS.len());

@@ -1,4 +1,5 @@
-//! The thread that owns the recorder: it takes in what the inputs hand over, keeps the clock, commits, ends files and begins the next, and goes on after failures.
+//! The thread that owns the recorder: it takes in what the inputs hand over, keeps the clock, commits, ends files and begins the
+//! next, and goes on after failures.
 use std::collections::VecDeque;
 use std::fmt;
 use std::sync::Arc;
@@ -7,10 +8,9 @@ use std::sync::mpsc::Receiver;
 use std::time::{Duration, Instant};
 
 use r10::{Error, Message, Recorder};
-use time::OffsetDateTime;
 
 use crate::acknowledge::Acknowledge;
-use crate::clock::{self, Counter, Steps};
+use crate::clock::{Counter, Steps};
 use crate::control::Command;
 use crate::feed::{Batch, Came, Head, Item, Outlet};
 use crate::figures::Times;
@@ -20,7 +20,7 @@ use crate::medium::{Medium, Refusal};
 use crate::readers::Reader;
 use crate::settings::{self, Begin, Settings};
 use crate::words::Point;
-use crate::{error, info, warning};
+use crate::{error, info};
 
 /// What stops the thread in what it does.
 #[derive(Debug)]
@@ -37,7 +37,9 @@ impl From<Error> for Trouble {
     fn from(error: Error) -> Trouble {
         match error {
             Error::MEDIUM_FULL | Error::DIRECTORY_FULL => Trouble::Full,
-            Error::MEDIUM | Error::FAILED | Error::NO_MEMORY => Trouble::Failed(format!("the recorder failed: {error} ({})", error.number())),
+            Error::MEDIUM | Error::FAILED | Error::NO_MEMORY => {
+                Trouble::Failed(format!("the recorder failed: {error} ({})", error.number()))
+            }
             _ => Trouble::Refused(error),
         }
     }
@@ -68,27 +70,27 @@ pub struct Lane {
     pub channel: settings::Channel,
     pub came: Arc<Came>,
     /// messages in the recorder's lane
-    waiting: usize,
+    pub(crate) waiting: usize,
     /// counts of the messages that were accepted and are not durable, those that wait last
-    pending: VecDeque<u64>,
+    pub(crate) pending: VecDeque<u64>,
     pub durable: u64,
     /// durable ones in the file that is recorded
     pub durable_in_file: u64,
     pub lost: u64,
     /// what of the lost the recorder was not given yet
-    untold: u64,
+    pub(crate) untold: u64,
     pub refused: u64,
     /// messages that came while nothing was recorded
     pub passed: u64,
-    longest: usize,
+    pub(crate) longest: usize,
     /// count, length and first bytes of the last message
     pub last: Option<(u64, usize, Vec<u8>)>,
-    seldom: Seldom,
+    pub(crate) seldom: Seldom,
 }
 
 /// What came in and was not offered yet.
 #[derive(Default)]
-struct Taken {
+pub(crate) struct Taken {
     batch: Batch,
     item: usize,
     byte: usize,
@@ -96,49 +98,49 @@ struct Taken {
 
 pub struct Owner {
     pub settings: Settings,
-    counter: Counter,
+    pub(crate) counter: Counter,
     pub medium: Medium,
     pub recorder: Option<Recorder>,
     pub state: State,
     pub lanes: Vec<Lane>,
     pub outlets: Vec<Outlet>,
-    taken: Taken,
-    commands: Receiver<Command>,
+    pub(crate) taken: Taken,
+    pub(crate) commands: Receiver<Command>,
     pub ending: Arc<AtomicBool>,
     pub point: Point,
     pub readers: Vec<Reader>,
     pub live: Live,
-    acknowledge: Option<Acknowledge>,
+    pub(crate) acknowledge: Option<Acknowledge>,
     /// number and name of the file that is or was recorded
     pub file: Option<(usize, String)>,
-    began: Instant,
-    committed: Instant,
-    ticked: Instant,
+    pub(crate) began: Instant,
+    pub(crate) committed: Instant,
+    pub(crate) ticked: Instant,
     pub has_news: bool,
     /// whether a recording goes on after a failure
-    wants: bool,
-    steps: Steps,
+    pub(crate) wants: bool,
+    pub(crate) steps: Steps,
     pub clock_steps: u64,
     pub failures: u32,
     /// failures since the last commit that went through
-    tries: u32,
+    pub(crate) tries: u32,
     pub why: String,
     pub commits: u64,
     pub times: Times,
-    watchdog: Option<(Duration, Instant)>,
+    pub(crate) watchdog: Option<(Duration, Instant)>,
 }
 
-/// Bytes that are pumped before the disk does what waits.
-const PUMPED: usize = 4 << 20;
-/// Operations that may wait before the disk does them.
-const OPERATIONS: usize = 8192;
 /// How long batches are taken in before something else has its turn.
 const TURN: Duration = Duration::from_millis(20);
-/// Blocks that are read plainly where a file begins: a mapped one that cannot be read would end the process.
-const AHEAD: u64 = 8 << 11;
 
 impl Owner {
-    pub fn new(settings: Settings, counter: Counter, came: Vec<Arc<Came>>, commands: Receiver<Command>, ending: Arc<AtomicBool>) -> std::io::Result<Owner> {
+    pub fn new(
+        settings: Settings,
+        counter: Counter,
+        came: Vec<Arc<Came>>,
+        commands: Receiver<Command>,
+        ending: Arc<AtomicBool>,
+    ) -> std::io::Result<Owner> {
         let lanes = settings.channels.iter().zip(came).map(|(channel, came)| Lane {
             channel: channel.clone(),
             came,
@@ -189,7 +191,8 @@ impl Owner {
         })
     }
 
-    /// Takes up the medium at the start of the service, and says whether a recording begins by itself. Only a medium that another program has, or that
+    /// Takes up the medium at the start of the service, and says whether a recording begins by itself. Only a medium that another
+    /// program has, or that
     /// cannot be made, is no start.
     pub fn begin(&mut self) -> Result<bool, Refusal> {
         self.medium.make()?;
@@ -225,7 +228,7 @@ impl Owner {
     }
 
     /// What is done about trouble.
-    fn mind(&mut self, done: Result<(), Trouble>) {
+    pub(crate) fn mind(&mut self, done: Result<(), Trouble>) {
         match done {
             Ok(()) => (),
             Err(Trouble::Full) => {
@@ -307,8 +310,6 @@ impl Owner {
         self.counter.count()
     }
 
-    // ---- what comes
-
     /// Takes in what the inputs handed over, for a turn at most. Whether there may be more.
     pub fn take_in(&mut self) -> Result<bool, Trouble> {
         let until = Instant::now() + TURN;
@@ -348,7 +349,8 @@ impl Owner {
 
     fn offer(&mut self, item: Item) -> Result<(), Trouble> {
         let place = item.place;
-        // a lane that is full is pumped first, which may meet trouble: until then nothing is changed, so that the message can be offered again
+        // a lane that is full is pumped first, which may meet trouble: until then nothing is changed, so that the message can be
+        // offered again
         if self.state == State::Recording && self.lanes[place].waiting >= self.lanes[place].channel.capacity {
             self.pump(place)?;
             if self.committed.elapsed() >= self.settings.commit / 4 {
@@ -384,285 +386,18 @@ impl Owner {
         Ok(())
     }
 
-    /// So many messages of a channel came, or would have come, before the next one that is offered, and are in no file. They are counted, logged and shown.
-    fn note_lost(&mut self, place: usize, count: u64) {
+    /// So many messages of a channel came, or would have come, before the next one that is offered, and are in no file. They are
+    /// counted, logged and shown.
+    pub(crate) fn note_lost(&mut self, place: usize, count: u64) {
         let lane = &mut self.lanes[place];
         lane.lost += count;
         lane.untold += count;
         let (id, lost) = (lane.channel.id, lane.lost);
         lane.seldom.warn(|| format!("channel {id}: {count} messages were lost, {lost} since the start"));
-        // The library has no call yet that puts the number in front of the channel's next message in the file. Once it has, it stands here:
+        // The library has no call yet that puts the number in front of the channel's next message in the file. Once it has, it
+        // stands here:
         // if let Some(recorder) = &mut self.recorder { recorder.lose(id, std::mem::take(&mut lane.untold)) }
     }
-
-    // ---- what is recorded
-
-    /// Takes a channel's messages from its lane into the file.
-    fn pump(&mut self, place: usize) -> Result<(), Trouble> {
-        while self.lanes[place].waiting > 0 {
-            let lane = &mut self.lanes[place];
-            let most = (PUMPED / (lane.longest + 64)).max(1);
-            let id = lane.channel.id;
-            let moved = self.recorder()?.pump(id, most)?;
-            if moved == 0 {
-                return Err(Trouble::Failed(format!("channel {id}: the recorder takes none of what waits")));
-            }
-            self.lanes[place].waiting -= moved;
-            if self.recorder()?.queue()?.waiting > OPERATIONS {
-                self.settle()?;
-            }
-        }
-        Ok(())
-    }
-
-    /// Makes all durable that was accepted.
-    fn commit(&mut self) -> Result<(), Trouble> {
-        for place in 0..self.lanes.len() {
-            self.pump(place)?;
-        }
-        self.recorder()?.commit()?;
-        self.settle()?;
-        self.is_durable();
-        self.tries = 0;
-        self.has_news = false;
-        self.committed = Instant::now();
-        self.show()
-    }
-
-    /// What was taken into the file is durable now.
-    fn is_durable(&mut self) {
-        let now = self.counter.count();
-        self.commits += 1;
-        for lane in &mut self.lanes {
-            let count = lane.pending.len() - lane.waiting.min(lane.pending.len());
-            lane.pending.drain(..count).for_each(|it| self.times.add(now.saturating_sub(it)));
-            lane.durable += count as u64;
-            lane.durable_in_file += count as u64;
-            if count > 0
-                && let (Some(to), Some((number, _))) = (&mut self.acknowledge, &self.file)
-            {
-                to.line(*number, lane.channel.id, lane.durable_in_file);
-            }
-        }
-        if let Some(to) = &mut self.acknowledge {
-            to.flush();
-        }
-    }
-
-    fn tick(&mut self) -> Result<(), Trouble> {
-        let (now, civil) = (Instant::now(), OffsetDateTime::now_utc());
-        self.ticked = now;
-        let (count, stepped) = (self.counter.count_at(now), self.steps.look(now, civil));
-        self.recorder()?.tick(count, &clock::civil(civil))?;
-        if let Some(step) = stepped {
-            self.clock_steps += 1;
-            warning!("the system's clock stepped by {step:+.3} s; recordings have times before and after it");
-            if self.state == State::Recording {
-                let number = self.settings.clock_event;
-                self.recorder()?.event(number, count)?;
-            }
-        }
-        self.has_news |= self.state == State::Recording;
-        if self.state != State::Recording {
-            self.settle()?;
-        }
-        if let Some((number, name)) = self.file.as_ref().filter(|_| self.state == State::Recording) {
-            let text = format!("recording file {} {name}", number + 1);
-            let _ = sd_notify::notify(false, &[sd_notify::NotifyState::Status(&text)]);
-        }
-        Ok(())
-    }
-
-    /// Begins a file. One without a name gets the settings' and the time.
-    pub fn start(&mut self, name: Option<&str>) -> Result<(), Trouble> {
-        let done = self.start_by(name);
-        // where the disk fails in it, it is begun again
-        self.wants = matches!(done, Ok(()) | Err(Trouble::Failed(_)));
-        done
-    }
-
-    fn start_by(&mut self, name: Option<&str>) -> Result<(), Trouble> {
-        self.tick()?;
-        let files = self.recorder()?.files()?;
-        let first = self.medium.first_block(&files);
-        self.medium.read_plainly(first..first + AHEAD).map_err(|it| Trouble::Failed(it.text().to_string()))?;
-        let name = name.map_or_else(|| fresh_name(&self.settings.prefix, &files), str::to_string);
-        let setup = std::mem::take(&mut self.settings.setup);
-        let started = self.recorder()?.start(&name, &setup);
-        self.settings.setup = setup;
-        started?;
-        self.settle()?;
-        info!("file {} {name}: recording", files.len() + 1);
-        self.file = Some((files.len(), name));
-        self.live.begin();
-        self.state = State::Recording;
-        self.began = Instant::now();
-        self.has_news = true;
-        self.lanes.iter_mut().for_each(|it| it.durable_in_file = 0);
-        Ok(())
-    }
-
-    /// Ends the file, with all that waits, as far as there is room.
-    pub fn stop(&mut self, why: &str) -> Result<(), Trouble> {
-        let mut is_full = false;
-        for place in 0..self.lanes.len() {
-            match self.pump(place) {
-                Err(Trouble::Full) => is_full = true,
-                other => other?,
-            }
-        }
-        let stopped = self.recorder()?.stop()?;
-        self.settle()?;
-        for place in 0..self.lanes.len() {
-            self.lanes[place].waiting = self.recorder()?.channel_at(place)?.waiting;
-        }
-        self.is_durable();
-        self.show()?;
-        self.state = State::Idle;
-        self.wants = false;
-        self.has_news = false;
-        let (number, name) = self.file.clone().unwrap_or_default();
-        info!("file {} {name}: ended, it {why}", number + 1);
-        if stopped.left > 0 || is_full {
-            warning!("file {} {name}: {} messages had no room in it, and come first in the next one", number + 1, stopped.left);
-        }
-        Ok(())
-    }
-
-    /// Ends the file and begins the next. Where there is no room for one, nothing is recorded until an erase.
-    fn next_file(&mut self, why: &str) -> Result<(), Trouble> {
-        let is_empty = self.lanes.iter().all(|it| it.durable_in_file == 0);
-        if self.state == State::Recording {
-            self.stop(why)?;
-        }
-        let is_empty = is_empty && self.lanes.iter().all(|it| it.durable_in_file == 0);
-        let begun = if is_empty && self.file.is_some() && why == "is full" { Err(Trouble::Full) } else { self.start(None) };
-        match begun {
-            Err(Trouble::Full) => {
-                self.state = State::Full;
-                error!("the medium is full: nothing is recorded, and what comes is counted as lost; copy the files, then give .ERASE and .RECORD");
-                Ok(())
-            }
-            other => other,
-        }
-    }
-
-    // ---- when the disk fails
-
-    /// Mounts the medium, and closes a file that was cut off. Whether there was one.
-    fn open(&mut self) -> Result<bool, Refusal> {
-        let failed = |it: Error| Refusal::Failed(it.to_string());
-        let mut recorder = self.medium.mount()?;
-        recorder.tick(self.counter.count(), &clock::civil(OffsetDateTime::now_utc())).map_err(failed)?;
-        let files = recorder.files().map_err(failed)?;
-        let cut = files.last().filter(|it| !it.closed);
-        if let Some(file) = cut {
-            let (start, first) = (Instant::now(), self.medium.first_block(&files[..files.len() - 1]));
-            self.medium.read_plainly(first..first + file.blocks)?;
-            match recorder.seal() {
-                Ok(()) => (),
-                Err(Error::BAD_FILE) => {
-                    return Err(Refusal::Wrong(format!(
-                        "the last file, {}, was cut off and cannot be closed: it is not as this recorder writes it; copy the medium, then record on another one",
-                        file.name
-                    )));
-                }
-                Err(error) => return Err(failed(error)),
-            }
-            recorder.settle().map_err(|it| Refusal::Failed(format!("the medium cannot be written: {it}")))?;
-            info!("file {} {}: it was cut off, and is closed now, {} bytes in {} ms", files.len(), file.name, file.size, start.elapsed().as_millis());
-        }
-        let was_cut = cut.is_some();
-        self.account(&mut recorder, &files).map_err(failed)?;
-        self.recorder = Some(recorder);
-        self.state = State::Idle;
-        Ok(was_cut)
-    }
-
-    /// What of the messages that waited for a commit, when the recorder failed, is in its file after all: the rest is lost, and is said so.
-    fn account(&mut self, recorder: &mut Recorder, files: &[r10::File]) -> Result<(), Error> {
-        let file = self.file.as_ref().filter(|it| files.get(it.0).is_some_and(|file| file.name == it.1)).map(|it| it.0);
-        for place in 0..self.lanes.len() {
-            let lane = &mut self.lanes[place];
-            let pending: Vec<u64> = std::mem::take(&mut lane.pending).into();
-            lane.waiting = 0;
-            let mut is_there = |count: u64| -> Result<bool, Error> { Ok(match file {
-                Some(file) => recorder.find(file, lane.channel.id, count)?.is_some(),
-                None => false,
-            }) };
-            // what is in the file is a front of what was accepted, and counts rise: so the first that is not there is found by halves
-            let (mut there, mut not) = (0, pending.len());
-            while there < not {
-                let middle = (there + not) / 2;
-                if is_there(pending[middle])? { there = middle + 1 } else { not = middle }
-            }
-            lane.durable += there as u64;
-            if pending.len() > there {
-                self.note_lost(place, (pending.len() - there) as u64);
-            }
-        }
-        Ok(())
-    }
-
-    /// The disk failed: as after a loss of power. The recorder and the mapping go, with what the system kept, and all is opened again.
-    fn fail(&mut self, why: &str) {
-        self.failures += 1;
-        self.tries += 1;
-        self.why = why.to_string();
-        error!("{why}; what was not committed may be lost; the medium is opened again (try {} of {})", self.tries, self.settings.tries);
-        self.recorder = None;
-        self.readers.clear();
-        self.state = State::Failed((self.tries <= self.settings.tries).then(Instant::now));
-        if self.tries > self.settings.tries {
-            self.down(&Refusal::Failed(why.to_string()));
-        }
-    }
-
-    fn down(&mut self, refusal: &Refusal) {
-        self.state = State::Failed(None);
-        self.recorder = None;
-        self.why = refusal.text().to_string();
-        error!("recording is down: {}; then give .RECORD", refusal.text());
-        let _ = sd_notify::notify(false, &[sd_notify::NotifyState::Status("FAIL: recording is down; see the log")]);
-    }
-
-    /// Opens the medium again, where that is due, and goes on in a new file.
-    fn retry(&mut self) {
-        let State::Failed(Some(at)) = self.state else { return };
-        if Instant::now() < at {
-            return;
-        }
-        match self.open() {
-            Ok(was_cut) if self.wants || was_cut && self.settings.begin != Begin::Wait => self.resume(),
-            Ok(_) => info!("the medium is mounted again"),
-            Err(Refusal::Failed(why)) if self.tries < self.settings.tries => {
-                self.tries += 1;
-                self.failures += 1;
-                warning!("{why}; it is tried again (try {} of {})", self.tries, self.settings.tries);
-                self.state = State::Failed(Some(Instant::now() + Duration::from_millis(100 << self.tries.min(6))));
-            }
-            Err(refusal) => self.down(&refusal),
-        }
-    }
-
-    /// Opens a medium that is down, by a command.
-    pub fn open_again(&mut self) -> Result<(), Refusal> {
-        self.tries = 0;
-        self.open().map(|_| ())
-    }
-
-    fn resume(&mut self) {
-        let begun = self.start(None);
-        match begun {
-            Err(Trouble::Full) => {
-                let done = self.next_file("is full");
-                self.mind(done);
-            }
-            other => self.mind(other),
-        }
-    }
-
-    // ---- the end
 
     /// Ends the file and the use of the medium. Whether all went well.
     fn end(&mut self) -> bool {
@@ -709,12 +444,4 @@ fn give(recorder: &mut Recorder, id: u16, item: &Item, bytes: &[u8]) -> Result<(
         Head::Message { data_error, format, sub } => Message::Message { data_error, format, sub, bytes },
     };
     recorder.offer(id, item.count, message)
-}
-
-/// A name that no file has: the prefix, the time in UTC, and where that is taken a number.
-fn fresh_name(prefix: &str, files: &[r10::File]) -> String {
-    let it = clock::civil(OffsetDateTime::now_utc());
-    let base = format!("{prefix}{:04}{:02}{:02}-{:02}{:02}{:02}", it.year, it.month, it.day, it.hour, it.minute, it.second);
-    let is_taken = |name: &str| files.iter().any(|it| it.name == name);
-    (1..).map(|number| if number == 1 { base.clone() } else { format!("{base}_{number}") }).find(|it| !is_taken(it)).unwrap_or(base)
 }

@@ -30,7 +30,10 @@ pub fn run(path: Option<&Path>, mut feed: Feed, channels: &[Channel]) {
     loop {
         let from = path.map_or("standard input".to_string(), |it| it.display().to_string());
         let failed = match path.map(open) {
-            None => io::stdin().as_fd().try_clone_to_owned().and_then(|it| read(BufReader::with_capacity(1 << 16, it.into()), &from, &mut feed, channels)),
+            None => io::stdin()
+                .as_fd()
+                .try_clone_to_owned()
+                .and_then(|it| read(BufReader::with_capacity(1 << 16, it.into()), &from, &mut feed, channels)),
             Some(Ok((file, is_pipe))) => {
                 was_said = false;
                 let ended = read(BufReader::with_capacity(1 << 16, file), &from, &mut feed, channels);
@@ -73,7 +76,11 @@ fn read(mut from: BufReader<File>, name: &str, feed: &mut Feed, channels: &[Chan
         if line.iter().all(u8::is_ascii_whitespace) || line.trim_ascii_start().starts_with(b"#") {
             continue;
         }
-        let text = if is_whole { std::str::from_utf8(&line).map_err(|it| it.to_string()) } else { Err(format!("it has more than {LONGEST} bytes")) };
+        let text = if is_whole {
+            std::str::from_utf8(&line).map_err(|it| it.to_string())
+        } else {
+            Err(format!("it has more than {LONGEST} bytes"))
+        };
         let kind_of = |id| channels.iter().find(|it| it.id == id).map(|it| it.kind);
         match text.and_then(|it| entries::read(it, only, kind_of)) {
             Ok(it) => {
@@ -119,14 +126,18 @@ mod tests {
         let long = format!("channel = 5, bytes = \"{}\"\n", "41".repeat(LONGEST));
         let text = format!("# a comment\n\nchannel = 5, bytes = \"41\"\n{long}bytes = \"4\"\n\u{fffd}\nbytes = \"42\"");
         std::fs::write(&path, text.replace('\u{fffd}', "\u{1}").as_bytes()).unwrap();
-        let settings = "medium = \"m\"\nblocks = 99\nvolume = \"V\"\n[control]\nsocket = \"c\"\n[[channel]]\nid = 5\nkind = \"message\"\n";
+        let settings =
+            "medium = \"m\"\nblocks = 99\nvolume = \"V\"\n[control]\nsocket = \"c\"\n[[channel]]\nid = 5\nkind = \"message\"\n";
         let channels = crate::settings::read(settings, Path::new("/")).unwrap().channels;
         let came = Arc::new(Came::default());
         let (feed, outlet) = feed(std::thread::current(), Counter::new(), 1 << 20, &[(0, came.clone())]);
         run(Some(&path), feed, &channels);
         std::fs::remove_file(&path).unwrap();
-        let batch = outlet.take().unwrap();
-        assert_eq!((batch.bytes.as_slice(), came.bad.load(Relaxed)), (b"AB".as_slice(), 3));
-        assert_eq!(batch.items.iter().map(|it| it.lost).collect::<Vec<_>>(), [0, 3]);
+        let (mut bytes, mut lost) = (Vec::new(), Vec::new());
+        while let Some(batch) = outlet.take() {
+            bytes.extend(batch.bytes);
+            lost.extend(batch.items.iter().map(|it| it.lost));
+        }
+        assert_eq!((bytes.as_slice(), lost.as_slice(), came.bad.load(Relaxed)), (b"AB".as_slice(), [0, 3].as_slice(), 3));
     }
 }

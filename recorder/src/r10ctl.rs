@@ -13,7 +13,10 @@ use r10_recorder::words::PATIENCE;
 use serde_json::{Value, json};
 
 #[derive(Parser)]
-#[command(version, about = "Asks and controls a recorder: r10ctl status, r10ctl record FLT1, r10ctl watch, r10ctl follow 5. `r10ctl help` lists the words.")]
+#[command(
+    version,
+    about = "Asks and controls a recorder: r10ctl status, record FLT1, watch, follow 5. `r10ctl help` lists the words."
+)]
 #[command(disable_help_subcommand = true)]
 struct Words {
     /// The recorder's socket
@@ -25,7 +28,8 @@ struct Words {
     /// Answers in JSON, one value a line
     #[arg(long)]
     json: bool,
-    /// A word of chapter 6, with a dot before it or without: status, record, stop, erase, event, files, health, find, replay, publish; or watch, follow, figures
+    /// A word of chapter 6, with a dot before it or without: status, record, stop, erase, event, files, health, find, replay,
+    /// publish; or watch, follow, figures
     #[arg(required = true)]
     words: Vec<String>,
 }
@@ -42,14 +46,18 @@ impl Recorder {
     fn connect(words: &Words) -> Result<Recorder, String> {
         let line: Box<dyn Line> = match &words.tcp {
             Some(address) => {
-                let it = TcpStream::connect(address).map_err(|it| format!("no recorder at {address}: {it}; is control.tcp set to it, and this machine one of control.peers?"))?;
+                let it = TcpStream::connect(address).map_err(|it| {
+                    format!("no recorder at {address}: {it}; is control.tcp set to it, and this machine one of control.peers?")
+                })?;
                 it.set_read_timeout(Some(PATIENCE)).map_err(|it| it.to_string())?;
                 Box::new(it)
             }
             None => {
                 let path = &words.socket;
                 let it = UnixStream::connect(path).map_err(|it| match it.kind() {
-                    io::ErrorKind::PermissionDenied => format!("no access to {}: be root, or of the group of the service", path.display()),
+                    io::ErrorKind::PermissionDenied => {
+                        format!("no access to {}: be root, or of the group of the service", path.display())
+                    }
                     _ => format!("no recorder at {}: {it}; start r10d, or give --socket", path.display()),
                 })?;
                 it.set_read_timeout(Some(PATIENCE)).map_err(|it| it.to_string())?;
@@ -60,22 +68,23 @@ impl Recorder {
     }
 
     fn send(&mut self, command: &str) -> Result<(), String> {
-        self.line.get_mut().write_all(format!("{command}\n").as_bytes()).map_err(|it| format!("the recorder went away: {it}; see its log"))
+        self.line
+            .get_mut()
+            .write_all(format!("{command}\n").as_bytes())
+            .map_err(|it| format!("the recorder went away: {it}; see its log"))
     }
 
     /// The next line of an answer, or none at its end.
     fn next(&mut self) -> Result<Option<String>, String> {
         let mut text = String::new();
-        loop {
-            match self.line.read_line(&mut text) {
-                Ok(0) => return Err("the recorder went away; see its log".to_string()),
-                Ok(_) if text == "*\n" => return Ok(None),
-                Ok(_) => return Ok(Some(text.trim_end_matches('\n').to_string())),
-                Err(error) if matches!(error.kind(), io::ErrorKind::WouldBlock | io::ErrorKind::TimedOut) => {
-                    return Err(format!("the recorder did not answer for {} s; see its log", PATIENCE.as_secs()));
-                }
-                Err(error) => return Err(format!("the recorder went away: {error}; see its log")),
+        match self.line.read_line(&mut text) {
+            Ok(0) => Err("the recorder went away; see its log".to_string()),
+            Ok(_) if text == "*\n" => Ok(None),
+            Ok(_) => Ok(Some(text.trim_end_matches('\n').to_string())),
+            Err(error) if matches!(error.kind(), io::ErrorKind::WouldBlock | io::ErrorKind::TimedOut) => {
+                Err(format!("the recorder did not answer for {} s; see its log", PATIENCE.as_secs()))
             }
+            Err(error) => Err(format!("the recorder went away: {error}; see its log")),
         }
     }
 
@@ -141,7 +150,8 @@ fn print(text: &str) -> Result<(), String> {
 }
 
 /// States by their numbers, as the standard has them.
-const STATES: [(&str, &str); 6] = [("00", "FAIL"), ("01", "IDLE"), ("05", "RECORD"), ("06", "PLAY"), ("07", "RECORD & PLAY"), ("09", "BUSY")];
+const STATES: [(&str, &str); 6] =
+    [("00", "FAIL"), ("01", "IDLE"), ("05", "RECORD"), ("06", "PLAY"), ("07", "RECORD & PLAY"), ("09", "BUSY")];
 
 fn state_name(number: &str) -> &str {
     STATES.iter().find(|it| it.0 == number).map_or("?", |it| it.1)
@@ -162,13 +172,19 @@ fn of_line(word: &str, line: &str) -> Value {
     let parts: Vec<&str> = line.split(' ').collect();
     match (word, parts.as_slice()) {
         ("status", ["S", state, warnings, critical, used]) => json!({
-            "state": number(state), "name": state_name(state), "warnings": number(warnings), "critical": number(critical), "used_percent": number(used.trim_end_matches('%')),
+            "state": number(state), "name": state_name(state), "warnings": number(warnings), "critical": number(critical),
+            "used_percent": number(used.trim_end_matches('%')),
         }),
         ("files", [file, name, block, bytes, state]) => {
-            json!({ "file": number(file), "name": name, "block": number(block), "bytes": number(bytes), "closed": *state == "closed" })
+            json!({ "file": number(file), "name": name, "block": number(block), "bytes": number(bytes),
+            "closed": *state == "closed" })
         }
-        ("health", [feature, bits, ..]) => json!({ "feature": number(feature), "bits": u32::from_str_radix(bits, 16).ok(), "text": parts[2..].join(" ") }),
-        ("find", ["F", block, file, count]) => json!({ "record_block": number(block), "file": number(file), "count": number(count) }),
+        ("health", [feature, bits, ..]) => {
+            json!({ "feature": number(feature), "bits": u32::from_str_radix(bits, 16).ok(), "text": parts[2..].join(" ") })
+        }
+        ("find", ["F", block, file, count]) => {
+            json!({ "record_block": number(block), "file": number(file), "count": number(count) })
+        }
         ("publish", [address, port, ..]) => json!({ "address": address, "port": number(port) }),
         ("medium", [.., blocks, directory]) if parts.len() > 2 => {
             json!({ "path": parts[..parts.len() - 2].join(" "), "blocks": number(blocks), "directory": number(directory) })
@@ -229,7 +245,8 @@ fn watch(recorder: &mut Recorder, as_json: bool) -> Result<(), String> {
     loop {
         let lines = recorder.ask(".FIGURES")?;
         let now = Instant::now();
-        let figures: Value = serde_json::from_str(lines.first().map_or("", String::as_str)).map_err(|it| format!("the figures cannot be read: {it}; are r10d and r10ctl of one version?"))?;
+        let figures: Value = serde_json::from_str(lines.first().map_or("", String::as_str))
+            .map_err(|it| format!("the figures cannot be read: {it}; are r10d and r10ctl of one version?"))?;
         let before = last.as_ref().map(|(at, it)| (now.duration_since(*at).as_secs_f64(), it));
         let text = if as_json { format!("{figures}\n") } else { drawn(&figures, before) };
         let clear = if io::stdout().is_terminal() && !as_json { "\x1b[H\x1b[J" } else { "" };
@@ -244,9 +261,16 @@ fn drawn(it: &Value, before: Option<(f64, &Value)>) -> String {
     let mib = |bytes: u64| format!("{:.1} MiB", bytes as f64 / 1_048_576.0);
     let file = match &it["file"] {
         Value::Null => String::new(),
-        file => format!(", file {} {} of {}", number(&file["number"]), file["name"].as_str().unwrap_or(""), mib(number(&file["bytes"]))),
+        file => {
+            format!(", file {} {} of {}", number(&file["number"]), file["name"].as_str().unwrap_or(""), mib(number(&file["bytes"])))
+        }
     };
-    let mut out = format!("{}{file}; {} free of {}\n", it["state"].as_str().unwrap_or("?").to_uppercase(), mib(number(&it["free"])), mib(number(&it["medium_bytes"])));
+    let mut out = format!(
+        "{}{file}; {} free of {}\n",
+        it["state"].as_str().unwrap_or("?").to_uppercase(),
+        mib(number(&it["free"])),
+        mib(number(&it["medium_bytes"]))
+    );
     let times = &it["durable_after_us"];
     let _ = writeln!(
         out,
@@ -261,9 +285,17 @@ fn drawn(it: &Value, before: Option<(f64, &Value)>) -> String {
     if it["why"] != "" {
         let _ = writeln!(out, "last failure: {}", it["why"].as_str().unwrap_or(""));
     }
-    let _ = writeln!(out, "\n{:>5} {:12} {:8} {:>10} {:>9} {:>12} {:>8} {:>8}  last message", "ID", "name", "kind", "messages/s", "KiB/s", "durable", "lost", "bad");
+    let _ = writeln!(
+        out,
+        "\n{:>5} {:12} {:8} {:>10} {:>9} {:>12} {:>8} {:>8}  last message",
+        "ID", "name", "kind", "messages/s", "KiB/s", "durable", "lost", "bad"
+    );
     for (place, channel) in it["channels"].as_array().map_or(&[][..], Vec::as_slice).iter().enumerate() {
-        let rate = |key: &str| before.map_or(0.0, |(seconds, it)| (number(&channel[key]).saturating_sub(number(&it["channels"][place][key]))) as f64 / seconds.max(0.001));
+        let rate = |key: &str| {
+            before.map_or(0.0, |(seconds, it)| {
+                (number(&channel[key]).saturating_sub(number(&it["channels"][place][key]))) as f64 / seconds.max(0.001)
+            })
+        };
         let last = match (number(&channel["last_length"]), channel["last_bytes"].as_str().unwrap_or("")) {
             (_, "-") if number(&channel["last_count"]) == 0 => String::new(),
             (length, bytes) => format!("{length} bytes {bytes}{}", if length > 16 { ".." } else { "" }),
@@ -290,22 +322,37 @@ mod tests {
 
     #[test]
     fn lines_become_values() {
-        assert_eq!(of_line("status", "S 05 1 0 12%"), json!({ "state": 5, "name": "RECORD", "warnings": 1, "critical": 0, "used_percent": 12 }));
-        assert_eq!(of_line("files", "2 FLT1 66 704 closed"), json!({ "file": 2, "name": "FLT1", "block": 66, "bytes": 704, "closed": true }));
+        assert_eq!(
+            of_line("status", "S 05 1 0 12%"),
+            json!({ "state": 5, "name": "RECORD", "warnings": 1, "critical": 0, "used_percent": 12 })
+        );
+        assert_eq!(
+            of_line("files", "2 FLT1 66 704 closed"),
+            json!({ "file": 2, "name": "FLT1", "block": 66, "bytes": 704, "closed": true })
+        );
         assert_eq!(of_line("health", "0 80000001 a b"), json!({ "feature": 0, "bits": 0x8000_0001u32, "text": "a b" }));
         assert_eq!(of_line("medium", "/a b/m 99 2"), json!({ "path": "/a b/m", "blocks": 99, "directory": 2 }));
-        assert_eq!(of_entry("entry 5 7 1+ message 0 1 3 -"), json!({ "channel": 5, "count": 7, "gap": "1+", "kind": "message", "data": "0", "format": "1", "sub": "3", "bytes": "" }));
+        assert_eq!(
+            of_entry("entry 5 7 1+ message 0 1 3 -"),
+            json!({ "channel": 5, "count": 7, "gap": "1+", "kind": "message", "data": "0", "format": "1", "sub": "3", "bytes": "" })
+        );
         assert_eq!(of_entry("entry 1 7 0 time 2026-11-28 07:14:05.40")["civil"], "2026-11-28 07:14:05.40");
         assert_eq!(of_entry("skipped: x"), json!({ "text": "skipped: x" }));
     }
 
     #[test]
     fn a_picture_has_rates() {
-        let figures = |came: u64| json!({ "state": "recording", "file": null, "free": 1 << 20, "medium_bytes": 2 << 20, "why": "",
-            "channels": [{ "id": 5, "name": "GPS", "kind": "message", "came": came, "bytes": 1024 * came, "durable": came, "lost": 3, "bad": 0, "refused": 0,
-                           "last_count": 9, "last_length": 2, "last_bytes": "4142" }] });
+        let figures = |came: u64| {
+            json!({ "state": "recording", "file": null, "free": 1 << 20, "medium_bytes": 2 << 20, "why": "",
+            "channels": [{ "id": 5, "name": "GPS", "kind": "message", "came": came, "bytes": 1024 * came, "durable": came,
+            "lost": 3, "bad": 0, "refused": 0,
+                           "last_count": 9, "last_length": 2, "last_bytes": "4142" }] })
+        };
         let text = drawn(&figures(300), Some((2.0, &figures(100))));
         assert!(text.starts_with("RECORDING; 1.0 MiB free of 2.0 MiB\n"), "{text}");
-        assert!(text.contains("    5 GPS          message         100     100.0          300        3        0  2 bytes 4142\n"), "{text}");
+        assert!(
+            text.contains("    5 GPS          message         100     100.0          300        3        0  2 bytes 4142\n"),
+            "{text}"
+        );
     }
 }

@@ -17,7 +17,10 @@ use r10_recorder::{error, info, inputs, metrics};
 use signal_hook::consts::{SIGINT, SIGTERM};
 
 #[derive(Parser)]
-#[command(version, about = "Records live inputs as IRIG 106 chapter 10 files on a disk, and can be watched and controlled meanwhile (r10ctl).")]
+#[command(
+    version,
+    about = "Records live inputs as IRIG 106 chapter 10 files on a disk, and can be watched and controlled meanwhile (r10ctl)."
+)]
 struct Words {
     /// The settings, in TOML: see docs/RECORDER.md
     settings: PathBuf,
@@ -35,7 +38,8 @@ const NO_START: u8 = 3;
 const NOT_CLOSED: u8 = 4;
 
 fn read(path: &Path) -> Result<Settings, Vec<String>> {
-    let text = std::fs::read_to_string(path).map_err(|it| vec![format!("{}: {it}; give the file with the settings", path.display())])?;
+    let text =
+        std::fs::read_to_string(path).map_err(|it| vec![format!("{}: {it}; give the file with the settings", path.display())])?;
     let folder = path.parent().map(Path::to_path_buf).unwrap_or_default();
     let folder = std::path::absolute(if folder.as_os_str().is_empty() { Path::new(".") } else { &folder }).unwrap_or(folder);
     settings::read(&text, &folder).map_err(|faults| faults.iter().map(|it| format!("{}: {it}", path.display())).collect())
@@ -90,7 +94,12 @@ fn serve(settings: Settings) -> Result<bool, String> {
     if let Some(address) = settings.metrics {
         metrics::start(address, asking).map_err(|it| it.to_string())?;
     }
-    info!("r10d {} is ready: {} channels, control at {}", env!("CARGO_PKG_VERSION"), settings.channels.len(), settings.socket.display());
+    info!(
+        "r10d {} is ready: {} channels, control at {}",
+        env!("CARGO_PKG_VERSION"),
+        settings.channels.len(),
+        settings.socket.display()
+    );
     let _ = sd_notify::notify(false, &[sd_notify::NotifyState::Ready]);
     Ok(owner.run(outlets, records))
 }

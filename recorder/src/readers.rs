@@ -1,4 +1,5 @@
-//! Those who read while it records: they get what became durable, or what a file has, as text. One that reads too slowly is left out, and hears so.
+//! Those who read while it records: they get what became durable, or what a file has, as text. One that reads too slowly is left
+//! out, and hears so.
 use std::sync::Arc;
 use std::sync::atomic::{AtomicUsize, Ordering::Relaxed};
 use std::sync::mpsc::{Sender, channel};
@@ -145,7 +146,11 @@ impl Owner {
             Some(it) => it,
             None => *cursor.insert(recorder.cursor(*file, &it.channels, *from..=COUNTS - 1)?),
         };
-        let mut text = if std::mem::take(skipped) { format!("skipped: it was read too slowly; what came before count {from} is in the file\n") } else { String::new() };
+        let mut text = if std::mem::take(skipped) {
+            format!("skipped: it was read too slowly; what came before count {from} is in the file\n")
+        } else {
+            String::new()
+        };
         recorder.advance(place)?;
         while let Some(entry) = recorder.next(place)? {
             entries::print(&mut text, &entry);
@@ -171,7 +176,13 @@ impl Owner {
             entries::print(&mut text, &entry);
         }
         recorder.close_cursor(place)?;
-        *span = if count > 2 * STEP { (*span / 2).max(1) } else if count < STEP / 2 { span.saturating_mul(2).min(COUNTS) } else { *span };
+        *span = if count > 2 * STEP {
+            (*span / 2).max(1)
+        } else if count < STEP / 2 {
+            span.saturating_mul(2).min(COUNTS)
+        } else {
+            *span
+        };
         let is_last = end >= *to;
         *from = end + 1;
         let goes_on = it.give(text) && !is_last;

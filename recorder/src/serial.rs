@@ -69,7 +69,8 @@ fn rate(baud: u32) -> Option<BaudRate> {
 
 /// Opens a line as it is, without echo and without a change to any byte.
 fn open(path: &Path, baud: Option<u32>) -> io::Result<File> {
-    let file = OpenOptions::new().read(true).write(true).custom_flags(OFlag::O_NOCTTY.bits() | OFlag::O_NONBLOCK.bits()).open(path)?;
+    let file =
+        OpenOptions::new().read(true).write(true).custom_flags(OFlag::O_NOCTTY.bits() | OFlag::O_NONBLOCK.bits()).open(path)?;
     let mut line = tcgetattr(file.as_raw_fd())?;
     cfmakeraw(&mut line);
     if let Some(rate) = baud.and_then(rate) {
@@ -93,7 +94,11 @@ pub fn run(path: &Path, baud: Option<u32>, mut framer: Framer, pause: Option<Dur
         framer.pause(|bytes| give(&mut feed, channel, bytes));
         feed.flush();
         if !was_said {
-            warning!("channel {}: the serial line {} cannot be read: {failed}; it is tried again until it can", channel.id, path.display());
+            warning!(
+                "channel {}: the serial line {} cannot be read: {failed}; it is tried again until it can",
+                channel.id,
+                path.display()
+            );
             was_said = true;
         }
         std::thread::sleep(AGAIN);
@@ -149,9 +154,15 @@ mod tests {
 
     #[test]
     fn messages_end_at_a_byte_a_length_or_a_pause() {
-        assert_eq!(messages(Framer::new(Some(b'\n'), 1024, false), &[b"$A\n$B", b"\n", b"\n$C"]), [b"$A\n".to_vec(), b"$B\n".to_vec(), b"\n".to_vec(), b"$C".to_vec()]);
+        assert_eq!(
+            messages(Framer::new(Some(b'\n'), 1024, false), &[b"$A\n$B", b"\n", b"\n$C"]),
+            [b"$A\n".to_vec(), b"$B\n".to_vec(), b"\n".to_vec(), b"$C".to_vec()]
+        );
         assert_eq!(messages(Framer::new(None, 3, false), &[b"abcd", b"efg"]), [b"abc".to_vec(), b"def".to_vec(), b"g".to_vec()]);
-        assert_eq!(messages(Framer::new(Some(b'\n'), 3, false), &[b"ab\ncdefgh"]), [b"ab\n".to_vec(), b"cde".to_vec(), b"fgh".to_vec()]);
+        assert_eq!(
+            messages(Framer::new(Some(b'\n'), 3, false), &[b"ab\ncdefgh"]),
+            [b"ab\n".to_vec(), b"cde".to_vec(), b"fgh".to_vec()]
+        );
         assert_eq!(messages(Framer::new(None, 65_535, true), &[b"all", b" of it"]), [b"all of it".to_vec()]);
     }
 

@@ -20,8 +20,13 @@ pub enum Kind {
 }
 
 impl Kind {
-    pub const NAMES: [(&'static str, Kind); 5] =
-        [("uart", Kind::Uart), ("1553", Kind::Bus1553), ("arinc", Kind::Arinc), ("discrete", Kind::Discrete), ("message", Kind::Message)];
+    pub const NAMES: [(&'static str, Kind); 5] = [
+        ("uart", Kind::Uart),
+        ("1553", Kind::Bus1553),
+        ("arinc", Kind::Arinc),
+        ("discrete", Kind::Discrete),
+        ("message", Kind::Message),
+    ];
 
     pub fn of(name: &str) -> Option<Kind> {
         Kind::NAMES.iter().find(|it| it.0 == name).map(|it| it.1)
@@ -174,14 +179,28 @@ pub const RATES: [u32; 13] = [1200, 2400, 4800, 9600, 19200, 38400, 57600, 11520
 /// Reads the text of a settings file. Paths that are not absolute are taken from the folder of the file.
 pub fn read(text: &str, folder: &Path) -> Result<Settings, Vec<Fault>> {
     let document: Document = toml::from_str(text).map_err(|error| {
-        let line = error.line_col().map_or(1, |it| it.0 + 1);
         let said = error.to_string();
-        vec![Fault { line, text: said.rsplit_once(" at line").map_or(said.clone(), |it| it.0.to_string()) }]
+        let said = said.rsplit_once(" at line").map_or(said.as_str(), |it| it.0);
+        // of an unknown key the crate says where its table ends
+        let key = said.strip_prefix("unknown field `").and_then(|it| it.split('`').next());
+        let line = key.and_then(|it| line_of_key(text, it)).or(error.line_col().map(|it| it.0 + 1)).unwrap_or(1);
+        vec![Fault { line, text: said.to_string() }]
     })?;
     let mut reader = Reader { text, folder, faults: Vec::new() };
     let settings = reader.settings(document);
     reader.faults.sort_by_key(|it| it.line);
     if reader.faults.is_empty() { Ok(settings) } else { Err(reader.faults) }
+}
+
+/// The first line on which a key is given a value.
+fn line_of_key(text: &str, key: &str) -> Option<usize> {
+    let gives = |line: &str| {
+        line.match_indices(key).any(|(at, _)| {
+            let is_word = line[..at].chars().next_back().is_none_or(|it| it.is_whitespace() || ",{.\"".contains(it));
+            is_word && line[at + key.len()..].trim_start_matches(['"', ' ', '\t']).starts_with('=')
+        })
+    };
+    text.lines().position(gives).map(|it| it + 1)
 }
 
 struct Reader<'a> {
@@ -244,7 +263,9 @@ impl Reader<'_> {
         let nodes = self.number_or("nodes", &it.nodes, 1000, 1..=32_765);
         let time = self.number_or("time", &it.time, 1, 1..=65_535);
         let event = self.number_or("event", &it.event, 2, 1..=65_535);
-        let mut script = format!("blocks = {blocks}\ndirectory = {directory}\nvolume = \"{volume}\"\nnodes = {nodes}\ntime = {time}\nevent = {event}\n");
+        let mut script = format!(
+            "blocks = {blocks}\ndirectory = {directory}\nvolume = \"{volume}\"\nnodes = {nodes}\ntime = {time}\nevent = {event}\n"
+        );
         let mut taken = BTreeSet::from([time]);
         if !taken.insert(event) {
             let text = format!("event = {event}: the channel of times has this ID; give another one");
@@ -274,7 +295,13 @@ impl Reader<'_> {
             && !address.ip().is_loopback()
             && peers.is_empty()
         {
-            self.fault(at, format!("control.tcp = \"{address}\": beyond this machine it wants a list of peers; give control.peers = [\"ADDRESS\", ..]"));
+            self.fault(
+                at,
+                format!(
+                    "control.tcp = \"{address}\": beyond this machine it wants a list of peers; \
+                 give control.peers = [\"ADDRESS\", ..]"
+                ),
+            );
         }
         Settings {
             medium: self.path(it.medium.get_ref()),
@@ -314,13 +341,25 @@ impl Reader<'_> {
         }
     }
 
-    fn channel(&mut self, it: &ChannelTable, taken: &mut BTreeSet<u64>, inputs: &mut BTreeMap<String, u64>, script: &mut String) -> Channel {
+    fn channel(
+        &mut self,
+        it: &ChannelTable,
+        taken: &mut BTreeSet<u64>,
+        inputs: &mut BTreeMap<String, u64>,
+        script: &mut String,
+    ) -> Channel {
         let id = self.number("id", &it.id, 1..=65_535);
         if !taken.insert(id) {
-            self.fault(&it.id, format!("id = {id}: another channel has this ID; give each channel, time and event an ID of its own"));
+            self.fault(
+                &it.id,
+                format!("id = {id}: another channel has this ID; give each channel, time and event an ID of its own"),
+            );
         }
         let kind = Kind::of(it.kind.get_ref()).unwrap_or_else(|| {
-            self.fault(&it.kind, format!("kind = {:?}: give \"uart\", \"1553\", \"arinc\", \"discrete\" or \"message\"", it.kind.get_ref()));
+            self.fault(
+                &it.kind,
+                format!("kind = {:?}: give \"uart\", \"1553\", \"arinc\", \"discrete\" or \"message\"", it.kind.get_ref()),
+            );
             Kind::Message
         });
         let capacity = self.number_or("capacity", &it.capacity, 16_384, 1..=65_536);
@@ -332,7 +371,7 @@ impl Reader<'_> {
         }
         let bytes = self.number_or("bytes", &it.bytes, 131_072, 128..=524_288);
         if let Some(at) = &it.bytes
-            && bytes % 4 != 0
+            && !bytes.is_multiple_of(4)
         {
             self.fault(at, format!("bytes = {bytes}: give a multiple of 4"));
         }
@@ -397,7 +436,10 @@ impl Reader<'_> {
             (Input::Udp { address, group, receive_mib }, format!("udp {address}"))
         } else if let Some(at) = &it.serial {
             if !kind.is_bytes() {
-                self.fault(at, format!("a serial line gives bytes: channel {id} of kind {} wants an input udp or lines", kind.name()));
+                self.fault(
+                    at,
+                    format!("a serial line gives bytes: channel {id} of kind {} wants an input udp or lines", kind.name()),
+                );
             }
             (self.serial(at, it, id), format!("serial {}", at.get_ref().display()))
         } else {
@@ -423,7 +465,10 @@ impl Reader<'_> {
         let length = self.number_or("length", &it.length, 1024, 1..=65_535) as usize;
         let pause = it.pause_ms.as_ref().map(|at| Duration::from_millis(self.number("pause_ms", at, 1..=60_000)));
         if end.is_none() && it.length.is_none() && pause.is_none() {
-            self.fault(at, format!("the serial line of channel {id} has no end of a message: give end (a byte), length or pause_ms"));
+            self.fault(
+                at,
+                format!("the serial line of channel {id} has no end of a message: give end (a byte), length or pause_ms"),
+            );
         }
         Input::Serial { path: self.path(at.get_ref()), baud, end, length, pause }
     }
@@ -473,13 +518,33 @@ input = { udp = \"127.0.0.1:20005\" }
             ("\"message\"", "\"discrete\"", "line 8: bits is missing: give a discrete channel bits = 1 to 31"),
             ("\"message\"", "\"pcm\"", "line 8: kind = \"pcm\": give \"uart\", \"1553\", \"arinc\", \"discrete\" or \"message\""),
             ("127.0.0.1:20005", "127.0.0.1", "line 9: udp = \"127.0.0.1\": give an address and a port, as \"127.0.0.1:20005\""),
-            ("udp = \"127.0.0.1:20005\"", "serial = \"/dev/x\"", "line 9: the serial line of channel 5 has no end of a message: give end (a byte), length or pause_ms"),
-            ("udp = \"127.0.0.1:20005\"", "serial = \"/dev/x\", end = 10, baud = 9601",
-             "line 9: baud = 9601: give one of [1200, 2400, 4800, 9600, 19200, 38400, 57600, 115200, 230400, 460800, 500000, 921600, 1000000]"),
-            ("udp = \"127.0.0.1:20005\"", "lines = \"-\", end = 10", "line 9: input of channel 5 has the key end, which is one of serial inputs: take it out"),
-            ("udp = \"127.0.0.1:20005\"", "udp = \"127.0.0.1:1\", lines = \"-\"", "line 9: input of channel 5 has 2 of udp, serial and lines: give one of them"),
-            ("socket = \"c\"", "socket = \"c\"\ntcp = \"0.0.0.0:7\"",
-             "line 6: control.tcp = \"0.0.0.0:7\": beyond this machine it wants a list of peers; give control.peers = [\"ADDRESS\", ..]"),
+            (
+                "udp = \"127.0.0.1:20005\"",
+                "serial = \"/dev/x\"",
+                "line 9: the serial line of channel 5 has no end of a message: give end (a byte), length or pause_ms",
+            ),
+            (
+                "udp = \"127.0.0.1:20005\"",
+                "serial = \"/dev/x\", end = 10, baud = 9601",
+                "line 9: baud = 9601: give one of [1200, 2400, 4800, 9600, 19200, 38400, 57600, \
+                 115200, 230400, 460800, 500000, 921600, 1000000]",
+            ),
+            (
+                "udp = \"127.0.0.1:20005\"",
+                "lines = \"-\", end = 10",
+                "line 9: input of channel 5 has the key end, which is one of serial inputs: take it out",
+            ),
+            (
+                "udp = \"127.0.0.1:20005\"",
+                "udp = \"127.0.0.1:1\", lines = \"-\"",
+                "line 9: input of channel 5 has 2 of udp, serial and lines: give one of them",
+            ),
+            (
+                "socket = \"c\"",
+                "socket = \"c\"\ntcp = \"0.0.0.0:7\"",
+                "line 6: control.tcp = \"0.0.0.0:7\": beyond this machine it wants a list of peers; \
+                 give control.peers = [\"ADDRESS\", ..]",
+            ),
             ("volume", "start = \"now\"\nvolume", "line 3: start = \"now\": give \"record\", \"resume\" or \"wait\""),
             ("volume", "commit_ms = 0\nvolume", "line 3: commit_ms = 0: give a number from 1 to 10000"),
         ] {
@@ -487,16 +552,22 @@ input = { udp = \"127.0.0.1:20005\" }
             assert_eq!(faults(&GOOD.replacen(old, new, 1)), [wanted]);
         }
         assert!(faults(&GOOD.replace("volume", "colour = 1\nvolume"))[0].starts_with("line 3: unknown field `colour`"));
+        let within = GOOD.replace("{ udp", "{ colour = 1, udp");
+        assert!(faults(&within)[0].starts_with("line 9: unknown field `colour`"), "{:?}", faults(&within));
         assert!(faults(&GOOD.replace("4096", "\"many\""))[0].starts_with("line 2: invalid type: string \"many\", expected u64"));
         assert!(faults(&GOOD.replace("blocks = 4096", "blocks = "))[0].starts_with("line 2: "));
         let twice = format!("{GOOD}[[channel]]\nid = 6\nkind = \"uart\"\ninput = {{ udp = \"127.0.0.1:20005\" }}\n");
-        assert_eq!(faults(&twice), ["line 13: input udp 127.0.0.1:20005: channel 5 has it already; give each channel an input of its own"]);
+        assert_eq!(
+            faults(&twice),
+            ["line 13: input udp 127.0.0.1:20005: channel 5 has it already; give each channel an input of its own"]
+        );
     }
 
     /// The library takes what stands at the limits here, and refuses what is one beyond: the limits are its own.
     #[test]
     fn the_limits_are_those_of_the_library() {
-        let takes = |script: &str| r10::Recorder::open(r10::Region::memory(1), 1, script).err().map(|it| it.0) == Some(r10::Error::BLOCKS);
+        let takes =
+            |script: &str| r10::Recorder::open(r10::Region::memory(1), 1, script).err().map(|it| it.0) == Some(r10::Error::BLOCKS);
         let script = read(GOOD, Path::new("/f")).unwrap().script;
         assert!(takes(&script));
         for (line, least, most) in [
@@ -510,7 +581,8 @@ input = { udp = \"127.0.0.1:20005\" }
             ("number = 4096", 1, 65_535),
         ] {
             let key = line.split(' ').next().unwrap();
-            let with = |value: u64| takes(&script.replace("event = 2", "event = 77").replacen(line, &format!("{key} = {value}"), 1));
+            let with =
+                |value: u64| takes(&script.replace("event = 2", "event = 77").replacen(line, &format!("{key} = {value}"), 1));
             let step = if key == "bytes" { 4 } else { 1 };
             // a time of 1 is there already, so the least ID is another one's
             assert!(with(if key == "id" { 2 } else { least }) && with(most), "{key}");

@@ -1,4 +1,5 @@
-//! UDP in: a datagram is a message. What the system dropped for want of room in its buffer is counted, by the number that it gives with each datagram.
+//! UDP in: a datagram is a message. What the system dropped for want of room in its buffer is counted, by the number that it
+//! gives with each datagram.
 use std::io::{self, IoSliceMut};
 use std::net::{IpAddr, Ipv4Addr, Ipv6Addr, SocketAddr, UdpSocket};
 use std::os::fd::AsRawFd;
@@ -68,7 +69,9 @@ pub fn run(socket: UdpSocket, mut feed: Feed, channel: &Channel) {
             Some((head, length)) => feed.message(0, lost, head, &bytes[..length]),
             None => {
                 feed.bad(0);
-                bad.warn(|| format!("channel {}: a datagram of {length} bytes is no message of kind {}", channel.id, channel.kind.name()));
+                bad.warn(|| {
+                    format!("channel {}: a datagram of {length} bytes is no message of kind {}", channel.id, channel.kind.name())
+                });
             }
         }
     }
@@ -110,7 +113,8 @@ mod tests {
         }
         let came = Arc::new(Came::default());
         let (feed, outlet) = feed(std::thread::current(), Counter::new(), 1 << 20, &[(0, came.clone())]);
-        let text = "medium = \"m\"\nblocks = 99\nvolume = \"V\"\n[control]\nsocket = \"c\"\n[[channel]]\nid = 5\nkind = \"message\"\n";
+        let text =
+            "medium = \"m\"\nblocks = 99\nvolume = \"V\"\n[control]\nsocket = \"c\"\n[[channel]]\nid = 5\nkind = \"message\"\n";
         let channel = crate::settings::read(text, std::path::Path::new("/")).unwrap().channels.remove(0);
         std::thread::spawn(move || run(socket, feed, &channel));
         let (mut messages, mut lost) = (0, 0);

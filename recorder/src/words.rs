@@ -78,8 +78,12 @@ pub struct Point {
 fn no(trouble: Trouble) -> Result<No, Trouble> {
     match trouble {
         Trouble::Full => Ok(No::Full("there is no room for it; copy the files, then give .ERASE".to_string())),
-        Trouble::Refused(error @ (Error::BAD_NAME | Error::NAME_TAKEN | Error::BAD_EVENT)) => Ok(No::Parameter(format!("{error}; give another one"))),
-        Trouble::Refused(error @ (Error::NO_FILE | Error::PLACE | Error::NO_CHANNEL)) => Ok(No::Parameter(format!("{error}; .FILES and .HEALTH list what there is"))),
+        Trouble::Refused(error @ (Error::BAD_NAME | Error::NAME_TAKEN | Error::BAD_EVENT)) => {
+            Ok(No::Parameter(format!("{error}; give another one")))
+        }
+        Trouble::Refused(error @ (Error::NO_FILE | Error::PLACE | Error::NO_CHANNEL)) => {
+            Ok(No::Parameter(format!("{error}; .FILES and .HEALTH list what there is")))
+        }
         Trouble::Refused(error) => Ok(No::Failed(error.to_string())),
         Trouble::Failed(why) => Err(Trouble::Failed(why)),
     }
@@ -107,7 +111,10 @@ impl Owner {
         let word = words.next().unwrap_or("").to_ascii_uppercase();
         let words: Vec<&str> = words.collect();
         let Some((_, wanted, _)) = WORDS.iter().find(|it| it.0 == word) else {
-            return Ok(Err(No::Invalid(format!("there is no command {:?}; .HELP lists them", word.chars().take(40).collect::<String>()))));
+            return Ok(Err(No::Invalid(format!(
+                "there is no command {:?}; .HELP lists them",
+                word.chars().take(40).collect::<String>()
+            ))));
         };
         if wanted.is_empty() && !words.is_empty() {
             return Ok(Err(No::Parameter(format!("{word} has nothing after it"))));
@@ -143,7 +150,9 @@ impl Owner {
                 String::new()
             }
             ".STOP" => return Ok(Err(No::Mode("no file is recorded; .RECORD begins one".to_string()))),
-            ".ERASE" if self.state == State::Recording => return Ok(Err(No::Mode("a file is recorded; give .STOP first".to_string()))),
+            ".ERASE" if self.state == State::Recording => {
+                return Ok(Err(No::Mode("a file is recorded; give .STOP first".to_string())));
+            }
             ".ERASE" => {
                 self.readers.clear();
                 self.recorder()?.erase()?;
@@ -182,7 +191,9 @@ impl Owner {
 
     fn event(&mut self, words: &[&str]) -> Result<Result<Reply, No>, Trouble> {
         let [number] = words else { return Ok(Err(No::Parameter("give the number of the event, 0 to 4095".to_string()))) };
-        let Ok(number) = number.parse::<u16>() else { return Ok(Err(No::Parameter(format!("{number} is no event: give 0 to 4095")))) };
+        let Ok(number) = number.parse::<u16>() else {
+            return Ok(Err(No::Parameter(format!("{number} is no event: give 0 to 4095"))));
+        };
         if self.state != State::Recording {
             return Ok(Err(No::Mode("no file is recorded; give .RECORD first".to_string())));
         }
@@ -197,7 +208,14 @@ impl Owner {
         let mut text = String::new();
         for (number, file) in files.iter().enumerate() {
             let first = self.medium.first_block(&files[..number]);
-            let _ = writeln!(text, "{} {} {first} {} {}", number + 1, file.name, file.size, if file.closed { "closed" } else { "open" });
+            let _ = writeln!(
+                text,
+                "{} {} {first} {} {}",
+                number + 1,
+                file.name,
+                file.size,
+                if file.closed { "closed" } else { "open" }
+            );
         }
         Ok(text)
     }
@@ -218,7 +236,8 @@ impl Owner {
             _ => "01",
         };
         let losses = self.lanes.iter().filter(|it| health_of(it) & 3 != 0).count() + usize::from(self.clock_steps > 0);
-        let critical = u32::from(self.state == State::Full) + u32::from(self.failures > 0) + u32::from(self.state == State::Failed(None));
+        let critical =
+            u32::from(self.state == State::Full) + u32::from(self.failures > 0) + u32::from(self.state == State::Failed(None));
         format!("S {state} {losses} {critical} {}%\n", self.used())
     }
 
@@ -226,8 +245,10 @@ impl Owner {
         let mut whole = if self.clock_steps > 0 { 8 } else { 0 };
         whole |= if self.state == State::Full { 0x4000_0000 } else { 0 };
         whole |= if self.failures > 0 || matches!(self.state, State::Failed(_)) { 0x8000_0000 } else { 0 };
-        let all: Vec<(u32, &str)> =
-            [(whole, "RECORDER")].into_iter().chain(self.lanes.iter().map(|it| (self.silence(it) | health_of(it), it.channel.name.as_str()))).collect();
+        let all: Vec<(u32, &str)> = [(whole, "RECORDER")]
+            .into_iter()
+            .chain(self.lanes.iter().map(|it| (self.silence(it) | health_of(it), it.channel.name.as_str())))
+            .collect();
         let mut text = String::new();
         match words {
             [] => {
@@ -278,7 +299,9 @@ impl Owner {
                 _ => None,
             };
             let Some(count) = count else {
-                return Ok(Err(No::Parameter(format!("{rest:?} is no count and no time; give a number below 2^48, or as 2026-05-17 09:00:04.00"))));
+                return Ok(Err(No::Parameter(format!(
+                    "{rest:?} is no count and no time; give a number below 2^48, or as 2026-05-17 09:00:04.00"
+                ))));
             };
             self.point = Point { file: file - 1, count };
         }
@@ -327,7 +350,8 @@ impl Owner {
     }
 
     fn publish(&mut self, words: &[&str]) -> Result<String, No> {
-        let usage = || No::Parameter("give .PUBLISH START ADDRESS PORT, .PUBLISH STOP [ADDRESS PORT], or .PUBLISH LIST".to_string());
+        let usage =
+            || No::Parameter("give .PUBLISH START ADDRESS PORT, .PUBLISH STOP [ADDRESS PORT], or .PUBLISH LIST".to_string());
         let address = |host: &str, port: &str| Some(SocketAddr::from((host.parse::<IpAddr>().ok()?, port.parse().ok()?)));
         let upper: Vec<String> = words.iter().map(|it| it.to_ascii_uppercase()).collect();
         match upper.iter().map(String::as_str).collect::<Vec<_>>().as_slice() {
@@ -386,23 +410,33 @@ impl Owner {
                 None => String::new(),
                 Some(crate::settings::Input::Udp { address, .. }) => format!("udp {address}"),
                 Some(crate::settings::Input::Serial { path, .. }) => format!("serial {}", path.display()),
-                Some(crate::settings::Input::Lines { path }) => path.as_ref().map_or("standard input".to_string(), |it| format!("lines {}", it.display())),
+                Some(crate::settings::Input::Lines { path }) => {
+                    path.as_ref().map_or("standard input".to_string(), |it| format!("lines {}", it.display()))
+                }
             };
             channels.push(json!({
                 "id": lane.channel.id, "name": lane.channel.name, "kind": lane.channel.kind.name(), "input": input,
-                "came": lane.came.messages.load(Relaxed), "bytes": lane.came.bytes.load(Relaxed), "bad": lane.came.bad.load(Relaxed),
-                "durable": lane.durable, "in_file": lane.durable_in_file, "lost": lane.lost + overflow, "refused": lane.refused, "passed": lane.passed,
+                "came": lane.came.messages.load(Relaxed), "bytes": lane.came.bytes.load(Relaxed),
+                "bad": lane.came.bad.load(Relaxed),
+                "durable": lane.durable, "in_file": lane.durable_in_file, "lost": lane.lost + overflow,
+                "refused": lane.refused, "passed": lane.passed,
                 "last_count": count, "last_length": length, "last_bytes": hex,
             }));
         }
         let times = std::mem::take(&mut self.times);
-        let file = self.file.as_ref().map(|(number, name)| json!({ "number": number + 1, "name": name, "bytes": files.get(*number).map_or(0, |it| it.size) }));
+        let file = self.file.as_ref().map(
+            |(number, name)| json!({ "number": number + 1, "name": name, "bytes": files.get(*number).map_or(0, |it| it.size) }),
+        );
         let all = json!({
-            "state": state, "why": self.why, "count": self.count(), "file": file, "files": files.len(), "free": free, "left_in_file": left,
-            "medium_bytes": self.settings.blocks as u64 * 512, "commits": self.commits, "failures": self.failures, "clock_steps": self.clock_steps,
-            "queued_bytes": queued.iter().sum::<usize>(), "readers": self.readers.len(), "datagrams_out": self.live.datagrams, "datagrams_dropped": self.live.dropped,
+            "state": state, "why": self.why, "count": self.count(), "file": file, "files": files.len(), "free": free,
+            "left_in_file": left,
+            "medium_bytes": self.settings.blocks as u64 * 512, "commits": self.commits, "failures": self.failures,
+            "clock_steps": self.clock_steps,
+            "queued_bytes": queued.iter().sum::<usize>(), "readers": self.readers.len(), "datagrams_out": self.live.datagrams,
+            "datagrams_dropped": self.live.dropped,
             "memory_kib": figures::own_memory(), "commit_us": self.settings.commit.as_micros() as u64,
-            "durable_after_us": { "half": times.below(500), "of_100_99": times.below(990), "most": times.most(), "messages": times.count() },
+            "durable_after_us": { "half": times.below(500), "of_100_99": times.below(990), "most": times.most(),
+            "messages": times.count() },
             "channels": channels,
         });
         Ok(format!("{all}\n"))
@@ -410,7 +444,10 @@ impl Owner {
 }
 
 fn too_long() -> No {
-    No::Mode("that file is long, and reading it would hold up what is recorded; give .STOP first, or read a copy with r10 play".to_string())
+    No::Mode(
+        "that file is long, and reading it would hold up what is recorded; give .STOP first, or read a copy with r10 play"
+            .to_string(),
+    )
 }
 
 fn health_of(lane: &Lane) -> u32 {

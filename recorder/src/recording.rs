@@ -1,0 +1,178 @@
+//! What is recorded: lanes go into the file, commits make it durable, files begin and end.
+use std::time::Instant;
+
+use time::OffsetDateTime;
+
+use crate::clock;
+use crate::owner::{Owner, State, Trouble};
+use crate::{error, info, warning};
+
+/// Bytes that are pumped before the disk does what waits.
+const PUMPED: usize = 4 << 20;
+/// Operations that may wait before the disk does them.
+const OPERATIONS: usize = 8192;
+/// Blocks that are read plainly where a file begins: a mapped one that cannot be read would end the process.
+const AHEAD: u64 = 8 << 11;
+
+impl Owner {
+    /// Takes a channel's messages from its lane into the file.
+    pub(crate) fn pump(&mut self, place: usize) -> Result<(), Trouble> {
+        while self.lanes[place].waiting > 0 {
+            let lane = &mut self.lanes[place];
+            let most = (PUMPED / (lane.longest + 64)).max(1);
+            let id = lane.channel.id;
+            let moved = self.recorder()?.pump(id, most)?;
+            if moved == 0 {
+                return Err(Trouble::Failed(format!("channel {id}: the recorder takes none of what waits")));
+            }
+            self.lanes[place].waiting -= moved;
+            if self.recorder()?.queue()?.waiting > OPERATIONS {
+                self.settle()?;
+            }
+        }
+        Ok(())
+    }
+
+    /// Makes all durable that was accepted.
+    pub(crate) fn commit(&mut self) -> Result<(), Trouble> {
+        for place in 0..self.lanes.len() {
+            self.pump(place)?;
+        }
+        self.recorder()?.commit()?;
+        self.settle()?;
+        self.is_durable();
+        self.tries = 0;
+        self.has_news = false;
+        self.committed = Instant::now();
+        self.show()
+    }
+
+    /// What was taken into the file is durable now.
+    pub(crate) fn is_durable(&mut self) {
+        let now = self.counter.count();
+        self.commits += 1;
+        for lane in &mut self.lanes {
+            let count = lane.pending.len() - lane.waiting.min(lane.pending.len());
+            lane.pending.drain(..count).for_each(|it| self.times.add(now.saturating_sub(it)));
+            lane.durable += count as u64;
+            lane.durable_in_file += count as u64;
+            if count > 0
+                && let (Some(to), Some((number, _))) = (&mut self.acknowledge, &self.file)
+            {
+                to.line(*number, lane.channel.id, lane.durable_in_file);
+            }
+        }
+        if let Some(to) = &mut self.acknowledge {
+            to.flush();
+        }
+    }
+
+    pub(crate) fn tick(&mut self) -> Result<(), Trouble> {
+        let (now, civil) = (Instant::now(), OffsetDateTime::now_utc());
+        self.ticked = now;
+        let (count, stepped) = (self.counter.count_at(now), self.steps.look(now, civil));
+        self.recorder()?.tick(count, &clock::civil(civil))?;
+        if let Some(step) = stepped {
+            self.clock_steps += 1;
+            warning!("the system's clock stepped by {step:+.3} s; recordings have times before and after it");
+            if self.state == State::Recording {
+                let number = self.settings.clock_event;
+                self.recorder()?.event(number, count)?;
+            }
+        }
+        self.has_news |= self.state == State::Recording;
+        if self.state != State::Recording {
+            self.settle()?;
+        }
+        if let Some((number, name)) = self.file.as_ref().filter(|_| self.state == State::Recording) {
+            let text = format!("recording file {} {name}", number + 1);
+            let _ = sd_notify::notify(false, &[sd_notify::NotifyState::Status(&text)]);
+        }
+        Ok(())
+    }
+
+    /// Begins a file. One without a name gets the settings' and the time.
+    pub fn start(&mut self, name: Option<&str>) -> Result<(), Trouble> {
+        let done = self.start_by(name);
+        // where the disk fails in it, it is begun again
+        self.wants = matches!(done, Ok(()) | Err(Trouble::Failed(_)));
+        done
+    }
+
+    pub(crate) fn start_by(&mut self, name: Option<&str>) -> Result<(), Trouble> {
+        self.tick()?;
+        let files = self.recorder()?.files()?;
+        let first = self.medium.first_block(&files);
+        self.medium.read_plainly(first..first + AHEAD).map_err(|it| Trouble::Failed(it.text().to_string()))?;
+        let name = name.map_or_else(|| fresh_name(&self.settings.prefix, &files), str::to_string);
+        let setup = std::mem::take(&mut self.settings.setup);
+        let started = self.recorder()?.start(&name, &setup);
+        self.settings.setup = setup;
+        started?;
+        self.settle()?;
+        info!("file {} {name}: recording", files.len() + 1);
+        self.file = Some((files.len(), name));
+        self.live.begin();
+        self.state = State::Recording;
+        self.began = Instant::now();
+        self.has_news = true;
+        self.lanes.iter_mut().for_each(|it| it.durable_in_file = 0);
+        Ok(())
+    }
+
+    /// Ends the file, with all that waits, as far as there is room.
+    pub fn stop(&mut self, why: &str) -> Result<(), Trouble> {
+        let mut is_full = false;
+        for place in 0..self.lanes.len() {
+            match self.pump(place) {
+                Err(Trouble::Full) => is_full = true,
+                other => other?,
+            }
+        }
+        let stopped = self.recorder()?.stop()?;
+        self.settle()?;
+        for place in 0..self.lanes.len() {
+            self.lanes[place].waiting = self.recorder()?.channel_at(place)?.waiting;
+        }
+        self.is_durable();
+        self.show()?;
+        self.state = State::Idle;
+        self.wants = false;
+        self.has_news = false;
+        let (number, name) = self.file.clone().unwrap_or_default();
+        info!("file {} {name}: ended, it {why}", number + 1);
+        if stopped.left > 0 || is_full {
+            warning!("file {} {name}: {} messages had no room in it, and come first in the next one", number + 1, stopped.left);
+        }
+        Ok(())
+    }
+
+    /// Ends the file and begins the next. Where there is no room for one, nothing is recorded until an erase.
+    pub(crate) fn next_file(&mut self, why: &str) -> Result<(), Trouble> {
+        let is_empty = self.lanes.iter().all(|it| it.durable_in_file == 0);
+        if self.state == State::Recording {
+            self.stop(why)?;
+        }
+        let is_empty = is_empty && self.lanes.iter().all(|it| it.durable_in_file == 0);
+        let begun = if is_empty && self.file.is_some() && why == "is full" { Err(Trouble::Full) } else { self.start(None) };
+        match begun {
+            Err(Trouble::Full) => {
+                self.state = State::Full;
+                error!(
+                    "the medium is full: nothing is recorded, and what comes is counted as lost; copy the files, then give \
+                     .ERASE and .RECORD"
+                );
+                Ok(())
+            }
+            other => other,
+        }
+    }
+}
+
+/// A name that no file has: the prefix, the time in UTC, and where that is taken a number.
+fn fresh_name(prefix: &str, files: &[r10::File]) -> String {
+    let it = clock::civil(OffsetDateTime::now_utc());
+    let base = format!("{prefix}{:04}{:02}{:02}-{:02}{:02}{:02}", it.year, it.month, it.day, it.hour, it.minute, it.second);
+    let is_taken = |name: &str| files.iter().any(|it| it.name == name);
+    (1..).map(|number| if number == 1 { base.clone() } else { format!("{base}_{number}") }).find(|it| !is_taken(it)).unwrap_or(base)
+}

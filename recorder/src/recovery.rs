@@ -1,0 +1,143 @@
+//! When the disk fails: the recorder and the mapping go, all is opened again, a file that was cut off is closed, and what is lost
+//! is counted.
+use std::time::{Duration, Instant};
+
+use r10::{Error, Recorder};
+use time::OffsetDateTime;
+
+use crate::clock;
+use crate::medium::Refusal;
+use crate::owner::{Owner, State, Trouble};
+use crate::settings::Begin;
+use crate::{error, info, warning};
+
+impl Owner {
+    /// Mounts the medium, and closes a file that was cut off. Whether there was one.
+    pub(crate) fn open(&mut self) -> Result<bool, Refusal> {
+        let failed = |it: Error| Refusal::Failed(it.to_string());
+        let mut recorder = self.medium.mount()?;
+        recorder.tick(self.counter.count(), &clock::civil(OffsetDateTime::now_utc())).map_err(failed)?;
+        let files = recorder.files().map_err(failed)?;
+        let cut = files.last().filter(|it| !it.closed);
+        if let Some(file) = cut {
+            let (start, first) = (Instant::now(), self.medium.first_block(&files[..files.len() - 1]));
+            self.medium.read_plainly(first..first + file.blocks)?;
+            match recorder.seal() {
+                Ok(()) => (),
+                Err(Error::BAD_FILE) => {
+                    return Err(Refusal::Wrong(format!(
+                        "the last file, {}, was cut off and cannot be closed: it is not as this recorder writes it; \
+                         copy the medium, \
+                         then record on another one",
+                        file.name
+                    )));
+                }
+                Err(error) => return Err(failed(error)),
+            }
+            recorder.settle().map_err(|it| Refusal::Failed(format!("the medium cannot be written: {it}")))?;
+            info!(
+                "file {} {}: it was cut off, and is closed now, {} bytes in {} ms",
+                files.len(),
+                file.name,
+                file.size,
+                start.elapsed().as_millis()
+            );
+        }
+        let was_cut = cut.is_some();
+        self.account(&mut recorder, &files).map_err(failed)?;
+        self.recorder = Some(recorder);
+        self.state = State::Idle;
+        Ok(was_cut)
+    }
+
+    /// What of the messages that waited for a commit, when the recorder failed, is in its file after all: the rest is lost, and
+    /// is said so.
+    pub(crate) fn account(&mut self, recorder: &mut Recorder, files: &[r10::File]) -> Result<(), Error> {
+        let file = self.file.as_ref().filter(|it| files.get(it.0).is_some_and(|file| file.name == it.1)).map(|it| it.0);
+        for place in 0..self.lanes.len() {
+            let lane = &mut self.lanes[place];
+            let pending: Vec<u64> = std::mem::take(&mut lane.pending).into();
+            lane.waiting = 0;
+            let mut is_there = |count: u64| -> Result<bool, Error> {
+                Ok(match file {
+                    Some(file) => recorder.find(file, lane.channel.id, count)?.is_some(),
+                    None => false,
+                })
+            };
+            // what is in the file is a front of what was accepted, and counts rise: so the first that is not there is found by
+            // halves
+            let (mut there, mut not) = (0, pending.len());
+            while there < not {
+                let middle = (there + not) / 2;
+                if is_there(pending[middle])? { there = middle + 1 } else { not = middle }
+            }
+            lane.durable += there as u64;
+            if pending.len() > there {
+                self.note_lost(place, (pending.len() - there) as u64);
+            }
+        }
+        Ok(())
+    }
+
+    /// The disk failed: as after a loss of power. The recorder and the mapping go, with what the system kept, and all is opened
+    /// again.
+    pub(crate) fn fail(&mut self, why: &str) {
+        self.failures += 1;
+        self.tries += 1;
+        self.why = why.to_string();
+        error!(
+            "{why}; what was not committed may be lost; the medium is opened again (try {} of {})",
+            self.tries, self.settings.tries
+        );
+        self.recorder = None;
+        self.readers.clear();
+        self.state = State::Failed((self.tries <= self.settings.tries).then(Instant::now));
+        if self.tries > self.settings.tries {
+            self.down(&Refusal::Failed(why.to_string()));
+        }
+    }
+
+    pub(crate) fn down(&mut self, refusal: &Refusal) {
+        self.state = State::Failed(None);
+        self.recorder = None;
+        self.why = refusal.text().to_string();
+        error!("recording is down: {}; then give .RECORD", refusal.text());
+        let _ = sd_notify::notify(false, &[sd_notify::NotifyState::Status("FAIL: recording is down; see the log")]);
+    }
+
+    /// Opens the medium again, where that is due, and goes on in a new file.
+    pub(crate) fn retry(&mut self) {
+        let State::Failed(Some(at)) = self.state else { return };
+        if Instant::now() < at {
+            return;
+        }
+        match self.open() {
+            Ok(was_cut) if self.wants || was_cut && self.settings.begin != Begin::Wait => self.resume(),
+            Ok(_) => info!("the medium is mounted again"),
+            Err(Refusal::Failed(why)) if self.tries < self.settings.tries => {
+                self.tries += 1;
+                self.failures += 1;
+                warning!("{why}; it is tried again (try {} of {})", self.tries, self.settings.tries);
+                self.state = State::Failed(Some(Instant::now() + Duration::from_millis(100 << self.tries.min(6))));
+            }
+            Err(refusal) => self.down(&refusal),
+        }
+    }
+
+    /// Opens a medium that is down, by a command.
+    pub fn open_again(&mut self) -> Result<(), Refusal> {
+        self.tries = 0;
+        self.open().map(|_| ())
+    }
+
+    pub(crate) fn resume(&mut self) {
+        let begun = self.start(None);
+        match begun {
+            Err(Trouble::Full) => {
+                let done = self.next_file("is full");
+                self.mind(done);
+            }
+            other => self.mind(other),
+        }
+    }
+}
