@@ -1,12 +1,12 @@
 #!/usr/bin/env python3
-"""Draws the two pictures of docs/ARCHITECTURE.md as SVG, with the standard library alone.
+"""Draws the two pictures of docs/ARCHITECTURE.md, and that of docs/RECORDER.md, as SVG, with the standard library alone.
 
-    scripts/pictures.py            writes docs/pictures/layers.svg and docs/pictures/data.svg
+    scripts/pictures.py            writes docs/pictures/layers.svg, data.svg and recorder.svg
     scripts/pictures.py --check    draws nothing; fails if a picture is not what would be drawn, or if a text does not agree with crates.txt
 
 The layers come from crates.txt and from the table of crates in docs/ARCHITECTURE.md (layer, crate, a phrase of at most eight words). The table has to name
 each crate once, and no crate before one that it stands on. An edge that follows from others is left out, and so are those of trials and tests.
-The data's way comes from docs/pictures/data.txt.
+The data's way comes from docs/pictures/data.txt, and that through the service from docs/pictures/recorder.txt.
 """
 import re
 import sys
@@ -233,8 +233,9 @@ class Box(NamedTuple):
     below: str
 
 
-def data_of(text: str, edges: Edges) -> tuple[dict[int, str], dict[str, Box], list[tuple[str, str, str]]]:
-    """Rows, boxes and arrows of docs/pictures/data.txt."""
+def data_of(name: str, edges: Edges) -> tuple[dict[int, str], dict[str, Box], list[tuple[str, str, str]]]:
+    """Rows, boxes and arrows of a text in docs/pictures."""
+    text = (FOLDER / name).read_text(encoding="utf-8")
     rows: dict[int, str] = {}
     boxes: dict[str, Box] = {}
     arrows: list[tuple[str, str, str]] = []
@@ -251,10 +252,10 @@ def data_of(text: str, edges: Edges) -> tuple[dict[int, str], dict[str, Box], li
         elif words[0] == "arrow" and len(words) == 3 and words[1] in boxes and words[2] in boxes:
             arrows.append((words[1], words[2], rest))
         else:
-            raise Fault(f"docs/pictures/data.txt: line {number} is no row, box or arrow between boxes")
-    for name in re.findall(r"\br10_\w+", text.split("\n\n", 1)[-1]):
-        if name not in edges:
-            raise Fault(f"docs/pictures/data.txt: {name} is no crate of crates.txt")
+            raise Fault(f"docs/pictures/{name}: line {number} is no row, box or arrow between boxes")
+    for crate in re.findall(r"\br10_\w+", text.split("\n\n", 1)[-1]):
+        if crate not in edges:
+            raise Fault(f"docs/pictures/{name}: {crate} is no crate of crates.txt")
     return rows, boxes, arrows
 
 
@@ -306,7 +307,8 @@ def main(words: list[str]) -> int:
         crates = crates_of(PAGE.read_text(encoding="utf-8"), edges)
         pictures = {
             "layers.svg": layers_picture(crates, edges),
-            "data.svg": data_picture(*data_of((FOLDER / "data.txt").read_text(encoding="utf-8"), edges)),
+            "data.svg": data_picture(*data_of("data.txt", edges)),
+            "recorder.svg": data_picture(*data_of("recorder.txt", edges)),
         }
         for name, picture in pictures.items():
             path = FOLDER / name

@@ -1,0 +1,46 @@
+#!/usr/bin/env python3
+"""The long trials of r10d, whose figures stand in docs/FAILURES.md: some twenty minutes.
+
+    long.py PROGRAMS [NAME..]      all, or those of these names
+
+    kills          200 kills under load
+    cuts           1,000 media that a loss of power may leave, from the operations of 12 runs
+    failures       EIO and ENOSPC at each operation of a short run
+    flood          1,000,000 datagrams as fast as they can be sent
+    full           a full medium, five times
+"""
+import pathlib
+import subprocess
+import sys
+import time
+from typing import Callable
+
+import check
+from trying import Room, Wrong, fault, report
+
+TRIALS: dict[str, Callable[[Room], str]] = {
+    'kills': lambda room: check.kills(room, 200, 2),
+    'cuts': lambda room: check.power_cuts(room, 12, 21, 3),
+    'failures': lambda room: check.disk_failures(room, 1),
+    'flood': lambda room: check.a_flood(room, 1_000_000),
+    'full': lambda room: '; '.join((room.clear(), check.full_medium(room))[1] for _ in range(5)),
+}
+
+
+def main() -> None:
+    for name in sys.argv[2:] or TRIALS:
+        room, start = Room(sys.argv[1]), time.monotonic()
+        try:
+            said = TRIALS[name](room)
+        except (Wrong, subprocess.TimeoutExpired, OSError) as why:
+            room.end_all()
+            kept = pathlib.Path(f'{room.folder}.kept')
+            room.folder.rename(kept)
+            fault(f'{name}: {why}\n(its folder is kept: {kept})')
+        finally:
+            room.close()
+        report(f'recorder: {name}', start, said)
+
+
+if __name__ == '__main__':
+    main()
