@@ -3,6 +3,7 @@
 
     check.py PROGRAMS [NAME..]     the trials, or those of these names, with r10d and the examples in a folder
 """
+import concurrent.futures
 import os
 import pathlib
 import pty
@@ -11,7 +12,7 @@ import socket
 import subprocess
 import sys
 import time
-from typing import Callable
+from typing import Callable, Optional
 
 from trying import (KINDS, R10, Room, Service, Trail, Wrong, entries, fault, files, judge, lines_of, load_numbers, must, r10, report, settings, udp_channels)
 
@@ -398,6 +399,8 @@ def power_cuts(room: Room, runs: int = 1, places: int = 6, seed: int = 1) -> str
         (room.folder / 'medium').write_bytes(last)
         (room.folder / 'lines').write_text('')
         service = Service(room, text)
+        if not files(last) or files(last)[-1][3] == '1':
+            service.ask('.RECORD')
         service.wait_for(': recording', 3)
         load = room.load(ports, rate=1000, run=2000, count=100)
         service.until_durable(100)
@@ -431,7 +434,7 @@ def failing_run(room: Room, ports: list[int], text: str, fail: str, messages: in
 
 
 @trial
-def disk_failures(room: Room, each: int = 7) -> str:
+def disk_failures(room: Room, each: int = 9) -> str:
     """A write or a sync fails once (EIO, ENOSPC) at each operation of a short run, or one in so many: one line says so, the service goes on in a new
     file, what was acknowledged is there, and what is not there was said to be lost."""
     ports = room.ports(2)
@@ -471,6 +474,7 @@ def a_block_that_cannot_be_read(room: Room) -> str:
     service.kill()
     for block in (3, 60):
         service = Service(room, disk={'bad': block})
+        service.wait_for('recording is down')
         must(f'block {block} of the medium' in service.log() and service.ask('.STATUS')[0].startswith('S 00'), service.log())
         must(service.ask('.RECORD')[0].startswith('E 03'), 'it records')
         service.end(status=None)
@@ -536,25 +540,31 @@ def wrong_input_does_nothing(room: Room) -> str:
 def main() -> None:
     programs, names = sys.argv[1], sys.argv[2:] or list(TRIALS)
     must(subprocess.run([R10, 'files'], input=b'', capture_output=True).returncode != 127, 'there is no r10')
-    begin, count = time.monotonic(), 0
-    needs_disk = ('a-clock-that-steps', 'power-cuts', 'disk-failures', 'a-block-that-cannot-be-read')
-    for name in names:
+    begin, needs_disk = time.monotonic(), ('a-clock-that-steps', 'power-cuts', 'disk-failures', 'a-block-that-cannot-be-read')
+
+    def run(name: str) -> Optional[str]:
+        """One trial: why it failed."""
         room, start = Room(programs), time.monotonic()
         try:
             if name in needs_disk and not room.has_disk:
-                print(f'recorder: NOT TRIED: {name}: there is no cc for recorder/tests/disk.c')
-                continue
-            said = TRIALS[name](room)
+                print(f'recorder: NOT TRIED: {name}: there is no cc for recorder/tests/disk.c', flush=True)
+            else:
+                report(f'recorder: {name}', start, TRIALS[name](room))
+            return None
         except (Wrong, subprocess.TimeoutExpired, OSError) as why:
             room.end_all()
             kept = pathlib.Path(f'{room.folder}.kept')
             room.folder.rename(kept)
-            fault(f'{name}: {why}\n(its folder is kept: {kept})')
+            return f'{name}: {why}\n(its folder is kept: {kept})'
         finally:
             room.close()
-        count += 1
-        report(f'recorder: {name}', start, said)
-    print(f'recorder: {count} trials in {time.monotonic() - begin:.0f} s')
+
+    # most of the time a trial waits: so some run at the same time, and those that take long begin first
+    with concurrent.futures.ThreadPoolExecutor(3) as pool:
+        failed = [it for it in pool.map(run, sorted(names, key=lambda it: it not in ('disk-failures', 'a-flood', 'power-cuts', 'kills'))) if it]
+    if failed:
+        fault('\n'.join(failed))
+    print(f'recorder: {len(names)} trials in {time.monotonic() - begin:.0f} s')
 
 
 if __name__ == '__main__':

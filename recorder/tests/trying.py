@@ -13,6 +13,7 @@ import socket
 import subprocess
 import sys
 import tempfile
+import threading
 import time
 from typing import Any, Iterable, Optional
 
@@ -33,10 +34,12 @@ def must(holds: Any, text: str) -> None:
 class Room:
     """A folder for a trial, with programs, a free range of ports, and what is left of it when it goes wrong."""
 
-    def __init__(self, programs: str, first_port: int = 21000) -> None:
+    lock = threading.Lock()
+    port = 21000 + os.getpid() % 500 * 20
+
+    def __init__(self, programs: str) -> None:
         self.programs = pathlib.Path(programs)
         self.folder = pathlib.Path(tempfile.mkdtemp(prefix='r10d-'))
-        self.port = first_port + os.getpid() % 500 * 20
         self.disk_library = self.folder / 'disk.so'
         compiler = shutil.which('cc')
         self.started: list[subprocess.Popen[Any]] = []
@@ -47,16 +50,16 @@ class Room:
         """Ports that are free now."""
         found: list[int] = []
         while len(found) < count:
-            self.port += 1
-            if self.port > 32000:
-                self.port = 21000
+            with Room.lock:
+                Room.port = Room.port + 1 if Room.port < 32000 else 21000
+                port = Room.port
             with socket.socket(socket.AF_INET, socket.SOCK_DGRAM) as one, socket.socket(socket.AF_INET, socket.SOCK_STREAM) as other:
                 try:
-                    one.bind(('127.0.0.1', self.port))
-                    other.bind(('127.0.0.1', self.port))
+                    one.bind(('127.0.0.1', port))
+                    other.bind(('127.0.0.1', port))
                 except OSError:
                     continue
-            found.append(self.port)
+            found.append(port)
         return found
 
     def load(self, ports: Iterable[int], **words: int) -> subprocess.Popen[str]:
