@@ -35,11 +35,13 @@ pub struct Item {
 pub struct Batch {
     pub items: Vec<Item>,
     pub bytes: Vec<u8>,
+    /// by place, how many messages were lost after these
+    pub lost: Vec<(usize, u64)>,
 }
 
 impl Batch {
     fn size(&self) -> usize {
-        self.bytes.len() + self.items.len() * size_of::<Item>()
+        self.bytes.len() + self.items.len() * size_of::<Item>() + self.lost.len() * size_of::<(usize, u64)>()
     }
 }
 
@@ -121,17 +123,30 @@ impl Feed {
         }
     }
 
-    /// Something came that is no message of its channel.
+    /// Something came that is no message.
     pub fn bad(&mut self, channel: usize) {
         if let Some(it) = self.channels.get_mut(channel) {
             it.came.bad.fetch_add(1, Relaxed);
-            it.lost += 1;
+        }
+    }
+
+    /// So many messages of a channel were lost before the next one.
+    pub fn lost(&mut self, channel: usize, count: u64) {
+        if let Some(it) = self.channels.get_mut(channel) {
+            it.lost += count;
+            it.came.lost.fetch_add(count, Relaxed);
         }
     }
 
     /// Hands over what there is. An input does so before it waits.
     pub fn flush(&mut self) {
-        if self.batch.items.is_empty() {
+        // losses alone wait where the queue is full: they go with what comes next
+        let has_room = self.queued.load(Relaxed) + self.batch.size() + size_of::<Batch>() <= self.limit;
+        let lost = self.channels.iter_mut().filter(|it| it.lost > 0);
+        if has_room || !self.batch.items.is_empty() {
+            self.batch.lost = lost.map(|it| (it.place, std::mem::take(&mut it.lost))).collect();
+        }
+        if self.batch.items.is_empty() && self.batch.lost.is_empty() {
             return;
         }
         let batch = std::mem::take(&mut self.batch);
@@ -164,24 +179,30 @@ mod tests {
     #[test]
     fn what_does_not_fit_is_counted_and_goes_with_the_next_message() {
         let came = Arc::new(Came::default());
-        let room = 3 * (size_of::<Item>() + 100);
+        let room = 3 * (size_of::<Item>() + 100) + 5;
         let (mut feed, outlet) = feed(std::thread::current(), Counter::new(), room, &[(7, came.clone())]);
         for _ in 0..5 {
             feed.message(0, 0, HEAD, &[0; 100]);
         }
         feed.flush();
-        assert_eq!((came.messages.load(Relaxed), came.lost.load(Relaxed), outlet.queued()), (5, 2, room));
+        assert_eq!((came.messages.load(Relaxed), came.lost.load(Relaxed)), (5, 2));
+        // it is full: what is lost now waits
+        feed.message(0, 0, HEAD, b"");
+        feed.flush();
         let first = outlet.take().unwrap();
         assert_eq!(first.items.iter().map(|it| (it.place, it.lost)).collect::<Vec<_>>(), [(7, 0); 3]);
         assert!(first.items.windows(2).all(|it| it[0].count < it[1].count));
-        assert_eq!((outlet.queued(), outlet.take().is_none()), (0, true));
+        assert_eq!((first.lost, outlet.queued(), outlet.take().is_none()), (vec![(7, 2)], 0, true));
+        feed.flush();
+        let alone = outlet.take().unwrap();
+        assert_eq!((alone.items.len(), alone.lost, outlet.queued()), (0, vec![(7, 1)], 0));
         feed.message(0, 4, HEAD, b"next");
         feed.message(0, 0, HEAD, b"one more");
         feed.flush();
         let next = outlet.take().unwrap();
-        assert_eq!(next.items.iter().map(|it| it.lost).collect::<Vec<_>>(), [6, 0]);
+        assert_eq!(next.items.iter().map(|it| it.lost).collect::<Vec<_>>(), [4, 0]);
         assert_eq!(next.bytes, b"nextone more");
-        assert_eq!(came.lost.load(Relaxed), 6);
+        assert_eq!(came.lost.load(Relaxed), 7);
     }
 
     #[test]

@@ -20,7 +20,7 @@ use crate::medium::{Medium, Refusal};
 use crate::readers::Reader;
 use crate::settings::{self, Begin, Settings};
 use crate::words::Point;
-use crate::{error, info};
+use crate::{error, info, warning};
 
 /// What stops the thread in what it does.
 #[derive(Debug)]
@@ -343,7 +343,9 @@ impl Owner {
             self.taken.item += 1;
             self.taken.byte += item.length;
         }
-        self.taken = Taken::default();
+        for (place, lost) in std::mem::take(&mut self.taken).batch.lost {
+            self.missed(place, lost);
+        }
         Ok(())
     }
 
@@ -358,7 +360,7 @@ impl Owner {
             }
         }
         if item.lost > 0 {
-            self.note_lost(place, item.lost);
+            self.missed(place, item.lost);
         }
         let bytes = &self.taken.batch.bytes[self.taken.byte..self.taken.byte + item.length];
         let lane = &mut self.lanes[place];
@@ -380,14 +382,22 @@ impl Owner {
                     }
                 }
             }
-            (State::Idle, _) => lane.passed += 1,
-            _ => self.note_lost(place, 1),
+            _ => self.missed(place, 1),
         }
         Ok(())
     }
 
-    /// So many messages of a channel came, or would have come, before the next one that is offered, and are in no file. They are
-    /// counted, logged and shown.
+    /// So many messages of a channel came, or would have come, and are in no file. Where none is recorded, and none is to be, they only
+    /// pass.
+    fn missed(&mut self, place: usize, count: u64) {
+        if matches!(self.state, State::Recording | State::Full) || self.wants {
+            self.note_lost(place, count);
+        } else {
+            self.lanes[place].passed += count;
+        }
+    }
+
+    /// So many messages of a channel were lost before the next one that is offered. They are counted, logged and shown.
     pub(crate) fn note_lost(&mut self, place: usize, count: u64) {
         let lane = &mut self.lanes[place];
         lane.lost += count;
@@ -404,24 +414,28 @@ impl Owner {
         let _ = sd_notify::notify(false, &[sd_notify::NotifyState::Stopping]);
         let done = self.take_in().map(|_| ());
         self.mind(done);
-        let done = if self.state == State::Recording { self.stop("was stopped by the end of the service") } else { Ok(()) };
-        let done = done.and_then(|()| match &mut self.recorder {
-            Some(recorder) => {
-                recorder.dismount()?;
-                self.settle()
-            }
-            None => Err(Trouble::Failed("no medium is mounted".to_string())),
-        });
-        match done {
+        if self.recorder.is_none() {
+            warning!("the service ends; recording was down: {}", self.why);
+            return false;
+        }
+        match self.close() {
             Ok(()) => {
                 info!("the service has ended; the medium can be taken away");
                 true
             }
             Err(trouble) => {
-                error!("the service ends without closing the file: {trouble}; its next start closes it");
+                error!("the service ends, and its file is not closed: {trouble}; its next start closes it");
                 false
             }
         }
+    }
+
+    fn close(&mut self) -> Result<(), Trouble> {
+        if self.state == State::Recording {
+            self.stop("was stopped by the end of the service")?;
+        }
+        self.recorder()?.dismount()?;
+        self.settle()
     }
 }
 

@@ -133,11 +133,10 @@ mod tests {
         let (feed, outlet) = feed(std::thread::current(), Counter::new(), 1 << 20, &[(0, came.clone())]);
         run(Some(&path), feed, &channels);
         std::fs::remove_file(&path).unwrap();
-        let (mut bytes, mut lost) = (Vec::new(), Vec::new());
+        let mut bytes = Vec::new();
         while let Some(batch) = outlet.take() {
             bytes.extend(batch.bytes);
-            lost.extend(batch.items.iter().map(|it| it.lost));
         }
-        assert_eq!((bytes.as_slice(), lost.as_slice(), came.bad.load(Relaxed)), (b"AB".as_slice(), [0, 3].as_slice(), 3));
+        assert_eq!((bytes.as_slice(), came.messages.load(Relaxed), came.bad.load(Relaxed)), (b"AB".as_slice(), 2, 3));
     }
 }

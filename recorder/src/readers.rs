@@ -104,10 +104,10 @@ impl Owner {
                     self.readers.swap(at, last);
                     at += 1;
                 }
-                Ok((false, _)) => self.close(&it),
+                Ok((false, _)) => self.drop_reader(&it),
                 Err(Trouble::Refused(error)) => {
                     it.give(format!("E 05 COMMAND FAILED: {error}\n"));
-                    self.close(&it);
+                    self.drop_reader(&it);
                 }
                 Err(trouble) => return Err(trouble),
             }
@@ -115,7 +115,7 @@ impl Owner {
         Ok(more)
     }
 
-    fn close(&mut self, it: &Reader) {
+    fn drop_reader(&mut self, it: &Reader) {
         if let (What::Follow { cursor: Some(cursor), .. }, Some(recorder)) = (&it.what, &mut self.recorder) {
             let _ = recorder.close_cursor(*cursor);
         }

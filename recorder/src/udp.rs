@@ -68,7 +68,9 @@ pub fn run(socket: UdpSocket, mut feed: Feed, channel: &Channel) {
         match message_of(channel, &bytes[..length]) {
             Some((head, length)) => feed.message(0, lost, head, &bytes[..length]),
             None => {
+                // something was sent that is in no file
                 feed.bad(0);
+                feed.lost(0, lost + 1);
                 bad.warn(|| {
                     format!("channel {}: a datagram of {length} bytes is no message of kind {}", channel.id, channel.kind.name())
                 });

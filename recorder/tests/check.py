@@ -451,7 +451,7 @@ def disk_failures(room: Room, each: int = 9) -> str:
                 break
             count += 1
             must(('Input/output error' if errno == 5 else 'No space left') in log, f'operation {number}: the reason is not said:\n{log}')
-            must('the medium can be taken away' in log or number > clean and 'its next start closes it' in log, f'operation {number}: it does not end well:\n{log}')
+            must('the medium can be taken away' in log or number > clean and 'its next start closes it' in log or 'recording was down' in log, f'operation {number}: it does not end well:\n{log}')
         else:
             number += each
             continue
