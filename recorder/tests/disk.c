@@ -1,4 +1,5 @@
-/* A disk that fails, is slow, and is written down: put in front of the C library (LD_PRELOAD) of a service under trial. What it does is in its environment.
+/* A disk that fails, is slow, and is written down: put in front of the C library (LD_PRELOAD) of a service under trial.
+ * What it does is in its environment.
  *
  *     DISK=PATH            the medium, or the file that is made of it first (PATH.new is left alone)
  *     DISK_TRAIL=PATH      each write to it, each sync of it, and each line to DISK_LINES is written down here before it is done:

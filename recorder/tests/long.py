@@ -15,15 +15,16 @@ import sys
 import time
 from typing import Callable
 
-import check
+import trials_of_disks as disks
+import trials_of_service as service
 from trying import Room, Wrong, fault, report
 
 TRIALS: dict[str, Callable[[Room], str]] = {
-    'kills': lambda room: check.kills(room, 200, 2),
-    'cuts': lambda room: check.power_cuts(room, 12, 21, 3),
-    'failures': lambda room: check.disk_failures(room, 1),
-    'flood': lambda room: check.a_flood(room, 1_000_000),
-    'full': lambda room: '; '.join((room.clear(), check.full_medium(room))[1] for _ in range(5)),
+    'kills': lambda room: disks.kills(room, 200, 2),
+    'cuts': lambda room: disks.power_cuts(room, 12, 21, 3),
+    'failures': lambda room: disks.disk_failures(room, 1),
+    'flood': lambda room: service.a_flood(room, 1_000_000),
+    'full': lambda room: '; '.join((room.clear(), disks.full_medium(room))[1] for _ in range(5)),
 }
 
 

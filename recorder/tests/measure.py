@@ -39,8 +39,16 @@ def recorder(room: Room, commit: int, rate: int, size: int, seconds: float) -> d
     figures = service.until_durable(sent, 60)
     service.end()
     lost = sum(it['lost'] for it in figures['channels'])
-    return {'sent': sent / seconds, 'durable': times['messages'] / took, 'lost': lost, 'half': times['half'], 'of_100_99': times['of_100_99'], 'most': times['most'],
-            'cpu': cpu, 'memory_mib': figures['memory_kib'] / 1024}
+    return {
+        'sent': sent / seconds,
+        'durable': times['messages'] / took,
+        'lost': lost,
+        'half': times['half'],
+        'of_100_99': times['of_100_99'],
+        'most': times['most'],
+        'cpu': cpu,
+        'memory_mib': figures['memory_kib'] / 1024,
+    }
 
 
 def plain(room: Room, commit: int, rate: int, size: int, seconds: float) -> dict[str, float]:
@@ -57,8 +65,16 @@ def plain(room: Room, commit: int, rate: int, size: int, seconds: float) -> dict
     time.sleep(0.5)
     child.send_signal(signal.SIGTERM)
     said = json.loads(child.communicate()[0])
-    return {'sent': sent / seconds, 'durable': said['durable'] / took, 'lost': sent - said['durable'], 'half': said['half_us'], 'of_100_99': said['of_100_99_us'],
-            'most': said['most_us'], 'cpu': cpu / took, 'memory_mib': 0}
+    return {
+        'sent': sent / seconds,
+        'durable': said['durable'] / took,
+        'lost': sent - said['durable'],
+        'half': said['half_us'],
+        'of_100_99': said['of_100_99_us'],
+        'most': said['most_us'],
+        'cpu': cpu / took,
+        'memory_mib': 0,
+    }
 
 
 def main() -> None:
@@ -76,9 +92,13 @@ def main() -> None:
             for what in (recorder, plain):
                 room.clear()
                 it = what(room, commit, rate, size, seconds)
-                print(f"{what.__name__:8} commit {commit:3} ms, {size:4} bytes: sent {it['sent']:7.0f}/s, durable {it['durable']:7.0f}/s, lost {it['lost']:.0f}, half after "
-                      f"{it['half'] / 1e3:.1f} ms, 99 of 100 after {it['of_100_99'] / 1e3:.1f} ms, most {it['most'] / 1e3:.0f} ms, CPU {it['cpu']:.0%}, "
-                      f"memory {it['memory_mib']:.0f} MiB", flush=True)
+                print(
+                    f"{what.__name__:8} commit {commit:3} ms, {size:4} bytes: sent {it['sent']:7.0f}/s, "
+                    f"durable {it['durable']:7.0f}/s, lost {it['lost']:.0f}, half after {it['half'] / 1e3:.1f} ms, "
+                    f"99 of 100 after {it['of_100_99'] / 1e3:.1f} ms, most {it['most'] / 1e3:.0f} ms, CPU {it['cpu']:.0%}, "
+                    f"memory {it['memory_mib']:.0f} MiB",
+                    flush=True,
+                )
         room.clear()
         service = Service(room, settings(udp_channels(room.ports(4)), blocks=1 << 16, acknowledge=None))
         time.sleep(1)

@@ -3,7 +3,8 @@
 
     soak.py PROGRAMS HOURS [RATE] [PICTURE.svg]
 
-Two channels get RATE messages a second (10,000 where none is said). Each quarter of an hour the service is killed, and starts again; when the medium is full
+Two channels get RATE messages a second (10,000 where none is said). Each quarter of an hour the service is killed, and starts
+again; when the medium is full
 it is erased. At the end the medium is judged, and a picture is written.
 """
 import pathlib
@@ -21,14 +22,20 @@ def picture(points: list[tuple[float, int, int]]) -> str:
     most_memory, most_messages = max(it[1] for it in points) or 1, max(it[2] for it in points) or 1
 
     def line(values: list[int], most: int) -> str:
-        return ' '.join(f'{60 + width * point[0] / hours:.1f},{20 + height - height * value / most:.1f}' for point, value in zip(points, values))
+        return ' '.join(
+            f'{60 + width * point[0] / hours:.1f},{20 + height - height * value / most:.1f}' for point, value in zip(points, values)
+        )
 
-    return (f'<svg xmlns="http://www.w3.org/2000/svg" viewBox="0 0 {width + 90} {height + 60}" font-family="sans-serif" font-size="13">\n'
-            f'<rect x="60" y="20" width="{width}" height="{height}" fill="none" stroke="#999"/>\n'
-            f'<polyline fill="none" stroke="#8bb8e8" stroke-width="2" points="{line([it[2] for it in points], most_messages)}"/>\n'
-            f'<polyline fill="none" stroke="#1b3a5c" stroke-width="2" points="{line([it[1] for it in points], most_memory)}"/>\n'
-            f'<text x="60" y="14">memory, up to {most_memory / 1024:.1f} MiB (dark); messages acknowledged, up to {most_messages:,} (light)</text>\n'
-            f'<text x="60" y="{height + 42}">0 h</text><text x="{width + 30}" y="{height + 42}">{hours:.2f} h</text>\n</svg>\n')
+    return (
+        f'<svg xmlns="http://www.w3.org/2000/svg" viewBox="0 0 {width + 90} {height + 60}" '
+        'font-family="sans-serif" font-size="13">\n'
+        f'<rect x="60" y="20" width="{width}" height="{height}" fill="none" stroke="#999"/>\n'
+        f'<polyline fill="none" stroke="#8bb8e8" stroke-width="2" points="{line([it[2] for it in points], most_messages)}"/>\n'
+        f'<polyline fill="none" stroke="#1b3a5c" stroke-width="2" points="{line([it[1] for it in points], most_memory)}"/>\n'
+        f'<text x="60" y="14">memory, up to {most_memory / 1024:.1f} MiB (dark); '
+        f'messages acknowledged, up to {most_messages:,} (light)</text>\n'
+        f'<text x="60" y="{height + 42}">0 h</text><text x="{width + 30}" y="{height + 42}">{hours:.2f} h</text>\n</svg>\n'
+    )
 
 
 def main() -> None:
@@ -67,8 +74,11 @@ def main() -> None:
     finally:
         room.close()
     to.write_text(picture(points))
-    print(f'{hours} h at {rate}/s: {points[-1][2]} acknowledged, {kills} kills, {erases} erases, memory at most {max(it[1] for it in points) >> 10} MiB; '
-          f'what the medium has at the end is right: {found}; drawn in {to}')
+    print(
+        f'{hours} h at {rate}/s: {points[-1][2]} acknowledged, {kills} kills, {erases} erases, '
+        f'memory at most {max(it[1] for it in points) >> 10} MiB; '
+        f'what the medium has at the end is right: {found}; drawn in {to}'
+    )
 
 
 if __name__ == '__main__':

@@ -15,11 +15,17 @@ import sys
 import tempfile
 import threading
 import time
-from typing import Any, Iterable, Optional
+from typing import Any, Callable, Iterable, Optional
 
 TOP = pathlib.Path(__file__).resolve().parent.parent.parent
 R10 = os.environ.get('R10', str(TOP / 'r10'))
 KINDS = ('uart', '1553', 'arinc', 'discrete', 'message')
+
+
+def trial(function: Callable[[Room], str]) -> Callable[[Room], str]:
+    """Marks a trial of the gate; what it answers is printed."""
+    setattr(function, 'is_trial', True)
+    return function
 
 
 class Wrong(Exception):
@@ -43,8 +49,24 @@ class Room:
         self.disk_library = self.folder / 'disk.so'
         compiler = shutil.which('cc')
         self.started: list[subprocess.Popen[Any]] = []
-        self.has_disk = compiler is not None and subprocess.run(
-            [compiler, '-shared', '-fPIC', '-O2', '-Wall', '-Wextra', '-Werror', '-o', str(self.disk_library), str(pathlib.Path(__file__).parent / 'disk.c')]).returncode == 0
+        self.has_disk = (
+            compiler is not None
+            and subprocess.run(
+                [
+                    compiler,
+                    '-shared',
+                    '-fPIC',
+                    '-O2',
+                    '-Wall',
+                    '-Wextra',
+                    '-Werror',
+                    '-o',
+                    str(self.disk_library),
+                    str(pathlib.Path(__file__).parent / 'disk.c'),
+                ]
+            ).returncode
+            == 0
+        )
 
     def ports(self, count: int) -> list[int]:
         """Ports that are free now."""
@@ -53,7 +75,9 @@ class Room:
             with Room.lock:
                 Room.port = Room.port + 1 if Room.port < 32000 else 21000
                 port = Room.port
-            with socket.socket(socket.AF_INET, socket.SOCK_DGRAM) as one, socket.socket(socket.AF_INET, socket.SOCK_STREAM) as other:
+            with socket.socket(socket.AF_INET, socket.SOCK_DGRAM) as one, socket.socket(
+                socket.AF_INET, socket.SOCK_STREAM
+            ) as other:
                 try:
                     one.bind(('127.0.0.1', port))
                     other.bind(('127.0.0.1', port))
@@ -87,7 +111,16 @@ class Room:
 
 def settings(channels: str, **keys: Any) -> str:
     """The text of a settings file: keys at the top, with what every trial has."""
-    top = {'medium': 'medium', 'blocks': 65536, 'directory': 8, 'volume': 'TRIAL', 'nodes': 100, 'start': 'record', 'commit_ms': 20, 'acknowledge': 'lines'}
+    top = {
+        'medium': 'medium',
+        'blocks': 65536,
+        'directory': 8,
+        'volume': 'TRIAL',
+        'nodes': 100,
+        'start': 'record',
+        'commit_ms': 20,
+        'acknowledge': 'lines',
+    }
     top.update(keys)
     control = top.pop('control', '')
     lines = [f'{key} = {json.dumps(value)}' for key, value in top.items() if value is not None]
@@ -95,20 +128,41 @@ def settings(channels: str, **keys: Any) -> str:
 
 
 def udp_channels(ports: Iterable[int], first: int = 5, more: str = '') -> str:
-    return ''.join(f'[[channel]]\nid = {first + n}\nkind = "message"\ninput = {{ udp = "127.0.0.1:{port}", receive_mib = 32 }}\n{more}' for n, port in enumerate(ports))
+    return ''.join(
+        f'[[channel]]\nid = {first + n}\nkind = "message"\ninput = {{ udp = "127.0.0.1:{port}", receive_mib = 32 }}\n{more}'
+        for n, port in enumerate(ports)
+    )
+
+
+def channel(number: int, kind: str, where: str, more: str = '') -> str:
+    bits = 'bits = 8\n' if kind == 'discrete' else ''
+    return f'[[channel]]\nid = {number}\nkind = "{kind}"\n{bits}{more}input = {{ {where} }}\n'
 
 
 class Service:
     """r10d that runs in a folder, by a settings file."""
 
-    def __init__(self, room: Room, text: Optional[str] = None, disk: Optional[dict[str, Any]] = None, environment: Optional[dict[str, str]] = None,
-                 wait: bool = True, stdin: Any = subprocess.DEVNULL) -> None:
+    def __init__(
+        self,
+        room: Room,
+        text: Optional[str] = None,
+        disk: Optional[dict[str, Any]] = None,
+        environment: Optional[dict[str, str]] = None,
+        wait: bool = True,
+        stdin: Any = subprocess.DEVNULL,
+    ) -> None:
         self.room, self.folder = room, room.folder
         if text is not None:
             (self.folder / 'settings.toml').write_text(text)
         around = dict(os.environ, **(environment or {}))
         if disk is not None:
-            around.update({'LD_PRELOAD': str(room.disk_library), 'DISK': str(self.folder / 'medium'), 'DISK_LINES': str(self.folder / 'lines')})
+            around.update(
+                {
+                    'LD_PRELOAD': str(room.disk_library),
+                    'DISK': str(self.folder / 'medium'),
+                    'DISK_LINES': str(self.folder / 'lines'),
+                }
+            )
             around.update({f'DISK_{key.upper()}': str(value) for key, value in disk.items()})
         self.log_path = self.folder / 'log'
         self.log_start = self.log_path.stat().st_size if self.log_path.exists() else 0
@@ -218,13 +272,17 @@ def load_numbers(found: list[Entry]) -> list[tuple[int, int, int]]:
     for entry in found:
         body = bytes.fromhex(entry.words[-1])
         run, number = int.from_bytes(body[:8], 'little'), int.from_bytes(body[8:16], 'little')
-        must(body[16:] == bytes((number * 31 + at) & 255 for at in range(len(body) - 16)), f'message {number} of run {run} has other bytes')
+        must(
+            body[16:] == bytes((number * 31 + at) & 255 for at in range(len(body) - 16)),
+            f'message {number} of run {run} has other bytes',
+        )
         numbers.append((run, number, int(entry.gap.rstrip('+') or 0)))
     return numbers
 
 
 def judge(image: bytes, acknowledged: dict[tuple[int, int], int], channels: Iterable[int]) -> dict[str, int]:
-    """Compares a medium with what was acknowledged of it, by file and channel: how many messages are there, and how many are missing that no gap tells of."""
+    """Compares a medium with what was acknowledged of it, by file and channel: how many messages are there, and how many are
+    missing that no gap tells of."""
     listed = files(image)
     for (file, channel), count in acknowledged.items():
         must(file < len(listed), f'file {file} is not there, and {count} messages of it on channel {channel} were acknowledged')
@@ -270,15 +328,18 @@ class Trail:
                 continue
             heads = 2 if kind == 'W' else 1
             begin = at + 1 + 8 * heads
-            offset = int.from_bytes(text[at + 1:at + 9], 'little') if kind == 'W' else 0
-            length = int.from_bytes(text[begin - 8:begin], 'little')
+            offset = int.from_bytes(text[at + 1 : at + 9], 'little') if kind == 'W' else 0
+            length = int.from_bytes(text[begin - 8 : begin], 'little')
             if begin + length > len(text):
-                break       # the last record of a killed service
-            self.steps.append((kind, offset, text[begin:begin + length]))
+                break  # the last record of a killed service
+            self.steps.append((kind, offset, text[begin : begin + length]))
             at = begin + length
 
-    def cuts(self, image: bytes, places: list[int], chance: random.Random, ways: Iterable[int] = (0, 1, 2, 3)) -> Iterable[tuple[int, int, bytes, str]]:
-        """The media that a loss of power after so many steps may leave, and what was acknowledged before it. Of each block that was written since the last
+    def cuts(
+        self, image: bytes, places: list[int], chance: random.Random, ways: Iterable[int] = (0, 1, 2, 3)
+    ) -> Iterable[tuple[int, int, bytes, str]]:
+        """The media that a loss of power after so many steps may leave, and what was acknowledged before it. Of each block that
+        was written since the last
         sync there is one of its contents: by chance; the oldest of all; all old but one; all new but one."""
         left, unsure, said, at = bytearray(image), collections.OrderedDict[int, list[bytes]](), '', 0
         for place in places:
@@ -290,15 +351,25 @@ class Trail:
                 else:
                     for start in range(0, len(data), 512):
                         block = (offset + start) // 512
-                        unsure.setdefault(block, [bytes(left[512 * block:512 * block + 512])]).append(data[start:start + 512])
-                        left[512 * block:512 * block + 512] = data[start:start + 512]
+                        unsure.setdefault(block, [bytes(left[512 * block : 512 * block + 512])]).append(data[start : start + 512])
+                        left[512 * block : 512 * block + 512] = data[start : start + 512]
             at = place
             for way in ways:
                 cut, special = bytearray(left), chance.choice(list(unsure)) if unsure else None
                 for block, contents in unsure.items():
                     new, old = contents[-1], contents[0]
-                    one = chance.choice(contents) if way == 0 else old if way == 1 else (new if block == special else old) if way == 2 else old if block == special else new
-                    cut[512 * block:512 * block + 512] = one
+                    one = (
+                        chance.choice(contents)
+                        if way == 0
+                        else old
+                        if way == 1
+                        else (new if block == special else old)
+                        if way == 2
+                        else old
+                        if block == special
+                        else new
+                    )
+                    cut[512 * block : 512 * block + 512] = one
                 yield place, way, bytes(cut), said
 
 

@@ -1,0 +1,300 @@
+"""Trials of what comes in and of what goes out: each kind of input, settings, the words of control, live out."""
+import os
+import pty
+import random
+import socket
+import subprocess
+import time
+
+from trying import KINDS, Room, Service, channel, entries, files, must, r10, settings, trial, udp_channels
+
+
+@trial
+def each_kind_by_udp(room: Room) -> str:
+    """A datagram of each kind of channel is the message that r10 play prints; what is no message of its kind is counted."""
+    ports = room.ports(5)
+    service = Service(
+        room,
+        settings(''.join(channel(10 + n, kind, f'udp = "127.0.0.1:{port}"') for n, (kind, port) in enumerate(zip(KINDS, ports)))),
+    )
+    bodies = [b'$GPRMC,V\r\n', bytes.fromhex('42280000fa000028'), bytes.fromhex('c1000060'), bytes([0x5A, 0, 0, 0]), b'']
+    with socket.socket(socket.AF_INET, socket.SOCK_DGRAM) as it:
+        for body, port in zip(bodies, ports):
+            it.sendto(body, ('127.0.0.1', port))
+        for body, port in ((b'123', ports[1]), (b'12345', ports[2]), (bytes(76), ports[1])):
+            it.sendto(body, ('127.0.0.1', port))
+        service.until_durable(5)
+    time.sleep(0.1)
+    must([it['bad'] for it in service.figures()['channels']] == [0, 2, 1, 0, 0], 'datagrams that are no message are not counted')
+    service.end()
+    found = [
+        (it.channel, ' '.join([it.kind, *it.words])) for it in entries((room.folder / 'medium').read_bytes(), 0) if it.channel >= 10
+    ]
+    must(
+        sorted(found)
+        == [
+            (10, 'uart 0 0 244750524d432c560d0a'),
+            (11, '1553 0000 0000 2842000000fa2800'),
+            (12, 'arinc 0 0 0 0 600000c1'),
+            (13, 'discrete 0000005a'),
+            (14, 'message 0 0 0 -'),
+        ],
+        f'by UDP came {found}',
+    )
+    return '5 kinds, and 3 datagrams that are none'
+
+
+@trial
+def each_kind_by_lines(room: Room) -> str:
+    """Lines of a named pipe, and of standard input, in the form of a script's offers, come out as r10 play prints them."""
+    lines = {
+        10: ('parity = true, sub = 3, bytes = "4142"', 'uart 1 3 4142'),
+        11: ('status = 0x2000, gap = 7, words = "0821abcd"', '1553 2000 0007 0821abcd'),
+        12: ('bus = 1, high = true, parity = true, data = 0x600000c1', 'arinc 1 0 1 1 600000c1'),
+        13: ('states = 0x5a', 'discrete 0000005a'),
+        14: ('data = true, format = true, sub = 9, bytes = "00ff"', 'message 1 1 9 00ff'),
+    }
+    for where in ('pipe', '-'):
+        room.clear()
+        text = ''.join(channel(10 + n, kind, f'lines = "{where}"') for n, kind in enumerate(KINDS))
+        given = (
+            ''.join(f'{{ do = "offer", channel = {number}, count = 5, {line} }},\n' for number, (line, _) in lines.items())
+            + 'channel = 13, states = 300\nnonsense\n'
+        )
+        if where == '-':
+            (room.folder / 'given').write_text(given)
+            with open(room.folder / 'given', 'rb') as stdin:
+                service = Service(room, settings(text), stdin=stdin)
+        else:
+            service = Service(room, settings(text))
+            (room.folder / 'pipe').write_text(given)
+        service.until_durable(6)
+        time.sleep(0.1)
+        figures = service.figures()['channels']
+        must(
+            (sum(it['refused'] for it in figures), sum(it['bad'] for it in figures)) == (1, 1),
+            f'a state out of range and a line that is none: {figures}',
+        )
+        service.end()
+        found = {
+            it.channel: ' '.join([it.kind, *it.words])
+            for it in entries((room.folder / 'medium').read_bytes(), 0)
+            if it.channel >= 10
+        }
+        must(found == {number: text for number, (_, text) in lines.items()}, f'by lines came {found}')
+    return '5 kinds by a pipe and by standard input'
+
+
+@trial
+def serial_lines(room: Room) -> str:
+    """Messages of a serial line (a pseudo-terminal) end at a byte, a length or a pause, and a line that goes comes back."""
+    masters = []
+    text = ''
+    for n, how in enumerate(('end = 10', 'length = 4', 'pause_ms = 30, baud = 115200')):
+        master, slave = pty.openpty()
+        masters.append((master, slave))
+        text += channel(10 + n, 'uart', f'serial = "{os.ttyname(slave)}", {how}')
+    service = Service(room, settings(text))
+    for n in range(3):
+        service.wait_for(f'channel {10 + n}: reads')
+    os.write(masters[0][0], b'$A,1\n$B')
+    os.write(masters[1][0], b'12345678\x03\x04\r\n')
+    os.write(masters[2][0], b'first')
+    time.sleep(0.1)
+    os.write(masters[0][0], b',2\n')
+    os.write(masters[2][0], b'second')
+    time.sleep(0.1)
+    service.until_durable(7)
+    service.end()
+    found = {n: [bytes.fromhex(it.words[-1]) for it in entries((room.folder / 'medium').read_bytes(), 0, n)] for n in (10, 11, 12)}
+    must(
+        found == {10: [b'$A,1\n', b'$B,2\n'], 11: [b'1234', b'5678', b'\x03\x04\r\n'], 12: [b'first', b'second']},
+        f'by serial lines came {found}',
+    )
+    for one, other in masters:
+        os.close(one)
+        os.close(other)
+    return 'a byte, a length and a pause'
+
+
+@trial
+def settings_faults(room: Room) -> str:
+    """What is wrong with settings is said by line, key, value and limit, and the status is 2."""
+    good = settings(udp_channels(room.ports(1)))
+    for old, new, wanted in (
+        ('"blocks"', '"blocks"', ''),
+        ('blocks = 65536', 'blocks = 9', 'line 2: blocks = 9: give a number from 10 to 16777216'),
+        ('id = 5', 'id = 70000', 'id = 70000: give a number from 1 to 65535'),
+        ('commit_ms', 'comit_ms', 'unknown field `comit_ms`'),
+    ):
+        (room.folder / 'settings.toml').write_text(good.replace(old, new))
+        ran = subprocess.run([room.programs / 'r10d', '--check', 'settings.toml'], cwd=room.folder, capture_output=True, text=True)
+        must((ran.returncode == 2 and wanted in ran.stderr) if wanted else ran.returncode == 0, f'{new}: {ran}')
+    must(not (room.folder / 'medium').exists(), '--check makes a medium')
+    return '3 faults'
+
+
+@trial
+def chapter_6_words(room: Room) -> str:
+    """Each command answers as docs/RECORDER.md says, and refuses by the standard's numbers; over TCP nothing is erased."""
+    port, tcp, metrics = room.ports(3)
+    service = Service(
+        room, settings(udp_channels([port]), start='wait', metrics=f'127.0.0.1:{metrics}', control=f'tcp = "127.0.0.1:{tcp}"')
+    )
+    mode = (room.folder / 'control').stat().st_mode & 0o777
+    must(mode == 0o660, f'the socket has mode {mode:o}')
+    ask = service.ask
+    must(ask('.STATUS') == ['S 01 0 0 0%'] and ask('.FILES') == [], 'a new medium')
+    for line, number in (
+        ('.STOP', 2),
+        ('.EVENT 1', 2),
+        ('.EVENT', 1),
+        ('.RECORD a b', 1),
+        ('.RECORD A/B', 1),
+        ('.FLY', 0),
+        ('', 0),
+        ('.STATUS 1', 1),
+        ('.FIND 1', 1),
+        ('.REPLAY', 1),
+        ('.REPLAY 77', 1),
+        ('.HEALTH 9', 1),
+        ('.PUBLISH START x 1', 1),
+        ('.PUBLISH STOP', 2),
+    ):
+        found = ask(line)
+        must(len(found) == 1 and found[0].startswith(f'E {number:02} '), f'{line}: {found}')
+    must(ask('.RECORD FLT1', 'ask')[-1].startswith('E 00') and ask('.RECORD')[0].startswith('E 02'), 'a recording begins once')
+    load = room.load([port], count=100, rate=100000)
+    service.until_durable(100)
+    load.wait()
+    must(ask('.STATUS')[0].startswith('S 05 0 0') and ask('.ERASE')[0].startswith('E 02'), 'recording')
+    must(ask('.EVENT 4095', '.EVENT 4095') == [] and ask('.EVENT 4096')[0].startswith('E 01'), 'events')
+    must(ask('.HEALTH')[1].split(' ')[:2] == ['1', '00000000'], f"health {ask('.HEALTH')}")
+    time.sleep(0.1)
+    replay = ask('.FIND 1', '.REPLAY 5')
+    must(
+        replay[0].endswith(' 1 0') and len(replay) == 101 and replay[1].startswith('entry 5 '),
+        f'a replay of what is recorded: {replay[:3]}',
+    )
+    count = int(replay[50].split(' ')[2])
+    must(len(ask(f'.FIND 1 {count}', '.REPLAY 5')) == 1 + 51, 'a replay from a count on')
+    must(len([it for it in ask('.FIND 1 2000-01-01 00:00:00', '.REPLAY') if ' event ' in it]) == 2, 'a replay from a time on')
+    must(
+        ask('.STOP', '.FILES')[0].split(' ')[1::3] == ['FLT1', 'closed'] and ask('.RECORD FLT1')[0].startswith('E 01'),
+        'a file and its name',
+    )
+    ctl = [str(room.programs / 'r10ctl'), '--socket', str(room.folder / 'control')]
+    for words, wanted in (
+        (['files', '--json'], '"name":"FLT1"'),
+        (['status'], 'IDLE, 0 warnings'),
+        (['event', '1'], 'E 02'),
+        (['--json', 'health'], '"feature":0'),
+        (['watch', '--json'], '"state":"idle"'),
+    ):
+        one = subprocess.Popen([*ctl, *words], stdout=subprocess.PIPE, stderr=subprocess.STDOUT, text=True)
+        line = (one.stdout.read() if words[0] != 'watch' else one.stdout.readline()) if one.stdout else ''
+        one.kill()
+        one.wait()
+        must(wanted in line, f'r10ctl {words}: {line}')
+    there = ('127.0.0.1', tcp)
+    must(ask('.STATUS', path=there) == ['S 01 0 0 0%'], 'over TCP')
+    must(
+        ask('.ERASE', path=there)[0].startswith('E 02')
+        and ask('.SHUTDOWN', path=there)[0].startswith('E 02')
+        and len(ask('.FILES')) == 1,
+        'an erase over TCP',
+    )
+    with socket.create_connection(('127.0.0.1', metrics)) as it:
+        it.sendall(b'GET /metrics HTTP/1.0\r\n\r\n')
+        text = b''.join(iter(lambda: it.recv(65536), b'')).decode()
+    must('r10_durable_total{channel="5",name="CH5"} 100\n' in text and 'r10_recording 0\n' in text, f'metrics: {text}')
+    must(ask('.ERASE', '.FILES') == [], 'an erase')
+    must(ask('.SHUTDOWN') == [] and service.child.wait(5) == 0, 'a shutdown')
+    return f'{14 + 20} commands'
+
+
+@trial
+def live_out(room: Room) -> str:
+    """What goes out as UDP in transfer format 1, put together again, is the file byte for byte."""
+    port, out = room.ports(2)
+    with socket.socket(socket.AF_INET, socket.SOCK_DGRAM) as it:
+        it.setsockopt(socket.SOL_SOCKET, socket.SO_RCVBUF, 32 << 20)
+        it.bind(('127.0.0.1', out))
+        it.settimeout(0.3)
+        service = Service(room, settings(udp_channels([port]), publish=f'127.0.0.1:{out}'))
+        load = room.load([port], count=3000, rate=20000, size=100)
+        service.until_durable(3000)
+        load.wait()
+        service.end()
+        found, sequence, segments = b'', 0, 0
+        while True:
+            try:
+                datagram = it.recv(65536)
+            except TimeoutError:
+                break
+            head = int.from_bytes(datagram[:4], 'little')
+            must(head >> 8 == sequence & 0xFFFFFF and head & 15 == 1, f'datagram {sequence} has the head {head:08x}')
+            sequence += 1
+            segments += head >> 4 & 15
+            found += datagram[12 if head >> 4 & 15 else 4 :]
+    image = (room.folder / 'medium').read_bytes()
+    size = int(files(image)[0][1])
+    must(found == image[512 * 9 : 512 * 9 + size], f'{len(found)} bytes came, the file has {size}')
+    must(segments > 0 and r10(['check'], found)[1].strip() == 'strict', 'no packet was cut, or the stream is no file')
+    return f'{sequence} datagrams, {size} bytes'
+
+
+@trial
+def wrong_input_does_nothing(room: Room) -> str:
+    """Bytes of all kinds at the control socket and the inputs: the service goes on, and memory stays."""
+    chance, ports = random.Random(5), room.ports(3)
+    text = udp_channels(ports[:1]) + channel(6, '1553', f'udp = "127.0.0.1:{ports[1]}"') + channel(7, 'arinc', 'lines = "pipe"')
+    service = Service(room, settings(text))
+    words = [
+        '.FIND',
+        '.EVENT',
+        '.RECORD',
+        '.HEALTH',
+        '.PUBLISH START',
+        '.REPLAY',
+        '.STOP',
+        '.FILES',
+        '.FOLLOW',
+        '1',
+        '-1',
+        '99999999999999999999',
+        '\x00',
+        'é',
+        '127.0.0.1',
+        '2024-02-30 00:00:00',
+    ]
+    with socket.socket(socket.AF_INET, socket.SOCK_DGRAM) as it, open(room.folder / 'pipe', 'wb', 0) as pipe:
+        for number in range(150):
+            with socket.socket(socket.AF_UNIX) as one:
+                one.settimeout(0.05)
+                one.connect(str(room.folder / 'control'))
+                line = (
+                    ' '.join(chance.choice(words) for _ in range(chance.randrange(1, 5))).encode()
+                    if chance.random() < 0.7
+                    else chance.randbytes(chance.choice((1, 50, 6000)))
+                )
+                try:
+                    one.sendall(line + b'\n')
+                    one.recv(1000)
+                except (BrokenPipeError, ConnectionResetError, TimeoutError):
+                    pass
+            for port in ports[:2]:
+                it.sendto(chance.randbytes(chance.choice((0, 1, 2, 73, 1400, 60000))), ('127.0.0.1', port))
+            pipe.write(
+                chance.randbytes(chance.randrange(300)) + b'\n'
+                if number % 2
+                else f'channel = 7, data = {chance.randrange(1 << 33)}, bus = {chance.randrange(300)}\n'.encode()
+            )
+    time.sleep(0.3)
+    figures = service.figures()
+    must(figures['memory_kib'] < 100 << 10, f"memory {figures['memory_kib']} KiB")
+    service.end(status=None)
+    must(service.child.returncode == 0 and 'panicked' not in service.log(), service.log()[-2000:])
+    for number in range(len(files((room.folder / 'medium').read_bytes()))):
+        entries((room.folder / 'medium').read_bytes(), number)
+    return '150 connections, 300 datagrams, 150 lines'
