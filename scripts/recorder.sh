@@ -26,6 +26,13 @@ not_tried() {
     exit 0
 }
 
+# The crate r10 wants this Rust, 1.89.
+readonly OLDEST=89
+
+is_new() {
+    [[ $(cargo --version) =~ ^cargo\ 1\.([0-9]+) ]] && [ "${BASH_REMATCH[1]}" -ge "$OLDEST" ]
+}
+
 # Where crates come from: words for cargo.
 from=()
 if [ -d "$REGISTRY/clap-4.0.32" ] || compgen -G "$REGISTRY/clap-4*" >/dev/null; then
@@ -51,24 +58,28 @@ library() {
 build() {
     local jobs
     jobs=$(($(nproc) > 2 ? 2 : $(nproc)))
-    build_by build --release --quiet -j "$jobs"
+    build_by build --release --quiet --bins --examples -j "$jobs"
 }
 
 case ${1:-} in
 build)
-    command -v cargo >/dev/null || give_up "there is no cargo: install a Rust of 1.89 or later"
+    command -v cargo >/dev/null && is_new || give_up "there is no cargo of 1.$OLDEST or later: rustup installs one"
     library=$(library ${2:+"$2"}) || give_up "there is no library: scripts/ffi.sh build says why"
     build || give_up "r10d was not built; without a network its crates come from Debian: apt-get install $PACKAGES"
     echo "$top/out/recorder/target/release"
     ;;
 check)
     command -v cargo >/dev/null || not_tried "there is no cargo to build r10d with"
+    is_new || not_tried "the cargo that is there is older than 1.$OLDEST: $(cargo --version)"
     # cargo says whether all crates are there, without building one
     [ "${#from[@]}" != 0 ] || from=(--offline)
     library=/nonexistent build_by metadata --format-version 1 >/dev/null 2>&1 || not_tried "the crates of r10d are not there: apt-get install $PACKAGES"
     kept=$("$top/scripts/ffi.sh" kept) || give_up "there is no library to build r10d over"
-    library=$(library "$([[ $kept == */out/builds/* ]] && echo --quick)") || give_up "there is no library to build r10d over"
+    quick=()
+    [[ $kept != */out/builds/* ]] || quick=(--quick)
+    library=$(library "${quick[@]}") || give_up "there is no library to build r10d over"
     build || give_up "r10d was not built"
+    cargo fmt --check --manifest-path "$top/recorder/Cargo.toml" >/dev/null || give_up "run cargo fmt in recorder/"
     build_by test --release --quiet --lib --bins -j 2 || give_up "a test of its parts failed"
     "$top/recorder/tests/check.py" "$top/out/recorder/target/release" || give_up "a recording through the service failed"
     ;;

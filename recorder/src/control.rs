@@ -52,6 +52,11 @@ impl Asking {
         self.owner.unpark();
         answer.recv().ok()
     }
+
+    /// A client has read: there is room for more.
+    fn wake(&self) {
+        self.owner.unpark();
+    }
 }
 
 /// How many may be connected at a time.
@@ -87,10 +92,7 @@ impl Connection for TcpStream {
 /// Makes the socket anew where nobody listens on it, for its owner and group.
 fn bind(path: &Path) -> io::Result<UnixListener> {
     if UnixStream::connect(path).is_ok() {
-        return Err(io::Error::new(
-            ErrorKind::AddrInUse,
-            "another service listens there; end it, or give control.socket another name",
-        ));
+        return Err(io::Error::new(ErrorKind::AddrInUse, "another service listens there"));
     }
     let _ = std::fs::remove_file(path);
     let before = umask(Mode::from_bits_truncate(0o117));
@@ -103,7 +105,9 @@ fn bind(path: &Path) -> io::Result<UnixListener> {
 pub fn start(settings: &Settings, asking: &Asking) -> io::Result<()> {
     let open = Arc::new(AtomicUsize::new(0));
     let path = &settings.socket;
-    let failed = |it: io::Error| io::Error::new(it.kind(), format!("control.socket = {path:?}: {it}"));
+    let failed = |it: io::Error| {
+        io::Error::new(it.kind(), format!("control.socket = {path:?}: {it}; it wants a folder that may be written"))
+    };
     let listener = bind(path).map_err(failed)?;
     let (asking_here, open_here) = (asking.clone(), open.clone());
     thread::Builder::new().name("control".to_string()).spawn(move || {
@@ -170,7 +174,7 @@ fn serve<S: Connection>(mut to: S, origin: Origin, asking: &Asking) -> io::Resul
             Some(Reply::Text(text)) => to.write_all(format!("{text}*\n").as_bytes())?,
             Some(Reply::Stream(chunks, queued)) => {
                 to.limit(Some(Duration::from_millis(1)), slow)?;
-                stream(&mut to, &mut from, &chunks, &queued)?;
+                stream(&mut to, &mut from, &chunks, &queued, asking)?;
                 to.limit(None, slow)?;
                 to.write_all(b"*\n")?;
             }
@@ -179,13 +183,20 @@ fn serve<S: Connection>(mut to: S, origin: Origin, asking: &Asking) -> io::Resul
 }
 
 /// Hands on what comes, until the recorder ends it, or the client sends a line.
-fn stream<S: Connection>(to: &mut S, from: &mut BufReader<S>, chunks: &Receiver<String>, queued: &AtomicUsize) -> io::Result<()> {
+fn stream<S: Connection>(
+    to: &mut S,
+    from: &mut BufReader<S>,
+    chunks: &Receiver<String>,
+    queued: &AtomicUsize,
+    asking: &Asking,
+) -> io::Result<()> {
     let mut looked = std::time::Instant::now();
     loop {
         match chunks.recv_timeout(Duration::from_millis(200)) {
             Ok(text) => {
                 let done = to.write_all(text.as_bytes());
                 queued.fetch_sub(text.len(), Relaxed);
+                asking.wake();
                 done?;
             }
             Err(RecvTimeoutError::Disconnected) => return Ok(()),
