@@ -15,8 +15,8 @@ use crate::owner::{Owner, State, Trouble};
 const WAITING: usize = 1 << 20;
 /// How many counts a replay reads at first: a second.
 const SECOND: u64 = 10_000_000;
-/// Entries that a step of a replay is to have about.
-const STEP: usize = 2000;
+/// Entries that a step of a replay is to have about, while a file is recorded and else: each step of a closed file judges it anew.
+const STEPS: (usize, usize) = (5_000, 20_000);
 /// How many may read at a time.
 pub const MOST: usize = 16;
 
@@ -166,25 +166,31 @@ impl Owner {
         if !it.has_room() {
             return Ok((true, false));
         }
-        let What::Replay { file, from, to, span } = &mut it.what else { return Ok((false, false)) };
-        let end = from.saturating_add(*span - 1).min(*to);
+        let What::Replay { file, mut from, to, mut span } = it.what else { return Ok((false, false)) };
+        let end = from.saturating_add(span - 1).min(to);
+        let step = if self.state == State::Recording { STEPS.0 } else { STEPS.1 };
         let recorder = self.recorder.as_mut().ok_or_else(|| Trouble::Failed("no medium is mounted".to_string()))?;
-        let place = recorder.cursor(*file, &it.channels, *from..=end)?;
+        let place = recorder.cursor(file, &it.channels, from..=end)?;
         let count = recorder.advance(place)?;
         let mut text = String::new();
         while let Some(entry) = recorder.next(place)? {
             entries::print(&mut text, &entry);
+            if text.len() >= 1 << 16 && !it.give(std::mem::take(&mut text)) {
+                recorder.close_cursor(place)?;
+                return Ok((false, false));
+            }
         }
         recorder.close_cursor(place)?;
-        *span = if count > 2 * STEP {
-            (*span / 2).max(1)
-        } else if count < STEP / 2 {
+        span = if count > 2 * step {
+            (span / 2).max(1)
+        } else if count < step / 2 {
             span.saturating_mul(2).min(COUNTS)
         } else {
-            *span
+            span
         };
-        let is_last = end >= *to;
-        *from = end + 1;
+        let is_last = end >= to;
+        from = end + 1;
+        it.what = What::Replay { file, from, to, span };
         let goes_on = it.give(text) && !is_last;
         Ok((goes_on, goes_on && it.has_room()))
     }

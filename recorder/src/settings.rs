@@ -432,7 +432,7 @@ impl Reader<'_> {
             {
                 self.fault(at, format!("group = \"{group}\": give a multicast address"));
             }
-            let receive_mib = self.number_or("receive_mib", &it.receive_mib, 8, 1..=1024);
+            let receive_mib = self.number_or("receive_mib", &it.receive_mib, 32, 1..=1024);
             (Input::Udp { address, group, receive_mib }, format!("udp {address}"))
         } else if let Some(at) = &it.serial {
             if !kind.is_bytes() {
