@@ -310,6 +310,13 @@ impl Owner {
         self.counter.count()
     }
 
+    /// Takes in all that the inputs handed over, before a file ends. A flood has no end: after a second it is cut off.
+    pub fn take_in_all(&mut self) -> Result<(), Trouble> {
+        let until = Instant::now() + Duration::from_secs(1);
+        while self.take_in()? && Instant::now() < until {}
+        Ok(())
+    }
+
     /// Takes in what the inputs handed over, for a turn at most. Whether there may be more.
     pub fn take_in(&mut self) -> Result<bool, Trouble> {
         let until = Instant::now() + TURN;
@@ -410,7 +417,7 @@ impl Owner {
     /// Ends the file and the use of the medium. Whether all went well.
     fn end(&mut self) -> bool {
         let _ = sd_notify::notify(false, &[sd_notify::NotifyState::Stopping]);
-        let done = self.take_in().map(|_| ());
+        let done = self.take_in_all();
         self.mind(done);
         if self.recorder.is_none() {
             warning!("the service ends; recording was down: {}", self.why);

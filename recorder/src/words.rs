@@ -145,7 +145,7 @@ impl Owner {
             }
             ".RECORD" => return self.record(&words),
             ".STOP" if self.state == State::Recording => {
-                self.take_in()?;
+                self.take_in_all()?;
                 self.stop("was stopped by a command")?;
                 String::new()
             }

@@ -70,12 +70,13 @@ def kills(room: Room, count: int = 4, seed: int = 1) -> str:
         load.kill()
         load.wait()
         acknowledged.update(lines_of((room.folder / 'lines').read_text()))
-        # every tenth time all files are read; else only the last one counts, as nothing else was written
-        if number % 10 == 9 or number == count - 1:
+        # every tenth time, and where no more fits, all files are read; else only the last one counts, as nothing else was written
+        is_full = 'the medium is full' in service.log()
+        if number % 10 == 9 or number == count - 1 or is_full:
             image = (room.folder / 'medium').read_bytes()
             found = judge(image, acknowledged, [5, 6])
             sum_of = {key: sum_of[key] + found.get(key, 0) for key in sum_of}
-            if len(files(image)) > 20:
+            if is_full or len(files(image)) > 20 or sum(int(it[2]) for it in files(image)) > 20_000:
                 service = Service(room, text)
                 service.ask('.STOP', '.ERASE', '.RECORD')
                 service.kill()
