@@ -29,6 +29,7 @@ def picture(points: list[tuple[float, int, int]]) -> str:
     return (
         f'<svg xmlns="http://www.w3.org/2000/svg" viewBox="0 0 {width + 90} {height + 60}" '
         'font-family="sans-serif" font-size="13">\n'
+        f'<rect width="{width + 90}" height="{height + 60}" fill="#ffffff"/>\n'
         f'<rect x="60" y="20" width="{width}" height="{height}" fill="none" stroke="#999"/>\n'
         f'<polyline fill="none" stroke="#8bb8e8" stroke-width="2" points="{line([it[2] for it in points], most_messages)}"/>\n'
         f'<polyline fill="none" stroke="#1b3a5c" stroke-width="2" points="{line([it[1] for it in points], most_memory)}"/>\n'

@@ -97,7 +97,7 @@ def a_flood(room: Room, count: int = 100_000) -> str:
     before = service.figures()['memory_kib']
     load = room.load(ports[:1], count=count, rate=0, size=40)
     gentle = room.load(ports[1:], count=200, rate=400)
-    figures = service.until_durable(count + 200, 120)
+    figures = service.until_durable(count + 200, 900)
     load.wait()
     gentle.wait()
     service.end()
