@@ -192,8 +192,7 @@ impl Owner {
     }
 
     /// Takes up the medium at the start of the service, and says whether a recording begins by itself. Only a medium that another
-    /// program has, or that
-    /// cannot be made, is no start.
+    /// program has, or that cannot be made, is no start.
     pub fn begin(&mut self) -> Result<bool, Refusal> {
         self.medium.make()?;
         self.medium.describe();
@@ -321,11 +320,11 @@ impl Owner {
     pub fn take_in(&mut self) -> Result<bool, Trouble> {
         let until = Instant::now() + TURN;
         loop {
-            self.offer_taken()?;
             // while the disk is tried again what comes stays in the queues, which count what does not fit
             if matches!(self.state, State::Failed(Some(_))) {
                 return Ok(false);
             }
+            self.offer_taken()?;
             let mut is_empty = true;
             for at in 0..self.outlets.len() {
                 if let Some(batch) = self.outlets[at].take() {

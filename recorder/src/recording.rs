@@ -84,10 +84,6 @@ impl Owner {
         if self.state != State::Recording {
             self.settle()?;
         }
-        if let Some((number, name)) = self.file.as_ref().filter(|_| self.state == State::Recording) {
-            let text = format!("recording file {} {name}", number + 1);
-            let _ = sd_notify::notify(false, &[sd_notify::NotifyState::Status(&text)]);
-        }
         Ok(())
     }
 
@@ -110,7 +106,9 @@ impl Owner {
         self.settings.setup = setup;
         started?;
         self.settle()?;
-        info!("file {} {name}: recording", files.len() + 1);
+        let text = format!("file {} {name}: recording", files.len() + 1);
+        info!("{text}");
+        let _ = sd_notify::notify(false, &[sd_notify::NotifyState::Status(&text)]);
         self.file = Some((files.len(), name));
         self.live.begin();
         self.state = State::Recording;

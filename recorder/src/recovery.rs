@@ -27,8 +27,7 @@ impl Owner {
                 Err(Error::BAD_FILE) => {
                     return Err(Refusal::Wrong(format!(
                         "the last file, {}, was cut off and cannot be closed: it is not as this recorder writes it; \
-                         copy the medium, \
-                         then record on another one",
+                         copy the medium, then record on another one",
                         file.name
                     )));
                 }
@@ -55,9 +54,7 @@ impl Owner {
     pub(crate) fn account(&mut self, recorder: &mut Recorder, files: &[r10::File]) -> Result<(), Error> {
         let file = self.file.as_ref().filter(|it| files.get(it.0).is_some_and(|file| file.name == it.1)).map(|it| it.0);
         for place in 0..self.lanes.len() {
-            let lane = &mut self.lanes[place];
-            let pending: Vec<u64> = std::mem::take(&mut lane.pending).into();
-            lane.waiting = 0;
+            let lane = &self.lanes[place];
             let mut is_there = |count: u64| -> Result<bool, Error> {
                 Ok(match file {
                     Some(file) => recorder.find(file, lane.channel.id, count)?.is_some(),
@@ -66,14 +63,18 @@ impl Owner {
             };
             // what is in the file is a front of what was accepted, and counts rise: so the first that is not there is found by
             // halves
-            let (mut there, mut not) = (0, pending.len());
+            let (mut there, mut not) = (0, lane.pending.len());
             while there < not {
                 let middle = (there + not) / 2;
-                if is_there(pending[middle])? { there = middle + 1 } else { not = middle }
+                if is_there(lane.pending[middle])? { there = middle + 1 } else { not = middle }
             }
+            let lane = &mut self.lanes[place];
+            let lost = lane.pending.len() - there;
             lane.durable += there as u64;
-            if pending.len() > there {
-                self.note_lost(place, (pending.len() - there) as u64);
+            lane.pending.clear();
+            lane.waiting = 0;
+            if lost > 0 {
+                self.note_lost(place, lost as u64);
             }
         }
         Ok(())
@@ -101,7 +102,7 @@ impl Owner {
         self.state = State::Failed(None);
         self.recorder = None;
         self.why = refusal.text().to_string();
-        error!("recording is down: {}; then give .RECORD", refusal.text());
+        error!("recording is down: {}; once that is mended, give .RECORD", refusal.text());
         let _ = sd_notify::notify(false, &[sd_notify::NotifyState::Status("FAIL: recording is down; see the log")]);
     }
 

@@ -141,7 +141,7 @@ impl Owner {
             }
             ".PUBLISH" => return Ok(self.publish(&words).map(Reply::Text)),
             _ if self.recorder.is_none() && word != ".RECORD" => {
-                return Ok(Err(No::NoMedia(format!("recording is down: {}; then give .RECORD", self.why))));
+                return Ok(Err(No::NoMedia(format!("recording is down: {}; once that is mended, give .RECORD", self.why))));
             }
             ".RECORD" => return self.record(&words),
             ".STOP" if self.state == State::Recording => {

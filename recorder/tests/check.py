@@ -13,7 +13,7 @@ from typing import Optional
 import trials_of_disks
 import trials_of_inputs
 import trials_of_service
-from trying import R10, Room, Wrong, fault, must, report
+from trying import R10, Room, fault, must, report
 
 
 # the trials stand in these modules, each under its name
@@ -39,11 +39,11 @@ def main() -> None:
             else:
                 report(f'recorder: {name}', start, TRIALS[name](room))
             return None
-        except (Wrong, subprocess.TimeoutExpired, OSError) as why:
+        except Exception as why:
             room.end_all()
             kept = pathlib.Path(f'{room.folder}.kept')
             room.folder.rename(kept)
-            return f'{name}: {why}\n(its folder is kept: {kept})'
+            return f'{name}: {type(why).__name__}: {why}\n(its folder is kept: {kept})'
         finally:
             room.close()
 

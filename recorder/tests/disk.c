@@ -5,7 +5,8 @@
  *     DISK_TRAIL=PATH      each write to it, each sync of it, and each line to DISK_LINES is written down here before it is done:
  *                          'W' offset:8 length:8 bytes, 'S', 'A' length:8 bytes
  *     DISK_LINES=PATH      what the service acknowledges
- *     DISK_FAIL=N:ERRNO    its Nth operation fails, from 1 on; N+:ERRNO that and all later ones
+ *     DISK_FAIL=N:ERRNO    its Nth operation fails, from 1 on; N+:ERRNO that and all later
+ *                          ones, N-M:ERRNO those up to the Mth
  *     DISK_HIT=PATH        made where an operation failed
  *     DISK_SLOW=MICROS     each sync takes so much longer
  *     DISK_BAD=BLOCK       a plain read that touches this block fails
@@ -25,8 +26,8 @@
 #include <unistd.h>
 
 static const char *disk, *lines, *clock_file, *hit;
-static int trail = -1, fail_errno, fail_on, slow;
-static long fail_at, done, bad = -1;
+static int trail = -1, fail_errno, slow;
+static long fail_at, fail_to, done, bad = -1;
 
 __attribute__((constructor)) static void begin(void) {
     const char *text;
@@ -42,9 +43,13 @@ __attribute__((constructor)) static void begin(void) {
         bad = atol(text);
     if ((text = getenv("DISK_FAIL"))) {
         char *end;
-        fail_at = strtol(text, &end, 10);
-        fail_on = *end == '+';
-        fail_errno = atoi(end + 1 + fail_on);
+        fail_at = fail_to = strtol(text, &end, 10);
+        if (*end == '+') {
+            fail_to = -1;
+            end++;
+        } else if (*end == '-')
+            fail_to = strtol(end + 1, &end, 10);
+        fail_errno = atoi(end + 1);
     }
 }
 
@@ -67,7 +72,7 @@ static void note(char kind, const uint64_t *head, size_t heads, const void *byte
 /* Whether the next operation fails. */
 static int fails(void) {
     long number = __atomic_add_fetch(&done, 1, __ATOMIC_SEQ_CST);
-    if (fail_at == 0 || (fail_on ? number < fail_at : number != fail_at))
+    if (fail_at == 0 || number < fail_at || (fail_to >= 0 && number > fail_to))
         return 0;
     if (hit)
         syscall(SYS_close, (int)syscall(SYS_open, hit, O_CREAT | O_WRONLY, 0644));

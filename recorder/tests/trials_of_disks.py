@@ -216,6 +216,9 @@ def disk_failures(room: Room, each: int = 9) -> str:
             number += each
             continue
         break
+    # some operations in a row fail, those of the first tries to go on among them
+    log, _ = failing_run(room, ports, text, '12-14:5')
+    must('(try 3 of 5)' in log and 'the medium can be taken away' in log, log)
     # one that fails from some operation on: it stays down, and says so; with a good disk it records again by a command
     log, _ = failing_run(room, ports, text, '30+:5')
     must('recording is down' in log, log)
