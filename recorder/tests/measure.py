@@ -6,7 +6,6 @@
 Each row is a run of its own; those of both programs take turns. Rates are messages a second from UDP to durable, on four sockets.
 """
 import json
-import os
 import pathlib
 import shutil
 import signal
@@ -18,9 +17,9 @@ from trying import Room, Service, settings, udp_channels
 
 
 def cpu_of(child: int) -> float:
-    """Seconds of a processor that a process has had."""
-    words = pathlib.Path(f'/proc/{child}/stat').read_text().rsplit(')', 1)[1].split()
-    return (int(words[11]) + int(words[12])) / os.sysconf('SC_CLK_TCK')
+    """Seconds of a processor that a process has had, of all its threads, as the system's scheduler counts them."""
+    tasks = pathlib.Path(f'/proc/{child}/task').iterdir()
+    return sum(int((it / 'schedstat').read_text().split()[0]) for it in tasks) / 1e9
 
 
 def recorder(room: Room, commit: int, rate: int, size: int, seconds: float) -> dict[str, float]:
