@@ -1,5 +1,5 @@
-//! What is durable, for a program that has to know: after each commit a line `durable FILE CHANNEL MESSAGES` for each channel
-//! that got some, in a file or a pipe.
+//! What is durable, for a program that has to know: after each commit a line `durable FILE CHANNEL MESSAGES` in a file, for each
+//! channel that got some.
 use std::fmt::Write as _;
 use std::fs::{File, OpenOptions};
 use std::io::{self, Write};

@@ -37,7 +37,12 @@ pub fn run(path: Option<&Path>, mut feed: Feed, channels: &[Channel]) {
             Some(Ok((file, is_pipe))) => {
                 was_said = false;
                 let ended = read(BufReader::with_capacity(1 << 16, file), &from, &mut feed, channels);
-                if is_pipe { ended.or(Err(io::ErrorKind::UnexpectedEof.into())) } else { ended }
+                match ended {
+                    Ok(()) if is_pipe => Err(io::ErrorKind::UnexpectedEof.into()),
+                    // a file that was read in part is not read again: its lines would come twice
+                    Err(error) if !is_pipe => return warning!("{from} cannot be read to its end: {error}"),
+                    other => other,
+                }
             }
             Some(Err(error)) => Err(error),
         };

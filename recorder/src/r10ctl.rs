@@ -107,7 +107,10 @@ fn main() -> ExitCode {
         Ok(()) => ExitCode::SUCCESS,
         Err(why) => {
             if words.json {
-                println!("{}", json!({ "error": why, "number": why.strip_prefix("E ").and_then(|it| it[..2].parse::<u8>().ok()) }));
+                println!(
+                    "{}",
+                    json!({ "error": why, "number": why.strip_prefix("E ").and_then(|it| it.get(..2)?.parse::<u8>().ok()) })
+                );
             } else {
                 eprintln!("r10ctl: {why}");
             }

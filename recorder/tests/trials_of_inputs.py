@@ -208,9 +208,13 @@ def chapter_6_words(room: Room) -> str:
         it.sendall(b'GET /metrics HTTP/1.0\r\n\r\n')
         text = b''.join(iter(lambda: it.recv(65536), b'')).decode()
     must('r10_durable_total{channel="5",name="CH5"} 100\n' in text and 'r10_recording 0\n' in text, f'metrics: {text}')
+    must(ask('.PUBLISH START 127.0.0.1 9', '.PUBLISH LIST') == ['127.0.0.1 9 ALL'], 'a place to send to')
+    must(ask('.PUBLISH START 127.0.0.1 9')[0].startswith('E 02') and ask('.PUBLISH STOP', '.PUBLISH') == [], 'none to send to')
+    must(ask('.FOLLOW 77')[0].startswith('E 01') and len(ask('.HELP')) == 15, 'a channel that is not there, and help')
+    must(ask('.MEDIUM') == [f"{room.folder / 'medium'} 65536 8"], 'the medium')
     must(ask('.ERASE', '.FILES') == [], 'an erase')
     must(ask('.SHUTDOWN') == [] and service.child.wait(5) == 0, 'a shutdown')
-    return f'{14 + 20} commands'
+    return f'{14 + 28} commands'
 
 
 @trial
