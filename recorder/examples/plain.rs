@@ -27,8 +27,11 @@ fn main() -> Result<(), Box<dyn std::error::Error>> {
         let (socket, to) = (r10_recorder::udp::open(format!("127.0.0.1:{port}").parse()?, None, 64)?, to.clone());
         std::thread::spawn(move || {
             let mut bytes = vec![0; 65536];
-            while let Ok(count) = socket.recv(&mut bytes) {
-                if to.send((Instant::now(), bytes[..count].to_vec())).is_err() {
+            // (a second without a datagram is an error too)
+            loop {
+                if let Ok(count) = socket.recv(&mut bytes)
+                    && to.send((Instant::now(), bytes[..count].to_vec())).is_err()
+                {
                     return;
                 }
             }

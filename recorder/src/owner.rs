@@ -394,8 +394,8 @@ impl Owner {
         Ok(())
     }
 
-    /// So many messages of a channel came, or would have come, and are in no file. Where none is recorded, and none is to be, they only
-    /// pass.
+    /// So many messages of a channel came, or would have come, and are in no file. Where none is recorded, and none is to be,
+    /// they only pass.
     fn missed(&mut self, place: usize, count: u64) {
         if matches!(self.state, State::Recording | State::Full) || self.wants {
             self.note_lost(place, count);
@@ -443,8 +443,8 @@ impl Owner {
     }
 }
 
-/// Gives the recorder the number of messages that were lost before the channel's next one, so that its file has it. The library has no call
-/// for that yet: once it has, it is made here, and where it answers 0 nothing is untold.
+/// Gives the recorder the number of messages that were lost before the channel's next one, so that its file has it. The library has
+/// no call for that yet: once it has, it is made here, and where it answers 0 nothing is untold.
 fn tell_lost(_recorder: &mut Recorder, lane: &mut Lane) {
     if lane.untold > 0 {
         // recorder.lose(lane.channel.id, lane.untold)

@@ -576,8 +576,6 @@ input = { udp = \"127.0.0.1:20005\" }
     /// The library takes what stands at the limits here, and refuses what is one beyond: the limits are its own.
     #[test]
     fn the_limits_are_those_of_the_library() {
-        let takes =
-            |script: &str| r10::Recorder::open(r10::Region::memory(1), 1, script).err().map(|it| it.0) == Some(r10::Error::BLOCKS);
         let script = read(GOOD, Path::new("/f")).unwrap().script;
         assert!(is_taken(&script));
         for (line, least, most) in [
@@ -592,7 +590,7 @@ input = { udp = \"127.0.0.1:20005\" }
         ] {
             let key = line.split(' ').next().unwrap();
             let with =
-                |value: u64| takes(&script.replace("event = 2", "event = 77").replacen(line, &format!("{key} = {value}"), 1));
+                |value: u64| is_taken(&script.replace("event = 2", "event = 77").replacen(line, &format!("{key} = {value}"), 1));
             let step = if key == "bytes" { 4 } else { 1 };
             // a time of 1 is there already, so the least ID is another one's
             assert!(with(if key == "id" { 2 } else { least }) && with(most), "{key}");

@@ -11,6 +11,7 @@ use crate::feed::Feed;
 use crate::info;
 use crate::inputs::{Seldom, message_of};
 use crate::settings::Channel;
+use std::time::Duration;
 
 /// Opens the socket, with so many MiB for what the system holds. An unprivileged user gets as much as net.core.rmem_max says.
 pub fn open(address: SocketAddr, group: Option<IpAddr>, receive_mib: u64) -> io::Result<UdpSocket> {
@@ -31,7 +32,20 @@ pub fn open(address: SocketAddr, group: Option<IpAddr>, receive_mib: u64) -> io:
         }
     }
     setsockopt(fd, sockopt::RxqOvfl, &1)?;
+    socket.set_read_timeout(Some(SILENCE))?;
     Ok(socket)
+}
+
+/// After so long without a datagram the system is asked what it dropped since the last one.
+const SILENCE: Duration = Duration::from_secs(1);
+
+/// How many datagrams the system dropped of a socket since its creation: the last column of its line in /proc/net/udp.
+fn all_dropped(socket: &UdpSocket) -> Option<u32> {
+    let name = std::fs::read_link(format!("/proc/self/fd/{}", socket.as_raw_fd())).ok()?;
+    let inode = name.to_str()?.strip_prefix("socket:[")?.strip_suffix(']')?;
+    let table =
+        std::fs::read_to_string(if socket.local_addr().ok()?.is_ipv4() { "/proc/self/net/udp" } else { "/proc/self/net/udp6" });
+    table.ok()?.lines().find(|it| it.split_whitespace().nth(9) == Some(inode))?.split_whitespace().next_back()?.parse().ok()
 }
 
 /// How many were dropped since the last datagram, of a number of 32 bits that goes on from its start.
@@ -43,7 +57,7 @@ pub fn run(socket: UdpSocket, mut feed: Feed, channel: &Channel) {
     let mut bytes = vec![0; 1 << 16];
     let mut space = nix::cmsg_space!(u32);
     let (mut drops, mut bad, mut failed) = (0, Seldom::default(), Seldom::default());
-    let mut flags = MsgFlags::empty();
+    let (mut flags, mut has_heard) = (MsgFlags::empty(), false);
     loop {
         let mut slices = [IoSliceMut::new(&mut bytes)];
         let (length, lost) = match recvmsg::<SockaddrStorage>(socket.as_raw_fd(), &mut slices, Some(&mut space), flags) {
@@ -52,7 +66,12 @@ pub fn run(socket: UdpSocket, mut feed: Feed, channel: &Channel) {
                 (it.bytes, count.map_or(0, |count| dropped(&mut drops, count)))
             }
             Err(Errno::EAGAIN) => {
-                // nothing more is there: what came goes over, and then the thread waits
+                // nothing more is there: what came goes over, and then the thread waits; after a while without any it asks what was
+                // dropped
+                if flags.is_empty() && std::mem::take(&mut has_heard) {
+                    let lost = all_dropped(&socket).map_or(0, |count| dropped(&mut drops, count));
+                    feed.lost(0, lost);
+                }
                 feed.flush();
                 flags = MsgFlags::empty();
                 continue;
@@ -65,6 +84,7 @@ pub fn run(socket: UdpSocket, mut feed: Feed, channel: &Channel) {
             }
         };
         flags = MsgFlags::MSG_DONTWAIT;
+        has_heard = true;
         match message_of(channel, &bytes[..length]) {
             Some((head, length)) => feed.message(0, lost, head, &bytes[..length]),
             None => {
@@ -93,7 +113,6 @@ mod tests {
     use crate::clock::Counter;
     use crate::feed::{Came, feed};
     use std::sync::Arc;
-    use std::sync::atomic::Ordering::Relaxed;
 
     #[test]
     fn the_number_of_drops_goes_round() {
@@ -109,6 +128,7 @@ mod tests {
         let socket = UdpSocket::bind("127.0.0.1:0").unwrap();
         setsockopt(socket.as_raw_fd(), sockopt::RcvBuf, &4096).unwrap();
         setsockopt(socket.as_raw_fd(), sockopt::RxqOvfl, &1).unwrap();
+        socket.set_read_timeout(Some(Duration::from_millis(100))).unwrap();
         let (to, from) = (socket.local_addr().unwrap(), UdpSocket::bind("127.0.0.1:0").unwrap());
         for _ in 0..500 {
             from.send_to(&[7; 100], to).unwrap();
@@ -119,23 +139,23 @@ mod tests {
             "medium = \"m\"\nblocks = 99\nvolume = \"V\"\n[control]\nsocket = \"c\"\n[[channel]]\nid = 5\nkind = \"message\"\n";
         let channel = crate::settings::read(text, std::path::Path::new("/")).unwrap().channels.remove(0);
         std::thread::spawn(move || run(socket, feed, &channel));
-        let (mut messages, mut lost) = (0, 0);
-        let wait = |want: u64| {
-            let start = std::time::Instant::now();
-            while came.messages.load(Relaxed) < want && start.elapsed().as_secs() < 5 {
-                std::thread::sleep(std::time::Duration::from_millis(5));
+        let (mut messages, mut lost, start) = (0, 0, std::time::Instant::now());
+        let mut take = |wanted: u64| {
+            while messages + lost < wanted && start.elapsed().as_secs() < 20 {
+                std::thread::sleep(Duration::from_millis(5));
+                while let Some(batch) = outlet.take() {
+                    messages += batch.items.len() as u64;
+                    lost += batch.items.iter().map(|it| it.lost).chain(batch.lost.iter().map(|it| it.1)).sum::<u64>();
+                }
             }
-            std::thread::sleep(std::time::Duration::from_millis(20));
+            (messages, lost)
         };
-        wait(1);
-        let first = came.messages.load(Relaxed);
+        // the last of them were dropped, and none comes after
+        let (first, lost) = take(500);
+        assert_eq!(first + lost, 500);
         from.send_to(b"the next one", to).unwrap();
-        wait(first + 1);
-        while let Some(batch) = outlet.take() {
-            messages += batch.items.len() as u64;
-            lost += batch.items.iter().map(|it| it.lost).sum::<u64>();
-        }
-        assert_eq!(messages + lost, 501);
+        assert_eq!(take(501), (first + 1, lost));
+        let messages = first;
         assert!(lost > 0 && messages < 500, "{messages} came, {lost} lost");
     }
 }
