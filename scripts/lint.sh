@@ -5,7 +5,7 @@
 #
 # Every shell script has to parse, and every Python script to compile; and what begins as a command does has the run bit. Then the Python scripts
 # are looked at by pyflakes (or by ruff, by the same rules), and those of the shell by shellcheck: Debian's packages are pyflakes3 and shellcheck.
-# Sources in C and Rust have the form that clang-format and rustfmt give them, by ffi/.clang-format and ffi/rustfmt.toml.
+# Sources in C and Rust have the form that clang-format and rustfmt give them, by ffi/.clang-format and the rustfmt.toml of each folder.
 # Status 1 where one of them finds something.
 set -u
 cd "$(dirname "${BASH_SOURCE[0]}")/.." || exit 1
@@ -40,7 +40,9 @@ else
     echo "lint: NOT TRIED: there is no clang-format for the sources in C"
 fi
 if command -v rustfmt >/dev/null && command -v cargo >/dev/null; then
-    (cd ffi/rust && cargo fmt --check) && (cd bench && cargo fmt --check) || bad=1
+    for folder in ffi/rust bench recorder; do
+        (cd "$folder" && cargo fmt --check) || bad=1
+    done
 else
     echo "lint: NOT TRIED: there is no rustfmt for the sources in Rust"
 fi
