@@ -65,6 +65,13 @@ pub enum State {
     Failed(Option<Instant>),
 }
 
+/// A message that was accepted and is not durable.
+pub(crate) struct Pending {
+    pub(crate) count: u64,
+    /// how many lost messages the recorder was given before it
+    pub(crate) lost: u64,
+}
+
 /// A channel on its way.
 pub struct Lane {
     pub channel: settings::Channel,
@@ -72,13 +79,15 @@ pub struct Lane {
     /// messages in the recorder's lane
     pub(crate) waiting: usize,
     /// counts of the messages that were accepted and are not durable, those that wait last
-    pub(crate) pending: VecDeque<u64>,
+    pub(crate) pending: VecDeque<Pending>,
     pub durable: u64,
     /// durable ones in the file that is recorded
     pub durable_in_file: u64,
     pub lost: u64,
     /// what of the lost the recorder was not given yet
     pub(crate) untold: u64,
+    /// what of them it was given, and no message was accepted after
+    pub(crate) told: u64,
     pub refused: u64,
     /// messages that came while nothing was recorded
     pub passed: u64,
@@ -150,6 +159,7 @@ impl Owner {
             durable_in_file: 0,
             lost: 0,
             untold: 0,
+            told: 0,
             refused: 0,
             passed: 0,
             longest: 1,
@@ -378,7 +388,7 @@ impl Owner {
                 match give(recorder, lane.channel.id, &item, bytes) {
                     Ok(()) => {
                         lane.waiting += 1;
-                        lane.pending.push_back(item.count);
+                        lane.pending.push_back(Pending { count: item.count, lost: std::mem::take(&mut lane.told) });
                         self.has_news = true;
                     }
                     Err(error) => {
@@ -443,12 +453,10 @@ impl Owner {
     }
 }
 
-/// Gives the recorder the number of messages that were lost before the channel's next one, so that its file has it. The library has
-/// no call for that yet: once it has, it is made here, and where it answers 0 nothing is untold.
-fn tell_lost(_recorder: &mut Recorder, lane: &mut Lane) {
-    if lane.untold > 0 {
-        // recorder.lose(lane.channel.id, lane.untold)
-        lane.untold = 0;
+/// Gives the recorder the number of messages that were lost before the channel's next one, so that its file has it.
+fn tell_lost(recorder: &mut Recorder, lane: &mut Lane) {
+    if lane.untold > 0 && recorder.lose(lane.channel.id, lane.untold).is_ok() {
+        lane.told += std::mem::take(&mut lane.untold);
     }
 }
 

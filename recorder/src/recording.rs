@@ -53,7 +53,7 @@ impl Owner {
         self.commits += 1;
         for lane in &mut self.lanes {
             let count = lane.pending.len() - lane.waiting.min(lane.pending.len());
-            lane.pending.drain(..count).for_each(|it| self.times.add(now.saturating_sub(it)));
+            lane.pending.drain(..count).for_each(|it| self.times.add(now.saturating_sub(it.count)));
             lane.durable += count as u64;
             lane.durable_in_file += count as u64;
             if count > 0

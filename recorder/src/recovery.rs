@@ -66,12 +66,13 @@ impl Owner {
             let (mut there, mut not) = (0, lane.pending.len());
             while there < not {
                 let middle = (there + not) / 2;
-                if is_there(lane.pending[middle])? { there = middle + 1 } else { not = middle }
+                if is_there(lane.pending[middle].count)? { there = middle + 1 } else { not = middle }
             }
             let lane = &mut self.lanes[place];
             let lost = lane.pending.len() - there;
             lane.durable += there as u64;
-            lane.pending.clear();
+            // what the recorder was given of losses is in no file either, where the message is not that was to carry it
+            lane.untold += std::mem::take(&mut lane.told) + lane.pending.drain(..).skip(there).map(|it| it.lost).sum::<u64>();
             lane.waiting = 0;
             if lost > 0 {
                 self.note_lost(place, lost as u64);

@@ -43,7 +43,7 @@ def full_medium(room: Room) -> str:
     must(service.ask('.RECORD')[0].startswith('E 04'), 'a recording begins on a full medium')
     image = (room.folder / 'medium').read_bytes()
     found = judge(image, lines_of((room.folder / 'lines').read_text()), [5])
-    must(found['files'] > 1 and found['untold'] == 0 and found['acknowledged'] <= found['messages'], f'{found}')
+    must(found['files'] > 1 and found['untold'] == found['untold_before'] == 0 and found['acknowledged'] <= found['messages'], f'{found}')
     used = 512 * sum(int(it[2]) for it in files(image)) / (512 * 1491)
     must(service.ask('.ERASE', '.RECORD AGAIN', '.STATUS')[-1].startswith('S 05'), 'no recording after an erase')
     service.end()
@@ -176,6 +176,10 @@ def failing_run(room: Room, ports: list[int], text: str, fail: str, messages: in
     service.end(status=None)
     lines = (room.folder / 'lines').read_text() if (room.folder / 'lines').exists() else ''
     found = judge((room.folder / 'medium').read_bytes(), lines_of(lines), [5, 6])
+    must(
+        durable is None or found.get('untold', 0) == found.get('untold_before', 0) == 0,
+        f'operation {fail}: losses that no gap tells of: {found}:\n{service.log()}',
+    )
     must(
         durable in (None, found.get('messages', 0)),
         f'operation {fail}: {durable} are counted as durable, and there are {found}:\n{service.log()}',

@@ -86,6 +86,24 @@ def each_kind_by_lines(room: Room) -> str:
 
 
 @trial
+def losses_are_in_the_file(room: Room) -> str:
+    """What is refused is lost, and the next message that is recorded says how many were, over a restart of the file too."""
+    service = Service(room, settings(channel(13, 'discrete', 'lines = "pipe"')))
+    with open(room.folder / 'pipe', 'w', encoding='ascii') as pipe:
+        for number, states in enumerate((0x1FF, 0x100, 1, 2, 0x300, 3)):
+            print(f'channel = 13, states = {states}', file=pipe, flush=True)
+            if number == 4:
+                service.until_durable(5)
+                service.ask('.STOP', '.RECORD')
+        service.until_durable(6)
+    service.end()
+    image = (room.folder / 'medium').read_bytes()
+    found = [(it.gap, it.words[-1]) for file in range(len(files(image))) for it in entries(image, file, 13)]
+    must(found == [('2', '00000001'), ('0', '00000002'), ('1', '00000003')], f'in the files are {found}')
+    return '2 and 1 lost messages'
+
+
+@trial
 def serial_lines(room: Room) -> str:
     """Messages of a serial line (a pseudo-terminal) end at a byte, a length or a pause, and a line that goes comes back."""
     masters = []

@@ -107,4 +107,6 @@ def a_flood(room: Room, count: int = 100_000) -> str:
     must(figures['memory_kib'] - before < 160 << 10, f"memory grew from {before} to {figures['memory_kib']} KiB")
     found = load_numbers(entries((room.folder / 'medium').read_bytes(), 0, 5))
     must(len(found) == flooded['durable'], f'{len(found)} in the file, {flooded}')
+    told = [number - before - 1 for (_, before, _), (_, number, _) in zip(found, found[1:])]
+    must(told == [gap for _, _, gap in found[1:]], 'the file does not have the losses that lie between its messages')
     return f"{count} datagrams: {flooded['durable']} recorded, {flooded['lost']} counted as lost, {figures['memory_kib'] >> 10} MiB"

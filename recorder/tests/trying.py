@@ -282,8 +282,9 @@ def load_numbers(found: list[Entry]) -> list[tuple[int, int, int]]:
 
 def judge(image: bytes, acknowledged: dict[tuple[int, int], int], channels: Iterable[int]) -> dict[str, int]:
     """Compares a medium with what was acknowledged of it, by file and channel: how many messages are there, and how many are
-    missing that no gap tells of."""
+    missing that no gap tells of, within a file, and before a file's first message."""
     listed = files(image)
+    last: dict[int, tuple[int, int]] = {}
     for (file, channel), count in acknowledged.items():
         must(file < len(listed), f'file {file} is not there, and {count} messages of it on channel {channel} were acknowledged')
     total = collections.Counter(files=len(listed))
@@ -299,6 +300,11 @@ def judge(image: bytes, acknowledged: dict[tuple[int, int], int], channels: Iter
                 if run == other:
                     must(number > before, f'file {file} channel {channel}: message {number} comes after {before}')
                     total['untold'] += max(0, number - before - 1 - gap)
+            if numbers:
+                run, number, gap = numbers[0]
+                other, before = last.get(channel, (run, -1))
+                total['untold_before'] += max(0, number - (before if other == run else -1) - 1 - gap)
+                last[channel] = numbers[-1][:2]
             total['messages'] += len(numbers)
             total['acknowledged'] += wanted
     return dict(total)
