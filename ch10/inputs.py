@@ -64,6 +64,10 @@ class Output:
         self.held, self.size, self.to = [], 0, to
 
     def write(self, data):
+        if len(data) >= 1 << 18:
+            self.flush()
+            self.to.write(data)
+            return
         self.held.append(data)
         self.size += len(data)
         if self.size >= 1 << 18:

@@ -2,7 +2,7 @@
 import json
 from itertools import product
 from operator import itemgetter
-from typing import Callable, Dict, Iterator, Optional, Tuple
+from typing import Callable, Dict, Iterable, Iterator, Optional, Tuple
 
 from . import vector
 from .bodies import BODIES, entries
@@ -10,7 +10,7 @@ from .fields import COLUMNS, FRONT, KINDS, REAL, TRUTH, WHOLE, Reader, type_of
 from .inputs import one_part
 from .packets import UNTOLD, Packet
 from .parallel import LEAST, MOST, in_order, processors
-from .replay import Ordered, Part
+from .replay import EACH, Ordered, Part
 from .standard import KIND_BY_NAME
 from .survey import Survey, ended_fields, stretch_fields
 from .times import Range
@@ -226,11 +226,11 @@ def written(asked, data, out, is_json: bool) -> Tuple[Survey, int]:
     jobs = asked.jobs or (min(processors(), MOST) if end - begin >= LEAST else 1)
     many = Vector(form, ordered) if within.is_all and not asked.raw and vector.is_ready(end - begin) else None
 
-    def made(part: Part) -> bytes:
+    def made(part: Part) -> Iterable:
         said = many.lines(part) if many else None
-        return part_lines(form, ordered, part, within) if said is None else said
+        return (part_lines(form, ordered, part, within),) if said is None else said
 
-    in_order(made, ordered.parts(), out, jobs)
+    in_order(made, ordered.parts(vector.EACH if many else EACH), out, jobs)
     return survey, end - begin
 
 

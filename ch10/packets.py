@@ -20,11 +20,11 @@ Stretch.__doc__ = """Bytes that were passed over: from which offset on, how many
 header is right, else None."""
 
 
-def packet_at(data, at: int, begin: int, end: int, judged: bool = True, opaque: bool = False) -> Packet:
+def packet_at(data, at: int, begin: int, end: int, judged: bool = True, opaque: bool = False, summed: bool = False) -> Packet:
     """The packet that begins at a place, or its fault. Its offset counts from the first place; a fault has its length where its header is right.
 
     Where it is not judged, which is for bytes that were read before, no checksum is looked at. The data checksum of an opaque packet is looked at only where
-    that is asked for, and not after a secondary header.
+    that is asked for, and not after a secondary header. Of a packet that was summed already its data checksum is known to be right.
     """
     here = at - begin
     if end - at < 24:
@@ -47,11 +47,11 @@ def packet_at(data, at: int, begin: int, end: int, judged: bool = True, opaque: 
         if kind in FORMS and FORMS[kind](word, size):
             word = None
     if word is None:
-        if opaque and flags & 3 and not flags & 0x80 and 24 + size + WIDTHS[flags & 3] <= length:
+        if opaque and not summed and flags & 3 and not flags & 0x80 and 24 + size + WIDTHS[flags & 3] <= length:
             need_sum(data, at, length, size, flags & 3, here, whose)
         body = data[at + 24:at + length]
     else:
-        if judged and flags & 3:
+        if judged and not summed and flags & 3:
             need_sum(data, at, length, size, flags & 3, here, whose)
         body = data[at + 24:at + 24 + size]
     return Packet(here, channel, kind, length, sequence, flags, low | high << 32, body, word)

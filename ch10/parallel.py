@@ -17,14 +17,15 @@ def processors() -> int:
 
 
 def in_order(made: Callable, parts: List, out, jobs: int) -> None:
-    """Writes made(part) of each part, in their order: by so many processes, or by this one where that is one, or where none can be made.
+    """Writes the pieces that made(part) gives of each part, in their order: by so many processes, or by this one where that is one, or where none can be made.
 
     Each process makes every so many-th part and waits until the one before is written, so that no more than a part of each is held.
     """
     jobs = min(jobs, len(parts))
     if jobs < 2 or not hasattr(os, 'fork'):
         for part in parts:
-            out.write(made(part))
+            for said in made(part):
+                out.write(said)
         return
     out.flush()
     sys.stderr.flush()
@@ -55,9 +56,11 @@ def start(made: Callable, parts: List, others: List[int]):
         for pipe in others:
             os.close(pipe)
         for part in parts:
-            said = made(part)
-            send(writes, struct.pack('<Q', len(said)))
-            send(writes, said)
+            for said in made(part):
+                if len(said):
+                    send(writes, struct.pack('<Q', len(said)))
+                    send(writes, said)
+            send(writes, bytes(8))
         status = 0
     except (BrokenPipeError, KeyboardInterrupt):
         status = 0  # who reads has gone
@@ -74,7 +77,7 @@ def send(pipe: int, data: bytes) -> None:
 
 
 def copy(pipe: int, out) -> None:
-    """Copies the bytes of one part from a process."""
+    """Copies the bytes of one part from a process: pieces with their lengths before them, and a length of zero at their end."""
     left, = struct.unpack('<Q', exactly(pipe, 8))
     while left:
         data = os.read(pipe, min(left, 1 << 20))
@@ -82,6 +85,8 @@ def copy(pipe: int, out) -> None:
             raise MemoryError
         out.write(data)
         left -= len(data)
+        if not left:
+            left, = struct.unpack('<Q', exactly(pipe, 8))
 
 
 def exactly(pipe: int, size: int) -> bytes:

@@ -2,7 +2,8 @@
 from array import array
 from typing import Dict, List, Optional, Tuple
 
-from .bodies import BODIES, counts
+from . import walk
+from .bodies import BODIES
 from .clocks import TimeLine
 from .packets import Resync, Stretch, UNTOLD, loss_of, lost_before, packet_at
 from .standard import DISCRETE, INDEX, NONE_LATER, SETUP, TIME, Damaged, Fault
@@ -113,10 +114,11 @@ class Survey:
     def go(self, data, begin, end, goes_on):
         """Goes over the recording, and answers how far it came."""
         at, resync, before, report, last = begin, Resync(data, begin, end), {}, None, None
+        ahead = walk.Ahead(data, end) if walk.is_ready(end - begin) else walk.Alone()
         while at < end:
             try:
-                packet = packet_at(data, at, begin, end, True, goes_on)
-                found = counts(packet)
+                packet = packet_at(data, at, begin, end, True, goes_on, ahead.is_summed(at))
+                found = ahead.measure(packet, at)
                 said = time(packet.body, packet.word) if packet.kind == TIME and packet.word is not None else None
             except Fault as fault:
                 if fault.offset != at - begin or fault.whose is None:  # of what stands in a packet
@@ -160,10 +162,9 @@ class Survey:
 
     def note(self, packet, found, said, row):
         """Takes note of what stands in a packet."""
-        kind = packet.kind
-        if found:
-            low, high = min(found), max(found)
-            row.add_entries(len(found), low, high)
+        kind, (number, low, high) = packet.kind, found
+        if number:
+            row.add_entries(number, low, high)
         else:
             low, high = NONE_LATER, 0
         if kind == TIME and said is not None:
@@ -172,7 +173,7 @@ class Survey:
                 line = TimeLine(packet.channel)
                 self.times.append(line)
             line.add(packet.counter, said, packet.offset)
-        elif kind == DISCRETE and found:
+        elif kind == DISCRETE and number:
             self.states.append((len(self.lows), packet.channel, bytes(packet.body[-4:])))
         elif kind == SETUP and packet.word is not None and self.setup is None:
             self.setup = bytes(packet.body[4:])

@@ -1,4 +1,5 @@
 """What stands in recordings that are made here, stated by the standards, and what the filters say of it. scripts/ch10_trials.py check runs it."""
+import contextlib
 import csv
 import datetime
 import io
@@ -9,9 +10,9 @@ import random
 import sqlite3
 import tempfile
 import xml.etree.ElementTree as tree
-from typing import Callable, List, Tuple
+from typing import Callable, Iterator, List, Tuple
 
-from ch10 import command, replay, script, vector
+from ch10 import command, lines, script, vector, walk
 from ch10_recordings import SECOND, SETUP_TEXT, Maker, bus_message, civil_body, flight, foreign
 from check_cases import letters, number
 
@@ -234,29 +235,63 @@ def database() -> Tuple[object, object]:
         1, 0, 2, wanted, [(offset, len(parts[50]), 'a wrong data checksum')], ['flight.db'])
 
 
-def by_ways() -> Tuple[object, object]:
-    """By one process and by three, and by numpy where it is installed: the same bytes."""
-    draw = random.Random('ways')
-    parts, count = flight(draw, 300), 10 ** 12
-    make = Maker()
+def of_ways() -> Maker:
+    """A recording with what the ways may take otherwise: entries without bytes and very long ones, words that are not there, states that are told anew."""
+    draw, make, count = random.Random('of ways'), Maker(), 10 ** 12
+    make.put(0, 0x01, count, number(0x0C, 4) + SETUP_TEXT.replace(b'GPS LINE', b'GPS, "LINE"'))
     make.put(5, 0x50, count, number(1 << 31, 4) + letters(count, b'', 3 << 16) + letters(count, b'a,b') + letters(count + 1, bytes(70)) + letters(count + 2, b'x' * 64))
+    make.put(5, 0x50, count, number(1 << 31, 4) + letters(count, b'$GPGGA,1\\2\t"q"\r\n', 1 << 31 | 9 << 16) + letters(count, b'"\\') + letters(count + 3, b'y' * 600))
     make.put(6, 0x30, count, number(2, 4) + letters(count, b'plain', 3 << 30) + letters(count, b'"'), flags=0x10)
+    make.put(6, 0x30, 10, number(3, 4) + letters(9, b'1', 1 << 30) + letters(10, b'\r\n', 2 << 30) + letters(99, b'\x7f'))
     make.put(7, 0x19, count, number(3, 4) + bus_message(count, 0xFFFF, 0xFFFF, []) + bus_message(count, 0x800, 0, [0x0841, 0x4C81]) + bus_message(count, 0, 0, [1] * 50))
     make.put(7, 0x19, count, number(0, 4))
+    some = [bus_message(count + place, draw.choice((0, 0x800, 0x2838)), draw.randrange(1 << 16), [draw.choice((0x0841, 0x0C42, 0xF841, 0x083F, draw.randrange(1 << 16)))
+                                                                                                   for _ in range(draw.randrange(12))]) for place in range(400)]
+    make.put(7, 0x19, count, number(400, 4) + b''.join(some))
+    make.put(17, 0x19, count, number(2, 4) + bus_message(count, 0, 0, [0x0841, 7])[:-4] + b'\x41\x08\x07' + bus_message(count, 0, 0, [0x0841, 7]), filler=1)
     make.put(8, 0x38, count, number(0, 4))
-    data, wanted, found = b''.join(parts + make.parts), [], []
-    least, each = vector.LEAST, replay.EACH
-    for words in (['csv'], ['json'], ['csv', '--kind', 'uart'], ['json', '--channel', '7'], ['csv', '--raw']):
-        try:
-            vector.LEAST = len(data) + 1
-            wanted.append(run(words + ['--jobs', '1'], data))
-            replay.EACH = 12000
-            found.append([run(words + ['--jobs', jobs], data) == wanted[-1] for jobs in ('1', '3')])
-            vector.LEAST = 0
-            found[-1] += [run(words + ['--jobs', jobs], data) == wanted[-1] for jobs in ('1', '3')]
-        finally:
-            vector.LEAST, replay.EACH = least, each
-    return found, [[True] * 4] * 5
+    make.put(8, 0x38, count, number(4, 4) + b''.join(number(head, 4) + number(word, 4) for head, word in ((0, 0), ((1 << 32) - 1, (1 << 32) - 1), (1 << 24, 1023 << 10), (5, 9))))
+    make.put(9, 0x29, count, number(31 << 3, 4) + b''.join(number(count + place, 8) + number(draw.choice((0, (1 << 32) - 1, 1 << 31, 5)), 4) for place in range(9)))
+    make.put(9, 0x29, count, number(0, 4) + number(count, 8) + number(7, 4))
+    make.put(9, 0x29, count, number(3 << 3, 4))
+    make.put(9, 0x29, count, number(3 << 3, 4) + number(count, 8) + number(0xFFFFFFF0, 4))
+    make.put(65535, 0x50, count, number(1 << 31, 4) + b''.join(letters(count + place % 7, b'%d' % place) for place in range(300)), flags=0x10)
+    return make
+
+
+def by_ways() -> Tuple[object, object]:
+    """By one process and by three, and by numpy where it is installed: the same bytes, and the same summary."""
+    extra = of_ways().parts
+    recordings = [flight(random.Random('ways'), 300) + extra, extra]
+    wrong = []
+    for which, parts in enumerate(recordings):
+        data = b''.join(parts)
+        for words in (['csv'], ['json'], ['csv', '--kind', 'uart'], ['json', '--channel', '7'], ['csv', '--kind', 'arinc', '--turned-labels'], ['json', '--kind', '1553'],
+                      ['csv', '--raw'], ['summary', '--json']):
+            wanted = None
+            for least, each, together, few, ahead, jobs in WAYS:
+                with ways(least, each, together, few, ahead):
+                    said = run(words + (['--jobs', jobs] if words[0] != 'summary' else []), data)
+                wanted = wanted or said
+                if said != wanted:
+                    wrong.append((which, words, least, each, together, few, ahead, jobs))
+    return (len(wanted[1]) > 0, wrong), (True, [])
+
+
+# From which size on numpy is used, bytes of a part, entries of a page, packets that are walked together, bytes looked ahead, and processes.
+WAYS = ((1 << 40, 1 << 20, 40000, 24, 8 << 20, '1'), (1 << 40, 12000, 40000, 24, 8 << 20, '1'), (1 << 40, 12000, 40000, 24, 8 << 20, '3'),
+        (0, 1 << 20, 40000, 24, 8 << 20, '1'), (0, 12000, 100, 2, 5000, '1'), (0, 12000, 7, 1000, 100, '3'), (0, 1 << 20, 33, 1, 8 << 20, '2'))
+
+
+@contextlib.contextmanager
+def ways(least: int, each: int, together: int, few: int, ahead: int) -> Iterator[None]:
+    """Sets what decides how entries are read."""
+    kept = walk.LEAST, lines.EACH, vector.EACH, vector.TOGETHER, walk.FEW, walk.AHEAD
+    walk.LEAST, lines.EACH, vector.EACH, vector.TOGETHER, walk.FEW, walk.AHEAD = least, each, each, together, few, ahead
+    try:
+        yield
+    finally:
+        walk.LEAST, lines.EACH, vector.EACH, vector.TOGETHER, walk.FEW, walk.AHEAD = kept
 
 
 TRIALS: List[Callable] = [bus_1553, bus_429, text_and_bits, clocks, slow_rate, others, setup_tree, text_for_script, database, by_ways]
