@@ -1,7 +1,7 @@
 """Chapter 11: the packets of a recording, and how a reader goes on after damage."""
 import struct
 from collections import namedtuple
-from typing import Dict, Iterator, Optional, Tuple
+from typing import Dict, Iterator, List, NamedTuple, Optional, Set, Tuple
 
 from .standard import EVENT, INDEX, KNOWN, LOSS, MESSAGE, REPORT, SETUP, SUMS, SYNC, TIME, UART, WIDTHS, Fault, little
 
@@ -105,18 +105,54 @@ def head_at(data, at: int, end: int) -> Optional[Head]:
     return Head(channel, kind, length, sequence) if length <= MOST or kind == SETUP else None
 
 
+ROW = 24  # packets that follow one another which are no copy within a packet
+FIRST_ROW = 8  # the same where no packet was read before
+MOST_ROWS = 4000  # right headers that are compared before a row that is known to be of the recording
+MORE = 64  # and after its first one
+NEAR = 8  # packets of its channel that may be missing before one that is near
+
+
+def has_sum(data, at: int) -> bool:
+    """Whether the packet with a right header at a place has a data checksum that is right."""
+    _, _, length, size, _, _, flags, _, _, _, _ = HEADER.unpack_from(data, at)
+    try:
+        if flags & 3 and not flags & 0x80:
+            need_sum(data, at, length, size, flags & 3, at, None)
+            return True
+    except Fault:
+        pass
+    return False
+
+
+def missing(before: int, after: int) -> int:
+    """How many packets of a channel are missing between two sequence numbers."""
+    return (after - before - 1) & 0xFF
+
+
+class Placed(NamedTuple):
+    """A header and its place."""
+    place: int
+    head: Head
+
+    def end(self) -> int:
+        return self.place + self.head.length
+
+    def key(self) -> Tuple[int, int]:
+        return self.head.channel, self.head.kind
+
+
 class Resync:
     """Where the next packet begins after a fault.
 
-    It is a sync pattern whose header is right, and which is no copy of a packet within another's body: its channel and type were seen before and its sequence
-    number is the next one of its channel, or nearly, or a row of packets leads on from it. Where a wrong header's length still leads to a right header, what
-    stands between has to lead there too.
+    It is a sync pattern whose header is right, and which is no copy of a packet within another's body. Packets that follow one another are a row. A row is of
+    this recording where it leads to the last byte, or is long, or where its sequence numbers go on from those of packets that are known to be of it. A row
+    within the packet at fault, as far as that one's length is known, has to lead over its end.
     """
 
     def __init__(self, data, begin: int, end: int):
         self.data, self.begin, self.end = data, begin, end
         self.last: Dict[int, int] = {}  # the last sequence number of each channel
-        self.seen = set()  # channels with types
+        self.seen: Set[Tuple[int, int]] = set()  # channels with types
 
     def note(self, packet: Packet) -> None:
         """Takes note of a packet that was read."""
@@ -126,63 +162,122 @@ class Resync:
     def after(self, at: int, length: Optional[int]) -> int:
         """Where to go on after a fault at a place, of a packet of this length where its header is right."""
         data, end = self.data, self.end
-        if length is not None and (at + length == end or head_at(data, at + length, end)):
-            return at + length
+        limit = None if length is None else at + length
+        if limit == end or limit and self.goes_on(limit, limit - at):
+            return limit
         claimed = None
         if length is None and end - at >= 24 and data[at:at + 2] == PATTERN:
             claimed = at + HEADER.unpack_from(data, at)[2]
-            if not (claimed & 3 == at & 3 and at + 24 < claimed <= end and (claimed == end or head_at(data, claimed, end))):
+            if not (claimed & 3 == at & 3 and at + 24 < claimed <= end and (claimed == end or self.goes_on(claimed, claimed - at))):
                 claimed = None
-        failed = set()
-        place = data.find(PATTERN, at + 1, end)
+        anchor = end if claimed is None else claimed
+        place, has_others = data.find(PATTERN, at + 1, anchor), False
         while place >= 0:
-            if claimed is not None and place >= claimed:
-                return claimed
-            head = head_at(data, place, end)
-            if head and place not in failed and self.is_next(place, head, place - at, claimed, failed):
-                return place
-            place = data.find(PATTERN, place + 1, end)
-        return end if claimed is None else claimed
+            if head_at(data, place, end):
+                has_others = True
+                if claimed is None and (limit is None or place >= limit or self.leads_over(place, limit)) and self.goes_on(place, place - at):
+                    anchor = place
+                    break
+            place = data.find(PATTERN, place + 1, anchor)
+        return self.first_row(at, limit, anchor, claimed) if has_others else anchor
 
-    def distance(self, head: Head, last: Dict[int, int]) -> Optional[int]:
-        """How many packets of its channel are missing before a header, or None where its channel or its type there is new."""
-        if head.channel not in last or (head.channel, head.kind) not in self.seen:
-            return None
-        return (head.sequence - last[head.channel] - 1) & 0xFF
-
-    def is_next(self, place: int, head: Head, passed: int, claimed: Optional[int], failed: set) -> bool:
-        """Whether the header at a place, after so many bytes that were passed over, begins a packet of this recording."""
-        most = min(passed // 24, 40 if passed < 1 << 16 else 255)  # packets that may be missing
-        missing = self.distance(head, self.last)
-        fits = missing is not None and missing <= most
-        run, fitting, exact, reached, walked = self.run_from(place, head, claimed, most)
-        if exact >= 3:
-            return True
-        if claimed is not None:
-            if not (reached and fits):
-                failed.update(walked)
-            return reached and fits
-        if not self.last:
-            return run >= 3 or reached
-        if not fits:
-            return reached or run >= 24 or run >= 3 and 2 * fitting >= run
-        return 2 * fitting >= run and (run >= 2 or reached or missing <= 1)
-
-    def run_from(self, place: int, head: Head, claimed: Optional[int], most: int) -> Tuple[int, int, int, bool, list]:
-        """How many right headers follow one another from a place; of how many of these channel and type were seen before, with a sequence number that counts on from
-        the one before of their channel, nearly or exactly; whether they lead to the claimed end, or else to the last byte; and their places."""
-        last, run, fitting, exact, walked = dict(self.last), 0, 0, 0, []
-        goal = self.end if claimed is None else claimed
-        while head and place < goal and (run < 24 or claimed is not None) and exact < 3:
-            missing = self.distance(head, last)
-            exact += missing == 0
-            fitting += missing is not None and missing <= most
-            last[head.channel] = head.sequence
-            run += 1
-            walked.append(place)
+    def leads_over(self, place: int, limit: int) -> bool:
+        """Whether a row from a place has a packet that begins before a limit and ends after it."""
+        head = head_at(self.data, place, self.end)
+        while head and place + head.length < limit:
             place += head.length
             head = head_at(self.data, place, self.end)
-        return run, fitting, exact, place == goal, walked
+        return head is not None and place + head.length > limit
+
+    def goes_on(self, place: int, passed: int) -> bool:
+        """Whether a row from a place on, after so many bytes that were passed over, is of this recording by itself and the packets before it."""
+        head, run, exact, near, against, first = head_at(self.data, place, self.end), 0, 0, 0, 0, set()
+        while head and run < ROW:
+            key = head.channel, head.kind
+            if key in self.seen and key not in first:
+                gone = missing(self.last[head.channel], head.sequence)
+                exact += gone == 0
+                near += 0 < gone <= min(passed // 32, NEAR)
+                against += gone > min(passed // 32, NEAR)
+            first.add(key)
+            run += 1
+            place += head.length
+            head = head_at(self.data, place, self.end)
+        if place == self.end and run or run >= (ROW if self.last else FIRST_ROW):
+            return True
+        return against == 0 and (exact >= 2 or exact + near >= 2 and run >= 3)
+
+    def first_row(self, at: int, limit: Optional[int], anchor: int, claimed: Optional[int]) -> int:
+        """The first packet of the first row before the anchor that is of this recording, as rows that are known to be of it show; or else the anchor."""
+        rows = self.rows(at, limit, anchor, claimed)
+        known: Dict[Tuple[int, int], List[Placed]] = {key: [Placed(at, Head(*key, 0, self.last[key[0]]))] for key in self.seen}
+        found, certain = anchor, [row for row in rows if row[0].place == anchor]
+        while True:
+            rows = [row for row in rows if row not in certain]
+            for row in certain:
+                found = min(found, row[0].place)
+                for one in row:
+                    known.setdefault(one.key(), []).append(one)
+            certain = [row for row in rows if self.kinship(row, known) >= (2 if len(row) > 1 else 3)]
+            if not certain:
+                return found
+
+    def rows(self, at: int, limit: Optional[int], anchor: int, claimed: Optional[int]) -> List[List[Placed]]:
+        """The rows between a fault and the anchor, and some after that; but not those within a packet whose end or whose data checksum is right."""
+        data, end, rows, number = self.data, self.end, [], 0
+        place = data.find(PATTERN, at + 1, end)
+        most = MOST_ROWS
+        while 0 <= place and number < most:
+            head, step = head_at(data, place, end if place >= anchor else anchor), 1
+            if head:
+                if place == anchor:
+                    most = number + MORE
+                number += 1
+                one = Placed(place, head)
+                if rows and rows[-1][-1].end() == place and place != anchor:
+                    rows[-1].append(one)
+                else:
+                    rows.append([one])
+                if one.end() == end or one.end() == anchor or head_at(data, one.end(), end) or has_sum(data, place):
+                    step = head.length
+            place = data.find(PATTERN, place + step, end)
+        if limit is not None:
+            rows = [row for row in rows if row[-1].place >= limit or self.leads_over(row[0].place, limit)]
+        if claimed is not None:
+            rows = [row for row in rows if row[0].place >= claimed or row[-1].end() == claimed]
+        return rows
+
+    @staticmethod
+    def kinship(row: List[Placed], known: Dict[Tuple[int, int], List[Placed]]) -> int:
+        """How much a row agrees with packets that are known, by the sequence numbers of each channel and type: two for each side where they follow one another, one
+        where they are near, and less by two where they are neither."""
+        points, ends = 0, {}
+        for one in row:
+            ends[one.key()] = ends.get(one.key(), (one, one))[0], one
+        for key, (first, last) in ends.items():
+            before = max((one for one in known.get(key, ()) if one.place < first.place), default=None)
+            after = min((one for one in known.get(key, ()) if one.place > last.place), default=None)
+            for one, then in ((before, first), (last, after)):
+                if one and then:
+                    gone = missing(one.head.sequence, then.head.sequence)
+                    points += 2 if gone == 0 else 1 if gone <= min((then.place - one.end()) // 32, NEAR) else -2
+        return points
+
+    def within(self, at: int, length: int) -> Optional[int]:
+        """Where, within a packet at whose end no header stands, another begins from which a row leads over its end. None where there is none."""
+        data, end, behind = self.data, self.end, at + length
+        if behind == end or head_at(data, behind, end):
+            return None
+        begin = data.find(PATTERN, at + 24, behind + 1)
+        while begin >= 0:
+            place, head = begin, head_at(data, begin, end)
+            while head and place + head.length <= behind:
+                place += head.length
+                head = head_at(data, place, end) if place < behind else None
+            if head and (place + head.length == end or head_at(data, place + head.length, end)):
+                return begin
+            begin = data.find(PATTERN, begin + 1, behind + 1)
+        return None
 
 
 # ---- loss reports

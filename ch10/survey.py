@@ -120,6 +120,9 @@ class Survey:
                 packet = packet_at(data, at, begin, end, True, goes_on, ahead.is_summed(at))
                 found = ahead.measure(packet, at)
                 said = time(packet.body, packet.word) if packet.kind == TIME and packet.word is not None else None
+                inner = resync.within(at, packet.length) if packet.flags & 0x83 not in (1, 2, 3) else None
+                if inner is not None:
+                    raise Fault('another packet within it', at - begin, inner - at, (packet.channel, packet.kind, packet.sequence, packet.counter))
             except Fault as fault:
                 if fault.offset != at - begin or fault.whose is None:  # of what stands in a packet
                     fault = self.placed(fault, data, at, begin, end)

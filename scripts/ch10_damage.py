@@ -5,7 +5,7 @@
 
 A recording of every kind, each packet with a data checksum, or one of another recorder with a copy of a recording within it, has bits turned, bytes
 changed, cut out, put in or laid over by zeros. Packets and stretches that were passed over have to fill the recording, each entry has to be one of a
-packet that was there, in its order and once, and each packet that nothing touched has to be read where its neighbours show that it is one.
+packet that was there, in its order and once, and each packet that nothing touched has to be read, unless it is alone: nothing shows that it is one.
 """
 import collections
 import io
@@ -26,6 +26,9 @@ from ch10.packets import packets  # noqa: E402
 from ch10.survey import Survey  # noqa: E402
 import ch10_recordings  # noqa: E402
 from check_cases import number  # noqa: E402
+
+
+PROCESSES = 2
 
 
 def run(words: List[str], data: bytes) -> Tuple[int, bytes, str]:
@@ -81,8 +84,8 @@ def each_twentieth(seed: int) -> List[str]:
 
 # ---- damage of every kind
 
-def touched(draw: random.Random, parts: List[bytes]) -> Tuple[bytes, set]:
-    """A recording with some damage, and the numbers of the packets that nothing touched."""
+def touched(draw: random.Random, parts: List[bytes]) -> Tuple[bytes, List[int]]:
+    """A recording with some damage, and in its order the numbers of the packets that nothing touched, with -1 for all else."""
     pieces: List[Tuple[bytes, int]] = [(part, place) for place, part in enumerate(parts)]
     for _ in range(draw.choice((1, 1, 2, 3, 8))):
         at = draw.randrange(len(pieces))
@@ -111,7 +114,42 @@ def touched(draw: random.Random, parts: List[bytes]) -> Tuple[bytes, set]:
         elif which == 7 and draw.random() < 0.3:
             pieces = pieces[:at + 1]
             pieces[at] = part[:draw.randrange(len(part) + 1)], -1
-    return b''.join(part for part, _ in pieces), {place for _, place in pieces if place >= 0}
+    return b''.join(part for part, _ in pieces), [place for _, place in pieces]
+
+
+def is_summed(part: bytes) -> bool:
+    """Whether a packet's data checksum is right, or there is none: then a change of its body is not seen."""
+    width = ch10_recordings.WIDTHS[part[14] & 3]
+    end = len(part) - width
+    return width == 0 or sum(int.from_bytes(part[at:at + width], 'little') for at in range(24, end, width)) % 256 ** width == int.from_bytes(part[end:], 'little')
+
+
+def alone(parts: List[bytes], places: List[int], read: set) -> set:
+    """Of the packets that nothing touched those of which nothing shows that they are of this recording.
+
+    Such a packet stands in a row of fewer than 24 packets that does not lead to the recording's last byte. And of its row none has the sequence number right
+    after, or right before, the next packet that was read of its channel and type; of a row of one packet, not both.
+    """
+    found, row, rows = set(), [], []
+    for place in places + [-1]:
+        if place >= 0 and (not row or row[-1] == place - 1):
+            row.append(place)
+        else:
+            rows.append(row)
+            row = [place] if place >= 0 else []
+    leads_on = places and places[-1] >= 0
+    for row in rows:
+        is_last = leads_on and row[-1:] == [len(parts) - 1]
+        if len(row) < 24 and not is_last and not any(sum(kin(parts, place, read)) > (len(row) == 1) for place in row):
+            found.update(row)
+    return found
+
+
+def kin(parts: List[bytes], place: int, read: set) -> Tuple[bool, bool]:
+    """Whether the packet that was read of the same channel and type before this one has the number right before its own; and the one after it."""
+    same = [one for one in read if parts[one][2:4] == parts[place][2:4] and parts[one][15] == parts[place][15]]
+    before, after = max((one for one in same if one < place), default=None), min((one for one in same if one > place), default=None)
+    return (before is not None and parts[place][13] == parts[before][13] + 1 & 0xFF, after is not None and parts[after][13] == parts[place][13] + 1 & 0xFF)
 
 
 def nested(draw: random.Random) -> List[bytes]:
@@ -135,7 +173,7 @@ def one_damaged(seed: int, which: int) -> Tuple[Dict[str, int], List[str]]:
     draw, wrong, counts = random.Random('%d %d' % (seed, which)), [], collections.Counter()
     is_nested = draw.random() < 0.3
     parts = nested(draw) if is_nested else ch10_recordings.flight(draw, draw.choice((3, 10, 60)), draw.choice((0, 0, 250))) if draw.random() < 0.8 else ch10_recordings.foreign()
-    data, whole = touched(draw, parts)
+    data, untouched = touched(draw, parts)
     if not data:
         return counts, wrong
     survey, first = Survey(data, 0, len(data)), Survey(data, 0, len(data), False)
@@ -151,17 +189,22 @@ def one_damaged(seed: int, which: int) -> Tuple[Dict[str, int], List[str]]:
     if at != len(data):
         wrong.append('ends at %d of %d' % (at, len(data)))
     places, rest = {part: place for place, part in enumerate(parts)}, iter(range(len(parts)))
-    unsummed = sum(part not in places for part in found)
-    kinds = {part[15] for part in parts if not part[14] & 3}  # of such a packet a change of its body is not seen
+    fronts, unseen = {part[:24] for place, part in enumerate(parts) if place not in untouched}, 0
     for part in found:
         if part not in places:
-            if part[15] not in kinds or part[14] & 3:
+            unseen += 1
+            if part[:24] not in fronts or not is_summed(part):
                 wrong.append('a packet that was not there, of type %02x' % part[15])
         elif not any(place == places[part] for place in rest):
             wrong.append('a packet out of its order or doubled')
-    missed = whole - {places[part] for part in found if part in places}
-    counts.update(recordings=1, stretches=len(survey.damage), packets=len(found), missed=len(missed), unsummed=unsummed)
-    counts.update({'recordings with a packet missed': bool(missed)})
+    read = {places[part] for part in found if part in places}
+    missed = set(untouched) - read - {-1}
+    unread = sorted(missed - alone(parts, untouched, read))
+    if unread:
+        wrong.append('untouched packets that were not read: %s' % unread[:20])
+    counts.update(recordings=1, stretches=len(survey.damage), packets=len(found))
+    counts.update({'changes that no checksum shows': unseen})
+    counts.update({'untouched but alone': len(missed), 'recordings with such': bool(missed)})
     for words in (['csv'], ['json'], ['svg'], ['setup'], ['range', '--from', '1005'], ['summary'], ['summary', '--json']):
         for going in ([], ['--keep-going']):
             if words[0] != 'summary' or not going:
@@ -187,7 +230,7 @@ def some_damaged(seed: int, numbers: range) -> Tuple[Dict[str, int], List[str]]:
 def main(words: List[str]) -> int:
     count, seed = (list(map(int, words)) + [10000, 1][len(words):])[:2]
     begun, counts, wrong = time.time(), collections.Counter(), []
-    with ProcessPoolExecutor(2) as pool:
+    with ProcessPoolExecutor(PROCESSES) as pool:
         for came, bad in pool.map(some_damaged, [seed] * (count // 50 + 1), [range(at, min(at + 50, count)) for at in range(0, count + 1, 50)]):
             counts.update(came)
             wrong += bad
