@@ -38,7 +38,7 @@ def packet_at(data, at: int, begin: int, end: int, judged: bool = True, opaque: 
         raise Fault('lengths that do not fit', here)
     whose = channel, kind, sequence, low | high << 32
     if at + length > end:
-        raise Fault('less than its packet', here, None, whose)
+        raise Fault('less than its packet', here, length, whose)
     word = None
     if not flags & 0xC0 and (kind in KNOWN or kind == LOSS and size == 20 and data[at + 24:at + 32] == REPORT):
         if size < 4:
@@ -154,16 +154,16 @@ class Resync:
         self.last: Dict[int, int] = {}  # the last sequence number of each channel
         self.seen: Set[Tuple[int, int]] = set()  # channels with types
 
-    def note(self, packet: Packet) -> None:
-        """Takes note of a packet that was read."""
-        self.last[packet.channel] = packet.sequence
-        self.seen.add((packet.channel, packet.kind))
+    def note(self, channel: int, kind: int, sequence: int) -> None:
+        """Takes note of a packet that was read, or that is at fault after a right header."""
+        self.last[channel] = sequence
+        self.seen.add((channel, kind))
 
     def after(self, at: int, length: Optional[int]) -> int:
         """Where to go on after a fault at a place, of a packet of this length where its header is right."""
         data, end = self.data, self.end
         limit = None if length is None else at + length
-        if limit == end or limit and self.goes_on(limit, limit - at):
+        if limit == end or limit and self.goes_on(limit, limit - at, True):
             return limit
         claimed = None
         if length is None and end - at >= 24 and data[at:at + 2] == PATTERN:
@@ -173,43 +173,43 @@ class Resync:
         anchor = end if claimed is None else claimed
         place, has_others = data.find(PATTERN, at + 1, anchor), False
         while place >= 0:
-            if head_at(data, place, end):
+            head = head_at(data, place, end)
+            if head:
                 has_others = True
-                if claimed is None and (limit is None or place >= limit or self.leads_over(place, limit)) and self.goes_on(place, place - at):
+                if claimed is None and (limit is None or place + head.length > limit) and self.goes_on(place, place - at):
                     anchor = place
                     break
             place = data.find(PATTERN, place + 1, anchor)
-        return self.first_row(at, limit, anchor, claimed) if has_others else anchor
+        return self.first_row(at, anchor, limit or claimed or at) if has_others else anchor
 
-    def leads_over(self, place: int, limit: int) -> bool:
-        """Whether a row from a place has a packet that begins before a limit and ends after it."""
-        head = head_at(self.data, place, self.end)
-        while head and place + head.length < limit:
-            place += head.length
-            head = head_at(self.data, place, self.end)
-        return head is not None and place + head.length > limit
+    def goes_on(self, place: int, passed: int, is_next: bool = False) -> bool:
+        """Whether a row from a place on, after so many bytes that were passed over, is of this recording, as it shows and the packets before it do.
 
-    def goes_on(self, place: int, passed: int) -> bool:
-        """Whether a row from a place on, after so many bytes that were passed over, is of this recording by itself and the packets before it."""
+        Less of it is enough where it is next by the length of a right header.
+        """
         head, run, exact, near, against, first = head_at(self.data, place, self.end), 0, 0, 0, 0, set()
+        most = max(min(passed // 32, NEAR), 1)
         while head and run < ROW:
             key = head.channel, head.kind
             if key in self.seen and key not in first:
                 gone = missing(self.last[head.channel], head.sequence)
                 exact += gone == 0
-                near += 0 < gone <= min(passed // 32, NEAR)
-                against += gone > min(passed // 32, NEAR)
+                near += 0 < gone <= most
+                against += gone > most
             first.add(key)
             run += 1
             place += head.length
             head = head_at(self.data, place, self.end)
         if place == self.end and run or run >= (ROW if self.last else FIRST_ROW):
             return True
-        return against == 0 and (exact >= 2 or exact + near >= 2 and run >= 3)
+        return against == 0 and (exact >= 2 or exact + near >= 2 and run >= 3 or is_next and (exact > 0 or run >= 3))
 
-    def first_row(self, at: int, limit: Optional[int], anchor: int, claimed: Optional[int]) -> int:
-        """The first packet of the first row before the anchor that is of this recording, as rows that are known to be of it show; or else the anchor."""
-        rows = self.rows(at, limit, anchor, claimed)
+    def first_row(self, at: int, anchor: int, limit: int) -> int:
+        """The first packet of the first row after a fault that is of this recording, as rows that are known to be of it show; or else the anchor.
+
+        The packet at fault may reach to the limit. What is within it, or within another one that may be at fault, is a row by itself.
+        """
+        rows = self.rows(at, anchor, limit)
         known: Dict[Tuple[int, int], List[Placed]] = {key: [Placed(at, Head(*key, 0, self.last[key[0]]))] for key in self.seen}
         found, certain = anchor, [row for row in rows if row[0].place == anchor]
         while True:
@@ -222,7 +222,7 @@ class Resync:
             if not certain:
                 return found
 
-    def rows(self, at: int, limit: Optional[int], anchor: int, claimed: Optional[int]) -> List[List[Placed]]:
+    def rows(self, at: int, anchor: int, limit: int) -> List[List[Placed]]:
         """The rows between a fault and the anchor, and some after that; but not those within a packet whose end or whose data checksum is right."""
         data, end, rows, number = self.data, self.end, [], 0
         place = data.find(PATTERN, at + 1, end)
@@ -234,17 +234,15 @@ class Resync:
                     most = number + MORE
                 number += 1
                 one = Placed(place, head)
-                if rows and rows[-1][-1].end() == place and place != anchor:
+                if rows and rows[-1][-1].end() == place and place != anchor and not rows[-1][-1].end() <= limit < one.end():
                     rows[-1].append(one)
                 else:
                     rows.append([one])
                 if one.end() == end or one.end() == anchor or head_at(data, one.end(), end) or has_sum(data, place):
                     step = head.length
+                else:
+                    limit = max(limit, one.end())
             place = data.find(PATTERN, place + step, end)
-        if limit is not None:
-            rows = [row for row in rows if row[-1].place >= limit or self.leads_over(row[0].place, limit)]
-        if claimed is not None:
-            rows = [row for row in rows if row[0].place >= claimed or row[-1].end() == claimed]
         return rows
 
     @staticmethod

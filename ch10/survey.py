@@ -129,6 +129,8 @@ class Survey:
                 self.fault = self.fault or fault
                 if not goes_on:
                     return at - begin
+                if fault.whose:
+                    resync.note(*fault.whose[:3])
                 following = resync.after(at, fault.length)
                 self.pass_over(fault, at - begin, following - at, last, before)
                 at, report = following, None
@@ -143,7 +145,7 @@ class Survey:
             row.add(packet, report)
             report = told
             self.note(packet, found, said, row)
-            resync.note(packet)
+            resync.note(channel, kind, sequence)
             last = packet.counter
             at += packet.length
         return at - begin

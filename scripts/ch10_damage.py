@@ -28,7 +28,7 @@ import ch10_recordings  # noqa: E402
 from check_cases import number  # noqa: E402
 
 
-PROCESSES = 2
+PROCESSES = 3
 
 
 def run(words: List[str], data: bytes) -> Tuple[int, bytes, str]:
