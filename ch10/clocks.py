@@ -6,6 +6,7 @@ SECOND = 10 ** 7
 LEAST = 200000  # a jump is more than 20 ms, as times are in hundredths of a second,
 MOST_DRIFT = 2000  # and more than one part in 2,000 of what passed
 SURE = 100000  # times are told to 10 ms
+ANEW = 1 << 48  # at which the counter begins anew
 
 Jump = namedtuple('Jump', 'offset count before after by')
 Jump.__doc__ = """A jump of a clock: where the time packet stands, its counter, the time that was to come by the counter since the time before, the time that came, and
@@ -29,7 +30,17 @@ class TimeLine:
         for (count, said, _), (after, then, offset) in zip(self.told, self.told[1:]):
             if said.dated == then.dated:
                 past = after - count
+                if self.is_anew(past, then.ticks - said.ticks):
+                    past += ANEW
                 yield said.ticks, then.ticks, past, then.ticks - said.ticks - past, after, offset
+
+    def is_anew(self, past: int, by_clock: int) -> bool:
+        """Whether the counter began anew between two times: it went back, and the clock agrees with it so."""
+        return past < 0 and not self.is_jump(past + ANEW, by_clock - past - ANEW)
+
+    def wraps(self) -> int:
+        """How often the counter began anew."""
+        return sum(self.is_anew(after - count, then.ticks - said.ticks) for (count, said, _), (after, then, _) in zip(self.told, self.told[1:]) if said.dated == then.dated)
 
     @staticmethod
     def is_jump(past: int, by: int) -> bool:
@@ -51,9 +62,12 @@ class TimeLine:
         return more * 10 ** 6 / past, SURE * parts * 10 ** 6 / past
 
     def without(self, low: int, high: int) -> int:
-        """How many whole seconds, from the first count to the last, have no time, where each second is to have one."""
-        marks = sorted(count for count, _, _ in self.told)
-        if not marks:
+        """How many whole seconds, from the first count to the last, have no time, where each second is to have one. Where the counter began anew, from the first
+        time to the last."""
+        if not self.told:
             return (high - low) // SECOND
+        if self.wraps():
+            return sum(max((past + SECOND // 2) // SECOND - 1, 0) for _, _, past, _, _, _ in self.steps())
+        marks = sorted(count for count, _, _ in self.told)
         inside = sum(max((then - count + SECOND // 2) // SECOND - 1, 0) for count, then in zip(marks, marks[1:]))
         return inside + max(marks[0] - low, 0) // SECOND + max(high - marks[-1], 0) // SECOND

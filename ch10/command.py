@@ -18,7 +18,21 @@ from .times import Bound
 
 
 class Help(Exception):
-    """The text of help, which was asked for."""
+    """The text of help, or of the version, which was asked for."""
+
+
+class Version(argparse.Action):
+    def __call__(self, *_):
+        raise Help('ch10 ' + version())
+
+
+def version() -> str:
+    """The number in the file VERSION beside the package's folder."""
+    try:
+        with open(os.path.join(os.path.dirname(os.path.dirname(os.path.realpath(__file__))), 'VERSION'), encoding='ascii') as held:
+            return held.read().strip()
+    except (OSError, UnicodeError):
+        return 'of no number: there is no file VERSION beside its folder'
 
 
 ABOUT = """What a crew asks of a recording, or of the image of a medium: from standard input to standard output, by the public standard alone.
@@ -68,6 +82,7 @@ def parser_of():
     top = Parser(prog='ch10', allow_abbrev=False, formatter_class=argparse.RawDescriptionHelpFormatter,
                  description=ABOUT, add_help=True, usage='ch10 COMMAND [WORDS] < INPUT',
                  epilog='ch10 COMMAND --help says more of each.')
+    top.add_argument('--version', action=Version, nargs=0, help='print the version')
     commands = top.add_subparsers(metavar='COMMAND', dest='command', required=True, parser_class=Parser, help=argparse.SUPPRESS)
 
     def command(name, run, about, more=''):

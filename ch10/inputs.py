@@ -6,10 +6,12 @@ import stat
 import sys
 
 from .medium import bytes_of, directory
+from .packets import PATTERN, Resync
 from .standard import Fault
 
 
 MOST_HELD = 64 << 20
+MOST_FRONT = 16 << 20  # bytes in which a recording whose first bytes are damaged has its first packets
 
 
 def given():
@@ -23,8 +25,11 @@ def given():
     return source.read()
 
 
-def is_recording(data):
-    return data[:2] == b'\x25\xeb'
+def is_recording(data) -> bool:
+    """Whether an input is a recording: where it begins as one, or where it is no image, and has packets that follow one another after a damaged front."""
+    if data[:2] == PATTERN:
+        return True
+    return data[512:520] != b'FORTYtwo' and Resync(data, 0, min(len(data), MOST_FRONT)).first() is not None
 
 
 def listed(data):

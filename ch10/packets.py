@@ -182,6 +182,15 @@ class Resync:
             place = data.find(PATTERN, place + 1, anchor)
         return self.first_row(at, anchor, limit or claimed or at) if has_others else anchor
 
+    def first(self) -> Optional[int]:
+        """Where the first row of packets begins that shows a recording. None where there is none."""
+        place = self.data.find(PATTERN, self.begin, self.end)
+        while place >= 0:
+            if head_at(self.data, place, self.end) and self.goes_on(place, place - self.begin):
+                return place
+            place = self.data.find(PATTERN, place + 1, self.end)
+        return None
+
     def goes_on(self, place: int, passed: int, is_next: bool = False) -> bool:
         """Whether a row from a place on, after so many bytes that were passed over, is of this recording, as it shows and the packets before it do.
 

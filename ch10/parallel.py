@@ -5,7 +5,8 @@ import sys
 from typing import Callable, List
 
 LEAST = 8 << 20  # bytes of a recording below which one process does all
-MOST = 8  # processes
+MOST = 8  # processes where a call does not say how many
+LIMIT = 64  # and where it does
 
 
 def processors() -> int:
@@ -21,7 +22,7 @@ def in_order(made: Callable, parts: List, out, jobs: int) -> None:
 
     Each process makes every so many-th part and waits until the one before is written, so that no more than a part of each is held.
     """
-    jobs = min(jobs, len(parts))
+    jobs = min(jobs, len(parts), LIMIT)
     if jobs < 2 or not hasattr(os, 'fork'):
         for part in parts:
             for said in made(part):

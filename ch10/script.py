@@ -7,7 +7,7 @@ from .standard import Fault
 # Of each kind of channel its channel data type, the attribute of its format with the format that r10 writes, and the group that describes what it carries.
 KINDS = {'uart': ('UARTIN', 'UTF', 0, 'S'), '1553': ('1553IN', 'BTF', 1, 'B'), 'arinc': ('429IN', 'ABTF', 0, 'B'), 'discrete': ('DISIN', 'DTF', 1, ''),
          'message': ('MSGIN', 'MTF', 0, 'S')}
-LINE = re.compile(r'\s*(?:"(\w+)"|(\w+))\s*=\s*(?:"([^"]*)"|([0-9_]+)|([^#]*?))\s*(?:#.*)?$')
+LINE = re.compile(r'\s*(?:"(\w+)"|(\w+))\s*=\s*(?:"([^"]*)"|([0-9][0-9_]{0,30})|([^#]*?))\s*(?:#.*)?$')
 
 
 def tables_of(text: str) -> Tuple[Dict[str, object], Dict[str, List[dict]]]:
@@ -18,7 +18,7 @@ def tables_of(text: str) -> Tuple[Dict[str, object], Dict[str, List[dict]]]:
         return by_lines(text)
     try:
         whole = tomllib.loads(text)
-    except tomllib.TOMLDecodeError as fault:
+    except (ValueError, RecursionError) as fault:
         raise Fault('no script: %s' % str(fault).split('\n')[0])
     top = {key: value for key, value in whole.items() if not isinstance(value, list)}
     return top, {key: [table for table in value if isinstance(table, dict)] for key, value in whole.items() if isinstance(value, list)}
@@ -44,11 +44,13 @@ def by_lines(text: str) -> Tuple[Dict[str, object], Dict[str, List[dict]]]:
 def attributes_of(text: str) -> Iterator[Tuple[str, object]]:
     """The attributes of a setup text for a script."""
     top, tables = tables_of(text)
-    channels, volume = tables.get('channel', []), str(top.get('volume', ''))
-    if not volume or not channels or not isinstance(top.get('time'), int):
+    channels, volume = tables.get('channel', []), top.get('volume')
+    if not isinstance(volume, str) or not volume or not channels or not is_whole(top.get('time')):
         raise Fault('no script: it takes volume, time and tables [[channel]]')
+    if any(mark in volume for mark in ';:\r\n'):
+        raise Fault('the volume has a mark that a setup text cannot have in a value')
     for channel in channels:
-        if channel.get('kind') not in KINDS or not isinstance(channel.get('id'), int):
+        if not isinstance(channel.get('kind'), str) or channel['kind'] not in KINDS or not is_whole(channel.get('id')):
             raise Fault('no script: a channel without an id, or of no kind that r10 has')
     yield 'G\\PN', volume
     yield 'G\\106', 17
@@ -73,6 +75,19 @@ def attributes_of(text: str) -> Iterator[Tuple[str, object]]:
     yield from links
 
 
+def is_whole(value: object) -> bool:
+    return isinstance(value, int) and not isinstance(value, bool)
+
+
+def buses_of(channel: int, tables: Dict[str, List[dict]]) -> List[int]:
+    """The buses that a script's steps and feeds have on a channel."""
+    items = [step for step in tables.get('step', []) if step.get('channel') == channel and step.get('do') == 'offer']
+    for feed in tables.get('feed', []):
+        if feed.get('channel') == channel and isinstance(feed.get('items'), list):
+            items += [item for item in feed['items'] if isinstance(item, dict)]
+    return sorted({item.get('bus', 0) for item in items if is_whole(item.get('bus', 0))}) or [0]
+
+
 def track(number: int, channel: int, name: str, kind: str, format_name: str, form: int) -> Iterator[Tuple[str, object]]:
     yield 'R-1\\TK1-%d' % number, channel
     yield 'R-1\\CHE-%d' % number, 'T'
@@ -88,11 +103,7 @@ def link(group: str, name: str, channel: dict, tables: Dict[str, List[dict]]) ->
         yield group + '\\NS\\N', 1
         yield group + '\\SNA-1', name
         return
-    buses = [0]
-    if channel['kind'] == 'arinc':
-        buses = sorted({step.get('bus', 0) for step in tables.get('step', []) if step.get('channel') == channel['id'] and step.get('do') == 'offer'}
-                       | {item.get('bus', 0) for feed in tables.get('feed', []) if feed.get('channel') == channel['id'] and isinstance(feed.get('items'), list)
-                          for item in feed['items']}) or [0]
+    buses = buses_of(channel['id'], tables) if channel['kind'] == 'arinc' else [0]
     yield group + '\\NBS\\N', len(buses)
     for place, bus in enumerate(buses, 1):
         yield '%s\\BID-%d' % (group, place), bus

@@ -91,9 +91,10 @@ def clock_lines(times, survey):
     drift, jumps, back = times.drift(), times.jumps(), times.steps_back()
     text = 'not known' if drift is None else '%+.1f parts per million, known to %.1f' % drift
     untold = times.packets - len(times.told)
-    yield 'time on channel %d: %s%s, %s, %s back, %s without one; drift %s' % (
+    anew = '; the counter began anew %s' % said(times.wraps(), 'time') if times.wraps() else ''
+    yield 'time on channel %d: %s%s, %s, %s back, %s without one; drift %s%s' % (
         times.channel, said(times.packets, 'packet'), ', %s no time' % untold if untold else '', said(len(jumps), 'jump'), said(back, 'step'),
-        said(times.without(low, high), 'second'), text)
+        said(times.without(low, high), 'second'), text, anew)
     dated = bool(times.told) and times.told[0][1].dated
     for jump in jumps:
         yield 'time jump on channel %d: offset %d, count %d: %s s, from %s to %s' % (
@@ -174,7 +175,7 @@ def of_clock(times, span):
     drift = times.drift()
     dated = bool(times.told) and times.told[0][1].dated
     return {
-        'channel': times.channel, 'packets': times.packets, 'no_time': times.packets - len(times.told), 'steps_back': times.steps_back(),
+        'channel': times.channel, 'packets': times.packets, 'no_time': times.packets - len(times.told), 'steps_back': times.steps_back(), 'wraps': times.wraps(),
         'seconds_without': times.without(*span), 'drift_ppm': drift and drift[0], 'drift_known_to': drift and drift[1],
         'jumps': [{'offset': jump.offset, 'count': jump.count, 'from': civil_text(jump.before, dated), 'to': civil_text(jump.after, dated),
                    'seconds': jump.by / 10 ** 7} for jump in times.jumps()]}

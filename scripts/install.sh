@@ -86,6 +86,7 @@ install -m 755 "$program" "$whole$prefix/bin/r10"
 install -m 755 "$top/scripts/ch10.py" "$share/r10/scripts"
 mkdir "$share/r10/ch10"
 install -m 644 "$top"/ch10/*.py "$share/r10/ch10"
+install -m 644 "$top/VERSION" "$share/r10"
 ln -s ../share/r10/scripts/ch10.py "$whole$prefix/bin/ch10"
 
 "$top/scripts/manual.py" "$program" "$top/scripts/ch10.py" "$made/manual" || exit 3

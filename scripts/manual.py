@@ -239,7 +239,7 @@ def main(words: list[str]) -> int:
         made |= of_filters | page_of_header(TOP / 'ffi' / 'r10.h', version)
         commands = [name for name, _ in Help(said([program, '--help'])).commands]
         made |= completions('r10', {it: Help(said([program, it, '--help'])) for it in commands if it != 'help'}, ['help', '--help', '--version'])
-        made |= completions('ch10', helps, ['--help'])
+        made |= completions('ch10', helps, ['--help', '--version'])
     except (Wrong, ValueError) as wrong:
         print('manual: %s' % wrong, file=sys.stderr)
         return 1

@@ -23,6 +23,7 @@ r10=$root/usr/bin/r10
 check "the program runs" is "$("$r10" <"$top/examples/first.toml")" "$(cat "$top/examples/first.expected")"
 "$r10" sim --image <"$top/examples/first.toml" >"$room/medium.img"
 check "the filters run" says "$("$root/usr/bin/ch10" summary <"$room/medium.img")" "file 0 FLT1: 272 bytes"
+check "the filters have the number too" is "$("$root/usr/bin/ch10" --version)" "ch10 $version"
 check "the filters leave nothing" is "$(find "$root" -name '__pycache__' | wc -l)" 0
 
 flags() { PKG_CONFIG_PATH="$root/usr/lib/pkgconfig" PKG_CONFIG_SYSROOT_DIR="$root" pkg-config "$@" r10; }
