@@ -1,5 +1,7 @@
 """What the words of buses mean: MIL-STD-1553 messages, ARINC 429 words, discretes, and text."""
-from typing import Optional, Tuple
+from __future__ import annotations
+
+from typing import Optional, Sequence, Tuple
 
 # ---- MIL-STD-1553
 
@@ -9,7 +11,7 @@ FLAGS_1553 = ((10, 'message error'), (9, 'instrumentation'), (8, 'service reques
 RT_TO_RT = 1 << 11
 
 
-def named(value: int, names) -> str:
+def named(value: int, names: Sequence[Tuple[int, str]]) -> str:
     """The names of the bits that are set, with a plus between them."""
     return '+'.join(name for bit, name in names if value >> bit & 1)
 

@@ -1,6 +1,10 @@
 """What the times of a channel say of its clock: jumps, steps back, drift against the counter, seconds without a time."""
+from __future__ import annotations
+
 from collections import namedtuple
-from typing import List, Optional, Tuple
+from typing import Iterator, List, Optional, Tuple
+
+from .times import Time
 
 SECOND = 10 ** 7
 LEAST = 200000  # a jump is more than 20 ms, as times are in hundredths of a second,
@@ -16,16 +20,16 @@ by how much they differ. All in units of 100 ns; a step back is a time that came
 class TimeLine:
     """The times of one channel, in their order."""
 
-    def __init__(self, channel: int):
+    def __init__(self, channel: int) -> None:
         self.channel, self.packets = channel, 0
         self.told: List[tuple] = []  # (counter, Time, offset) of each that is a time
 
-    def add(self, counter: int, said, offset: int) -> None:
+    def add(self, counter: int, said: Time, offset: int) -> None:
         self.packets += 1
         if said.ticks is not None:
             self.told.append((counter, said, offset))
 
-    def steps(self):
+    def steps(self) -> Iterator[Tuple[int, int, int, int, int, int]]:
         """From each time to the next one with a date as it has, or without one as it has: the two, what passed by the counter, and by how much they differ."""
         for (count, said, _), (after, then, offset) in zip(self.told, self.told[1:]):
             if said.dated == then.dated:

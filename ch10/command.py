@@ -1,9 +1,13 @@
 """The words of a call, and what comes of it."""
+from __future__ import annotations
+
 import argparse
+from argparse import Namespace
 import gc
 import os
 import re
 import sys
+from typing import Any, BinaryIO, Callable, List, NoReturn, Optional, Tuple
 
 from .cuts import as_file, as_range, setup
 from .database import as_sqlite
@@ -22,7 +26,7 @@ class Help(Exception):
 
 
 class Version(argparse.Action):
-    def __call__(self, *_):
+    def __call__(self, *_: Any) -> None:
         raise Help('ch10 ' + version())
 
 
@@ -55,20 +59,20 @@ not read are passed over and counted as opaque. What stands before the first fau
 # ---- the words of a call
 
 class Parser(argparse.ArgumentParser):
-    def print_help(self, file=None):
+    def print_help(self, file: Any = None) -> None:
         raise Help(self.format_help())
 
-    def error(self, message):
+    def error(self, message: str) -> NoReturn:
         raise Wrong('%s; see %s --help' % (message, self.prog))
 
 
-def number(word):
+def number(word: str) -> int:
     if len(word) > 20 or not (word.isascii() and word.isdigit()) or word != str(int(word)):
         raise argparse.ArgumentTypeError('%r is no decimal number' % word[:60])
     return int(word)
 
 
-def channel_number(word):
+def channel_number(word: str) -> int:
     if number(word) > 0xFFFF:
         raise argparse.ArgumentTypeError('%s is not in 0..=65535' % word[:60])
     return number(word)
@@ -78,14 +82,14 @@ TIMES = """A and B are civil times, as '2024-02-29 12:34:56.78', with none to se
 first time; '060 12:34:56' is a day of the year, where the recording has no date; 1000 is a count. Both ends are taken in."""
 
 
-def parser_of():
+def parser_of() -> 'Parser':
     top = Parser(prog='ch10', allow_abbrev=False, formatter_class=argparse.RawDescriptionHelpFormatter,
                  description=ABOUT, add_help=True, usage='ch10 COMMAND [WORDS] < INPUT',
                  epilog='ch10 COMMAND --help says more of each.')
     top.add_argument('--version', action=Version, nargs=0, help='print the version')
     commands = top.add_subparsers(metavar='COMMAND', dest='command', required=True, parser_class=Parser, help=argparse.SUPPRESS)
 
-    def command(name, run, about, more=''):
+    def command(name: str, run: Callable, about: str, more: str = '') -> argparse.ArgumentParser:
         made = commands.add_parser(name, prog='ch10 ' + name, allow_abbrev=False, description=about, epilog=more,
                                    formatter_class=argparse.RawDescriptionHelpFormatter)
         made.set_defaults(run=run)
@@ -93,20 +97,20 @@ def parser_of():
                           + (' (without it: each)' if name in ('summary', 'sqlite') else '' if name == 'file' else ' (without it: 0)'))
         return made
 
-    def with_channels(made):
+    def with_channels(made: argparse.ArgumentParser) -> None:
         made.add_argument('--channel', type=channel_number, metavar='C', action='append', help='this channel alone; may be given again for another')
 
-    def with_forms(made):
+    def with_forms(made: argparse.ArgumentParser) -> None:
         made.add_argument('--kind', choices=sorted(KIND_BY_NAME), metavar='K', help='the entries of this kind alone, with its columns: ' + ', '.join(sorted(KIND_BY_NAME)))
         made.add_argument('--raw', action='store_true', help='the values as they stand in the packets, as r10 play prints them')
         made.add_argument('--turned-labels', action='store_true', help='labels of ARINC 429 whose first bit on the bus is the lowest of the word')
         made.add_argument('--jobs', type=number, metavar='J', help='so many processes (without it: as many as there are processors, to eight)')
 
-    def going_on(made):
+    def going_on(made: argparse.ArgumentParser) -> argparse.ArgumentParser:
         made.add_argument('--keep-going', action='store_true', help='go on after damage; each stretch that is passed over is a line, and the status 1')
         return made
 
-    def with_times(made):
+    def with_times(made: argparse.ArgumentParser) -> None:
         made.add_argument('--from', dest='first', type=Bound, metavar='A', help='the first time')
         made.add_argument('--to', dest='last', type=Bound, metavar='B', help='the last time')
 
@@ -161,7 +165,7 @@ stand the setup and the last time before the range. The index is left out, for i
 """
 
 
-def hint(words):
+def hint(words: List[str]) -> str:
     """What is said of a word that looks like a file."""
     for word in words:
         if re.search(r'[./]', word) and not word.startswith('-') and not word[:1].isdigit():
@@ -169,14 +173,14 @@ def hint(words):
     return ''
 
 
-def words_of(words):
+def words_of(words: List[str]) -> Namespace:
     asked, left = PARSER.parse_known_args(words)
     if left:
         raise Wrong('unexpected argument %r%s; see ch10 %s --help' % (left[0][:60], hint(left), asked.command))
     return asked
 
 
-def answer(words, source, to):
+def answer(words: List[str], source: Callable[[], Any], to: Callable[[], BinaryIO]) -> Tuple[int, Optional[str]]:
     """Does what the words of a call ask for, from what source() gives to the stream that to() gives.
 
     The exit status, and the line that is said of it, or None: 1 of an input that is judged bad, 2 of a wrong call, 3 where a read or
@@ -206,13 +210,13 @@ def answer(words, source, to):
 PARSER = parser_of()
 
 
-def standard_output():
+def standard_output() -> BinaryIO:
     if sys.stdout is None:
         raise OSError('standard output is closed')
     return sys.stdout.buffer
 
 
-def say(line):
+def say(line: str) -> None:
     """Each line on standard error, whatever stands in it."""
     lines = (''.join(letter if letter.isprintable() else '?' for letter in part[:400]) for part in line.split('\n'))
     try:
@@ -221,7 +225,7 @@ def say(line):
         pass
 
 
-def main(words):
+def main(words: List[str]) -> int:
     gc.disable()  # what is made here leads to itself nowhere, and there is much of it
     try:
         status, line = answer(words, given, standard_output)

@@ -1,15 +1,18 @@
 """Parts of a recording as they stand: its setup text, a range of time, a file of an image."""
+from __future__ import annotations
+
+from argparse import Namespace
 from .bodies import counts
-from .inputs import is_recording, listed, one_part, shown, the_file
+from .inputs import Output, is_recording, listed, one_part, shown, the_file
 from .medium import bytes_of
 from .packets import loss_of, packets
-from .standard import INDEX, SETUP, TIME, Fault, Wrong
+from .standard import INDEX, SETUP, TIME, Data, Fault, Wrong
 from .survey import Survey
 from .times import Range
 from .tmats import tree
 
 
-def setup(asked, data, out):
+def setup(asked: Namespace, data: Data, out: Output) -> None:
     _, begin, end = one_part(data, asked.file)
     survey, has_one = Survey(data, begin, end, asked.keep_going), False
     if asked.tree:
@@ -23,7 +26,7 @@ def setup(asked, data, out):
         raise Fault('the recording has no setup packet')
 
 
-def as_tree(survey, out):
+def as_tree(survey: Survey, out: Output) -> None:
     """The attributes of the setup text as a tree, and how the channels that it names agree with those of the recording."""
     if survey.setup is None:
         survey.judge()
@@ -43,7 +46,7 @@ def as_tree(survey, out):
     survey.judge()
 
 
-def as_range(asked, data, out):
+def as_range(asked: Namespace, data: Data, out: Output) -> None:
     """Each packet with an entry in the range, as it stands, behind the loss report that stands before it; with the setup, and the time that holds where
     the range begins."""
     _, begin, end = one_part(data, asked.file)
@@ -72,7 +75,7 @@ def as_range(asked, data, out):
     survey.judge()
 
 
-def as_file(asked, data, out):
+def as_file(asked: Namespace, data: Data, out: Output) -> None:
     if (asked.name is None) == (asked.file is None):
         raise Wrong('file takes a NAME, or --file N; see ch10 file --help')
     if is_recording(data):

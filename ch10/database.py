@@ -1,4 +1,7 @@
 """The entries of a recording, or of each file of an image, as a database of SQLite: a table for each kind, and tables of files, channels, losses and damage."""
+from __future__ import annotations
+
+from argparse import Namespace
 import os
 import sqlite3
 from typing import Iterator, List, Optional, Tuple
@@ -6,11 +9,11 @@ from typing import Iterator, List, Optional, Tuple
 from .bodies import BODIES
 from .clocks import TimeLine
 from .fields import KINDS, REAL, TEXT, WHOLE, Reader, type_of
-from .inputs import is_recording, listed, shown, the_file
-from .medium import bytes_of
+from .inputs import Output, is_recording, listed, shown, the_file
+from .medium import File, bytes_of
 from .packets import UNTOLD
 from .replay import Ordered, Part
-from .standard import BUS, Fault, Wrong
+from .standard import BUS, Data, Fault, Wrong
 from .survey import Survey, name_of
 
 FRONT = (('file', WHOLE), ('channel', WHOLE), ('name', TEXT), ('count', WHOLE), ('time', TEXT), ('lost', WHOLE))
@@ -44,7 +47,7 @@ def schema() -> Iterator[str]:
 class Database:
     """A new database in a file beside the one that is asked for, whose place it takes when it is whole."""
 
-    def __init__(self, path: str):
+    def __init__(self, path: str) -> None:
         if os.path.exists(path):
             raise Wrong('%r is there already: give --out another name' % path[:60])
         self.path, self.part = path, path + '.part'
@@ -75,7 +78,7 @@ class Database:
         os.remove(self.part)
 
 
-def as_sqlite(asked, data, out) -> None:
+def as_sqlite(asked: Namespace, data: Data, out: Output) -> None:
     if asked.out is None:
         raise Wrong('sqlite takes --out FILE; see ch10 sqlite --help')
     try:
@@ -95,7 +98,7 @@ def as_sqlite(asked, data, out) -> None:
         raise first
 
 
-def written(asked, data, base: Database) -> Optional[Fault]:
+def written(asked: Namespace, data: Data, base: Database) -> Optional[Fault]:
     """Adds each recording, and answers the first fault."""
     if is_recording(data):
         if asked.file is not None:
@@ -115,7 +118,7 @@ def written(asked, data, base: Database) -> Optional[Fault]:
     return first
 
 
-def add(asked, data, begin: int, end: int, base: Database, number: int, file) -> Optional[Fault]:
+def add(asked: Namespace, data: Data, begin: int, end: int, base: Database, number: int, file: Optional[File]) -> Optional[Fault]:
     """Adds one recording, and answers what is wrong with it."""
     survey = Survey(data, begin, end, asked.keep_going)
     clock, span = survey.clock, survey.span() or (None, None)

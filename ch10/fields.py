@@ -3,6 +3,8 @@
 COLUMNS are those of all kinds together, KINDS those of each kind, in the same order, behind the ones that every entry has: FRONT. TYPES says what each column
 is: a text, a whole number, a number, or a truth.
 """
+from __future__ import annotations
+
 import struct
 from typing import Dict, Iterator, Optional, Tuple
 
@@ -36,6 +38,7 @@ def type_of(kind: int, column: str) -> str:
     return WHOLE if kind == ARINC and column == 'bus' else TYPES[column]
 
 
+Rows = Iterator[Tuple[int, tuple]]  # of each entry its count, and the columns of its kind
 MESSAGE_ERRORS = ('', 'format error', 'data error', 'data error+format error')
 
 
@@ -46,7 +49,7 @@ class Reader:
     them, by the packet's number, tell what changed.
     """
 
-    def __init__(self, names: Names, turned: bool = False):
+    def __init__(self, names: Names, turned: bool = False) -> None:
         self.names, self.turned = names, turned
         self.buses: Dict[Tuple[int, Optional[int]], str] = {}
         self.readers = {UART: self.uart, MESSAGE: self.message, BUS: self.bus, ARINC: self.arinc, DISCRETE: self.discrete, TIME: self.time, EVENT: self.event}
@@ -64,16 +67,16 @@ class Reader:
         return self.readers[packet.kind](packet, before)
 
     @staticmethod
-    def uart(packet, _):
+    def uart(packet: Packet, _: Optional[int]) -> Rows:
         for count, head, data in stamped(packet.body, None):
             yield count, (data.hex(), text_of(data), head >> 16 & 0x3FFF, 'parity error' if head >> 31 else '')
 
     @staticmethod
-    def message(packet, _):
+    def message(packet: Packet, _: Optional[int]) -> Rows:
         for count, head, data in stamped(packet.body, packet.word & 0xFFFF):
             yield count, (data.hex(), text_of(data), head >> 16 & 0x3FFF, MESSAGE_ERRORS[head >> 30])
 
-    def bus(self, packet, _):
+    def bus(self, packet: Packet, _: Optional[int]) -> Rows:
         name = self.bus_name(packet.channel, None)
         for count, status, gap, words in bus_messages(packet):
             found = message_1553(status, words)
@@ -81,7 +84,7 @@ class Reader:
             yield count, (''.join(map('{:04x}'.format, found[12])), found[0], name, *found[1:9], first if first is None else '%04x' % first,
                           second if second is None else '%04x' % second, found[11], (gap & 0xFF) / 10, (gap >> 8) / 10)
 
-    def arinc(self, packet, _):
+    def arinc(self, packet: Packet, _: Optional[int]) -> Rows:
         count = packet.counter
         for head, word in struct.iter_unpack('<II', whole(packet.body, 8, packet.word & 0xFFFF)):
             count += head & 0xFFFFF
@@ -89,18 +92,18 @@ class Reader:
                           head >> 21 & 1)
 
     @staticmethod
-    def discrete(packet, before):
+    def discrete(packet: Packet, before: Optional[int]) -> Rows:
         number = packet.word >> 3 & 31 or 32
         for stamp, states in struct.iter_unpack('<QI', packet.body[4:]):
             yield stamp & COUNT_BITS, ('%08x' % states, bits_of(states, number), changed_bits(before, states, number))
             before = states
 
     @staticmethod
-    def time(packet, _):
+    def time(packet: Packet, _: Optional[int]) -> Rows:
         return iter(time_entry(packet.body, packet.word, packet.counter))
 
     @staticmethod
-    def event(packet, _):
+    def event(packet: Packet, _: Optional[int]) -> Rows:
         return iter(event(packet.body, packet.word, packet.counter))
 
 

@@ -1,20 +1,23 @@
 """What a call reads, and what it writes to."""
+from __future__ import annotations
+
 import mmap
 import os
 import re
 import stat
 import sys
+from typing import Any, BinaryIO, List, Optional, Tuple
 
-from .medium import bytes_of, directory
+from .medium import File, bytes_of, directory
 from .packets import PATTERN, Resync
-from .standard import Fault
+from .standard import Data, Fault
 
 
 MOST_HELD = 64 << 20
 MOST_FRONT = 16 << 20  # bytes in which a recording whose first bytes are damaged has its first packets
 
 
-def given():
+def given() -> Data:
     """Standard input: read whole, or mapped where it is a file of more than 64 MiB."""
     if sys.stdin is None:
         raise OSError('standard input is closed')
@@ -25,14 +28,14 @@ def given():
     return source.read()
 
 
-def is_recording(data) -> bool:
+def is_recording(data: Data) -> bool:
     """Whether an input is a recording: where it begins as one, or where it is no image, and has packets that follow one another after a damaged front."""
     if data[:2] == PATTERN:
         return True
     return data[512:520] != b'FORTYtwo' and Resync(data, 0, min(len(data), MOST_FRONT)).first() is not None
 
 
-def listed(data):
+def listed(data: Data) -> Tuple[str, List[File]]:
     """The volume and the files of an image."""
     if len(data) == 0:
         raise Fault('an empty input')
@@ -44,13 +47,13 @@ def listed(data):
         raise Fault('neither a recording (no sync pattern at offset 0) nor an image of a medium (%s)' % fault)
 
 
-def the_file(files, number):
+def the_file(files: List[File], number: int) -> File:
     if not 0 <= number < len(files):
         raise Fault('no file has the number %d: the image has %d' % (number, len(files)))
     return files[number]
 
 
-def one_part(data, number):
+def one_part(data: Data, number: Optional[int]) -> Tuple[str, int, int]:
     """Of a recording all its bytes, of an image one file: its title, its first place, and the place behind it."""
     if is_recording(data):
         if number is not None:
@@ -65,10 +68,10 @@ def one_part(data, number):
 class Output:
     """What is written to a stream of bytes, by large writes."""
 
-    def __init__(self, to):
+    def __init__(self, to: BinaryIO) -> None:
         self.held, self.size, self.to = [], 0, to
 
-    def write(self, data):
+    def write(self, data: Any) -> None:
         if len(data) >= 1 << 18:
             self.flush()
             self.to.write(data)
@@ -78,15 +81,15 @@ class Output:
         if self.size >= 1 << 18:
             self.flush()
 
-    def line(self, text):
+    def line(self, text: str) -> None:
         self.write(text.encode('ascii', 'replace') + b'\n')
 
-    def flush(self):
+    def flush(self) -> None:
         self.to.write(b''.join(self.held))
         self.to.flush()
         self.held, self.size = [], 0
 
 
-def shown(name):
+def shown(name: str) -> str:
     """A name as `r10 files` prints it."""
     return re.sub('[^A-Za-z0-9._-]', '?', name)

@@ -1,17 +1,20 @@
 """The entries as CSV and as JSON lines."""
+from __future__ import annotations
+
+from argparse import Namespace
 import json
 from itertools import product
 from operator import itemgetter
-from typing import Callable, Dict, Iterable, Iterator, Optional, Tuple
+from typing import Any, Callable, Dict, Iterable, Iterator, Optional, Tuple, Union
 
 from . import vector
 from .bodies import BODIES, entries
 from .fields import COLUMNS, FRONT, KINDS, REAL, TRUTH, WHOLE, Reader, type_of
-from .inputs import one_part
+from .inputs import Output, one_part
 from .packets import UNTOLD, Packet
 from .parallel import LEAST, MOST, in_order, processors
 from .replay import EACH, Ordered, Part
-from .standard import KIND_BY_NAME
+from .standard import KIND_BY_NAME, Data
 from .survey import Survey, ended_fields, stretch_fields
 from .times import Range
 from .vector import Vector
@@ -28,7 +31,7 @@ NUMBERS = ('sub', 'bus', 'number', 'occurrence')
 class RawCsv:
     """CSV with the values as they stand in the packets."""
 
-    def __init__(self):
+    def __init__(self) -> None:
         self.forms = {}
         for kind, body in BODIES.items():
             if body.keys:
@@ -46,7 +49,7 @@ class RawCsv:
     def line(self, front: str, count: int, when: Optional[str], lost: int, tail: str) -> str:
         return f'{front}{count},{when or ""},{"1+" if lost == UNTOLD else lost}{tail}'
 
-    def tails(self, packet: Packet, _) -> Iterator[Tuple[int, str]]:
+    def tails(self, packet: Packet, _: Optional[int]) -> Iterator[Tuple[int, str]]:
         found = entries(packet)
         if found:
             form, ordered = self.forms[packet.kind]
@@ -61,7 +64,7 @@ TRUTHS_TEXT = ('false', 'true')
 class RawJson:
     """JSON lines with the values as they stand in the packets."""
 
-    def __init__(self):
+    def __init__(self) -> None:
         self.forms = {}
         for kind, body in BODIES.items():
             if body.keys:
@@ -86,7 +89,7 @@ class RawJson:
         said = '"1+"' if lost == UNTOLD else lost
         return f'{front}{count}, "time": {when}, "lost": {said}, {tail}'
 
-    def tails(self, packet: Packet, _) -> Iterator[Tuple[int, str]]:
+    def tails(self, packet: Packet, _: Optional[int]) -> Iterator[Tuple[int, str]]:
         found = entries(packet)
         if found:
             made, truths, others = self.forms[packet.kind]
@@ -112,7 +115,7 @@ class Csv(RawCsv):
 
     quote = b''
 
-    def __init__(self, reader: Reader, kind: Optional[int] = None):
+    def __init__(self, reader: Reader, kind: Optional[int] = None) -> None:
         self.reader, self.kind = reader, kind
         self.columns = COLUMNS if kind is None else FRONT + KINDS[kind]
         self.shapes = {}
@@ -133,7 +136,7 @@ class Csv(RawCsv):
         for count, values in self.reader.entries(packet, before):
             yield count, form % tuple(['' if value is None else csv_text(value) if value.__class__ is str else value for value in values])
 
-    def cell(self, _kind: int, _place: int, value) -> str:
+    def cell(self, _kind: int, _place: int, value: Any) -> str:
         return '' if value is None else csv_text(value) if value.__class__ is str else str(value)
 
     @staticmethod
@@ -151,7 +154,7 @@ class Json(RawJson):
 
     quote = b'"'
 
-    def __init__(self, reader: Reader, kind: Optional[int] = None):
+    def __init__(self, reader: Reader, kind: Optional[int] = None) -> None:
         self.reader, self.shapes, self.makers = reader, {}, {}
         for each, columns in KINDS.items():
             if kind in (None, each):
@@ -168,7 +171,7 @@ class Json(RawJson):
         for count, values in self.reader.entries(packet, before):
             yield count, form % tuple(['null' if value is None else cell(value) for cell, value in zip(cells, values)])
 
-    def cell(self, kind: int, place: int, value) -> str:
+    def cell(self, kind: int, place: int, value: Any) -> str:
         return 'null' if value is None else self.makers[kind][place](value)
 
     @staticmethod
@@ -182,8 +185,10 @@ class Json(RawJson):
 
 CELLS: Dict[str, Callable] = {WHOLE: str, REAL: str, TRUTH: TRUTHS_TEXT.__getitem__}
 
+Form = Union[RawCsv, RawJson, Csv, Json]
 
-def part_lines(form, ordered: Ordered, part: Part, within: Range) -> bytes:
+
+def part_lines(form: Form, ordered: Ordered, part: Part, within: Range) -> bytes:
     """The lines of a part."""
     held, place, clock, fronts = [], 0, ordered.survey.clock, {}
     for number, packet, lost, is_whole in ordered.packets(part):
@@ -203,7 +208,7 @@ def part_lines(form, ordered: Ordered, part: Part, within: Range) -> bytes:
     return '\n'.join(lines).encode('utf-8', 'replace')
 
 
-def form_of(asked, survey: Survey, is_json: bool):
+def form_of(asked: Namespace, survey: Survey, is_json: bool) -> Form:
     """What the lines look like that a call asks for."""
     kind = KIND_BY_NAME[asked.kind] if asked.kind else None
     if asked.raw:
@@ -212,7 +217,7 @@ def form_of(asked, survey: Survey, is_json: bool):
     return Json(reader, kind) if is_json else Csv(reader, kind)
 
 
-def written(asked, data, out, is_json: bool) -> Tuple[Survey, int]:
+def written(asked: Namespace, data: Data, out: Output, is_json: bool) -> Tuple[Survey, int]:
     """Writes the lines that a call asks for."""
     _, begin, end = one_part(data, asked.file)
     survey = Survey(data, begin, end, asked.keep_going)
@@ -234,12 +239,12 @@ def written(asked, data, out, is_json: bool) -> Tuple[Survey, int]:
     return survey, end - begin
 
 
-def as_csv(asked, data, out) -> None:
+def as_csv(asked: Namespace, data: Data, out: Output) -> None:
     survey, _ = written(asked, data, out, False)
     survey.judge()
 
 
-def as_json(asked, data, out) -> None:
+def as_json(asked: Namespace, data: Data, out: Output) -> None:
     survey, size = written(asked, data, out, True)
     for stretch in survey.damage:
         out.line(json.dumps(stretch_fields(stretch)))

@@ -1,14 +1,17 @@
 """Chapter 10, after STANAG 4575: the directory of a medium's image, and its files."""
-from collections import namedtuple
+from __future__ import annotations
 
-from .standard import big, need, text
+from collections import namedtuple
+from typing import List, Tuple
+
+from .standard import Data, big, need, text
 
 
 File = namedtuple('File', 'name first blocks size closed')
 File.__doc__ = 'A file of a directory: its name, first block, blocks, size in bytes, and whether it has a close time.'
 
 
-def directory(image):
+def directory(image: Data) -> Tuple[str, List[File]]:
     """The volume's name, and each file."""
     block, before, passed, volume, files = 1, 1, set(), None, []
     while True:
@@ -29,7 +32,7 @@ def directory(image):
         block, before = following, block
 
 
-def bytes_of(image, file):
+def bytes_of(image: Data, file: File) -> Tuple[int, int]:
     """The first place of a file in an image, and the place behind its last byte."""
     begin = 512 * file.first
     need(begin + file.size <= len(image), begin, 'a file outside the image')

@@ -1,9 +1,11 @@
 """Chapter 11: the packets of a recording, and how a reader goes on after damage."""
+from __future__ import annotations
+
 import struct
 from collections import namedtuple
 from typing import Dict, Iterator, List, NamedTuple, Optional, Set, Tuple
 
-from .standard import EVENT, INDEX, KNOWN, LOSS, MESSAGE, REPORT, SETUP, SUMS, SYNC, TIME, UART, WIDTHS, Fault, little
+from .standard import EVENT, INDEX, KNOWN, LOSS, MESSAGE, REPORT, SETUP, SUMS, SYNC, TIME, UART, WIDTHS, Data, Fault, Whose, little
 
 HEADER = struct.Struct('<HHIIBBBBIHH')
 HEADER_WORDS = struct.Struct('<11H')
@@ -20,7 +22,7 @@ Stretch.__doc__ = """Bytes that were passed over: from which offset on, how many
 header is right, else None."""
 
 
-def packet_at(data, at: int, begin: int, end: int, judged: bool = True, opaque: bool = False, summed: bool = False) -> Packet:
+def packet_at(data: Data, at: int, begin: int, end: int, judged: bool = True, opaque: bool = False, summed: bool = False) -> Packet:
     """The packet that begins at a place, or its fault. Its offset counts from the first place; a fault has its length where its header is right.
 
     Where it is not judged, which is for bytes that were read before, no checksum is looked at. The data checksum of an opaque packet is looked at only where
@@ -57,7 +59,7 @@ def packet_at(data, at: int, begin: int, end: int, judged: bool = True, opaque: 
     return Packet(here, channel, kind, length, sequence, flags, low | high << 32, body, word)
 
 
-def packets(data, begin: int = 0, end: Optional[int] = None, judged: bool = True, passed: Optional[Dict[int, int]] = None) -> Iterator[Packet]:
+def packets(data: Data, begin: int = 0, end: Optional[int] = None, judged: bool = True, passed: Optional[Dict[int, int]] = None) -> Iterator[Packet]:
     """Each packet from one place of some bytes to another; what is passed over has its length by its offset. The first fault ends them."""
     at, end = begin, len(data) if end is None else end
     while at < end:
@@ -69,7 +71,7 @@ def packets(data, begin: int = 0, end: Optional[int] = None, judged: bool = True
         at += packet.length
 
 
-def need_sum(data, at, length, size, check, here, whose):
+def need_sum(data: Data, at: int, length: int, size: int, check: int, here: int, whose: Optional[Whose]) -> None:
     """That a data checksum of this kind has room, and is right."""
     width = WIDTHS[check]
     end = at + length - width
@@ -95,7 +97,7 @@ FORMS = {
 Head = namedtuple('Head', 'channel kind length sequence')
 
 
-def head_at(data, at: int, end: int) -> Optional[Head]:
+def head_at(data: Data, at: int, end: int) -> Optional[Head]:
     """The header at a place, where it is one: sync pattern, checksum, lengths that fit, and room for its packet."""
     if end - at < 24 or data[at:at + 2] != PATTERN:
         return None
@@ -112,7 +114,7 @@ MORE = 64  # and after its first one
 NEAR = 8  # packets of its channel that may be missing before one that is near
 
 
-def has_sum(data, at: int) -> bool:
+def has_sum(data: Data, at: int) -> bool:
     """Whether the packet with a right header at a place has a data checksum that is right."""
     _, _, length, size, _, _, flags, _, _, _, _ = HEADER.unpack_from(data, at)
     try:
@@ -149,7 +151,7 @@ class Resync:
     within the packet at fault, as far as that one's length is known, has to lead over its end.
     """
 
-    def __init__(self, data, begin: int, end: int):
+    def __init__(self, data: Data, begin: int, end: int) -> None:
         self.data, self.begin, self.end = data, begin, end
         self.last: Dict[int, int] = {}  # the last sequence number of each channel
         self.seen: Set[Tuple[int, int]] = set()  # channels with types

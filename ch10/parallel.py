@@ -1,8 +1,12 @@
 """Parts of work done by several processes side by side, whose bytes are written in their order."""
+from __future__ import annotations
+
 import os
 import struct
 import sys
-from typing import Callable, List
+from typing import Callable, List, Tuple
+
+from .inputs import Output
 
 LEAST = 8 << 20  # bytes of a recording below which one process does all
 MOST = 8  # processes where a call does not say how many
@@ -17,7 +21,7 @@ def processors() -> int:
         return os.cpu_count() or 1
 
 
-def in_order(made: Callable, parts: List, out, jobs: int) -> None:
+def in_order(made: Callable, parts: List, out: Output, jobs: int) -> None:
     """Writes the pieces that made(part) gives of each part, in their order: by so many processes, or by this one where that is one, or where none can be made.
 
     Each process makes every so many-th part and waits until the one before is written, so that no more than a part of each is held.
@@ -44,7 +48,7 @@ def in_order(made: Callable, parts: List, out, jobs: int) -> None:
         raise MemoryError
 
 
-def start(made: Callable, parts: List, others: List[int]):
+def start(made: Callable, parts: List, others: List[int]) -> Tuple[int, int]:
     """A process that makes these parts, and the pipe that gives each as its length and its bytes."""
     reads, writes = os.pipe()
     worker = os.fork()
@@ -77,7 +81,7 @@ def send(pipe: int, data: bytes) -> None:
         rest = rest[os.write(pipe, rest[:1 << 20]):]
 
 
-def copy(pipe: int, out) -> None:
+def copy(pipe: int, out: Output) -> None:
     """Copies the bytes of one part from a process: pieces with their lengths before them, and a length of zero at their end."""
     left, = struct.unpack('<Q', exactly(pipe, 8))
     while left:

@@ -1,12 +1,18 @@
 """The picture that `svg` draws: for each channel a strip of rates over time, where messages were lost, and what was passed over."""
+from __future__ import annotations
+
+from argparse import Namespace
+from typing import Callable, Dict, Iterable, Iterator, List, Optional, Set, Tuple
 from xml.sax.saxutils import escape
 
 from .bodies import counts
-from .inputs import one_part
+from .inputs import Output, one_part
 from .packets import UNTOLD, loss_of, lost_before, packets
-from .survey import Survey, ends_of, name_of, stretch_text
-from .times import Range, civil
+from .standard import Data, Key
+from .survey import Row, Survey, ends_of, name_of, stretch_text
+from .times import Clock, Range, civil
 
+Mark = Tuple[Key, List[int], Optional[int], Optional[int]]  # channel and type, counts, the count of a loss, how many were lost
 SECOND = 10 ** 7
 WIDTH, LEFT, RIGHT = 980, 130, 150
 TOP, STRIP, MARKS, STEP = 92, 44, 8, 66
@@ -40,7 +46,7 @@ class Picture:
     Sources are the rows of a survey by channel and type; those by packets have no entries that are read.
     """
 
-    def __init__(self, title, sources, by_packets, low, high, survey):
+    def __init__(self, title: str, sources: Dict[Key, Row], by_packets: Set[Key], low: int, high: int, survey: Survey) -> None:
         self.title, self.sources, self.by_packets, self.low, self.high = title, sources, by_packets, low, high
         self.clock, self.names = survey.clock, survey.names
         self.bar = least_step(max((high - low) // MOST_BARS + 1, LEAST_BAR))
@@ -50,7 +56,7 @@ class Picture:
         self.sums = {key: [0, 0, 0] for key in sources}  # losses, messages lost, losses of an unknown number
         self.bottom = TOP + STEP * len(sources)
 
-    def fill(self, seen, has):
+    def fill(self, seen: Iterable[Mark], has: Optional[Callable[[int], bool]]) -> None:
         """Counts how many entries stand in each bar, and losses; `has` says whether a count is drawn, or is None."""
         low, bar, bars = self.low, self.bar, self.bars
         for key, found, loss, lost in seen:
@@ -73,11 +79,11 @@ class Picture:
                 for count in found:
                     much[(count - low) // bar] += 1
 
-    def place(self, count):
+    def place(self, count: int) -> float:
         """Where a count lies from left to right."""
         return LEFT + SPACE * min(max((count - self.low) / (self.bar * self.bars), 0), 1)
 
-    def text(self, survey, size):
+    def text(self, survey: Survey, size: int) -> str:
         height = self.bottom + 36
         parts = ['<svg xmlns="http://www.w3.org/2000/svg" width="%d" height="%d" viewBox="0 0 %d %d" font-family="sans-serif" font-size="12">'
                  % (WIDTH, height, WIDTH, height),
@@ -95,7 +101,7 @@ class Picture:
             parts.append(words(LEFT, TOP, 'no channel to draw', fill='#444'))
         return '\n'.join(parts + ['</svg>', ''])
 
-    def strip(self, top, key):
+    def strip(self, top: int, key: Key) -> List[str]:
         """One channel: its name, its bars, the highest of them, and its losses."""
         much, lost, wide = self.much[key], self.lost[key], SPACE / self.bars
         base, most = top + STRIP, max(much)
@@ -124,7 +130,7 @@ class Picture:
             parts.append(words(LEFT + SPACE + 8, base + 10, '%s%s lost' % ('{:,}'.format(messages), '+' if untold else ''), fill=RED))
         return parts
 
-    def rate_of(self, key, most):
+    def rate_of(self, key: Key, most: int) -> str:
         """The highest rate of a strip; of one with few in a bar the mean, since a bar of few says little of a rate."""
         row, what = self.sources[key], ' packets' if key in self.by_packets else ''
         number = row.packets if key in self.by_packets else row.entries
@@ -134,7 +140,7 @@ class Picture:
             return '%d%s in all' % (number, what)
         return 'mean %s%s/s' % (number_text((number - 1) * SECOND / (row.last() - row.first())), what)
 
-    def axis(self):
+    def axis(self) -> List[str]:
         """Lines at whole times, and the times below."""
         span = self.bar * self.bars
         step = least_step(span // 7)
@@ -146,7 +152,7 @@ class Picture:
             parts.append(words(x, self.bottom + 16, time_text(count, self.low, step, self.clock), anchor='middle', fill='#444'))
         return parts
 
-    def damaged(self, survey):
+    def damaged(self, survey: Survey) -> List[str]:
         """Where stretches were passed over, shaded from the packet before to the packet after."""
         parts = []
         for stretch, (before, after) in zip(survey.damage, survey.spans):
@@ -160,7 +166,7 @@ class Picture:
                 len(parts), '' if len(parts) == 1 else 'es', '{:,}'.format(sum(stretch.length for stretch in survey.damage))), fill=DARK))
         return parts
 
-    def jumps(self, survey):
+    def jumps(self, survey: Survey) -> List[str]:
         """Where the clock jumps."""
         parts, line = [], survey.clock and next(line for line in survey.times if line.channel == survey.clock.channel)
         for jump in line.jumps() if line else ():
@@ -171,7 +177,7 @@ class Picture:
                 parts.append(words(side, TOP - 10, 'time %+.7g s' % (jump.by / SECOND), anchor=anchor, fill=DARK, size=11))
         return parts
 
-    def ended(self, survey, size):
+    def ended(self, survey: Survey, size: int) -> List[str]:
         """Where the pass ended, if it did not go on after a fault."""
         if not survey.ends_early():
             return []
@@ -180,15 +186,15 @@ class Picture:
                 words(LEFT, 62, 'ends at byte %d of %d: %s' % (survey.size, size, survey.fault.what), fill=RED, weight='bold')]
 
 
-def shortened(name):
+def shortened(name: str) -> str:
     return name if len(name) <= 18 else name[:17] + '…'
 
 
-def words(x, y, text, anchor='start', fill='black', size=12, weight='normal'):
+def words(x: float, y: float, text: str, anchor: str = 'start', fill: str = 'black', size: int = 12, weight: str = 'normal') -> str:
     return '<text x="%.1f" y="%.1f" text-anchor="%s" fill="%s" font-size="%d" font-weight="%s">%s</text>' % (x, y, anchor, fill, size, weight, escape(text))
 
 
-def time_text(count, low, step, clock):
+def time_text(count: int, low: int, step: int, clock: Optional[Clock]) -> str:
     """A time as its step asks for, rounded to it: with places after the second, without, or with the day."""
     if clock is None or clock.text(count) is None:
         return seconds(count - low) + ' s'
@@ -204,7 +210,7 @@ def time_text(count, low, step, clock):
     return of_day[:9] + of_day[9:].rstrip('0').ljust(1, '0')
 
 
-def as_svg(asked, data, out):
+def as_svg(asked: Namespace, data: Data, out: Output) -> None:
     title, begin, end = one_part(data, asked.file)
     survey = Survey(data, begin, end, asked.keep_going)
     if not survey.lows:
@@ -222,7 +228,7 @@ def as_svg(asked, data, out):
     survey.judge()
 
 
-def marks(data, begin, survey, sources, by_packets):
+def marks(data: Data, begin: int, survey: Survey, sources: Dict[Key, Row], by_packets: Set[Key]) -> Iterator[Mark]:
     """Of each packet that is drawn its channel and type, its counts, the count of a loss and how many messages were lost, or None twice."""
     report, behind = None, 0
     for packet in packets(data, begin, begin + survey.size, False, survey.passed):
@@ -239,7 +245,7 @@ def marks(data, begin, survey, sources, by_packets):
         report = loss_of(packet)
 
 
-def ends_in(data, begin, survey, sources, by_packets, within):
+def ends_in(data: Data, begin: int, survey: Survey, sources: Dict[Key, Row], by_packets: Set[Key], within: Range) -> Optional[Tuple[int, int]]:
     """The lowest and the highest count that is drawn of a range, or None."""
     found = [count for _, some, _, _ in marks(data, begin, survey, sources, by_packets) for count in some if within.has(count)]
     return (min(found), max(found)) if found else None

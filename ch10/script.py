@@ -1,8 +1,12 @@
 """A setup text of chapter 9 for the channels of a script of r10."""
+from __future__ import annotations
+
+from argparse import Namespace
 import re
 from typing import Dict, Iterator, List, Tuple
 
-from .standard import Fault
+from .inputs import Output
+from .standard import Data, Fault
 
 # Of each kind of channel its channel data type, the attribute of its format with the format that r10 writes, and the group that describes what it carries.
 KINDS = {'uart': ('UARTIN', 'UTF', 0, 'S'), '1553': ('1553IN', 'BTF', 1, 'B'), 'arinc': ('429IN', 'ABTF', 0, 'B'), 'discrete': ('DISIN', 'DTF', 1, ''),
@@ -111,7 +115,7 @@ def link(group: str, name: str, channel: dict, tables: Dict[str, List[dict]]) ->
         yield '%s\\BT-%d' % (group, place), '1553' if channel['kind'] == '1553' else 'A429'
 
 
-def as_tmats(asked, data, out) -> None:
+def as_tmats(asked: Namespace, data: Data, out: Output) -> None:
     try:
         text = bytes(data).decode('utf-8')
     except UnicodeDecodeError:

@@ -1,18 +1,26 @@
 """What the other modules share: what a fault is, numbers in bytes, and the names of the types of data that IRIG 106-17, chapter 11, has."""
+from __future__ import annotations
+
+import mmap
+from typing import List, Optional, Tuple, Union
+
+Data = Union[bytes, mmap.mmap]  # what a call reads
+Key = Tuple[int, int]  # a channel and a data type
+Whose = Tuple[int, int, int, int]  # of a packet: channel, data type, sequence number, counter
 
 
 class Fault(Exception):
     """What the standard does not allow, and where: at which offset, and of a packet whose header is right its
     length, and its channel, type, sequence number and counter."""
 
-    def __init__(self, what, offset=None, length=None, whose=None):
+    def __init__(self, what: str, offset: Optional[int] = None, length: Optional[int] = None, whose: Optional[Whose] = None) -> None:
         Exception.__init__(self, what)
         self.what, self.offset, self.length, self.whose = what, offset, length, whose
 
-    def __str__(self):
+    def __str__(self) -> str:
         return self.what if self.offset is None else '%s at offset %d' % (self.what, self.offset)
 
-    def lines(self):
+    def lines(self) -> List[str]:
         """What is said of it, a line each."""
         return [str(self)]
 
@@ -20,11 +28,11 @@ class Fault(Exception):
 class Damaged(Fault):
     """A recording of which some stretches were passed over, of each a line."""
 
-    def __init__(self, lines):
+    def __init__(self, lines: List[str]) -> None:
         Fault.__init__(self, '%d stretches were passed over' % len(lines))
         self.said = lines
 
-    def lines(self):
+    def lines(self) -> List[str]:
         return self.said
 
 
@@ -32,24 +40,24 @@ class Wrong(Exception):
     """What is wrong in the words of a call."""
 
 
-def need(held, offset, what):
+def need(held: bool, offset: int, what: str) -> None:
     if not held:
         raise Fault(what, offset)
 
 
-def little(data, at, size):
+def little(data: Data, at: int, size: int) -> int:
     return int.from_bytes(data[at:at + size], 'little')
 
 
-def big(data, at, size):
+def big(data: Data, at: int, size: int) -> int:
     return int.from_bytes(data[at:at + size], 'big')
 
 
-def text(data):
+def text(data: bytes) -> str:
     return data.rstrip(b'\x00 ').decode('ascii', 'replace')
 
 
-def digits(data):
+def digits(data: bytes) -> str:
     return data.hex() or '-'
 
 

@@ -1,13 +1,15 @@
 """One pass over a recording: what each channel has, what was passed over, its times and its setup text."""
+from __future__ import annotations
+
 from array import array
 from typing import Dict, List, Optional, Tuple
 
 from . import walk
 from .bodies import BODIES
 from .clocks import TimeLine
-from .packets import Resync, Stretch, UNTOLD, loss_of, lost_before, packet_at
-from .standard import DISCRETE, INDEX, NONE_LATER, SETUP, TIME, Damaged, Fault
-from .times import Clock, time
+from .packets import UNTOLD, Packet, Resync, Stretch, loss_of, lost_before, packet_at
+from .standard import DISCRETE, INDEX, NONE_LATER, SETUP, TIME, Damaged, Data, Fault
+from .times import Clock, Time, time
 from .tmats import Names
 
 REPORT_ROW = 0x100  # in place of its data type, 0x00, which others have for something else
@@ -29,13 +31,13 @@ class Row:
 
     __slots__ = ('channel', 'kind', 'packets', 'entries', 'bytes', 'losses', 'lost', 'untold', 'jumps', 'opaque', 'bad', 'low', 'high', 'begin', 'end')
 
-    def __init__(self, channel: int, kind: int, counter: int):
+    def __init__(self, channel: int, kind: int, counter: int) -> None:
         self.channel, self.kind = channel, kind
         self.packets = self.entries = self.bytes = self.losses = self.lost = self.untold = self.jumps = self.opaque = self.bad = 0
         self.low = self.high = None
         self.begin = self.end = counter
 
-    def add(self, packet, report):
+    def add(self, packet: Packet, report: Optional[Tuple[int, int]]) -> None:
         """Adds a packet after this report, or after none."""
         self.packets += 1
         self.bytes += packet.length
@@ -52,7 +54,7 @@ class Row:
         elif counter > self.end:
             self.end = counter
 
-    def add_entries(self, number, low, high):
+    def add_entries(self, number: int, low: int, high: int) -> None:
         self.entries += number
         if self.low is None:
             self.low, self.high = low, high
@@ -92,7 +94,7 @@ class Survey:
     .lows      of each packet that was read the lowest count of its entries; .highs the highest; .places where it begins, after the recording's first byte
     """
 
-    def __init__(self, data, begin: int, end: int, goes_on: bool = True):
+    def __init__(self, data: Data, begin: int, end: int, goes_on: bool = True) -> None:
         self.rows: List[Row] = []
         self.damage: List[Stretch] = []
         self.passed: Dict[int, int] = {}
@@ -111,7 +113,7 @@ class Survey:
         lines = [line for line in self.times if line.told]
         self.clock = Clock(lines) if lines else None
 
-    def go(self, data, begin, end, goes_on):
+    def go(self, data: Data, begin: int, end: int, goes_on: bool) -> int:
         """Goes over the recording, and answers how far it came."""
         at, resync, before, report, last = begin, Resync(data, begin, end), {}, None, None
         ahead = walk.Ahead(data, end) if walk.is_ready(end - begin) else walk.Alone()
@@ -151,7 +153,7 @@ class Survey:
         return at - begin
 
     @staticmethod
-    def placed(fault, data, at, begin, end):
+    def placed(fault: Fault, data: Data, at: int, begin: int, end: int) -> Fault:
         """A fault of what stands in a packet, with the packet's place, length and channel; others as they are."""
         try:
             packet = packet_at(data, at, begin, end)
@@ -159,13 +161,13 @@ class Survey:
             return same
         return Fault(fault.what, at - begin, packet.length, (packet.channel, packet.kind, packet.sequence, packet.counter))
 
-    def row_of(self, channel, kind, counter):
+    def row_of(self, channel: int, kind: int, counter: int) -> Row:
         row = self.by_key.get((channel, kind))
         if row is None:
             row = self.by_key[channel, kind] = Row(channel, kind, counter)
         return row
 
-    def note(self, packet, found, said, row):
+    def note(self, packet: Packet, found: Tuple[int, int, int], said: Optional[Time], row: Row) -> None:
         """Takes note of what stands in a packet."""
         kind, (number, low, high) = packet.kind, found
         if number:
@@ -186,7 +188,7 @@ class Survey:
         self.highs.append(high)
         self.places.append(packet.offset)
 
-    def pass_over(self, fault, offset, length, last, before):
+    def pass_over(self, fault: Fault, offset: int, length: int, last: Optional[int], before: Dict[int, int]) -> None:
         """Takes note of a stretch."""
         channel = kind = None
         if fault.whose:
@@ -201,13 +203,13 @@ class Survey:
         self.passed[offset] = length
         self.spans.append((last, None))
 
-    def close_spans(self, counter):
+    def close_spans(self, counter: int) -> None:
         for place in range(len(self.spans) - 1, -1, -1):
             if self.spans[place][1] is not None:
                 break
             self.spans[place] = self.spans[place][0], counter
 
-    def drawn(self, channels=None) -> List[Row]:
+    def drawn(self, channels: Optional[List[int]] = None) -> List[Row]:
         """The rows of all packets but those of setup, index and loss reports."""
         return [row for row in self.rows if row.packets and row.kind not in (SETUP, INDEX, REPORT_ROW) and (channels is None or row.channel in channels)]
 

@@ -1,14 +1,19 @@
 """The summary."""
-import json
+from __future__ import annotations
 
-from .inputs import is_recording, listed, shown, the_file
-from .medium import bytes_of
-from .standard import Fault
-from .survey import REPORT_ROW, Survey, name_of, stretch_fields, stretch_text
+from argparse import Namespace
+import json
+from typing import Iterator, List, Optional, Tuple
+
+from .clocks import TimeLine
+from .inputs import Output, is_recording, listed, shown, the_file
+from .medium import File, bytes_of
+from .standard import Data, Fault
+from .survey import REPORT_ROW, Row, Survey, name_of, stretch_fields, stretch_text
 from .times import civil
 
 
-def summary(asked, data, out):
+def summary(asked: Namespace, data: Data, out: Output) -> None:
     if is_recording(data):
         if asked.file is not None:
             raise Fault('the input is a recording and no image: it has no files')
@@ -37,7 +42,7 @@ def summary(asked, data, out):
         raise first
 
 
-def summary_of(asked, data, out, begin, end, number, file):
+def summary_of(asked: Namespace, data: Data, out: Output, begin: int, end: int, number: Optional[int], file: Optional[File]) -> None:
     """What one recording has. Raises its first fault, if it has one, when all is said."""
     survey = Survey(data, begin, end)
     if asked.json:
@@ -51,7 +56,7 @@ def summary_of(asked, data, out, begin, end, number, file):
         raise first_of(survey)
 
 
-def first_of(survey):
+def first_of(survey: Survey) -> Optional[Fault]:
     """The first fault, and how much was passed over where there is more than it."""
     if len(survey.damage) < 2:
         return survey.fault
@@ -59,11 +64,11 @@ def first_of(survey):
         said(len(survey.damage), 'stretch', 'es'), said(sum(stretch.length for stretch in survey.damage), 'byte'), survey.fault))
 
 
-def said(number, what, plural='s'):
+def said(number: int, what: str, plural: str = 's') -> str:
     return '%d %s%s' % (number, what, '' if number == 1 else plural)
 
 
-def titles(survey, size, number, file):
+def titles(survey: Survey, size: int, number: Optional[int], file: Optional[File]) -> List[str]:
     """What there is as a whole: how much, from when to when, what was passed over, and what the clocks say."""
     what = '%s in %s' % (said(size, 'byte'), said(len(survey.lows), 'packet'))
     if file is None:
@@ -81,11 +86,11 @@ def titles(survey, size, number, file):
     return lines + [line for times in survey.times for line in clock_lines(times, survey)] + [stretch_text(stretch) for stretch in survey.damage]
 
 
-def seconds_of(ticks):
+def seconds_of(ticks: int) -> str:
     return '%d.%07d' % divmod(ticks, 10 ** 7)
 
 
-def clock_lines(times, survey):
+def clock_lines(times: TimeLine, survey: Survey) -> Iterator[str]:
     """What the times of a channel say of its clock: a line, and one for each jump."""
     low, high = survey.span()
     drift, jumps, back = times.drift(), times.jumps(), times.steps_back()
@@ -101,16 +106,16 @@ def clock_lines(times, survey):
             times.channel, jump.offset, jump.count, signed_seconds(jump.by), civil_text(jump.before, dated), civil_text(jump.after, dated))
 
 
-def signed_seconds(ticks):
+def signed_seconds(ticks: int) -> str:
     return '%s%d.%07d' % (('-' if ticks < 0 else '+',) + divmod(abs(ticks), 10 ** 7))
 
 
-def civil_text(ticks, dated):
+def civil_text(ticks: int, dated: bool) -> str:
     front = civil(ticks, dated) if ticks >= 0 else None
     return '%s.%02d' % (front, ticks % 10 ** 7 // 10 ** 5) if front else '-'
 
 
-def tables(survey):
+def tables(survey: Survey) -> List[str]:
     """What each channel has, and when."""
     if not survey.rows:
         return []
@@ -130,17 +135,17 @@ def tables(survey):
     return [''] + table(much) + [''] + table(when)
 
 
-def rate_text(rate):
+def rate_text(rate: float) -> str:
     """A rate with as many places as a slow channel needs."""
     return '%.1f' % rate if rate >= 100 else '%.3g' % rate
 
 
-def at_least(lost, untold):
+def at_least(lost: int, untold: int) -> str:
     """How many messages were lost, where of so many losses it isn't told how many."""
     return '%d%s' % (lost, '+' if untold else '')
 
 
-def table(rows):
+def table(rows: List[tuple]) -> List[str]:
     """Rows in columns: names, types and times to the left, all others to the right; without the names where there are none."""
     if not any(row[1] for row in rows[1:]):
         rows = [row[:1] + row[2:] for row in rows]
@@ -151,7 +156,7 @@ def table(rows):
             for row in texts]
 
 
-def fields(survey):
+def fields(survey: Survey) -> Iterator[dict]:
     """The objects of JSON lines: of each channel and type, of each clock, of each stretch that was passed over."""
     for row in survey.rows:
         yield of_row(row, survey)
@@ -162,7 +167,7 @@ def fields(survey):
         yield stretch_fields(stretch)
 
 
-def of_row(row, survey):
+def of_row(row: Row, survey: Survey) -> dict:
     has, clock = row.packets > 0, survey.clock
     return {
         'channel': row.channel, 'channel_name': survey.names.channel(row.channel) or None, 'type': name_of(row.kind), 'packets': row.packets, 'entries': row.entries if row.has_entries() else None,
@@ -171,7 +176,7 @@ def of_row(row, survey):
         'losses': row.losses, 'lost': row.lost, 'untold': row.untold, 'jumps': row.jumps, 'opaque': row.opaque, 'bad': row.bad}
 
 
-def of_clock(times, span):
+def of_clock(times: TimeLine, span: Tuple[int, int]) -> dict:
     drift = times.drift()
     dated = bool(times.told) and times.told[0][1].dated
     return {

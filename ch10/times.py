@@ -1,11 +1,17 @@
 """Civil times: those of time packets, those of each count, and those that a call gives."""
+from __future__ import annotations
+
 import argparse
 import datetime
 from bisect import bisect_right
 from collections import namedtuple
 from datetime import date
+from typing import Iterable, List, Optional, TYPE_CHECKING
 
 from .standard import NONE_LATER, Fault, little, need
+
+if TYPE_CHECKING:
+    from .clocks import TimeLine
 
 
 Time = namedtuple('Time', 'said dated ticks')
@@ -15,7 +21,7 @@ day before the year's first on. The units are None where the digits are no time.
 DAY = 24 * 3600 * 10 ** 7
 
 
-def time(body, word):
+def time(body: bytes, word: int) -> Time:
     need(len(body) >= (12 if word & 0x200 else 10), 0, 'less than a time in a body')
     bcd = [little(body, at, 2) for at in range(4, len(body) - 1, 2)]
     clock = '%02x:%02x:%02x.%02x' % (bcd[1] >> 8 & 0x3F, bcd[1] & 0x7F, bcd[0] >> 8 & 0x7F, bcd[0] & 0xFF)
@@ -29,7 +35,7 @@ def time(body, word):
         return Time(said, word & 0x200 != 0, None)
 
 
-def ticks_of(said):
+def ticks_of(said: str) -> int:
     """What a text of a civil time says in units of 100 ns. A ValueError where it says none."""
     day, clock = said.split(' ')
     hours, minutes, seconds = clock.split(':')
@@ -45,7 +51,7 @@ def ticks_of(said):
     return DAY * day_number(day) + ((hours * 60 + minutes) * 60 + whole) * 10 ** 7 + int(part.ljust(7, '0'))
 
 
-def day_number(day):
+def day_number(day: str) -> int:
     if not day.replace('-', '').isascii():
         raise ValueError(day)
     if len(day) == 10 and day[4] == day[7] == '-':
@@ -55,7 +61,7 @@ def day_number(day):
     raise ValueError(day)
 
 
-def civil(ticks: int, dated: bool, places: int = 0):
+def civil(ticks: int, dated: bool, places: int = 0) -> Optional[str]:
     """A civil time as a text, with so many places after the second. None where the calendar doesn't have its day."""
     day, rest = divmod(ticks, DAY)
     try:
@@ -75,7 +81,7 @@ class Clock:
     The times are those of one channel, the one whose time comes first in the recording.
     """
 
-    def __init__(self, lines):
+    def __init__(self, lines: List[TimeLine]) -> None:
         line = min(lines, key=lambda line: line.told[0][2])
         self.channel, self.dated = line.channel, line.told[0][1].dated
         kept = [(count, said.ticks) for count, said, _ in line.told if said.dated == self.dated]
@@ -85,25 +91,25 @@ class Clock:
         self.start = self.stop = self.second = None
         self.turn_to(self.counts[0])
 
-    def turn_to(self, count):
+    def turn_to(self, count: int) -> None:
         """Takes up the time that holds at a count, and from where to where it does."""
         place = max(bisect_right(self.counts, count) - 1, 0)
         self.ahead = self.ticks[place] - self.counts[place]
         self.start = self.counts[place] if place else 0
         self.stop = self.counts[place + 1] if place + 1 < len(self.counts) else NONE_LATER
 
-    def at(self, count):
+    def at(self, count: int) -> int:
         if not self.start <= count < self.stop:
             self.turn_to(count)
         return count + self.ahead
 
-    def text(self, count, places=7):
+    def text(self, count: int, places: int = 7) -> Optional[str]:
         second, part = divmod(self.at(count), 10 ** 7)
         if second != self.second:
             self.second, self.said = second, civil(second * 10 ** 7, self.dated)
         return self.said and '%s.%s' % (self.said, ('%07d' % part)[:places])
 
-    def texts(self, counts):
+    def texts(self, counts: Iterable[int]) -> List[Optional[str]]:
         """The text of each of some counts, which is faster than `text` where they are in order."""
         found, low, high, said = [], None, None, None
         for count in counts:
@@ -120,7 +126,7 @@ class Clock:
 class Bound:
     """A first or last time as it was given: a count, or a time of day with a date, a day of the year, or neither."""
 
-    def __init__(self, word):
+    def __init__(self, word: str) -> None:
         self.count = self.rest = self.dated = None
         if len(word) <= 20 and word.isascii() and word.isdigit():
             self.count = int(word)
@@ -134,7 +140,7 @@ class Bound:
         self.dated = '-' in day if day else None
         self.rest = ticks if day else ticks - DAY
 
-    def ticks(self, clock):
+    def ticks(self, clock: Optional[Clock]) -> int:
         """The time in the units of a recording's clock."""
         if clock is None:
             raise Fault('the recording has no time: --from and --to take its counts')
@@ -148,7 +154,7 @@ class Bound:
 class Range:
     """Which counts lie from a first time to a last, both taken in."""
 
-    def __init__(self, first, last, clock):
+    def __init__(self, first: Optional[Bound], last: Optional[Bound], clock: Optional[Clock]) -> None:
         self.clock = clock
         self.low, self.high, self.early, self.late = 0, NONE_LATER, None, None
         if first is not None and first.count is not None:
@@ -161,11 +167,11 @@ class Range:
             self.late = last.ticks(clock)
         self.is_all = self.low == 0 and self.high == NONE_LATER and self.early is self.late is None
 
-    def is_before(self, count):
+    def is_before(self, count: int) -> bool:
         return count < self.low or self.early is not None and self.clock.at(count) < self.early
 
-    def is_behind(self, count):
+    def is_behind(self, count: int) -> bool:
         return count > self.high or self.late is not None and self.clock.at(count) > self.late
 
-    def has(self, count):
+    def has(self, count: int) -> bool:
         return not self.is_before(count) and not self.is_behind(count)

@@ -1,7 +1,9 @@
 """Chapter 9: the setup text (TMATS), its attributes, and the names that it gives to channels and buses."""
+from __future__ import annotations
+
 import re
 from collections import OrderedDict
-from typing import Dict, List, Optional, Tuple
+from typing import Dict, Iterator, List, Optional, Tuple
 
 from .standard import ARINC, BUS, DISCRETE, MESSAGE, TIME, UART
 
@@ -31,7 +33,7 @@ def printable(text: str) -> str:
 class Names:
     """What a setup text says of the channels of a recording."""
 
-    def __init__(self, data: Optional[bytes]):
+    def __init__(self, data: Optional[bytes]) -> None:
         self.attributes = attributes(data) if data else OrderedDict()
         self.channels: Dict[int, Tuple[str, str, str]] = {}  # by channel ID: name, channel data type, data link
         self.buses: Dict[str, Dict[int, str]] = {}  # of each data link the names of its buses by their numbers
@@ -45,7 +47,7 @@ class Names:
             if link:
                 self.buses.setdefault(printable(value), dict(self.buses_of(link.group(1))))
 
-    def buses_of(self, group: str):
+    def buses_of(self, group: str) -> Iterator[Tuple[int, str]]:
         for name, value in self.attributes.items():
             bus = re.match(re.escape(group) + r'\\BID-([0-9]+)$', name)
             if bus:

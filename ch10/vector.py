@@ -3,16 +3,23 @@
 A line is a row of pieces. The lines of some entries are given their places in one array of bytes first; then each piece of all of them is written, from left to
 right. What is rare is left to the plain way: types with few entries, and bodies of very long messages.
 """
+from __future__ import annotations
+
 from binascii import hexlify
-from typing import Callable, Dict, Iterator, List, Optional, Tuple
+from typing import Any, Callable, Dict, Iterator, List, Optional, Tuple, TYPE_CHECKING
 
 from . import walk
 from .buses import FLAGS_1553, ODD, RT_TO_RT, TURNED, block_1553, changed_bits, command_1553, named
 from .fields import MESSAGE_ERRORS
+from .replay import Ordered, Part
 from .standard import ARINC, BUS, COUNT_BITS, DISCRETE, MESSAGE, UART
 from .times import DAY, civil
+from .walk import Array
 
-numpy = None  # as in `ch10.walk`
+if TYPE_CHECKING:
+    from .lines import Form
+
+numpy: Any = None  # as in `ch10.walk`
 
 
 def is_ready(size: int) -> bool:
@@ -37,10 +44,10 @@ LAST_DAY = {True: 3652059, False: 366}
 class Piece:
     """What stands at one place of each line: the bytes of a source from some place on, as many as its length there or the same of each."""
 
-    def __init__(self, source, starts, wide: int, lengths=None):
+    def __init__(self, source: Array, starts: Optional[Array], wide: int, lengths: Optional[Array] = None) -> None:
         self.source, self.starts, self.wide, self.lengths = source, starts, wide, lengths
 
-    def write(self, out, at, room) -> None:
+    def write(self, out: Array, at: Array, room: Optional[Array]) -> None:
         """Writes it at these places of lines that have so much room from there on.
 
         Bytes after its own are written too where there is room for them in the line: what comes after it is written later.
@@ -62,7 +69,7 @@ class Piece:
             if length:
                 walk.wide_view(out, length)[at[some]] = self.items(length, some)
 
-    def items(self, wide: int, some):
+    def items(self, wide: int, some: Optional[Array]) -> Array:
         starts = self.starts if some is None else self.starts[some]
         return walk.wide_view(self.source, wide)[starts]
 
@@ -70,31 +77,31 @@ class Piece:
 class Fixed(Piece):
     """A piece of one length, a row of bytes for each line."""
 
-    def __init__(self, rows):
+    def __init__(self, rows: Array) -> None:
         Piece.__init__(self, rows, None, rows.shape[1])
 
-    def items(self, wide: int, some):
+    def items(self, wide: int, some: Optional[Array]) -> Array:
         return self.source.view('V%d' % wide)[:, 0]
 
 
 class Always(Piece):
     """A piece that is the same in each line."""
 
-    def __init__(self, text: bytes):
+    def __init__(self, text: bytes) -> None:
         Piece.__init__(self, numpy.frombuffer(text, 'V%d' % len(text)), None, len(text))
 
-    def items(self, wide: int, some):
+    def items(self, wide: int, some: Optional[Array]) -> Array:
         return self.source
 
 
 class Table:
     """Texts by numbers, each made when it is first asked for."""
 
-    def __init__(self, make: Callable[[int], bytes]):
+    def __init__(self, make: Callable[[int], bytes]) -> None:
         self.make = make
         self.rows, self.lengths, self.is_known = numpy.zeros((0, 1), numpy.uint8), numpy.zeros(0, numpy.int64), numpy.zeros(0, bool)
 
-    def pieces(self, keys) -> Piece:
+    def pieces(self, keys: Array) -> Piece:
         top = int(keys.max()) + 1
         if top > len(self.is_known):
             self.widen(1 << (top - 1).bit_length(), self.rows.shape[1])
@@ -115,7 +122,7 @@ class Table:
         self.rows[key, :len(text)] = numpy.frombuffer(text, numpy.uint8)
         self.lengths[key], self.is_known[key] = len(text), True
 
-    def fill(self, rows, lengths) -> 'Table':
+    def fill(self, rows: Array, lengths: Array) -> 'Table':
         """Takes these texts, of the numbers from 0 on."""
         self.rows, self.lengths, self.is_known = numpy.ascontiguousarray(rows), lengths.astype(numpy.int64), numpy.ones(len(rows), bool)
         return self
@@ -124,13 +131,13 @@ class Table:
 class TableRows(Piece):
     """Texts of a table."""
 
-    def __init__(self, table: Table, keys):
+    def __init__(self, table: Table, keys: Array) -> None:
         lengths = table.lengths[keys]
         wide = int(lengths.max())
         is_one = int(lengths.min()) == wide
         Piece.__init__(self, table.rows, keys, wide, None if is_one else lengths)
 
-    def items(self, wide: int, some):
+    def items(self, wide: int, some: Optional[Array]) -> Array:
         rows = numpy.ndarray((len(self.source),), 'V%d' % wide, self.source, 0, (self.source.shape[1],))
         return rows[self.starts if some is None else self.starts[some]]
 
@@ -140,10 +147,10 @@ class TableRows(Piece):
 class Decimals:
     """Numbers as decimal digits."""
 
-    def __init__(self):
+    def __init__(self) -> None:
         self.four = numpy.frombuffer(b''.join(b'%04d' % value for value in range(10000)), numpy.uint32)
 
-    def right(self, values, chunks: int):
+    def right(self, values: Array, chunks: int) -> Array:
         """Numbers below 10 ** (4 * chunks), with zeros before them."""
         rows = numpy.empty((len(values), chunks), numpy.uint32)
         for place in range(chunks - 1, 0, -1):
@@ -153,7 +160,7 @@ class Decimals:
         rows[:, 0] = self.four[values]
         return rows.view(numpy.uint8).reshape(len(values), 4 * chunks)
 
-    def plain(self, values) -> Piece:
+    def plain(self, values: Array) -> Piece:
         """Numbers without zeros before them."""
         low, high = len(str(int(values.min()))), len(str(int(values.max())))
         rows = self.right(values, -(-high // 4))
@@ -165,18 +172,18 @@ class Decimals:
             starts += high - lengths
         return Piece(rows.reshape(-1) if lengths is None else padded(rows.reshape(-1), high), starts, high, lengths)
 
-    def fraction(self, values) -> Piece:
+    def fraction(self, values: Array) -> Piece:
         """Seven digits."""
         rows = self.right(values, 2)
         return Piece(rows.reshape(-1), numpy.arange(1, 8 * len(rows), 8), 7)
 
 
-def padded(octets, more: int):
+def padded(octets: Array, more: int) -> Array:
     """Bytes with so many more after them, so that a piece may be read from each place."""
     return numpy.concatenate([octets, numpy.zeros(more, numpy.uint8)])
 
 
-def octets_of(data: bytes, more: int):
+def octets_of(data: bytes, more: int) -> Array:
     return numpy.frombuffer(data + bytes(more), numpy.uint8)
 
 
@@ -188,7 +195,7 @@ class Block:
     Further columns are those of its kind.
     """
 
-    def __init__(self, packets: List[tuple], number, channels: List[int], losses: List[int]):
+    def __init__(self, packets: List[tuple], number: Array, channels: List[int], losses: List[int]) -> None:
         total = int(number.sum())
         self.columns: Dict[str, object] = {}
         self.of = numpy.repeat(numpy.arange(len(packets)), number)
@@ -201,7 +208,7 @@ class Block:
             if code and number[place]:
                 self.lost[first[place]] = code
 
-    def keep(self, held) -> 'Block':
+    def keep(self, held: Array) -> 'Block':
         """The entries that are held, as a block of their own."""
         found = Block.__new__(Block)
         found.__dict__.update({name: value[held] for name, value in self.__dict__.items() if name != 'columns'})
@@ -212,7 +219,7 @@ class Block:
 class Vector:
     """Lines of a form, part by part."""
 
-    def __init__(self, form, ordered):
+    def __init__(self, form: Form, ordered: Ordered) -> None:
         self.form, self.ordered = form, ordered
         self.joints = {kind: [part.encode() for part in shape.split('%s')] for kind, shape in form.shapes.items()}
         self.kinds = {UART: (self.texts, self.text_pieces), MESSAGE: (self.texts, self.text_pieces), BUS: (self.messages, self.message_pieces),
@@ -229,7 +236,7 @@ class Vector:
         self.starts = clock and numpy.array(clock.counts, numpy.int64)
         self.ahead = clock and numpy.array(clock.ticks, numpy.int64) - self.starts
 
-    def lines(self, part) -> Optional[Iterator]:
+    def lines(self, part: Part) -> Optional[Iterator]:
         """The lines of a part, some at a time, or None where the plain way is to make them."""
         groups: Dict[int, list] = {}
         plain = []
@@ -271,7 +278,7 @@ class Vector:
             yield self.page({kind: block for kind, block in some.items() if len(block.count)}, tuple(one[held] for one in plain[:3]) + (
                 [plain[3][place] for place in held.tolist()],))
 
-    def page(self, blocks: Dict[int, Block], plain: tuple):
+    def page(self, blocks: Dict[int, Block], plain: tuple) -> Array:
         """The lines of some entries, as one array."""
         made = [(block, self.front(block) + self.kinds[kind][1](kind, block)) for kind, block in blocks.items()]
         lengths = []
@@ -303,7 +310,7 @@ class Vector:
 
     # ---- what every line has
 
-    def plain_lines(self, plain: List[tuple], part) -> tuple:
+    def plain_lines(self, plain: List[tuple], part: Part) -> tuple:
         """The lines of some packets, made one by one: their counts, channels, places in the order, and the lines."""
         form, clock, counts, channels, order, lines = self.form, self.ordered.survey.clock, [], [], [], []
         for number, packet, lost in plain:
@@ -317,7 +324,7 @@ class Vector:
                 lost = 0
         return tuple(numpy.array(some, numpy.int64) for some in (counts, channels, order)) + (lines,)
 
-    def block(self, packets: List[tuple], number) -> Block:
+    def block(self, packets: List[tuple], number: Array) -> Block:
         """Entries of some packets, so many of each."""
         for _, packet, lost in packets:
             if packet.channel not in self.numbers:
@@ -375,7 +382,7 @@ class Vector:
         between = between if self.ordered.survey.clock else before + between
         return self.table(('lost', kind), lambda key: between + self.form.lost_text(self.losses[key]).encode() + behind + self.joints[kind][0] + quote).pieces(block.lost)
 
-    def cells(self, kind: int, first: int, values) -> bytes:
+    def cells(self, kind: int, first: int, values: tuple) -> bytes:
         """The cells of some columns of a kind, with what stands between them."""
         said = self.form.cell(kind, first, values[0]).encode('utf-8', 'replace')
         for place, value in enumerate(values[1:], first + 1):
@@ -468,7 +475,7 @@ class Vector:
         second, one, two = self.layout(command, number, status)
         words_at = at + 7
 
-        def word(place):
+        def word(place: Array) -> Array:
             return numpy.where(place >= 0, words[words_at + numpy.maximum(place, 0)], 1 << 16).astype(numpy.int64)
 
         other, first_status, second_status = word(second), word(one), word(two)
@@ -495,7 +502,7 @@ class Vector:
         return block, []
 
     @staticmethod
-    def layout(command, number, status):
+    def layout(command: Array, number: Array, status: Array) -> Tuple[Array, Array, Array]:
         """Where the second command word and the status words stand, or -1: as `ch10.buses.layout_1553`."""
         rt, sends, sa, low = command >> 11, command >> 10 & 1, command >> 5 & 31, command & 31
         size = numpy.where(low == 0, 32, low)
@@ -649,12 +656,12 @@ class Vector:
         return said
 
 
-def hexes(words) -> Piece:
+def hexes(words: Array) -> Piece:
     """Words of 32 bits as eight hex digits."""
     return Fixed(numpy.frombuffer(hexlify(words.astype('>u4').tobytes()), numpy.uint8).reshape(-1, 8))
 
 
-def ranked(counts, channels, order):
+def ranked(counts: Array, channels: Array, order: Array) -> Array:
     """The order of entries by count, then channel, then place."""
     ranks = numpy.argsort(counts, kind='stable')
     found = counts[ranks]

@@ -1,11 +1,14 @@
 """Where the entries of many packets stand, found by numpy for all these packets at once."""
-from typing import Dict, List, Optional, Sequence, Set, Tuple
+from __future__ import annotations
+
+from typing import Any, Dict, List, Optional, Sequence, Set, Tuple
 
 from .bodies import counts
 from .packets import FORMS, HEADER, Packet
-from .standard import ARINC, BUS, COUNT_BITS, MESSAGE, SYNC, UART, WIDTHS
+from .standard import ARINC, BUS, COUNT_BITS, MESSAGE, SYNC, UART, WIDTHS, Data
 
-numpy = None  # until it is asked for: to start without it is quicker
+Array = Any  # of numpy
+numpy: Any = None  # until it is asked for: to start without it is quicker
 LEAST = 256 << 10  # bytes of a recording below which it is not worth its start
 FEW = 24  # packets below which one after the other is quicker
 AHEAD = 8 << 20  # bytes of a recording that are gone over at once
@@ -36,7 +39,7 @@ def number_in(kind: int, word: int) -> Optional[int]:
     return None if mask is None else word & mask
 
 
-def walk(octets, starts: Sequence[int], ends: Sequence[int], numbers: Sequence[Optional[int]], kind: int):
+def walk(octets: Array, starts: Sequence[int], ends: Sequence[int], numbers: Sequence[Optional[int]], kind: int) -> Tuple[Array, Array, Array]:
     """The places of the entries of some packets, whose bodies stand in these bytes between starts and ends, a packet's after those of the one before; how many each
     packet has; and which packets' entries do not fit their bodies."""
     head, of_size, is_even = SHAPES[kind]
@@ -77,7 +80,7 @@ def walk(octets, starts: Sequence[int], ends: Sequence[int], numbers: Sequence[O
     return places, number, bad
 
 
-def one_by_one(octets, at: int, end: int, number: Optional[int], kind: int) -> Tuple[List[int], bool]:
+def one_by_one(octets: Array, at: int, end: int, number: Optional[int], kind: int) -> Tuple[List[int], bool]:
     """The places of the entries of one packet, and whether they do not fit."""
     head, of_size, is_even = SHAPES[kind]
     data, places = octets[at:end].tobytes(), []
@@ -93,12 +96,12 @@ def one_by_one(octets, at: int, end: int, number: Optional[int], kind: int) -> T
     return places, False
 
 
-def wide_view(octets, wide: int):
+def wide_view(octets: Array, wide: int) -> Array:
     """The bytes as items of so many bytes, one from each place on."""
     return numpy.ndarray((max(len(octets) - wide + 1, 0),), 'V%d' % wide, octets, 0, (1,))
 
 
-def stamps(octets, places):
+def stamps(octets: Array, places: Array) -> Array:
     """The counts of entries at these places."""
     return wide_view(octets, 8)[places].view('<u8').astype(numpy.int64) & COUNT_BITS
 
@@ -118,7 +121,7 @@ class Alone:
 class Ahead(Alone):
     """The same, found for the packets of some megabytes at once. What is rare or at fault is left to the other way."""
 
-    def __init__(self, data, end: int):
+    def __init__(self, data: Data, end: int) -> None:
         self.data, self.end, self.until = data, end, 0
         self.known: Dict[int, Tuple[int, int, int]] = {}
         self.summed: Set[int] = set()
@@ -153,7 +156,7 @@ class Ahead(Alone):
             if some:
                 self.sums(octets, begin, WIDTHS[check], numpy.array(some, numpy.int64))
 
-    def sums(self, octets, begin: int, width: int, ends) -> None:
+    def sums(self, octets: Array, begin: int, width: int, ends: Array) -> None:
         """Takes note of those packets whose data checksum, of so many bytes, is right."""
         words = octets.view('<u%d' % width)
         places = (ends - begin + (24, -width)) // width
@@ -161,7 +164,7 @@ class Ahead(Alone):
         found[places[:, 0] == places[:, 1]] = 0  # which has no word
         self.summed.update(ends[found == words[places[:, 1]], 0].tolist())
 
-    def entries(self, octets, begin: int, kind: int, some: List[tuple]) -> None:
+    def entries(self, octets: Array, begin: int, kind: int, some: List[tuple]) -> None:
         places, number, bad = walk(octets, [at + 28 - begin for at, _, _, _ in some], [behind - begin for _, behind, _, _ in some],
                                    [number_in(kind, word) for _, _, word, _ in some], kind)
         has = numpy.flatnonzero((number > 0) & ~bad)
@@ -174,7 +177,7 @@ class Ahead(Alone):
         for place, much, low, high in zip(has.tolist(), number[has].tolist(), lows[has].tolist(), highs[has].tolist()):
             self.known[some[place][0]] = much, low, high
 
-    def words(self, octets, begin: int, _, some: List[tuple]) -> None:
+    def words(self, octets: Array, begin: int, _: int, some: List[tuple]) -> None:
         for at, behind, word, counter in some:
             number = word & 0xFFFF
             if number and at + 28 + 8 * number <= behind:
