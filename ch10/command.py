@@ -187,7 +187,8 @@ def answer(words: List[str], source: Callable[[], Any], to: Callable[[], BinaryI
     a write failed. A reader that has gone is no line.
     """
     try:
-        out, line = Output(to()), ()
+        out = Output(to())
+        line: List[str] = []
         try:
             asked = words_of(words)
             asked.run(asked, None if getattr(asked, 'opens', False) else source(), out)

@@ -2,6 +2,7 @@
 from __future__ import annotations
 
 from argparse import Namespace
+from typing import Dict
 from .bodies import counts
 from .inputs import Output, is_recording, listed, one_part, shown, the_file
 from .medium import bytes_of
@@ -35,7 +36,7 @@ def as_tree(survey: Survey, out: Output) -> None:
         raise Fault('the setup text has no attribute of chapter 9')
     for line in tree(survey.names.attributes):
         out.line(line)
-    kinds = {}
+    kinds: Dict[int, set] = {}
     for row in survey.drawn():
         if row.kind >> 3:  # none of those that a recorder makes of itself
             kinds.setdefault(row.channel, set()).add(row.kind)

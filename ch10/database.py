@@ -4,7 +4,7 @@ from __future__ import annotations
 from argparse import Namespace
 import os
 import sqlite3
-from typing import Iterator, List, Optional, Tuple
+from typing import Dict, Iterator, List, Optional, Tuple
 
 from .bodies import BODIES
 from .clocks import TimeLine
@@ -153,7 +153,9 @@ def add_clock(base: Database, number: int, line: TimeLine, span: Tuple[int, int]
 
 def add_part(base: Database, number: int, ordered: Ordered, part: Part, reader: Reader) -> None:
     """Adds the entries of a part, by their counts."""
-    clock, held, losses = ordered.survey.clock, {name: [] for name in TABLES.values()}, []
+    clock = ordered.survey.clock
+    held: Dict[str, List[tuple]] = {name: [] for name in TABLES.values()}
+    losses: List[tuple] = []
     for place, packet, lost, _ in ordered.packets(part):
         name = reader.names.channel(packet.channel) or None
         rows = held.get(TABLES.get(packet.kind, ''))

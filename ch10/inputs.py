@@ -69,7 +69,8 @@ class Output:
     """What is written to a stream of bytes, by large writes."""
 
     def __init__(self, to: BinaryIO) -> None:
-        self.held, self.size, self.to = [], 0, to
+        self.held: List[Any] = []
+        self.size, self.to = 0, to
 
     def write(self, data: Any) -> None:
         if len(data) >= 1 << 18:

@@ -32,7 +32,7 @@ class RawCsv:
     """CSV with the values as they stand in the packets."""
 
     def __init__(self) -> None:
-        self.forms = {}
+        self.forms: Dict[int, Tuple[str, Callable]] = {}
         for kind, body in BODIES.items():
             if body.keys:
                 places = {'value' if key in VALUES else key: place for place, key in enumerate(body.keys)}
@@ -61,22 +61,27 @@ class RawCsv:
 TRUTHS_TEXT = ('false', 'true')
 
 
+def no_truths(_: tuple) -> tuple:
+    return ()
+
+
 class RawJson:
     """JSON lines with the values as they stand in the packets."""
 
     def __init__(self) -> None:
-        self.forms = {}
+        self.forms: Dict[int, Tuple[dict, Callable, Callable]] = {}
         for kind, body in BODIES.items():
             if body.keys:
                 truths = [place for place, key in enumerate(body.keys) if key in TRUTHS]
                 others = [place for place, key in enumerate(body.keys) if key not in TRUTHS]
-                made = {}
+                made: Dict[Any, str] = {}
                 for held in product((0, 1), repeat=len(truths)):
                     said = dict(zip(truths, held))
                     places = ['"%s": %s' % (key, TRUTHS_TEXT[said[place]] if place in said else '%s' if key in NUMBERS else '"%s"')
                               for place, key in enumerate(body.keys)]
                     made[held[0] if len(held) == 1 else held] = '"type": "%s", %s}' % (body.name, ', '.join(places))
-                self.forms[kind] = made, itemgetter(*truths) if truths else lambda values: (), itemgetter(*others)
+                of_truths: Callable = itemgetter(*truths) if truths else no_truths
+                self.forms[kind] = made, of_truths, itemgetter(*others)
 
     def title(self) -> Optional[str]:
         return None
@@ -185,6 +190,7 @@ class Json(RawJson):
 
 CELLS: Dict[str, Callable] = {WHOLE: str, REAL: str, TRUTH: TRUTHS_TEXT.__getitem__}
 
+Meant = Union[Csv, Json]
 Form = Union[RawCsv, RawJson, Csv, Json]
 
 
@@ -229,7 +235,7 @@ def written(asked: Namespace, data: Data, out: Output, is_json: bool) -> Tuple[S
     if form.title():
         out.line(form.title())
     jobs = asked.jobs or (min(processors(), MOST) if end - begin >= LEAST else 1)
-    many = Vector(form, ordered) if within.is_all and not asked.raw and vector.is_ready(end - begin) else None
+    many = Vector(form, ordered) if isinstance(form, (Csv, Json)) and within.is_all and vector.is_ready(end - begin) else None
 
     def made(part: Part) -> Iterable:
         said = many.lines(part) if many else None

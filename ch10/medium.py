@@ -24,8 +24,8 @@ def directory(image: Data) -> Tuple[str, List[File]]:
         need(big(image, at + 56, 8) == before, at, 'a reverse link that leads elsewhere')
         volume = volume or text(image[at + 16:at + 48])
         for entry in range(at + 64, at + 64 + 112 * count, 112):
-            places = (big(image, entry + k, 8) for k in (56, 64, 72))
-            files.append(File(text(image[entry:entry + 56]), *places, image[entry + 104:entry + 112] != b'-' * 8))
+            first, blocks, length = (big(image, entry + k, 8) for k in (56, 64, 72))
+            files.append(File(text(image[entry:entry + 56]), first, blocks, length, image[entry + 104:entry + 112] != b'-' * 8))
         following = big(image, at + 48, 8)
         if following == block:
             return volume, files

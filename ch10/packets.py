@@ -5,7 +5,7 @@ import struct
 from collections import namedtuple
 from typing import Dict, Iterator, List, NamedTuple, Optional, Set, Tuple
 
-from .standard import EVENT, INDEX, KNOWN, LOSS, MESSAGE, REPORT, SETUP, SUMS, SYNC, TIME, UART, WIDTHS, Data, Fault, Whose, little
+from .standard import EVENT, INDEX, KNOWN, LOSS, MESSAGE, REPORT, SETUP, SUMS, SYNC, TIME, UART, WIDTHS, Data, Fault, Key, Whose, little
 
 HEADER = struct.Struct('<HHIIBBBBIHH')
 HEADER_WORDS = struct.Struct('<11H')
@@ -235,9 +235,9 @@ class Resync:
 
     def rows(self, at: int, anchor: int, limit: int) -> List[List[Placed]]:
         """The rows between a fault and the anchor, and some after that; but not those within a packet whose end or whose data checksum is right."""
-        data, end, rows, number = self.data, self.end, [], 0
+        data, end, number, most = self.data, self.end, 0, MOST_ROWS
+        rows: List[List[Placed]] = []
         place = data.find(PATTERN, at + 1, end)
-        most = MOST_ROWS
         while 0 <= place and number < most:
             head, step = head_at(data, place, end if place >= anchor else anchor), 1
             if head:
@@ -260,7 +260,8 @@ class Resync:
     def kinship(row: List[Placed], known: Dict[Tuple[int, int], List[Placed]]) -> int:
         """How much a row agrees with packets that are known, by the sequence numbers of each channel and type: two for each side where they follow one another, one
         where they are near, and less by two where they are neither."""
-        points, ends = 0, {}
+        points = 0
+        ends: Dict[Key, Tuple[Placed, Placed]] = {}
         for one in row:
             ends[one.key()] = ends.get(one.key(), (one, one))[0], one
         for key, (first, last) in ends.items():

@@ -34,7 +34,7 @@ def in_order(made: Callable, parts: List, out: Output, jobs: int) -> None:
         return
     out.flush()
     sys.stderr.flush()
-    workers = []
+    workers: List[Tuple[int, int]] = []
     try:
         for number in range(jobs):
             workers.append(start(made, parts[number::jobs], [pipe for _, pipe in workers]))

@@ -37,7 +37,7 @@ class Recording:
         self.data, self.begin, self.end, self.number = data, begin, end, number
         self.name = file and file.name
         self.closed = file and file.closed
-        self.kept = None
+        self.kept: Optional[Survey] = None
 
     def survey(self) -> Survey:
         """What one pass over the recording finds, kept for the next call."""

@@ -48,8 +48,8 @@ def by_lines(text: str) -> Tuple[Dict[str, object], Dict[str, List[dict]]]:
 def attributes_of(text: str) -> Iterator[Tuple[str, object]]:
     """The attributes of a setup text for a script."""
     top, tables = tables_of(text)
-    channels, volume = tables.get('channel', []), top.get('volume')
-    if not isinstance(volume, str) or not volume or not channels or not is_whole(top.get('time')):
+    channels, volume, clock = tables.get('channel', []), top.get('volume'), top.get('time')
+    if not isinstance(volume, str) or not volume or not channels or not isinstance(clock, int) or isinstance(clock, bool):
         raise Fault('no script: it takes volume, time and tables [[channel]]')
     if any(mark in volume for mark in ';:\r\n'):
         raise Fault('the volume has a mark that a setup text cannot have in a value')
@@ -66,7 +66,7 @@ def attributes_of(text: str) -> Iterator[Tuple[str, object]]:
     yield 'R-1\\N', 1 + len(channels)
     yield 'R-1\\EV\\E', 'T'
     yield 'R-1\\IDX\\E', 'T'
-    yield from track(1, top['time'], 'TIME', 'TIMEIN', 'TTF', 1)
+    yield from track(1, clock, 'TIME', 'TIMEIN', 'TTF', 1)
     links, groups = [], {'B': 0, 'S': 0}
     for number, channel in enumerate(channels, 2):
         kind, format_name, form, group = KINDS[channel['kind']]

@@ -34,7 +34,8 @@ class Row:
     def __init__(self, channel: int, kind: int, counter: int) -> None:
         self.channel, self.kind = channel, kind
         self.packets = self.entries = self.bytes = self.losses = self.lost = self.untold = self.jumps = self.opaque = self.bad = 0
-        self.low = self.high = None
+        self.low: Optional[int] = None
+        self.high: Optional[int] = None
         self.begin = self.end = counter
 
     def add(self, packet: Packet, report: Optional[Tuple[int, int]]) -> None:
@@ -102,7 +103,7 @@ class Survey:
         self.fault: Optional[Fault] = None
         self.setup: Optional[bytes] = None
         self.lows, self.highs, self.places = array('Q'), array('Q'), array('Q')
-        self.states = []  # of each packet of discretes its number, its channel and its last states
+        self.states: List[Tuple[int, int, bytes]] = []  # of each packet of discretes its number, its channel and its last states
         self.times: List[TimeLine] = []
         self.by_key: Dict[Tuple[int, int], Row] = {}
         self.size = self.go(data, begin, end, goes_on)
@@ -115,7 +116,8 @@ class Survey:
 
     def go(self, data: Data, begin: int, end: int, goes_on: bool) -> int:
         """Goes over the recording, and answers how far it came."""
-        at, resync, before, report, last = begin, Resync(data, begin, end), {}, None, None
+        at, resync, report, last = begin, Resync(data, begin, end), None, None
+        before: Dict[int, int] = {}
         ahead = walk.Ahead(data, end) if walk.is_ready(end - begin) else walk.Alone()
         while at < end:
             try:

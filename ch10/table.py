@@ -119,8 +119,8 @@ def tables(survey: Survey) -> List[str]:
     """What each channel has, and when."""
     if not survey.rows:
         return []
-    much = [('channel', 'name', 'type', 'packets', 'entries', 'bytes', 'entries/s', 'losses', 'lost', 'jumps', 'opaque', 'bad')]
-    when = [('channel', 'name', 'type', 'first', 'last', 'first time', 'last time')]
+    much: List[tuple] = [('channel', 'name', 'type', 'packets', 'entries', 'bytes', 'entries/s', 'losses', 'lost', 'jumps', 'opaque', 'bad')]
+    when: List[tuple] = [('channel', 'name', 'type', 'first', 'last', 'first time', 'last time')]
     names = survey.names
     for row in survey.rows:
         rate = row.rate()

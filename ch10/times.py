@@ -88,7 +88,9 @@ class Clock:
         kept.sort(key=lambda pair: pair[0])
         self.counts = [count for count, _ in kept]
         self.ticks = [ticks for _, ticks in kept]
-        self.start = self.stop = self.second = None
+        self.start = self.stop = self.ahead = 0
+        self.second = -1
+        self.said: Optional[str] = None
         self.turn_to(self.counts[0])
 
     def turn_to(self, count: int) -> None:
@@ -111,9 +113,11 @@ class Clock:
 
     def texts(self, counts: Iterable[int]) -> List[Optional[str]]:
         """The text of each of some counts, which is faster than `text` where they are in order."""
-        found, low, high, said = [], None, None, None
+        found: List[Optional[str]] = []
+        low = high = ahead = -1
+        said = None
         for count in counts:
-            if low is None or not (low <= count < high):
+            if not low <= count < high:
                 second = self.at(count) // 10 ** 7
                 said = civil(second * 10 ** 7, self.dated)
                 low = max(second * 10 ** 7 - self.ahead, self.start)

@@ -41,8 +41,8 @@ class Names:
             track = re.match(r'(R-[0-9]+)\\TK1-([0-9]+)$', name)
             if track and value.isascii() and value.isdigit() and len(value) <= 5:
                 group, number = track.groups()
-                say = [printable(self.attributes.get('%s\\%s-%s' % (group, key, number), '')) for key in ('DSI', 'CDT', 'CDLN')]
-                self.channels.setdefault(int(value), tuple(say))
+                name_of, kind, link_of = (printable(self.attributes.get('%s\\%s-%s' % (group, key, number), '')) for key in ('DSI', 'CDT', 'CDLN'))
+                self.channels.setdefault(int(value), (name_of, kind, link_of))
             link = re.match(r'(B-[0-9]+)\\DLN$', name)
             if link:
                 self.buses.setdefault(printable(value), dict(self.buses_of(link.group(1))))
@@ -100,10 +100,10 @@ def tree(found: Dict[str, str]) -> List[str]:
     lines = []
     for group, parts in groups.items():
         lines.append('%s  %s' % (group, GROUPS.get(group[0], '')))
-        for number, some in parts.items():
-            if number:
-                lines.append('  ' + number)
-            lines += ['%s%s: %s' % ('    ' if number else '  ', rest, printable_line(value)) for rest, value in some]
+        for one, some in parts.items():
+            if one:
+                lines.append('  ' + one)
+            lines += ['%s%s: %s' % ('    ' if one else '  ', rest, printable_line(value)) for rest, value in some]
     return lines
 
 

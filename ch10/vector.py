@@ -17,7 +17,7 @@ from .times import DAY, civil
 from .walk import Array
 
 if TYPE_CHECKING:
-    from .lines import Form
+    from .lines import Meant
 
 numpy: Any = None  # as in `ch10.walk`
 
@@ -195,9 +195,12 @@ class Block:
     Further columns are those of its kind.
     """
 
+    count: Array
+    number: Array
+
     def __init__(self, packets: List[tuple], number: Array, channels: List[int], losses: List[int]) -> None:
         total = int(number.sum())
-        self.columns: Dict[str, object] = {}
+        self.columns: Dict[str, Array] = {}
         self.of = numpy.repeat(numpy.arange(len(packets)), number)
         first = numpy.cumsum(number) - number
         numbers = numpy.array([one[0] for one in packets], numpy.int64)
@@ -219,7 +222,7 @@ class Block:
 class Vector:
     """Lines of a form, part by part."""
 
-    def __init__(self, form: Form, ordered: Ordered) -> None:
+    def __init__(self, form: Meant, ordered: Ordered) -> None:
         self.form, self.ordered = form, ordered
         self.joints = {kind: [part.encode() for part in shape.split('%s')] for kind, shape in form.shapes.items()}
         self.kinds = {UART: (self.texts, self.text_pieces), MESSAGE: (self.texts, self.text_pieces), BUS: (self.messages, self.message_pieces),
@@ -231,15 +234,15 @@ class Vector:
         self.losses: List[int] = [0]
         self.numbers: Dict[int, int] = {}  # of channels; and the other way
         self.channels: List[int] = []
-        self.sources: Dict[int, object] = {}  # of each kind the bytes that its pieces are parts of
+        self.sources: Dict[int, Any] = {}  # of each kind the bytes that its pieces are parts of
         clock = ordered.survey.clock
-        self.starts = clock and numpy.array(clock.counts, numpy.int64)
-        self.ahead = clock and numpy.array(clock.ticks, numpy.int64) - self.starts
+        self.starts: Array = numpy.array(clock.counts if clock else [], numpy.int64)
+        self.ahead: Array = numpy.array(clock.ticks if clock else [], numpy.int64) - self.starts
 
     def lines(self, part: Part) -> Optional[Iterator]:
         """The lines of a part, some at a time, or None where the plain way is to make them."""
         groups: Dict[int, list] = {}
-        plain = []
+        plain: List[tuple] = []
         for number, packet, lost, _ in self.ordered.packets(part):
             if packet.kind in self.kinds and packet.word is not None:
                 if packet.kind in self.form.shapes:

@@ -83,8 +83,8 @@ def walk(octets: Array, starts: Sequence[int], ends: Sequence[int], numbers: Seq
 def one_by_one(octets: Array, at: int, end: int, number: Optional[int], kind: int) -> Tuple[List[int], bool]:
     """The places of the entries of one packet, and whether they do not fit."""
     head, of_size, is_even = SHAPES[kind]
-    data, places = octets[at:end].tobytes(), []
-    begin = at
+    places: List[int] = []
+    data, begin = octets[at:end].tobytes(), at
     while at < end if number is None else len(places) < number:
         if at + head > end:
             return places, True
@@ -136,7 +136,9 @@ class Ahead(Alone):
 
     def fill(self, begin: int) -> None:
         """Goes over the packets from a place on."""
-        at, end, data, kinds, sums = begin, min(begin + AHEAD, self.end), self.data, {}, ([], [], [], [])
+        at, end, data = begin, min(begin + AHEAD, self.end), self.data
+        kinds: Dict[int, List[tuple]] = {}
+        sums: Tuple[List[tuple], ...] = ([], [], [], [])
         while at + 28 <= end:
             sync, _, length, size, _, _, flags, kind, low, high, _ = HEADER.unpack_from(data, at)
             if sync != SYNC or length & 3 or 24 + size > length or at + length > self.end:

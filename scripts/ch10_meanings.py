@@ -262,7 +262,7 @@ def of_ways() -> Maker:
 def by_ways() -> Tuple[object, object]:
     """By one process and by three, and by numpy where it is installed: the same bytes, and the same summary."""
     extra = of_ways().parts
-    recordings = [flight(random.Random('ways'), 300) + extra, extra]
+    recordings = [flight(random.Random('ways'), 300) + extra, extra, 2 * flight(random.Random('twice'), 60)]
     wrong = []
     for which, parts in enumerate(recordings):
         data = b''.join(parts)

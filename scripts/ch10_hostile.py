@@ -1,0 +1,159 @@
+"""What the filters do with inputs that are wrong, and what holds of their source. scripts/ch10_trials.py check runs it."""
+import ast
+import datetime
+import os
+import pathlib
+import random
+import subprocess
+import sys
+import tempfile
+from typing import Callable, Iterator, List, Tuple
+
+from ch10 import script
+from ch10_damage import one_damaged
+from ch10_meanings import MOMENT, run
+from ch10_recordings import SECOND, Maker, civil_body, flight
+from check_cases import letters, number
+
+TOP = pathlib.Path(__file__).resolve().parent.parent
+FILTER = str(TOP / 'scripts' / 'ch10.py')
+
+
+# ---- recordings
+
+def damaged_front() -> Tuple[object, object]:
+    """A recording whose first bytes are wrong is one all the same: with --keep-going all but its first packet is read. What is none is refused."""
+    parts = flight(random.Random('front'), 30)
+    rest, found = b''.join(parts[1:]), []
+    for at in (0, 1, 2, 4, 8, 22):
+        data = bytearray(b''.join(parts))
+        data[at] ^= 0x10
+        status, said, line = run(['csv', '--keep-going'], bytes(data))
+        found.append((status, [row.split(',')[2] for row in said.splitlines()] == [row.split(',')[2] for row in run(['csv'], rest)[1].splitlines()], line.count('\n'),
+                      run(['csv'], bytes(data))[::2]))
+    none = [run(['summary'], data)[::2] for data in (b'%PDF-1.4' + bytes(2000), b'\x25\xeb' * 30)]
+    return (found, none), ([(1, True, 0, (1, '%s at offset 0' % ('no sync pattern' if at < 2 else 'a wrong header checksum'))) for at in (0, 1, 2, 4, 8, 22)], [
+        (1, 'neither a recording (no sync pattern at offset 0) nor an image of a medium (no directory block at offset 512)'),
+        (1, 'a wrong header checksum at offset 0')])
+
+
+def within_another() -> Tuple[object, object]:
+    """A packet without a data checksum that lost some of its bytes does not swallow the one after it; and one that has a copy of a packet in it is read."""
+    make = Maker()
+    make.put(0, 0x01, 0, number(0x0C, 4) + b'G\\106:17;', 3)
+    for place in range(6):
+        make.put(21, 0x40, place, number(0x1000, 4) + b'\x47' + bytes(187))
+        make.put(5, 0x50, place, number(1 << 31, 4) + letters(place, b'ABC'), 2)
+    parts, found = make.parts, []
+    for cut in (1, 2, 24, 100, 200):
+        data = b''.join(parts[:3] + [parts[3][:-cut]] + parts[4:])
+        found.append([row.split(',')[2] for row in run(['csv', '--keep-going'], data)[1].splitlines()[1:]])
+    make.put(22, 0x68, 9, number(1, 4) + parts[2] + parts[4][:30])
+    return (found, run(['csv'], b''.join(make.parts))[0]), ([['0', '1', '2', '3', '4', '5']] * 5, 0)
+
+
+# Damaged recordings that were read wrong once, by their numbers: copies of packets taken for packets, and packets taken for copies.
+ONCE_WRONG = (10, 174, 571, 598, 742, 804, 1187, 1286, 1287, 1949, 2093, 2256, 2955)
+
+
+def once_wrong() -> Tuple[object, object]:
+    return [one_damaged(1, which)[1] for which in ONCE_WRONG], [[]] * len(ONCE_WRONG)
+
+
+def counter_anew() -> Tuple[object, object]:
+    """A counter of 48 bits that begins anew is no jump of the clock, and no second is without a time."""
+    make, start = Maker(), (1 << 48) - 10 * SECOND
+    for second in range(30):
+        make.put(1, 0x11, (start + second * SECOND) % (1 << 48), civil_body(MOMENT + datetime.timedelta(seconds=second)))
+    status, said, _ = run(['summary'], b''.join(make.parts))
+    line = next(line for line in said.splitlines() if line.startswith('time on channel 1'))
+    times = [row.split(',')[3][11:19] for row in run(['csv'], b''.join(make.parts))[1].splitlines()[1:]]
+    return (status, line, times[0], times[-1]), (
+        0, 'time on channel 1: 30 packets, 0 jumps, 0 steps back, 0 seconds without one; drift +0.0 parts per million, known to 344.8; the counter began anew 1 time',
+        '12:35:06', '12:35:05')
+
+
+def wrong_scripts() -> Tuple[object, object]:
+    """A script whose values are of another type, or have what a setup text cannot have, is refused in a line."""
+    good = 'volume = "VOL"\ntime = 1\n[[channel]]\nid = 5\nkind = "arinc"\n[[step]]\ndo = "offer"\nchannel = 5\nbus = 3\n'
+    found = []
+    for old, new in (('5\nkind = "arinc"', '5\nkind = ["arinc"]'), ('5\nkind = "arinc"', 'true\nkind = "arinc"'), ('time = 1', 'time = true'), ('"VOL"', '"VOL;G\\\\X:1"'),
+                     ('"VOL"', '3'), ('"VOL"', '"VOL\\nX"'), ('[[channel]]', '[channel]'), ('time = 1', 'time = ' + '9' * 5000), ('time = 1', 'time = ' + '[' * 5000)):
+        status, said, line = run(['tmats'], good.replace(old, new).encode())
+        found.append((status, said, line.count('\n'), len(line) > 0))
+    odd = [run(['tmats'], good.replace('bus = 3', new).encode())[0] for new in ('bus = []', 'bus = "b"', 'bus = 1.5')]
+    by_hand = script.by_lines('a = _\nb = 1_000\n[[x]]\nc = "d"\n')
+    return (found, odd, by_hand), ([(1, '', 0, True)] * 9, [0] * 3, ({'a': '_', 'b': 1000}, {'x': [{'c': 'd'}]}))
+
+
+# ---- files, pipes and processes
+
+def inputs_of_the_shell() -> Tuple[object, object]:
+    """What is empty or closed, a recording that grows, and readers that go away while several processes write."""
+    make = Maker()
+    make.put(1, 0x11, 0, civil_body(MOMENT))
+    for place in range(40):
+        make.put(5, 0x50, place, number(1 << 31, 4) + b''.join(letters(place, bytes(60000)) for _ in range(2)))
+    found = []
+    with tempfile.TemporaryDirectory() as folder:
+        path = pathlib.Path(folder, 'flight.ch10')
+        path.write_bytes(b''.join(make.parts))
+        pathlib.Path(folder, 'empty').touch()
+        for call in ('"%s" csv < empty', '"%s" summary < /dev/null', '"%s" csv <&-', '"%s" csv < flight.ch10 >&-', '"%s" csv --jobs 3 < flight.ch10 | head -c 20',
+                     '"%s" json --jobs 99999 < flight.ch10 | tail -n 1 | cut -c 1-20', 'cat flight.ch10 | "%s" csv --jobs 2 | tail -n 1 | cut -c 1-4',
+                     '"%s" sqlite --out . < flight.ch10', '"%s" sqlite --out none/flight.db < flight.ch10', '"%s" csv --jobs 3 < flight.ch10 > /dev/full'):
+            done = subprocess.run(['bash', '-c', 'set -o pipefail; ' + call % FILTER], cwd=folder, capture_output=True, timeout=60)
+            found.append((done.returncode, done.stdout.decode(), done.stderr.decode()))
+        reader, writer = os.pipe()
+        done = subprocess.Popen([FILTER, 'summary', '--json'], stdin=reader, stdout=subprocess.PIPE)
+        os.close(reader)
+        for part in make.parts:
+            os.write(writer, part)  # as a recording that grows while it is read
+        os.close(writer)
+        packets = done.communicate()[0].count(b'"packets": 40')
+    return (found, packets), ([
+        (1, '', 'ch10: an empty input\n'), (1, '', 'ch10: an empty input\n'),
+        (3, '', 'ch10: a read or a write failed: standard input is closed\n'), (3, '', 'ch10: a read or a write failed: standard output is closed\n'),
+        (3, 'channel,name,count,t', ''), (0, '{"channel": 5, "name\n', ''), (0, '5,,3\n', ''),
+        (2, '', "ch10: '.' is there already: give --out another name\n"), (3, '', 'ch10: a read or a write failed: unable to open database file\n'),
+        (3, '', 'ch10: a read or a write failed: No space left on device\n')], 1)
+
+
+# ---- the source
+
+def version() -> Tuple[object, object]:
+    """The number is that of VERSION, also where the package stands elsewhere."""
+    wanted = 'ch10 ' + (TOP / 'VERSION').read_text().strip() + '\n'
+    return run(['--version'], b''), (0, wanted, '')
+
+
+def without_types(path: pathlib.Path) -> Iterator[str]:
+    """The functions of a source whose signature leaves out a type."""
+    for node in ast.walk(ast.parse(path.read_text(encoding='utf-8'))):
+        if isinstance(node, (ast.FunctionDef, ast.AsyncFunctionDef)):
+            every = node.args.args + node.args.kwonlyargs + [one for one in (node.args.vararg, node.args.kwarg) if one]
+            bare = [one.arg for place, one in enumerate(every) if one.annotation is None and not (place == 0 and one.arg in ('self', 'cls'))]
+            if bare or node.returns is None:
+                yield '%s:%d %s' % (path.name, node.lineno, node.name)
+
+
+def signatures() -> Tuple[object, object]:
+    """Each signature of the package says its types."""
+    return [line for path in sorted((TOP / 'ch10').glob('*.py')) for line in without_types(path)], []
+
+
+def syntax() -> Tuple[object, object]:
+    """The package is of Python 3.7's syntax, and its start says so where Python is older."""
+    found = []
+    if sys.version_info >= (3, 8):
+        for path in sorted((TOP / 'ch10').glob('*.py')) + [pathlib.Path(FILTER)]:
+            try:
+                ast.parse(path.read_text(encoding='utf-8'), feature_version=(3, 7))
+            except SyntaxError as wrong:
+                found.append('%s: %s' % (path.name, wrong))
+    start = pathlib.Path(FILTER).read_text(encoding='utf-8')
+    said = [line for line in start.splitlines() if 'version_info < (3, 7)' in line]
+    return (found, len(said), start.index('version_info < (3, 7)') < start.index('from ch10')), ([], 1, True)
+
+
+TRIALS: List[Callable] = [damaged_front, within_another, once_wrong, counter_anew, wrong_scripts, inputs_of_the_shell, version, signatures, syntax]
