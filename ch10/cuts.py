@@ -7,7 +7,7 @@ from .bodies import counts
 from .inputs import Output, is_recording, listed, one_part, shown, the_file
 from .medium import bytes_of
 from .packets import loss_of, packets
-from .standard import INDEX, SETUP, TIME, Data, Fault, Wrong
+from .standard import INDEX, SETUP, TIME, Data, Fault, Wrong, let_go
 from .survey import Survey
 from .times import Range
 from .tmats import tree
@@ -92,3 +92,4 @@ def as_file(asked: Namespace, data: Data, out: Output) -> None:
     begin, end = bytes_of(data, file)
     for at in range(begin, end, 1 << 20):
         out.write(data[at:min(at + (1 << 20), end)])
+        let_go(data, at, min(at + (1 << 20), end))

@@ -5,7 +5,7 @@ import struct
 from collections import namedtuple
 from typing import Dict, Iterator, List, NamedTuple, Optional, Set, Tuple
 
-from .standard import EVENT, INDEX, KNOWN, LOSS, MESSAGE, REPORT, SETUP, SUMS, SYNC, TIME, UART, WIDTHS, Data, Fault, Key, Whose, little
+from .standard import EVENT, INDEX, KNOWN, LOSS, MESSAGE, REPORT, SETUP, SPAN, SUMS, SYNC, TIME, UART, WIDTHS, Data, Fault, Key, Whose, find, let_go, little
 
 HEADER = struct.Struct('<HHIIBBBBIHH')
 HEADER_WORDS = struct.Struct('<11H')
@@ -61,8 +61,11 @@ def packet_at(data: Data, at: int, begin: int, end: int, judged: bool = True, op
 
 def packets(data: Data, begin: int = 0, end: Optional[int] = None, judged: bool = True, passed: Optional[Dict[int, int]] = None) -> Iterator[Packet]:
     """Each packet from one place of some bytes to another; what is passed over has its length by its offset. The first fault ends them."""
-    at, end = begin, len(data) if end is None else end
+    at, end, gone = begin, len(data) if end is None else end, begin
     while at < end:
+        if at - gone >= SPAN:
+            let_go(data, gone, at)
+            gone = at
         if passed and at - begin in passed:
             at += passed[at - begin]
             continue
@@ -173,7 +176,7 @@ class Resync:
             if not (claimed & 3 == at & 3 and at + 24 < claimed <= end and (claimed == end or self.goes_on(claimed, claimed - at))):
                 claimed = None
         anchor = end if claimed is None else claimed
-        place, has_others = data.find(PATTERN, at + 1, anchor), False
+        place, has_others = find(data, PATTERN, at + 1, anchor), False
         while place >= 0:
             head = head_at(data, place, end)
             if head:
@@ -181,16 +184,16 @@ class Resync:
                 if claimed is None and (limit is None or place + head.length > limit) and self.goes_on(place, place - at):
                     anchor = place
                     break
-            place = data.find(PATTERN, place + 1, anchor)
+            place = find(data, PATTERN, place + 1, anchor)
         return self.first_row(at, anchor, limit or claimed or at) if has_others else anchor
 
     def first(self) -> Optional[int]:
         """Where the first row of packets begins that shows a recording. None where there is none."""
-        place = self.data.find(PATTERN, self.begin, self.end)
+        place = find(self.data, PATTERN, self.begin, self.end)
         while place >= 0:
             if head_at(self.data, place, self.end) and self.goes_on(place, place - self.begin):
                 return place
-            place = self.data.find(PATTERN, place + 1, self.end)
+            place = find(self.data, PATTERN, place + 1, self.end)
         return None
 
     def goes_on(self, place: int, passed: int, is_next: bool = False) -> bool:
@@ -237,7 +240,7 @@ class Resync:
         """The rows between a fault and the anchor, and some after that; but not those within a packet whose end or whose data checksum is right."""
         data, end, number, most = self.data, self.end, 0, MOST_ROWS
         rows: List[List[Placed]] = []
-        place = data.find(PATTERN, at + 1, end)
+        place = find(data, PATTERN, at + 1, end)
         while 0 <= place and number < most:
             head, step = head_at(data, place, end if place >= anchor else anchor), 1
             if head:
@@ -253,7 +256,7 @@ class Resync:
                     step = head.length
                 else:
                     limit = max(limit, one.end())
-            place = data.find(PATTERN, place + step, end)
+            place = find(data, PATTERN, place + step, end)
         return rows
 
     @staticmethod
@@ -278,7 +281,7 @@ class Resync:
         data, end, behind = self.data, self.end, at + length
         if behind == end or head_at(data, behind, end):
             return None
-        begin = data.find(PATTERN, at + 24, behind + 1)
+        begin = find(data, PATTERN, at + 24, behind + 1)
         while begin >= 0:
             place, head = begin, head_at(data, begin, end)
             while head and place + head.length <= behind:
@@ -286,7 +289,7 @@ class Resync:
                 head = head_at(data, place, end) if place < behind else None
             if head and (place + head.length == end or head_at(data, place + head.length, end)):
                 return begin
-            begin = data.find(PATTERN, begin + 1, behind + 1)
+            begin = find(data, PATTERN, begin + 1, behind + 1)
         return None
 
 

@@ -40,6 +40,28 @@ class Wrong(Exception):
     """What is wrong in the words of a call."""
 
 
+def let_go(data: Data, begin: int, end: int) -> None:
+    """Gives back the memory that some bytes of a mapped file take. They are read again where they are asked for again. From Python 3.8 on."""
+    begin = -(-begin // mmap.PAGESIZE) * mmap.PAGESIZE
+    if begin < end and isinstance(data, mmap.mmap) and hasattr(data, 'madvise'):
+        data.madvise(mmap.MADV_DONTNEED, begin, end - begin)
+
+
+SPAN = 16 << 20  # bytes after which that is done
+
+
+def find(data: Data, what: bytes, begin: int, end: int) -> int:
+    """The first place of some bytes from one place on and before another, or -1: as data.find, and memory is given back on the way."""
+    while begin < end:
+        last = min(begin + SPAN, end)
+        place = data.find(what, begin, min(last + len(what) - 1, end))
+        if place >= 0 or last == end:
+            return place
+        let_go(data, begin, last)
+        begin = last
+    return -1
+
+
 def need(held: bool, offset: int, what: str) -> None:
     if not held:
         raise Fault(what, offset)

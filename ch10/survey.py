@@ -8,7 +8,7 @@ from . import walk
 from .bodies import BODIES
 from .clocks import TimeLine
 from .packets import UNTOLD, Packet, Resync, Stretch, loss_of, lost_before, packet_at
-from .standard import DISCRETE, INDEX, NONE_LATER, SETUP, TIME, Damaged, Data, Fault
+from .standard import DISCRETE, INDEX, NONE_LATER, SETUP, SPAN, TIME, Damaged, Data, Fault, let_go
 from .times import Clock, Time, time
 from .tmats import Names
 
@@ -116,7 +116,7 @@ class Survey:
 
     def go(self, data: Data, begin: int, end: int, goes_on: bool) -> int:
         """Goes over the recording, and answers how far it came."""
-        at, resync, report, last = begin, Resync(data, begin, end), None, None
+        at, resync, report, last, gone = begin, Resync(data, begin, end), None, None, begin
         before: Dict[int, int] = {}
         ahead = walk.Ahead(data, end) if walk.is_ready(end - begin) else walk.Alone()
         while at < end:
@@ -152,6 +152,9 @@ class Survey:
             resync.note(channel, kind, sequence)
             last = packet.counter
             at += packet.length
+            if at - gone >= SPAN:
+                let_go(data, gone, at)
+                gone = at
         return at - begin
 
     @staticmethod

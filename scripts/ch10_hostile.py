@@ -119,6 +119,28 @@ def inputs_of_the_shell() -> Tuple[object, object]:
         (3, '', 'ch10: a read or a write failed: No space left on device\n')], 1)
 
 
+def memory() -> Tuple[object, object]:
+    """Over a mapped file of 160 MiB no command holds more than a part of it. From Python 3.8 on."""
+    if sys.version_info < (3, 8):
+        return True, True
+    make, size, most = Maker(), 500000, 0
+    with tempfile.TemporaryDirectory() as folder:
+        path = pathlib.Path(folder, 'long.ch10')
+        with path.open('wb') as to:
+            make.put(1, 0x11, 0, civil_body(MOMENT))
+            to.write(make.parts[-1])
+            for place in range(320):
+                make.put(21, 0x40, place, number(0x1000, 4), filler=size)
+                to.write(make.parts.pop()[:28])
+                to.seek(size, os.SEEK_CUR)  # which leaves a hole
+            to.truncate(to.tell())
+        ask = 'import resource, subprocess, sys; subprocess.run(sys.argv[2:], stdin=open(sys.argv[1]), stdout=subprocess.DEVNULL); print(resource.getrusage(resource.RUSAGE_CHILDREN).ru_maxrss)'
+        for words in (['summary'], ['svg'], ['csv'], ['range', '--from', '319']):
+            done = subprocess.run([sys.executable, '-c', ask, str(path), sys.executable, FILTER] + words, stdout=subprocess.PIPE)
+            most = max(most, int(done.stdout.split()[-1]))
+    return most < 100 << 10, True
+
+
 # ---- the source
 
 def version() -> Tuple[object, object]:
@@ -156,4 +178,4 @@ def syntax() -> Tuple[object, object]:
     return (found, len(said), start.index('version_info < (3, 7)') < start.index('from ch10')), ([], 1, True)
 
 
-TRIALS: List[Callable] = [damaged_front, within_another, once_wrong, counter_anew, wrong_scripts, inputs_of_the_shell, version, signatures, syntax]
+TRIALS: List[Callable] = [damaged_front, within_another, once_wrong, counter_anew, wrong_scripts, inputs_of_the_shell, memory, version, signatures, syntax]
