@@ -124,22 +124,23 @@ def is_summed(part: bytes) -> bool:
     return width == 0 or sum(int.from_bytes(part[at:at + width], 'little') for at in range(24, end, width)) % 256 ** width == int.from_bytes(part[end:], 'little')
 
 
-def alone(parts: List[bytes], places: List[int], read: set) -> set:
+def alone(parts: List[bytes], places: List[int], read: set, within: set) -> set:
     """Of the packets that nothing touched those of which nothing shows that they are of this recording.
 
     Such a packet stands in a row of fewer than 24 packets that does not lead to the recording's last byte. And of its row none has the sequence number right
-    after, or right before, the next packet that was read of its channel and type; of a row of one packet, not both.
+    after, or right before, the next packet that was read of its channel and type; of a row of one packet, not both. What stands within the length of a packet
+    at fault whose header is right is a row by itself, wherever it leads.
     """
     found, row, rows = set(), [], []
     for place in places + [-1]:
-        if place >= 0 and (not row or row[-1] == place - 1):
+        if place >= 0 and (not row or row[-1] == place - 1 and (place in within) == (row[-1] in within)):
             row.append(place)
         else:
             rows.append(row)
             row = [place] if place >= 0 else []
     leads_on = places and places[-1] >= 0
     for row in rows:
-        is_last = leads_on and row[-1:] == [len(parts) - 1]
+        is_last = leads_on and row[-1:] == [len(parts) - 1] and row[0] not in within
         if len(row) < 24 and not is_last and not any(sum(kin(parts, place, read)) > (len(row) == 1) for place in row):
             found.update(row)
     return found
@@ -199,7 +200,9 @@ def one_damaged(seed: int, which: int) -> Tuple[Dict[str, int], List[str]]:
             wrong.append('a packet out of its order or doubled')
     read = {places[part] for part in found if part in places}
     missed = set(untouched) - read - {-1}
-    unread = sorted(missed - alone(parts, untouched, read))
+    ends = [(stretch.offset, stretch.offset + int.from_bytes(data[stretch.offset + 4:stretch.offset + 8], 'little')) for stretch in survey.damage if stretch.channel is not None]
+    within = {place for place in missed if any(begin < data.find(parts[place]) and data.find(parts[place]) + len(parts[place]) <= end for begin, end in ends)}
+    unread = sorted(missed - alone(parts, untouched, read, within))
     if unread:
         wrong.append('untouched packets that were not read: %s' % unread[:20])
     counts.update(recordings=1, stretches=len(survey.damage), packets=len(found))

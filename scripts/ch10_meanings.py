@@ -248,7 +248,8 @@ def of_ways() -> Maker:
     some = [bus_message(count + place, draw.choice((0, 0x800, 0x2838)), draw.randrange(1 << 16), [draw.choice((0x0841, 0x0C42, 0xF841, 0x083F, draw.randrange(1 << 16)))
                                                                                                    for _ in range(draw.randrange(12))]) for place in range(400)]
     make.put(7, 0x19, count, number(400, 4) + b''.join(some))
-    make.put(17, 0x19, count, number(2, 4) + bus_message(count, 0, 0, [0x0841, 7])[:-4] + b'\x41\x08\x07' + bus_message(count, 0, 0, [0x0841, 7]), filler=1)
+    odd = number(count, 8) + number(0x2000, 2) + number(80, 2) + number(3, 2) + b'\x41\x08\x07'  # which has half a word
+    make.put(17, 0x19, count, number(3, 4) + odd + bus_message(count, 0, 0, [0x0841, 7]) + odd)
     make.put(8, 0x38, count, number(0, 4))
     make.put(8, 0x38, count, number(4, 4) + b''.join(number(head, 4) + number(word, 4) for head, word in ((0, 0), ((1 << 32) - 1, (1 << 32) - 1), (1 << 24, 1023 << 10), (5, 9))))
     make.put(9, 0x29, count, number(31 << 3, 4) + b''.join(number(count + place, 8) + number(draw.choice((0, (1 << 32) - 1, 1 << 31, 5)), 4) for place in range(9)))
