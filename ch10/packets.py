@@ -117,16 +117,16 @@ MORE = 64  # and after its first one
 NEAR = 8  # packets of its channel that may be missing before one that is near
 
 
-def has_sum(data: Data, at: int) -> bool:
-    """Whether the packet with a right header at a place has a data checksum that is right."""
+def sum_of(data: Data, at: int) -> Optional[bool]:
+    """Whether the data checksum of the packet with a right header at a place is right. None where it has none, or is not looked at."""
     _, _, length, size, _, _, flags, _, _, _, _ = HEADER.unpack_from(data, at)
+    if not flags & 3 or flags & 0x80:
+        return None
     try:
-        if flags & 3 and not flags & 0x80:
-            need_sum(data, at, length, size, flags & 3, at, None)
-            return True
+        need_sum(data, at, length, size, flags & 3, at, None)
     except Fault:
-        pass
-    return False
+        return False
+    return True
 
 
 def missing(before: int, after: int) -> int:
@@ -168,9 +168,9 @@ class Resync:
         """Where to go on after a fault at a place, of a packet of this length where its header is right."""
         data, end = self.data, self.end
         limit = None if length is None else at + length
-        if limit == end or limit and self.goes_on(limit, limit - at, True):
-            return limit
-        claimed = None
+        if limit == end:
+            return end
+        claimed = limit if limit and self.goes_on(limit, limit - at, not self.is_led_over(at, limit)) else None
         if length is None and end - at >= 24 and data[at:at + 2] == PATTERN:
             claimed = at + HEADER.unpack_from(data, at)[2]
             if not (claimed & 3 == at & 3 and at + 24 < claimed <= end and (claimed == end or self.goes_on(claimed, claimed - at))):
@@ -186,6 +186,16 @@ class Resync:
                     break
             place = find(data, PATTERN, place + 1, anchor)
         return self.first_row(at, anchor, limit or claimed or at) if has_others else anchor
+
+    def is_led_over(self, at: int, limit: int) -> bool:
+        """Whether a packet begins before a limit and ends after it."""
+        place = find(self.data, PATTERN, at + 1, limit)
+        while place >= 0:
+            head = head_at(self.data, place, self.end)
+            if head and place + head.length > limit and sum_of(self.data, place) is not False:
+                return True
+            place = find(self.data, PATTERN, place + 1, limit)
+        return False
 
     def first(self) -> Optional[int]:
         """Where the first row of packets begins that shows a recording. None where there is none."""
@@ -212,6 +222,8 @@ class Resync:
                 against += gone > most
             first.add(key)
             run += 1
+            if sum_of(self.data, place) is False:
+                break
             place += head.length
             head = head_at(self.data, place, self.end)
         if place == self.end and run or run >= (ROW if self.last else FIRST_ROW):
@@ -237,8 +249,9 @@ class Resync:
                 return found
 
     def rows(self, at: int, anchor: int, limit: int) -> List[List[Placed]]:
-        """The rows between a fault and the anchor, and some after that; but not those within a packet whose end or whose data checksum is right."""
-        data, end, number, most = self.data, self.end, 0, MOST_ROWS
+        """The rows between a fault and the anchor, and some after that; but not those within a packet whose end or whose data checksum is right. A packet whose
+        data checksum is wrong ends a row."""
+        data, end, number, most, broken = self.data, self.end, 0, MOST_ROWS, -1
         rows: List[List[Placed]] = []
         place = find(data, PATTERN, at + 1, end)
         while 0 <= place and number < most:
@@ -248,11 +261,14 @@ class Resync:
                     most = number + MORE
                 number += 1
                 one = Placed(place, head)
-                if rows and rows[-1][-1].end() == place and place != anchor and not rows[-1][-1].end() <= limit < one.end():
+                if rows and rows[-1][-1].end() == place and place not in (anchor, broken) and not place <= limit < one.end():
                     rows[-1].append(one)
                 else:
                     rows.append([one])
-                if one.end() == end or one.end() == anchor or head_at(data, one.end(), end) or has_sum(data, place):
+                has_sum = sum_of(data, place)
+                if has_sum is False:
+                    broken = one.end()
+                if has_sum or has_sum is None and (one.end() in (end, anchor) or head_at(data, one.end(), end)):
                     step = head.length
                 else:
                     limit = max(limit, one.end())

@@ -53,7 +53,7 @@ def within_another() -> Tuple[object, object]:
 
 
 # Damaged recordings that were read wrong once, by their numbers: copies of packets taken for packets, and packets taken for copies.
-ONCE_WRONG = (10, 174, 571, 598, 742, 804, 1187, 1286, 1287, 1949, 2093, 2256, 2955)
+ONCE_WRONG = (10, 174, 571, 598, 742, 804, 1187, 1286, 1287, 1949, 2093, 2256, 2955, 3157, 3491, 4368, 4788)
 
 
 def once_wrong() -> Tuple[object, object]:
