@@ -9,7 +9,7 @@ import sys
 import time
 from typing import Any, Dict, Iterable, Iterator, List, NamedTuple, Optional, Sequence, Tuple
 
-from .facts import CHANNEL_COLUMNS, RECORDING_COLUMNS, facts_of, nothing_in, program_of, sum_of, verdict_of_image, version_of
+from .facts import CHANNEL_COLUMNS, RECORDING_COLUMNS, facts_of, most, nothing_in, program_of, sum_of, verdict_of_image, version_of
 from .inputs import Output, is_recording, shown
 from .medium import directory
 from .standard import Fault
@@ -20,6 +20,7 @@ SMALL = 1 << 26  # bytes of a file that is read; a larger one is mapped
 ENDINGS = ('.ch10', '.c10', '.img')
 PLACE_COLUMNS = ('path', 'file_number', 'recording', 'volume', 'file_name', 'closed', 'listed_size', 'seen')
 MOST_TOGETHER, MOST_WAIT = 64, 1.0  # recordings, or seconds, that a transaction takes together
+MOST_PLACE = 2000  # bytes, for an index takes no more
 PARAMETERS = 900  # values in one statement, of which some builds of SQLite take no more than 999
 
 
@@ -37,15 +38,19 @@ def printable(path: str) -> str:
     return os.fsencode(path).decode('utf-8', 'backslashreplace')
 
 
-def inputs_of(paths: Sequence[str], base: Optional[str], passed: List[str]) -> Iterator[Input]:
-    """The files of a call: those that it names, and of a folder those below it that look like recordings or images; the others are counted in `passed`."""
+def inputs_of(paths: Sequence[str], base: Optional[str], passed: List[str], failed: List[Tuple[str, str]]) -> Iterator[Input]:
+    """The files of a call: those that it names, and of a folder those below it that look like recordings or images; the others are counted in `passed`, and folders
+    that cannot be read go to `failed`."""
+    def unreadable(error: OSError) -> None:
+        failed.append((printable(error.filename), error.strerror or str(error)))
+
     for path in paths:
         if os.path.isdir(path):
-            for folder, folders, names in os.walk(path):
+            for folder, folders, names in os.walk(path, onerror=unreadable):
                 folders.sort()
                 for name in sorted(names):
                     found = os.path.join(folder, name)
-                    if os.path.isfile(found) and looks_right(found):
+                    if looks_right(found):
                         yield Input(found, placed(found, os.path.relpath(found, path), base))
                     else:
                         passed.append(found)
@@ -61,6 +66,8 @@ def looks_right(path: str) -> bool:
     """Whether a file in a folder is a recording or an image by its name or its first bytes."""
     if path.lower().endswith(ENDINGS):
         return True
+    if not os.path.isfile(path):
+        return False
     try:
         with open(path, 'rb') as file:
             front = file.read(520)
@@ -69,19 +76,26 @@ def looks_right(path: str) -> bool:
     return is_recording(front) or front[512:520] == b'FORTYtwo'
 
 
+def need_file(path: str) -> None:
+    """That a path leads to a file: a pipe would have to be waited for."""
+    if not stat.S_ISREG(os.stat(path).st_mode):
+        raise OSError(0, 'no regular file')
+
+
 def opened(path: str) -> Any:
     """The bytes of a file: read where it is small, else mapped."""
+    need_file(path)
     with open(path, 'rb') as file:
-        state = os.fstat(file.fileno())
-        if not stat.S_ISREG(state.st_mode):
-            raise OSError(0, 'no regular file')
-        return file.read() if state.st_size <= SMALL else mmap.mmap(file.fileno(), 0, access=mmap.ACCESS_READ)
+        return file.read() if os.fstat(file.fileno()).st_size <= SMALL else mmap.mmap(file.fileno(), 0, access=mmap.ACCESS_READ)
 
 
 def tasks_of(inputs: Iterable[Input], failed: List[Tuple[str, str]]) -> Iterator[Task]:
     """What is to be done for each input: one task for a recording, one for each file of an image."""
     for path, place in inputs:
         try:
+            need_file(path)
+            if len(place.encode()) > MOST_PLACE:
+                raise OSError(0, 'its place has more than %d bytes' % MOST_PLACE)
             with open(path, 'rb') as file:
                 size, front = os.fstat(file.fileno()).st_size, file.read(520)
             if is_recording(front) or front[512:520] != b'FORTYtwo':
@@ -102,7 +116,7 @@ def image_tasks(path: str, place: str, data: Any) -> Iterator[Task]:
         begin = min(512 * file.first, len(data))
         end = min(begin + file.size, len(data))
         yield dict(path=path, place=place, begin=begin, end=end, number=number, files=len(files), bytes=end - begin, volume=shown(volume),
-                   name=shown(file.name), closed=file.closed, listed=file.size)
+                   name=shown(file.name), closed=file.closed, listed=most(file.size))
 
 
 # ---- one of them, in a process of its own or in this one
@@ -234,7 +248,7 @@ class Progress:
 
 def title(task: Task) -> str:
     """Where an input lies, as a line says it."""
-    place = ''.join(letter if letter.isprintable() else '?' for letter in task['place'])
+    place = line_of(task['place'])
     return place if task['number'] < 0 else '%s file %d %s' % (place, task['number'], task['name'])
 
 
@@ -249,7 +263,7 @@ def added(store: Store, asked: Any, failed: List[Tuple[str, str]], passed: List[
     held: List[Tuple[Task, Task]] = []
     last = time.monotonic()
     with Pool(asked.jobs or processors(), setting, Room(memory)) as pool:
-        for task, facts in pool.done(tasks_of(inputs_of(asked.inputs, asked.place, passed), failed)):
+        for task, facts in pool.done(tasks_of(inputs_of(asked.inputs, asked.place, passed, failed), failed)):
             if 'error' in facts:
                 failed.append((title(task), facts['error']))
                 continue
@@ -280,11 +294,20 @@ def add(asked: Any, data: None, out: Output) -> None:
     out.line('%d added, %d judged anew, %d known before; %d of them faulty%s' % (
         progress.ways['added'], progress.ways['judged'], progress.ways['known'], progress.faulty,
         '; %d others in the folders are no recordings' % len(passed) if passed else ''))
-    unread(failed)
+    unread(failed, out)
 
 
-def unread(failed: Sequence[Tuple[str, str]]) -> None:
-    """Says what could not be read, where something could not."""
+def line_of(text: str) -> str:
+    """A text as a line takes it."""
+    return ''.join(letter if letter.isprintable() else '?' for letter in text)
+
+
+def unread(failed: Sequence[Tuple[str, str]], out: Optional[Output] = None) -> None:
+    """Says what could not be read, where something could not: a line for each, and then how many."""
+    if out:
+        for place, why in failed:
+            out.line('unread %s: %s' % (line_of(place), line_of(why)))
+        out.flush()
     if failed:
         raise OSError(0, '%d of the inputs could not be read, first %s: %s' % (len(failed), failed[0][0], failed[0][1]))
 

@@ -4,16 +4,18 @@ from __future__ import annotations
 import struct
 import sys
 from array import array
-from typing import Any, Callable, Dict, Iterable, Iterator, List, NamedTuple, Optional, Sequence, Tuple
+from typing import Any, Callable, Dict, Iterable, Iterator, List, NamedTuple, Optional, Sequence, Set, Tuple
 
 from .bodies import BUS_ENTRY, entries, stamped, whole
 from .buses import RT_TO_RT, block_1553, command_1553, errors_429, layout_1553, word_429
 from .packets import UNTOLD, Packet, loss_of, lost_before
 from .standard import ARINC, BUS, COUNT_BITS, DISCRETE, EVENT, MESSAGE, TIME, UART
-from .store_schema import COMMON, ENTRIES
+from .store_schema import COMMON, ENTRIES, MOST_NUMBER
 from .times import Clock
 
-YEAR_2000 = 730120 * 864000000000  # in units of 100 ns, as times are counted here: where PostgreSQL's times begin
+DAY = 864000000000  # in units of 100 ns, as times are counted here
+YEAR_2000 = 730120 * DAY  # where PostgreSQL's times begin
+CALENDAR = range(DAY, 3652060 * DAY)  # the years 1 to 9999
 FIXED = {'BIGINT': ('q', 8), 'INTEGER': ('i', 4), 'SMALLINT': ('h', 2), 'BOOLEAN': ('?', 1), '{time}': ('q', 8), 'REAL': ('f', 4),
          '{text}3': ('3s', 3)}
 
@@ -246,15 +248,24 @@ def counted(value: Any) -> bytes:
 
 
 def moments(counts: Sequence[int], clock: Optional[Clock]) -> Sequence[Optional[int]]:
-    """The civil times of some counts as PostgreSQL counts them, in microseconds from 2000 on; None where there is no date."""
+    """The civil times of some counts as PostgreSQL counts them, in microseconds from 2000 on; None where there is no date, or none that the calendar has."""
     if clock is None or not clock.dated:
         return (None,) * len(counts)
     low, high = min(counts), max(counts)
     clock.at(low)
-    if clock.start <= low and high < clock.stop:
+    if clock.start <= low and high < clock.stop and low + clock.ahead in CALENDAR and high + clock.ahead in CALENDAR:
         ahead = clock.ahead - YEAR_2000
         return [(count + ahead) // 10 for count in counts]
-    return [(clock.at(count) - YEAR_2000) // 10 for count in counts]
+    return [(ticks - YEAR_2000) // 10 if ticks in CALENDAR else None for ticks in map(clock.at, counts)]
+
+
+def days_of(counts: Sequence[int], clock: Clock) -> Set[int]:
+    """The days of some counts, by their numbers from day 1 of the year 1 on."""
+    low, high = min(counts), max(counts)
+    first = clock.at(low)
+    if clock.start <= low and high < clock.stop and first // DAY == (high + clock.ahead) // DAY:
+        return {first // DAY} if first in CALENDAR else set()
+    return {ticks // DAY for ticks in map(clock.at, counts) if ticks in CALENDAR}
 
 
 class Reader:
@@ -274,7 +285,8 @@ class Reader:
                 if found:
                     own = list(zip(*found))
                     size = len(found)
-                    yield packet.kind, [(self.number,) * size, own[0], times(own[0]), [lost] + [0] * (size - 1), (packet.channel,) * size] + own[1:]
+                    first = lost and min(lost, MOST_NUMBER)
+                    yield packet.kind, [(self.number,) * size, own[0], times(own[0]), [first] + [0] * (size - 1), (packet.channel,) * size] + own[1:]
             elif packet.kind == DISCRETE and packet.word is not None:
                 discrete_rows(packet, self.states)
             self.report = loss_of(packet)

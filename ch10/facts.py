@@ -12,6 +12,7 @@ from .bodies import counts
 from .clocks import TimeLine
 from .packets import HEADER, ONE_WORD, packet_at
 from .standard import ARINC, BUS, DISCRETE, EVENT, INDEX, LOSS, MESSAGE, SETUP, TIME, UART, Fault, Wrong, little
+from .store_schema import MOST_NUMBER
 from .survey import REPORT_ROW, Row, Survey, ends_of, name_of
 from .times import Clock, civil, time
 from .tmats import Names
@@ -22,6 +23,7 @@ RECORDING_COLUMNS = ('sha256', 'kind', 'size', 'verdict', 'opaque', 'fault_offse
 CHANNEL_COLUMNS = ('channel', 'data_type', 'type', 'name', 'packets', 'entries', 'bytes', 'first_count', 'last_count', 'first_time', 'last_time', 'rate',
                    'losses', 'lost', 'untold', 'jumps', 'opaque', 'bad')
 SUMS = ('losses', 'lost', 'untold', 'jumps')
+MOST_CODE = 200
 
 
 # ---- the verdict, by the program
@@ -209,8 +211,13 @@ def entries_in(data: Any, at: int, size: int, kind: int, word: int) -> int:
 
 
 def attributes_of(names: Names) -> List[Tuple[str, str]]:
-    """The attributes of the setup text that are of the whole: of the general group all, of others those without a number of their own, for channels have rows."""
-    return [(code, value.replace('\0', '?')) for code, value in names.attributes.items() if code.startswith('G\\') or not re.search(r'-[0-9]+$', code)]
+    """The attributes of the setup text that are of the whole: of the general group all, of others those without a number of their own, for channels have rows.
+    A code that is longer than any of chapter 9 is left out, and a NUL, which not every database takes, is a question mark."""
+    found: Dict[str, str] = {}
+    for code, value in names.attributes.items():
+        if len(code) <= MOST_CODE and (code.startswith('G\\') or not re.search(r'-[0-9]+$', code)):
+            found.setdefault(code.replace('\0', '?'), value.replace('\0', '?'))
+    return list(found.items())
 
 
 def damage_of(survey: Any) -> List[Tuple[int, int, str]]:
@@ -230,16 +237,21 @@ def facts_of(data: Any, begin: int, end: int, program: Optional[str], survey: Op
     for row in survey.rows:
         low, high = row.first(), row.last()
         rows.append((row.channel, row.kind, name_of(row.kind), survey.names.channel(row.channel) or None, row.packets, row.entries if row.has_entries() else None, row.bytes,
-                     low, high) + (ends.of(low, high) if ends else (None, None)) + (row.rate(), row.losses, row.lost, row.untold, row.jumps, row.opaque, row.bad))
+                     low, high) + (ends.of(low, high) if ends else (None, None)) + (row.rate(), row.losses, most(row.lost), row.untold, row.jumps, row.opaque, row.bad))
     span = survey.span()
     first, last = ends.of(*span) if ends and span else (None, None)
     found.update(kind='recording', size=end - begin, first_time=first, last_time=last, first_count=span and span[0], last_count=span and span[1],
                  packets=sum(row.packets for row in survey.rows), entries=sum(row.entries for row in survey.rows),
                  channels=rows, damage=damage_of(survey), attributes=attributes_of(survey.names))
     for name in SUMS:
-        found[name] = sum(getattr(row, name) for row in survey.rows)
+        found[name] = most(sum(getattr(row, name) for row in survey.rows))
     found.update(damaged=len(found['damage']), damaged_bytes=sum(length for _, length, _ in found['damage']))
     return found
+
+
+def most(number: int) -> int:
+    """A number as a column takes it: a loss report may have any number of 64 bits."""
+    return min(number, MOST_NUMBER)
 
 
 def nothing_in(size: int) -> Dict[str, Any]:

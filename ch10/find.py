@@ -3,6 +3,7 @@ from __future__ import annotations
 
 import json
 import re
+import string
 from typing import Any, Dict, Iterable, List, Optional, Sequence, Tuple
 
 from .facts import CHANNEL_COLUMNS, RECORDING_COLUMNS
@@ -19,9 +20,12 @@ TOGETHER = 500  # recordings whose places are asked for in one question
 
 # ---- conditions
 
+CASE = str.maketrans(string.ascii_uppercase, string.ascii_lowercase)  # as lower() of both engines: other letters stay as they are
+
+
 def pattern(word: str) -> str:
     """A pattern with * and ? as LIKE has it."""
-    return re.sub(r'[%_!]', lambda found: '!' + found[0], word.lower()).replace('*', '%').replace('?', '_')
+    return re.sub(r'[%_!]', lambda found: '!' + found[0], word).replace('*', '%').replace('?', '_')
 
 
 class Question:
@@ -56,7 +60,8 @@ class Question:
                 self.like(places, 'p.path', asked.place)
             self.recording.append(('r.id IN (SELECT p.recording FROM place p WHERE %s)' % joined(places), values_of(places)))
         for code, value in asked.attribute or ():
-            self.recording.append(('r.id IN (SELECT a.recording FROM attribute a WHERE a.code = ? AND a.value = ?)', [code, value]))
+            self.recording.append(('r.id IN (SELECT a.recording FROM attribute a WHERE a.code = ? AND substr(a.value, 1, 100) = ? AND a.value = ?)',
+                                   [code, value[:100], value]))
         if self.channel:
             self.recording.append(('r.id IN (SELECT c.recording FROM channel c WHERE %s)' % joined(self.channel), values_of(self.channel)))
 
@@ -66,13 +71,14 @@ class Question:
 
     @staticmethod
     def like(conditions: List, column: str, word: str) -> None:
-        front = re.split(r'[*?]', word.lower(), 1)[0]
-        if front == word.lower():
+        word = word.translate(CASE)
+        front = re.split(r'[*?]', word, 1)[0]
+        if front == word:
             conditions.append(('lower(%s) = ?' % column, [front]))
             return
         if front:  # which an index finds
             conditions.append(('lower(%s) BETWEEN ? AND ?' % column, [front, front + LAST]))
-        if word.lower() != front + '*':
+        if word != front + '*':
             conditions.append(("lower(%s) LIKE ? ESCAPE '!'" % column, [pattern(word)]))
 
     @staticmethod

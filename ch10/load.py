@@ -2,30 +2,49 @@
 from __future__ import annotations
 
 import datetime
-from typing import Any, Dict, Iterator, List, NamedTuple, Optional, Sequence, Set, Tuple
+import struct
+from contextlib import closing
+from typing import Any, Dict, FrozenSet, Iterator, List, NamedTuple, Optional, Sequence, Set, Tuple
 
+from .bodies import counts
 from .catalogue import added, now, opened, title, unread
 from .clocks import TimeLine
-from .entry_rows import END, FRONT, TABLES, Reader, flat, packed
+from .entry_rows import END, FRONT, TABLES, Reader, days_of, flat, packed
 from .inputs import Output
 from .packets import loss_of, packets
-from .standard import DISCRETE, TIME
-from .store import Store, StoreError, open_store
+from .standard import DISCRETE, TIME, Fault
+from .store import Store, open_store
 from .times import Clock, time
 from .workers import Pool, Task, processors
 
 PART = 1 << 22  # bytes of a recording that a worker reads at a time
 TOGETHER = 1 << 26  # bytes of recordings that a transaction takes together
-CHANGED = 'the entries of %s are not those of the catalogue: was the file changed meanwhile?'
+MOST_DAYS = 1000  # tables of days that a transaction reaches into: a server has room for 6,400 locks, if nobody changed that, and each takes some
+CHANGED = 'its entries are not those of the catalogue: was the file changed meanwhile?'
+SPREAD = 'its entries lie on too many days: they would take more than %d tables' % MOST_DAYS
+
+Days = FrozenSet[Tuple[str, str]]
 
 
 class Wanted(NamedTuple):
-    """A recording to load: where its bytes are, its id, and of each wanted channel and type how many entries it has."""
+    """A recording to load: where its bytes are, its id, of each wanted channel and type how many entries it has, and its first and last civil time.
+
+    Where the engine keeps days apart, `days` has the tables and the days that its entries go to.
+    """
 
     task: Task
     number: int
     entries: Dict[Tuple[int, int], int]
-    days: Tuple[Optional[str], Optional[str]]
+    times: Tuple[Optional[str], Optional[str]]
+    days: Days = frozenset()
+
+
+class NotLoaded(Exception):
+    """A recording that could not be read to its end, and why."""
+
+    def __init__(self, number: int, why: str) -> None:
+        Exception.__init__(self, why)
+        self.number, self.why = number, why
 
 
 # ---- where a recording is cut, and what has to be known at each cut
@@ -63,6 +82,8 @@ def work(setting: Task) -> Any:
             data = opened(task['path'])
             kept.update(key=key, data=data, layout=Layout(data, task['begin'], task['end'], passed))
         data, layout = kept['data'], kept['layout']
+        if task.get('asks_days'):
+            return {'days': days_in(data, task, layout.clock, passed)}
         _, report, states = layout.cuts[task['cut']]
         wanted = {(channel, kind) for channel, kind in task['wanted']}
         reader = Reader(task['number'], wanted, report, dict(states))
@@ -70,6 +91,22 @@ def work(setting: Task) -> Any:
         return {'kinds': [[kind, number] for kind, (number, _) in found.items()], 'parts': [part for _, part in found.values()]}
 
     return look
+
+
+def days_in(data: Any, task: Task, clock: Optional[Clock], passed: Dict[int, int]) -> Optional[List[List[int]]]:
+    """The data types and days, by their numbers, that a recording has entries of; None where these are too many."""
+    found: Set[Tuple[int, int]] = set()
+    if clock is None or not clock.dated:
+        return []
+    wanted = {(channel, kind) for channel, kind in task['wanted']}
+    for packet in packets(data, task['begin'], task['end'], False, passed):
+        if (packet.channel, packet.kind) in wanted:
+            there = counts(packet)
+            if there:
+                found.update((packet.kind, day) for day in days_of(there, clock))
+                if len(found) > MOST_DAYS:
+                    return None
+    return sorted(map(list, found))
 
 
 def part_of(data: Any, begin: int, layout: Layout, cut: int, passed: Dict[int, int]) -> Iterator[Any]:
@@ -92,9 +129,10 @@ def wanted_of(store: Store, task: Task, sum_: str, chosen: Optional[Sequence[int
 
 
 def claimed(store: Store, some: Sequence[Wanted]) -> List[Wanted]:
-    """Inside a transaction: takes note of what is loaded now, and leaves out what another program has loaded meanwhile."""
+    """Inside a transaction: takes note of what is loaded now, and leaves out what another program has loaded meanwhile. In an order that all programs keep, so that
+    none waits for another that waits for it."""
     moment = now()
-    rows = [(one.number, channel, kind, entries, moment) for one in some for (channel, kind), entries in sorted(one.entries.items())]
+    rows = sorted((one.number, channel, kind, entries, moment) for one in some for (channel, kind), entries in one.entries.items())
     new: Set[Tuple] = set()
     for at in range(0, len(rows), 500):
         new |= store.insert_new('loaded', ('recording', 'channel', 'data_type', 'entries', 'loaded'), rows[at:at + 500], 3)
@@ -105,23 +143,83 @@ def damage_in(store: Store, number: int) -> Dict[int, int]:
     return dict(store.rows('SELECT byte_offset, byte_length FROM damage WHERE recording = ?', (number,)))
 
 
-def days_of(some: Sequence[Wanted]) -> List[str]:
-    """The days that recordings reach into."""
-    found = set()
+def day_text(day: int) -> str:
+    return datetime.date.fromordinal(day).isoformat()
+
+
+def with_days(store: Store, some: Sequence[Wanted], pool: Pool) -> Iterator[Tuple[Wanted, Optional[str]]]:
+    """Each recording with its days, or with why it cannot be loaded. One that lies within two days has both; another is read for them, for its clock was set."""
+    asked: List[Wanted] = []
     for one in some:
-        first, last = one.days
-        if first and len(first) == 27:
-            day, end = datetime.date.fromisoformat(first[:10]), datetime.date.fromisoformat(last[:10])
-            found.update((day + datetime.timedelta(days=more)).isoformat() for more in range((end - day).days + 1))
-    return sorted(found)
+        first, last = (time and len(time) == 27 and datetime.date.fromisoformat(time[:10]).toordinal() for time in one.times)
+        if first and last and last - first <= 1:
+            yield one._replace(days=days_named((kind, day) for _, kind in one.entries for day in (first, last))), None
+        else:
+            asked.append(one)
+    damage = {one.number: damage_in(store, one.number) for one in asked}
+    by_number = {one.number: one for one in asked}
+    tasks = [dict(task_of(one, damage[one.number]), asks_days=True) for one in asked]
+    for task, found in pool.done(tasks):
+        one = by_number[task['number']]
+        if 'error' in found:
+            yield one, found['error']
+        elif found['days'] is None:
+            yield one, SPREAD
+        else:
+            yield one._replace(days=days_named((kind, day) for kind, day in found['days'])), None
+
+
+def days_named(found: Iterator[Tuple[int, int]]) -> Days:
+    return frozenset((TABLES[kind].name, day_text(day)) for kind, day in found)
+
+
+def together(some: Sequence[Wanted]) -> Iterator[List[Wanted]]:
+    """Recordings by transactions: as many as do not reach into too many days."""
+    held: List[Wanted] = []
+    days: Set[Tuple[str, str]] = set()
+    for one in some:
+        if held and len(days | one.days) > MOST_DAYS:
+            yield held
+            held, days = [], set()
+        held.append(one)
+        days |= one.days
+    if held:
+        yield held
 
 
 # ---- into the database
 
-def load_batch(store: Store, some: Sequence[Wanted], pool: Optional[Pool]) -> int:
+def load_all(store: Store, some: Sequence[Wanted], pool: Optional[Pool], failed: List[Tuple[str, str]]) -> Tuple[Set[int], int]:
+    """Loads some recordings, and answers the ids of those that were loaded, and how many entries. What cannot be read is left out, and goes to `failed`."""
+    if pool is None:
+        return load_those(store, some, pool, failed)
+    loaded, total, able = set(), 0, []
+    for one, why in with_days(store, some, pool):
+        if why is None:
+            able.append(one)
+        else:
+            failed.append((title(one.task), why))
+    for group in together(able):
+        store.make_days({place for one in group for place in one.days})
+        numbers, entries = load_those(store, group, pool, failed)
+        loaded, total = loaded | numbers, total + entries
+    return loaded, total
+
+
+def load_those(store: Store, some: Sequence[Wanted], pool: Optional[Pool], failed: List[Tuple[str, str]]) -> Tuple[Set[int], int]:
+    """Loads some recordings in one transaction; where one of them cannot be read, in another one without it."""
+    rest = list(some)
+    while rest:
+        try:
+            return {one.number for one in rest}, load_once(store, rest, pool)
+        except NotLoaded as bad:
+            failed += [(title(one.task), bad.why) for one in rest if one.number == bad.number]
+            rest = [one for one in rest if one.number != bad.number]
+    return set(), 0
+
+
+def load_once(store: Store, some: Sequence[Wanted], pool: Optional[Pool]) -> int:
     """Loads some recordings in one transaction, and answers how many entries."""
-    if pool is not None:
-        store.make_days([TABLES[kind].name for kind in sorted({kind for one in some for _, kind in one.entries})], days_of(some))
     total = 0
     with store.transaction():
         rest = [one for one in claimed(store, some) if one.entries]
@@ -129,7 +227,7 @@ def load_batch(store: Store, some: Sequence[Wanted], pool: Optional[Pool]) -> in
         for one in rest:
             entries = sum(one.entries.values())
             if counted.get(one.number, 0) != entries:
-                raise StoreError(CHANGED % title(one.task))
+                raise NotLoaded(one.number, CHANGED)
             total += entries
     return total
 
@@ -137,39 +235,59 @@ def load_batch(store: Store, some: Sequence[Wanted], pool: Optional[Pool]) -> in
 def copied(store: Any, some: Sequence[Wanted], pool: Pool) -> Dict[int, int]:
     """Loads by COPY what workers make of the parts. Answers of each recording how many entries."""
     counted: Dict[int, int] = {}
-    for task, found in pool.done(parts_of(store, some)):
-        if 'error' in found:
-            raise StoreError('%s: %s' % (task['path'], found['error']))
-        for (kind, number), part in zip(found['kinds'], found['parts']):
-            store.copy('COPY %s (%s) FROM STDIN (FORMAT binary)' % (TABLES[kind].name, ', '.join(TABLES[kind].names)), (FRONT, part, END))
-            counted[task['number']] = counted.get(task['number'], 0) + number
+    with closing(pool.done(parts_of(store, some))) as done:
+        for task, found in done:
+            if 'error' in found:
+                raise NotLoaded(task['number'], found['error'])
+            for (kind, number), part in zip(found['kinds'], found['parts']):
+                store.copy('COPY %s (%s) FROM STDIN (FORMAT binary)' % (TABLES[kind].name, ', '.join(TABLES[kind].names)), (FRONT, part, END))
+                counted[task['number']] = counted.get(task['number'], 0) + number
     return counted
+
+
+def task_of(one: Wanted, passed: Dict[int, int]) -> Task:
+    task = one.task
+    return dict(path=task['path'], begin=task['begin'], end=task['end'], number=one.number, wanted=sorted(one.entries), passed=sorted(passed.items()))
 
 
 def parts_of(store: Store, some: Sequence[Wanted]) -> Iterator[Task]:
     """The parts of some recordings, as tasks."""
     damage = {one.number: damage_in(store, one.number) for one in some}
     for one in some:
-        task, passed = one.task, damage[one.number]
-        begin, end = task['begin'], task['end']
-        made = dict(path=task['path'], begin=begin, end=end, number=one.number, wanted=sorted(one.entries), passed=sorted(passed.items()))
-        cuts = len(Layout(opened(task['path']), begin, end, passed).cuts) if end - begin > PART else 1
+        made = task_of(one, damage[one.number])
+        begin, end = made['begin'], made['end']
+        cuts = len(layout_of(one, damage[one.number])[1].cuts) if end - begin > PART else 1
         for cut in range(cuts):
             yield dict(made, cut=cut)
+
+
+def layout_of(one: Wanted, passed: Dict[int, int]) -> Tuple[Any, Layout]:
+    """The bytes of a recording's file and its layout, or why there are none."""
+    try:
+        data = opened(one.task['path'])
+        return data, Layout(data, one.task['begin'], one.task['end'], passed)
+    except OSError as error:
+        raise NotLoaded(one.number, error.strerror or str(error))
+    except (Fault, struct.error):
+        raise NotLoaded(one.number, CHANGED)
 
 
 def inserted(store: Store, some: Sequence[Wanted]) -> Dict[int, int]:
     """Loads by INSERT, in this process. Answers of each recording how many entries."""
     counted: Dict[int, int] = {}
     for one in some:
-        data, begin, end = opened(one.task['path']), one.task['begin'], one.task['end']
+        begin, end = one.task['begin'], one.task['end']
         passed = damage_in(store, one.number)
-        layout = Layout(data, begin, end, passed)
+        data, layout = layout_of(one, passed)
         clock = layout.clock
         reader = Reader(one.number, set(one.entries), None, {})
-        for kind, columns in reader.columns(packets(data, begin, end, False, passed), clock.texts if clock and clock.dated else lambda counts: (None,) * len(counts)):
-            store.insert(TABLES[kind].name, TABLES[kind].names, zip(*flat(columns)))
-            counted[one.number] = counted.get(one.number, 0) + len(columns[0])
+        found = reader.columns(packets(data, begin, end, False, passed), clock.texts if clock and clock.dated else lambda counts: (None,) * len(counts))
+        try:
+            for kind, columns in found:
+                store.insert(TABLES[kind].name, TABLES[kind].names, zip(*flat(columns)))
+                counted[one.number] = counted.get(one.number, 0) + len(columns[0])
+        except (Fault, struct.error):
+            raise NotLoaded(one.number, CHANGED)
     return counted
 
 
@@ -189,18 +307,19 @@ def load(asked: Any, data: None, out: Output) -> None:
         for batch in batches(found):
             some = [wanted_of(store, task, facts['sha256'], asked.channel) for task, facts in batch]
             some = list({one.number: one for one in some if one.entries}.values())
-            entries = load_batch(store, some, pool) if some else 0
-            total, recordings = total + entries, recordings + len(some)
-            numbers = {id(one.task) for one in some}
+            numbers, entries = load_all(store, some, pool, failed)
+            total, recordings = total + entries, recordings + len(numbers)
+            ways = {id(one.task): 'loaded' if one.number in numbers else None for one in some}  # none of those that failed
             for task, facts in batch:
-                out.line('%s %s %s' % ('loaded' if id(task) in numbers else 'known', facts['sha256'][:16], title(task)))
+                if ways.get(id(task), 'known'):
+                    out.line('%s %s %s' % (ways.get(id(task), 'known'), facts['sha256'][:16], title(task)))
             out.flush()
     finally:
         if pool is not None:
             pool.__exit__(None, None, None)
         store.close()
     out.line('%d entries of %d recordings loaded' % (total, recordings))
-    unread(failed)
+    unread(failed, out)
 
 
 def batches(found: Sequence[Tuple[Task, Task]]) -> Iterator[List[Tuple[Task, Task]]]:

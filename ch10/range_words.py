@@ -3,6 +3,7 @@ from __future__ import annotations
 
 import argparse
 import importlib
+import os
 import re
 from typing import Any, Callable
 
@@ -14,7 +15,7 @@ DATABASE = """The database is a file of SQLite (--db range.sqlite) or a server o
 --db it is that of CH10_DB in the environment, else ch10.sqlite in this folder. A server needs the package python3-psycopg2."""
 ADD_MORE = """Of each recording, or each file of an image, it keeps sum, size, places, verdict, times, channels, damaged stretches and setup attributes. A recording
 is known by its sum: given again, or at another place, it is no second one. What a run that was stopped had not kept yet, the next one adds.
-Of a folder it takes what ends in .ch10, .c10 or .img, or begins as a recording or an image does.
+Of a folder it takes what ends in .ch10, .c10 or .img, or begins as a recording or an image does. It enters the folders below it, but by no symbolic link.
 """
 FIND_MORE = """All conditions have to hold; of one that is given several times, any. Those of a channel hold for one and the same channel, and with them the times are
 that channel's. PATTERN may have * and ?, and looks at no case. A and B are times as '2024-02-29 12:34:56.78', 2024-02-29 (the whole day), or '060 12:34:56'
@@ -56,6 +57,11 @@ recording is faulty or damaged.
 """
 
 
+def text(word: str) -> str:
+    """A word of a call as text, as places are kept: bytes that are no UTF-8 are escaped."""
+    return os.fsencode(word).decode('utf-8', 'backslashreplace')
+
+
 def positive(word: str) -> int:
     if not (word.isascii() and word.isdigit()) or not 1 <= len(word) <= 15 or int(word) == 0:
         raise argparse.ArgumentTypeError('%r is no number from 1 on' % word[:60])
@@ -63,7 +69,7 @@ def positive(word: str) -> int:
 
 
 def pair(word: str) -> Any:
-    code, equals, value = word.partition('=')
+    code, equals, value = text(word).partition('=')
     if not equals:
         raise argparse.ArgumentTypeError('%r is not CODE=VALUE, as G\\TA=TAIL 07' % word[:60])
     return code, value
@@ -100,7 +106,7 @@ def add_words(commands: Any, Parser: Any, channel_number: Callable[[str], int]) 
     made = command(inner, 'catalogue add', run_of('catalogue', 'add'), 'Adds recordings, or the files of images, to the catalogue.', ADD_MORE + DATABASE)
     made.add_argument('inputs', nargs='+', metavar='INPUT', help='a recording, an image, or a folder')
     with_database(made)
-    made.add_argument('--place', metavar='BASE', help='where they are said to lie: BASE/NAME, as s3://bucket/flights, in place of the path')
+    made.add_argument('--place', type=text, metavar='BASE', help='where they are said to lie: BASE/NAME, as s3://bucket/flights, in place of the path')
     judging(made)
     made.add_argument('--anew', action='store_true', help='judges and counts what is there already once more')
 
@@ -109,14 +115,14 @@ def add_words(commands: Any, Parser: Any, channel_number: Callable[[str], int]) 
     made.add_argument('--from', dest='first', type=Moment, metavar='A', help='that have something from this time on')
     made.add_argument('--to', dest='last', type=Moment, metavar='B', help='that have something up to this time')
     made.add_argument('--channel', type=channel_number, action='append', metavar='C', help='with this channel')
-    made.add_argument('--name', metavar='PATTERN', help='with a channel of this name')
-    made.add_argument('--type', action='append', metavar='T', help='with a channel of this type, as 1553, arinc or video-40')
+    made.add_argument('--name', type=text, metavar='PATTERN', help='with a channel of this name')
+    made.add_argument('--type', type=text, action='append', metavar='T', help='with a channel of this type, as 1553, arinc or video-40')
     made.add_argument('--losses', type=positive, metavar='N', help='with a channel of N losses or more')
     made.add_argument('--jumps', type=positive, metavar='N', help='with a channel of N jumps or more')
     made.add_argument('--verdict', action='append', choices=VERDICTS, metavar='V', help='with this verdict: ' + ', '.join(VERDICTS))
     made.add_argument('--damaged', action='store_true', help='with damaged stretches')
-    made.add_argument('--volume', action='append', metavar='NAME', help='from a medium of this volume name')
-    made.add_argument('--place', metavar='PATTERN', help='that lies there')
+    made.add_argument('--volume', type=text, action='append', metavar='NAME', help='from a medium of this volume name')
+    made.add_argument('--place', type=text, metavar='PATTERN', help='that lies there')
     made.add_argument('--attribute', type=pair, action='append', metavar='CODE=VALUE', help='with this attribute in its setup text')
     made.add_argument('--sum', type=sum_front, metavar='HEX', help='whose sum begins so')
     made.add_argument('--limit', type=positive, metavar='N', help='at most so many')
@@ -132,7 +138,7 @@ def add_words(commands: Any, Parser: Any, channel_number: Callable[[str], int]) 
     made.add_argument('inputs', nargs='+', metavar='INPUT', help='a recording, an image, or a folder')
     with_database(made)
     made.add_argument('--channel', type=channel_number, metavar='C', action='append', help='this channel alone; may be given again for another')
-    made.add_argument('--place', metavar='BASE', help='where they are said to lie: BASE/NAME, in place of the path')
+    made.add_argument('--place', type=text, metavar='BASE', help='where they are said to lie: BASE/NAME, in place of the path')
     judging(made)
 
     made = command(commands, 'report', run_of('report', 'report'), 'Writes one page about recordings: HTML with all that it needs in it.', REPORT_MORE)

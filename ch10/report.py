@@ -266,7 +266,7 @@ def report(asked: Any, data: None, out: Output) -> None:
         except Wrong:
             program = None
     failed: List[Tuple[str, str]] = []
-    parts = [part for one in inputs_of(asked.inputs, None, []) for part in parts_of_input(one, program, failed)]
+    parts = [part for one in inputs_of(asked.inputs, None, [], failed) for part in parts_of_input(one, program, failed)]
     for line in page(parts):
         out.write(re.sub('[\x00-\x08\x0b\x0c\x0e-\x1f]', '?', line).encode('utf-8', 'replace') + b'\n')
     unread(failed)

@@ -43,8 +43,8 @@ class Store:
         """Adds those rows whose first columns, so many, no row has yet, and answers what these have there. Inside a transaction."""
         raise NotImplementedError
 
-    def make_days(self, tables: Sequence[str], days: Sequence[str]) -> None:
-        """Makes room for the entries of some days, where an engine keeps days apart."""
+    def make_days(self, wanted: Iterable[Tuple[str, str]]) -> None:
+        """Makes room in tables for the entries of days, where an engine keeps days apart."""
 
     def settle(self) -> None:
         """After much was added: lets the engine look at what there is, so that it answers the next questions by the right index."""
@@ -81,8 +81,11 @@ class Store:
         return re.sub(r'\{(\w+)\}\d?', lambda found: self.words[found[1]], text)
 
 
+LIBPQ = r'\s*(host|hostaddr|dbname|service|user|port|password|passfile|options|sslmode|connect_timeout|application_name|target_session_attrs)\s*='
+
+
 def is_postgresql(dsn: str) -> bool:
-    return dsn.startswith(('postgresql://', 'postgres://')) or re.match(r'(host|hostaddr|dbname|service|user|port)\s*=', dsn) is not None
+    return dsn.startswith(('postgresql://', 'postgres://')) or re.match(LIBPQ, dsn) is not None
 
 
 def shown_dsn(dsn: str) -> str:

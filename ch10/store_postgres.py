@@ -6,13 +6,15 @@ import importlib
 import os
 import subprocess
 import sys
-from typing import Any, Iterable, Iterator, List, Sequence, Set, Tuple
+from typing import Any, Dict, Iterable, Iterator, List, Sequence, Set, Tuple
 
 from .standard import Wrong
 from .store import Store, StoreError, shown_dsn
 
 SYSTEM = '/usr/bin/python3'
 LOCK = 0x63683130  # of an advisory lock: the letters ch10
+MOST_DAYS = 100  # partitions that a transaction makes, for each takes some locks
+LAST_DAY = datetime.date.max.toordinal()
 
 
 def driver() -> Any:
@@ -51,7 +53,7 @@ class Postgres(Store):
             else:
                 self.cursor.execute(statement)
             return self.cursor.fetchall() if self.cursor.description else []
-        except self.driver.Error as error:
+        except (self.driver.Error, UnicodeError) as error:
             raise StoreError('the database: %s' % one_line(error))
 
     def insert(self, table: str, columns: Sequence[str], rows: Iterable[Sequence[Any]]) -> None:
@@ -77,18 +79,28 @@ class Postgres(Store):
         except self.driver.Error as error:
             raise StoreError('the database: %s' % one_line(error))
 
-    def make_days(self, tables: Sequence[str], days: Sequence[str]) -> None:
-        """A partition for each table and day, as entry_1553_20240229. By one program at a time, so that none waits for another within its transaction."""
-        there = set(self.tables())
-        missing = [(table, day) for table in tables for day in days if '%s_%s' % (table, day.replace('-', '')) not in there]
-        if not missing:
-            return
-        with self.transaction():
-            self.lock_for_migrations()
-            for table, day in missing:
-                following = (datetime.date.fromisoformat(day) + datetime.timedelta(days=1)).isoformat()
-                self.rows("CREATE TABLE IF NOT EXISTS %s_%s PARTITION OF %s FOR VALUES FROM ('%s') TO ('%s')" % (
-                    table, day.replace('-', ''), table, day, following))
+    def make_days(self, wanted: Iterable[Tuple[str, str]]) -> None:
+        """A partition for each table and day, as entry_1553_20240229. It is made by itself and then attached, which waits for no reader and no writer of other days;
+        each table's in transactions of their own, so that two programs never wait for each other."""
+        by_table: Dict[str, List[str]] = {}
+        for table, day in sorted(wanted):
+            by_table.setdefault(table, []).append(day)
+        for table, days in by_table.items():
+            missing = self.without(table, days)
+            for at in range(0, len(missing), MOST_DAYS):
+                with self.transaction():
+                    self.lock_for_migrations()
+                    for day in self.without(table, missing[at:at + MOST_DAYS]):
+                        name, following = partition_of(table, day), datetime.date.fromisoformat(day).toordinal() + 1
+                        self.rows('CREATE TABLE %s (LIKE %s INCLUDING ALL)' % (name, table))
+                        self.rows("ALTER TABLE %s ATTACH PARTITION %s FOR VALUES FROM ('%s') TO (%s)" % (
+                            table, name, day, "'%s'" % datetime.date.fromordinal(following) if following <= LAST_DAY else 'MAXVALUE'))
+
+    def without(self, table: str, days: Sequence[str]) -> List[str]:
+        """Those of some days that a table has no partition for."""
+        there = {name for name, in self.rows(
+            'SELECT c.relname::text FROM pg_inherits i JOIN pg_class c ON c.oid = i.inhrelid WHERE i.inhparent = to_regclass(?)', (table,))}
+        return [day for day in days if partition_of(table, day) not in there]
 
     def settle(self) -> None:
         self.rows('ANALYZE recording, place, channel, damage, attribute')
@@ -111,6 +123,10 @@ class Postgres(Store):
 
     def close(self) -> None:
         self.base.close()
+
+
+def partition_of(table: str, day: str) -> str:
+    return '%s_%s' % (table, day.replace('-', ''))
 
 
 def one_line(error: BaseException) -> str:

@@ -7,6 +7,9 @@ from __future__ import annotations
 from typing import List, NamedTuple, Sequence
 
 
+MOST_NUMBER = (1 << 63) - 1  # that a BIGINT takes
+
+
 class Migration(NamedTuple):
     """One step: its number, its name, and its statements, some of them for one engine alone."""
 
@@ -111,7 +114,7 @@ INDEXES = (
     'CREATE INDEX channel_by_name ON channel (lower(name), recording)',
     'CREATE INDEX channel_by_type_and_name ON channel (type, lower(name), recording)',
     'CREATE INDEX channel_by_loss ON channel (type, channel, recording) WHERE losses > 0',
-    'CREATE INDEX attribute_by_code ON attribute (code, value)',
+    'CREATE INDEX attribute_by_code ON attribute (code, substr(value, 1, 100))',  # a whole text may be longer than an index takes
 )
 
 LOADED = """CREATE TABLE loaded (

@@ -4,40 +4,47 @@ from __future__ import annotations
 import os
 import sqlite3
 from typing import Any, Iterable, List, Sequence, Set, Tuple
+from urllib.parse import quote
 
 from .standard import Wrong
 from .store import Store, StoreError
 
 WAIT = 60  # seconds for another program that writes
+FAULTS = (sqlite3.Error, OverflowError, UnicodeError)  # what sqlite3 raises of a database, and of a value that none takes
 
 
 class Sqlite(Store):
+    """While something is added it has a log beside it, so that questions need not wait. Who closes it last leaves one file, which can be read where nothing can be written."""
+
     engine = 'sqlite'
     words = {'identity': 'INTEGER PRIMARY KEY', 'text': 'TEXT', 'bytes': 'BLOB', 'time': 'TEXT'}
 
     def __init__(self, path: str, make: bool) -> None:
+        self.writes = make
         if not make and not os.path.exists(path):
             raise Wrong('there is no database %r; ch10 catalogue add makes one, and --db names another' % path[:200])
         try:
-            self.base = sqlite3.connect(path, timeout=WAIT, isolation_level=None)
-            self.base.execute('PRAGMA foreign_keys = ON')
             if make:
+                self.base = sqlite3.connect(path, timeout=WAIT, isolation_level=None)
                 self.base.execute('PRAGMA journal_mode = WAL')
                 self.base.execute('PRAGMA synchronous = NORMAL')
+                self.base.execute('PRAGMA foreign_keys = ON')
+            else:
+                self.base = sqlite3.connect('file:%s?mode=ro' % quote(os.fsencode(path)), timeout=WAIT, isolation_level=None, uri=True)
             self.tables()
-        except sqlite3.Error as error:
+        except FAULTS as error:
             raise StoreError('the database %r: %s' % (path[:200], error))
 
     def rows(self, statement: str, values: Sequence[Any] = ()) -> List[Tuple]:
         try:
             return self.base.execute(statement, values).fetchall()
-        except sqlite3.Error as error:
+        except FAULTS as error:
             raise StoreError('the database: %s' % error)
 
     def insert(self, table: str, columns: Sequence[str], rows: Iterable[Sequence[Any]]) -> None:
         try:
             self.base.executemany('INSERT INTO %s (%s) VALUES (%s)' % (table, ', '.join(columns), ', '.join('?' * len(columns))), rows)
-        except sqlite3.Error as error:
+        except FAULTS as error:
             raise StoreError('the database: %s' % error)
 
     def insert_new(self, table: str, columns: Sequence[str], rows: Sequence[Sequence[Any]], keys: int) -> Set[Tuple]:
@@ -45,7 +52,7 @@ class Sqlite(Store):
             table, ', '.join(columns), ', '.join('?' * len(columns)), ', '.join(columns[:keys]))
         try:
             return {tuple(row[:keys]) for row in rows if self.base.execute(statement, row).rowcount == 1}
-        except sqlite3.Error as error:
+        except FAULTS as error:
             raise StoreError('the database: %s' % error)
 
     def settle(self) -> None:
@@ -55,8 +62,18 @@ class Sqlite(Store):
     def begin(self) -> None:
         self.rows('BEGIN IMMEDIATE')
 
+    def end(self, how: str) -> None:
+        if how == 'COMMIT' or self.base.in_transaction:  # which SQLite ends by itself where its disk is full
+            self.rows(how)
+
     def tables(self) -> List[str]:
-        return [name for name, in self.base.execute("SELECT name FROM sqlite_master WHERE type = 'table'")]
+        return [name for name, in self.rows("SELECT name FROM sqlite_master WHERE type = 'table'")]
 
     def close(self) -> None:
+        if self.writes:
+            try:
+                self.base.execute('PRAGMA busy_timeout = 0')
+                self.base.execute('PRAGMA journal_mode = DELETE')
+            except sqlite3.Error:
+                pass  # another program is at work with it, and closes it later
         self.base.close()

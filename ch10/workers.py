@@ -15,6 +15,8 @@ import sys
 import threading
 from typing import Any, Callable, Dict, Iterable, Iterator, Optional, Tuple
 
+from .store import StoreError
+
 Task = Dict[str, Any]
 TOP = os.path.dirname(os.path.dirname(os.path.abspath(__file__)))
 START = 'import sys; sys.path[0] = sys.argv[1]; from ch10.workers import main; main()'  # whatever stands in the folder that the call is made in
@@ -61,12 +63,18 @@ class Worker:
         self.send(task)
         said = self.process.stdout.readline()
         if not said.endswith(b'\n'):
-            self.close()
-            return {'error': 'the process that read it ended; is there enough memory?'}
+            return self.ended()
         answer = json.loads(said)
         if 'parts' in answer:
-            answer['parts'] = [self.process.stdout.read(size) for size in answer['parts']]
+            sizes = answer['parts']
+            answer['parts'] = [self.process.stdout.read(size) for size in sizes]
+            if list(map(len, answer['parts'])) != sizes:
+                return self.ended()
         return answer
+
+    def ended(self) -> Task:
+        self.close()
+        return {'error': 'the process that read it ended; is there enough memory?'}
 
     def send(self, task: Task) -> None:
         try:
@@ -94,7 +102,6 @@ class Pool:
         self.number, self.room, self.over = number, room, threading.Event()
         self.alone = work_of(setting) if number == 1 else None
         self.waiting: queue.Queue = queue.Queue()
-        self.ready: queue.Queue = queue.Queue()
         self.workers = [Worker(setting) for _ in range(number)] if number > 1 else []
         self.threads = [threading.Thread(target=self.serve, args=(worker,), daemon=True) for worker in self.workers]
         for thread in self.threads:
@@ -114,38 +121,50 @@ class Pool:
 
     def serve(self, worker: Worker) -> None:
         """What a worker's thread does."""
-        for task in iter(self.waiting.get, None):
+        for task, ready in iter(self.waiting.get, None):
             if self.over.is_set():
                 break
             held = self.room.take(task.get('bytes', 0)) if self.room else 0
             try:
-                self.ready.put((task, worker.do(task)))
+                ready.put((task, worker.do(task)))
             except Exception as error:
-                self.ready.put((task, {'error': said(error)}))
+                ready.put((task, {'error': said(error)}))
             finally:
                 if self.room:
                     self.room.give(held)
 
     def done(self, tasks: Iterable[Task]) -> Iterator[Tuple[Task, Task]]:
-        """Each task with what came of it, as they get done. No more tasks are taken than there are worked on and waited for."""
+        """Each task with what came of it, as they get done. No more tasks are taken than there are worked on and waited for. What comes of the tasks of a call
+        that is given up reaches no other one."""
         if self.alone:
             for task in tasks:
-                yield task, self.alone(task)
+                yield task, answer_of(self.alone, task)
             return
+        ready: queue.Queue = queue.Queue()
         under_way = 0
         for task in tasks:
-            self.waiting.put(task)
+            self.waiting.put((task, ready))
             under_way += 1
-            while under_way >= 2 * self.number or under_way and not self.ready.empty():
-                yield self.ready.get()
+            while under_way >= 2 * self.number or under_way and not ready.empty():
+                yield ready.get()
                 under_way -= 1
         for _ in range(under_way):
-            yield self.ready.get()
+            yield ready.get()
 
 
 def said(error: BaseException) -> str:
     """An error in one line."""
     return getattr(error, 'strerror', None) or ' '.join(str(error).split()) or type(error).__name__
+
+
+def answer_of(work: Callable[[Task], Task], task: Task) -> Task:
+    """What comes of a task, or what is wrong with it: one recording is no end of the others. A database that fails is an end."""
+    try:
+        return work(task)
+    except StoreError:
+        raise
+    except Exception as error:
+        return {'error': said(error)}
 
 
 def work_of(setting: Task) -> Callable[[Task], Task]:

@@ -18,9 +18,10 @@ import subprocess
 import sys
 import tempfile
 import time
-from typing import Callable, Iterator, List, Optional
+from typing import Callable, Iterator, List, Optional, Sequence
 
 PARENT_DEATH = 1  # of prctl
+MOST_START = 180  # seconds until a server answers
 
 
 class NotThere(Exception):
@@ -65,42 +66,103 @@ def can_connect(programs: str, folder: str) -> bool:
     return done.returncode == 0
 
 
-@contextlib.contextmanager
-def server(settings: Optional[List[str]] = None) -> Iterator[str]:
-    """Starts a server and gives the DSN of its one empty database; stops it and removes its folder at the end."""
-    programs, user = folder_of_programs(), other_user()
-    folder = tempfile.mkdtemp(prefix='ch10-pg-', dir='/tmp')
-    running = None
-    try:
-        os.chmod(folder, 0o755)
-        if user is not None:
-            os.chown(folder, user.pw_uid, user.pw_gid)
-        data = os.path.join(folder, 'data')
-        made = subprocess.run([os.path.join(programs, 'initdb'), '-D', data, '-U', 'postgres', '-A', 'trust', '-E', 'UTF8', '--locale=C', '--no-sync'],
-                              stdin=subprocess.DEVNULL, stdout=subprocess.PIPE, stderr=subprocess.STDOUT, preexec_fn=turned_to(user), cwd=folder)
+class Server:
+    """A server with one empty database, in a folder of its own."""
+
+    def __init__(self, settings: Sequence[str] = ()) -> None:
+        self.programs, self.user, self.settings = folder_of_programs(), other_user(), settings
+        self.folder = tempfile.mkdtemp(prefix='ch10-pg-', dir='/tmp')
+        self.dsn = 'host=%s user=postgres dbname=postgres' % self.folder
+        self.running: Optional[subprocess.Popen] = None
+
+    def make(self) -> None:
+        os.chmod(self.folder, 0o755)
+        if self.user is not None:
+            os.chown(self.folder, self.user.pw_uid, self.user.pw_gid)
+        made = subprocess.run([os.path.join(self.programs, 'initdb'), '-D', os.path.join(self.folder, 'data'), '-U', 'postgres', '-A', 'trust', '-E', 'UTF8',
+                               '--locale=C', '--no-sync'], stdin=subprocess.DEVNULL, stdout=subprocess.PIPE, stderr=subprocess.STDOUT,
+                              preexec_fn=turned_to(self.user), cwd=self.folder)
         if made.returncode:
             raise NotThere('initdb: ' + made.stdout.decode(errors='replace').strip().splitlines()[-1])
-        words = [os.path.join(programs, 'postgres'), '-D', data, '-k', folder, '-c', 'listen_addresses=']
-        for setting in settings or ():
+
+    def start(self) -> None:
+        """Starts it, and waits until it answers: minutes, where the machine has much else to do."""
+        words = [os.path.join(self.programs, 'postgres'), '-D', os.path.join(self.folder, 'data'), '-k', self.folder, '-c', 'listen_addresses=']
+        for setting in self.settings:
             words += ['-c', setting]
-        with open(os.path.join(folder, 'log'), 'wb') as log:
-            running = subprocess.Popen(words, stdin=subprocess.DEVNULL, stdout=log, stderr=log, preexec_fn=turned_to(user), cwd=folder)
-        end = time.monotonic() + 60
-        while not can_connect(programs, folder):
-            if running.poll() is not None or time.monotonic() > end:
-                with open(os.path.join(folder, 'log')) as log:
+        with open(os.path.join(self.folder, 'log'), 'ab') as log:
+            self.running = subprocess.Popen(words, stdin=subprocess.DEVNULL, stdout=log, stderr=log, preexec_fn=turned_to(self.user), cwd=self.folder)
+        end = time.monotonic() + MOST_START
+        while not can_connect(self.programs, self.folder):
+            if self.running.poll() is not None or time.monotonic() > end:
+                with open(os.path.join(self.folder, 'log'), errors='replace') as log:
                     raise NotThere('the server does not start: ' + ' '.join(log.read().split())[-300:])
             time.sleep(0.05)
-        yield 'host=%s user=postgres dbname=postgres' % folder
-    finally:
-        if running is not None and running.poll() is None:
-            running.send_signal(signal.SIGINT)
+
+    def kill(self) -> None:
+        """Kills it and the processes that it started, by their numbers, as a machine does that fails."""
+        numbers = [self.running.pid] + children_of(self.running.pid)
+        for number in numbers:
+            with contextlib.suppress(ProcessLookupError):
+                os.kill(number, signal.SIGKILL)
+        self.running.wait()
+        while any(os.path.exists('/proc/%d' % number) and not is_ended(number) for number in numbers):
+            time.sleep(0.02)
+
+    def stop(self) -> None:
+        if self.running is not None and self.running.poll() is None:
+            self.running.send_signal(signal.SIGINT)
             try:
-                running.wait(30)
+                self.running.wait(30)
             except subprocess.TimeoutExpired:
-                running.send_signal(signal.SIGQUIT)
-                running.wait()
-        shutil.rmtree(folder, ignore_errors=True)
+                self.running.send_signal(signal.SIGQUIT)
+                self.running.wait()
+
+    def remove(self) -> None:
+        self.stop()
+        shutil.rmtree(self.folder, ignore_errors=True)
+
+
+def status_of(number: int) -> List[str]:
+    """State and parent of a process, and what follows."""
+    with open('/proc/%d/stat' % number) as file:
+        return file.read().rpartition(') ')[2].split(' ')
+
+
+def is_ended(number: int) -> bool:
+    try:
+        return status_of(number)[0] in 'ZX'
+    except OSError:
+        return True
+
+
+def children_of(parent: int) -> List[int]:
+    found = []
+    for name in os.listdir('/proc'):
+        if name.isdigit():
+            with contextlib.suppress(OSError):
+                if int(status_of(int(name))[1]) == parent:
+                    found.append(int(name))
+    return found
+
+
+@contextlib.contextmanager
+def running_server(settings: Sequence[str] = ()) -> Iterator[Server]:
+    """A server that runs; it is stopped and its folder removed at the end."""
+    one = Server(settings)
+    try:
+        one.make()
+        one.start()
+        yield one
+    finally:
+        one.remove()
+
+
+@contextlib.contextmanager
+def server(settings: Sequence[str] = ()) -> Iterator[str]:
+    """Starts a server and gives the DSN of its one empty database; stops it and removes its folder at the end."""
+    with running_server(settings) as one:
+        yield one.dsn
 
 
 def main(words: List[str]) -> int:
@@ -108,6 +170,7 @@ def main(words: List[str]) -> int:
         print(__doc__)
         return 2
     try:
+        signal.signal(signal.SIGTERM, lambda *_: sys.exit(143))  # so that the server is stopped then too
         with server() as dsn:
             return subprocess.run([word.replace('{}', dsn) for word in words], env=dict(os.environ, CH10_DB=dsn)).returncode
     except NotThere as why:

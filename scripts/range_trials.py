@@ -1,18 +1,21 @@
 #!/usr/bin/env python3
 """Trials of the catalogue, the load of entries and the report, in SQLite and in PostgreSQL.
 
-    scripts/range_trials.py check                                # in seconds, for the gate: a small range, both databases, three kills, one page
-    scripts/range_trials.py kills COUNT [SEED]                   # so many kills amid add and load in each database
+    scripts/range_trials.py check [--times]                      # in seconds, for the gate: a small range, both databases, some kills, one page
+    scripts/range_trials.py kills COUNT [SEED]                   # so many kills amid add and load in each database, and of the server
     scripts/range_trials.py figures FOLDER [--program PATH] [--jobs N]   # what adding, finding and loading the recordings of FOLDER takes
 
 Recordings are those of scripts/range_recordings.py. The server is one of its own (scripts/postgres_server.py); where there is none, or no driver, or no
 browser, a line says what was NOT TRIED. Where no program r10 is there, verdicts are those of scripts/judge_recording.py, which says them by the same rules.
+Each trial is bounded (scripts/range_limits.py): one that loops or waits too long is ended, and what it was at is printed.
 """
 from __future__ import annotations
 
 import argparse
 import contextlib
 import csv
+import ctypes
+import datetime
 import importlib.util
 import io
 import itertools
@@ -39,12 +42,14 @@ import play_cases  # noqa: E402
 from ch10 import command, find  # noqa: E402
 from ch10.entry_rows import TABLES  # noqa: E402
 from ch10.facts import StrictSurvey  # noqa: E402
+from ch10.load import SPREAD  # noqa: E402
 from ch10.standard import Wrong  # noqa: E402
-from ch10.store import open_store  # noqa: E402
+from ch10.store import StoreError, open_store  # noqa: E402
 from ch10.store_schema import ENTRIES  # noqa: E402
 from ch10.survey import Row, Survey  # noqa: E402
 from postgres_server import NotThere, server  # noqa: E402
-from range_recordings import recording  # noqa: E402
+from range_limits import Hung, bounded, ends_on_term  # noqa: E402
+from range_recordings import packet, recording, text_body, time_body  # noqa: E402
 
 FEW = ('1553', '1553', 'arinc', 'uart', 'discrete', 'message')
 STAND_IN = r"""#!%s
@@ -253,6 +258,40 @@ def text_in(key: str, value: Any) -> str:
     return bytes(value).hex() if isinstance(value, (bytes, memoryview)) else FORMS.get(key, '%s') % value
 
 
+# ---- days, which PostgreSQL keeps apart
+
+def timed(moments: Sequence[Tuple[int, datetime.datetime]], between: int) -> bytes:
+    """A recording with a time at each of some counts, and after each some UART entries."""
+    parts = []
+    for place, (count, moment) in enumerate(moments):
+        parts.append(packet(1, place, 0x11, count, time_body(moment)))
+        parts.append(packet(5, place, 0x50, count + 1, text_body([(2, b'ab')] * between, count + 1, 1 << 31)))
+    return b''.join(parts)
+
+
+def check_days(room: str, dsn: str) -> None:
+    """Only the days that entries lie on have tables, also where a clock was set on the way; where they are too many nothing of the recording is loaded."""
+    folder = os.path.join(room, 'days')
+    os.makedirs(folder)
+    day, start = datetime.timedelta(days=1), datetime.datetime(1970, 1, 1)
+    early = packet(5, 0, 0x50, 1, text_body([(2, b'ab')] * 800, 1, 1 << 31)) + packet(1, 0, 0x11, 6 * 10 ** 6, time_body(datetime.datetime(1, 1, 1)))
+    made = {'set': timed([(10 ** 7, start), (10 ** 8, datetime.datetime(2033, 5, 6, 23, 59, 59))], 800),  # 1.2 s: over midnight
+            'early': early,  # 0.6 s before the first day that the calendar has
+            'many': timed([(10 ** 7 * number, start + 3 * number * day) for number in range(1001)], 1)}
+    for name, data in made.items():
+        pathlib.Path(folder, name + '.ch10').write_bytes(data)
+    said = ch10(['load', '--db', dsn, '--unjudged', '--jobs', '2', folder], 3)
+    agree([line for line in said.splitlines() if line.startswith('unread')], ['unread %s: %s' % (os.path.join(folder, 'many.ch10'), SPREAD)], 'what is not loaded')
+    with contextlib.closing(open_store(dsn, make=False)) as store:
+        held = store.rows('SELECT e.tableoid::regclass::text, count(*) FROM entry_uart e JOIN place p ON p.recording = e.recording '
+                          'WHERE p.path LIKE ? GROUP BY 1 ORDER BY 1', (folder + '%',))
+        agree(held, [('entry_uart_00010101', 400), ('entry_uart_19700101', 800), ('entry_uart_20330506', 667), ('entry_uart_20330507', 133),
+                     ('entry_uart_undated', 400)], 'the entries of days')
+        tables = [name for name, in store.rows("SELECT inhrelid::regclass::text FROM pg_inherits WHERE inhparent = 'entry_uart'::regclass ORDER BY 1")]
+        others = [name for name in tables if not re.search('_(202[4-6]|2100)', name)]  # those are of the small range
+        agree(others, [name for name, _ in held], 'tables of days')
+
+
 # ---- kills
 
 def child(words: Sequence[str], prepare: Optional[Callable[[], None]] = None) -> int:
@@ -262,6 +301,7 @@ def child(words: Sequence[str], prepare: Optional[Callable[[], None]] = None) ->
     if number == 0:
         try:
             os.setsid()
+            ends_with_parent()
             if prepare:
                 prepare()
             status, _ = command.answer(list(words), lambda: b'', Stream)
@@ -269,6 +309,12 @@ def child(words: Sequence[str], prepare: Optional[Callable[[], None]] = None) ->
         finally:
             os._exit(99)
     return number
+
+
+def ends_with_parent() -> None:
+    """So that no call is left where its trial is killed."""
+    with contextlib.suppress(OSError, AttributeError):
+        ctypes.CDLL(None).prctl(1, signal.SIGKILL)
 
 
 def killed_after(words: Sequence[str], seconds: float) -> bool:
@@ -380,7 +426,7 @@ def kill_some(folder: str, dsn: str, number: int, draw: random.Random, count: in
             span = span * 1.2 if was_killed and after[key] == before[key] else max(span * 0.8, 0.1)
             before = after
             if after[key] >= count:  # all is there: begin anew
-                with contextlib.closing(open_store(dsn, make=False)) as store:
+                with contextlib.closing(open_store(dsn)) as store:
                     for table in ['loaded'] + [table for table, _ in ENTRIES.values()] + (['recording'] if name == 'add' else []):
                         store.rows('DELETE FROM ' + table)
                 before = state(dsn)
@@ -497,6 +543,10 @@ def check_report(folder: str, room: str, made: str) -> None:
 
 # ---- all of it, small
 
+# A statement that takes longer, or waits longer for others, is ended by the server, and the trial with it.
+BOUNDS = ['statement_timeout=120s', 'lock_timeout=120s', 'idle_in_transaction_session_timeout=300s']
+
+
 @contextlib.contextmanager
 def both(room: str) -> Iterator[Tuple[str, Optional[str]]]:
     """The DSNs of the two databases; of one alone where there is no server."""
@@ -505,34 +555,48 @@ def both(room: str) -> Iterator[Tuple[str, Optional[str]]]:
         try:
             if not has_driver():
                 raise NotThere('no driver of PostgreSQL here (Debian: python3-psycopg2)')
-            dsn = held.enter_context(server(['fsync=off']))
+            dsn = held.enter_context(server(['fsync=off'] + BOUNDS))
         except NotThere as why:
             print('NOT TRIED: PostgreSQL: %s' % why)
         yield os.path.join(room, 'range.sqlite'), dsn
 
 
-def check() -> int:
+def check(say: Callable[[str], Any]) -> int:
     count = 9
     with tempfile.TemporaryDirectory(prefix='ch10-range-') as room, both(room) as (lite, postgres):
+        def trial(what: str) -> Any:
+            return bounded(what, postgres, say=say)
+
         folder = os.path.join(room, 'flights')
-        small_range(folder, count)
+        with trial('the recordings'):
+            small_range(folder, count)
         made = program(room)
         found = {}
         for dsn in filter(None, (lite, postgres)):
-            lines = ch10(['catalogue', 'add', '--db', dsn, '--program', made, '--jobs', '2', folder]).splitlines()
-            agree(lines[-1], '%d added, 0 judged anew, 0 known before; 3 of them faulty; 1 others in the folders are no recordings' % (count + 4), 'what add says')
-            check_again(folder, dsn, made, count)
-            total = check_entries(folder, dsn, made, ['r001.ch10', 'r007.ch10'])
-            found[dsn] = answers(dsn)
-        check_facts(folder, lite, made)
+            with trial('add, load and find in %s' % ('SQLite' if dsn == lite else 'PostgreSQL')):
+                lines = ch10(['catalogue', 'add', '--db', dsn, '--program', made, '--jobs', '2', folder]).splitlines()
+                agree(lines[-1], '%d added, 0 judged anew, 0 known before; 3 of them faulty; 1 others in the folders are no recordings' % (count + 4), 'what add says')
+                check_again(folder, dsn, made, count)
+                total = check_entries(folder, dsn, made, ['r001.ch10', 'r007.ch10'])
+                found[dsn] = answers(dsn)
+        with trial('facts'):
+            check_facts(folder, lite, made)
         if postgres:
             for one, other in zip(*found.values()):
                 agree(other, one, 'the answer of PostgreSQL beside that of SQLite')
-        check_two_at_once(folder, os.path.join(room, 'two.sqlite'), 'add', count + 4)
-        check_two_at_once(folder, postgres or os.path.join(room, 'two.sqlite'), 'load', count + 2)
-        kills = kill_each(folder, os.path.join(room, 'killed.sqlite'), 7, count + 2)
-        check_statuses(folder, lite, made)
-        check_report(folder, room, made)
+        with trial('two calls of add at a time'):
+            check_two_at_once(folder, os.path.join(room, 'two.sqlite'), 'add', count + 4)
+        with trial('two calls of load at a time'):
+            check_two_at_once(folder, postgres or os.path.join(room, 'two.sqlite'), 'load', count + 2)
+        if postgres:
+            with trial('days of entries'):
+                check_days(room, postgres)
+        with trial('kills'):
+            kills = kill_each(folder, os.path.join(room, 'killed.sqlite'), 7, count + 2)
+        with trial('statuses'):
+            check_statuses(folder, lite, made)
+        with trial('the report'):
+            check_report(folder, room, made)
         print('range: %d answers of %s agree, %d entries loaded, %d kills' % (
             len(found[lite]), 'both databases' if postgres else 'SQLite', total, kills))
     return 0
@@ -570,7 +634,7 @@ def kills(number: int, seed: int) -> int:
         for name, dsn in (('SQLite', lite), ('PostgreSQL', postgres)):
             if dsn:
                 each = kill_each(few, dsn, 1, 3)
-                with contextlib.closing(open_store(dsn, make=False)) as store:
+                with contextlib.closing(open_store(dsn)) as store:
                     for table in ['loaded'] + [table for table, _ in ENTRIES.values()] + ['recording']:
                         store.rows('DELETE FROM ' + table)
                 seen = kill_some(folder, dsn, number, random.Random(seed), 40)
@@ -659,8 +723,9 @@ def worked(server_id: Optional[int]) -> float:
 
 def main(words: List[str]) -> int:
     to_other_python()
-    if words == ['check']:
-        return check()
+    ends_on_term()
+    if words[:1] == ['check'] and words[1:] in ([], ['--times']):
+        return check(print if words[1:] else lambda line: None)
     if len(words) in (2, 3) and words[0] == 'kills':
         return kills(int(words[1]), int(words[2]) if len(words) == 3 else 1)
     if words[:1] == ['figures']:
@@ -678,6 +743,6 @@ def main(words: List[str]) -> int:
 if __name__ == '__main__':
     try:
         sys.exit(main(sys.argv[1:]))
-    except (Bad, Wrong) as bad:
+    except (Bad, Hung, Wrong, StoreError) as bad:
         print('range_trials: %s' % bad, file=sys.stderr)
         sys.exit(1)
