@@ -10,6 +10,7 @@ from .bodies import counts
 from .catalogue import added, now, opened, title, unread
 from .clocks import TimeLine
 from .entry_rows import END, FRONT, TABLES, Reader, days_of, flat, packed
+from .facts import sum_of
 from .inputs import Output
 from .packets import loss_of, packets
 from .standard import DISCRETE, TIME, Fault
@@ -27,13 +28,14 @@ Days = FrozenSet[Tuple[str, str]]
 
 
 class Wanted(NamedTuple):
-    """A recording to load: where its bytes are, its id, of each wanted channel and type how many entries it has, and its first and last civil time.
+    """A recording to load: where its bytes are, its id and sum, of each wanted channel and type how many entries it has, and its first and last civil time.
 
     Where the engine keeps days apart, `days` has the tables and the days that its entries go to.
     """
 
     task: Task
     number: int
+    sum: str
     entries: Dict[Tuple[int, int], int]
     times: Tuple[Optional[str], Optional[str]]
     days: Days = frozenset()
@@ -71,6 +73,13 @@ class Layout:
         self.end = end - begin
 
 
+def need_sum(data: Any, begin: int, end: int, wanted: str) -> None:
+    """That these bytes are those of the catalogue."""
+    with memoryview(data)[begin:end] as view:
+        if sum_of(view) != wanted:
+            raise Fault(CHANGED)
+
+
 def work(setting: Task) -> Any:
     """What reads one part of a recording, in a process of its own or in this one."""
     kept: Dict[str, Any] = {}
@@ -80,6 +89,7 @@ def work(setting: Task) -> Any:
         passed = {int(offset): length for offset, length in task['passed']}
         if kept.get('key') != key:
             data = opened(task['path'])
+            need_sum(data, task['begin'], task['end'], task['sum'])
             kept.update(key=key, data=data, layout=Layout(data, task['begin'], task['end'], passed))
         data, layout = kept['data'], kept['layout']
         if task.get('asks_days'):
@@ -124,7 +134,7 @@ def wanted_of(store: Store, task: Task, sum_: str, chosen: Optional[Sequence[int
     (number, first, last), = store.rows('SELECT id, first_time, last_time FROM recording WHERE sha256 = ?', (sum_,))
     there = set(store.rows('SELECT channel, data_type FROM loaded WHERE recording = ?', (number,)))
     rows = store.rows('SELECT channel, data_type, entries FROM channel WHERE recording = ? AND entries > 0 ORDER BY channel, data_type', (number,))
-    return Wanted(task, number, {(channel, kind): entries for channel, kind, entries in rows
+    return Wanted(task, number, sum_, {(channel, kind): entries for channel, kind, entries in rows
                                  if kind in TABLES and (channel, kind) not in there and (not chosen or channel in chosen)}, (first, last))
 
 
@@ -247,7 +257,7 @@ def copied(store: Any, some: Sequence[Wanted], pool: Pool) -> Dict[int, int]:
 
 def task_of(one: Wanted, passed: Dict[int, int]) -> Task:
     task = one.task
-    return dict(path=task['path'], begin=task['begin'], end=task['end'], number=one.number, wanted=sorted(one.entries), passed=sorted(passed.items()))
+    return dict(path=task['path'], begin=task['begin'], end=task['end'], number=one.number, sum=one.sum, wanted=sorted(one.entries), passed=sorted(passed.items()))
 
 
 def parts_of(store: Store, some: Sequence[Wanted]) -> Iterator[Task]:
@@ -265,6 +275,7 @@ def layout_of(one: Wanted, passed: Dict[int, int]) -> Tuple[Any, Layout]:
     """The bytes of a recording's file and its layout, or why there are none."""
     try:
         data = opened(one.task['path'])
+        need_sum(data, one.task['begin'], one.task['end'], one.sum)
         return data, Layout(data, one.task['begin'], one.task['end'], passed)
     except OSError as error:
         raise NotLoaded(one.number, error.strerror or str(error))

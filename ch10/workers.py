@@ -120,7 +120,8 @@ class Pool:
             thread.join(1)
 
     def serve(self, worker: Worker) -> None:
-        """What a worker's thread does."""
+        """What a worker's thread does. A process that it starts gets no Ctrl-C, also while it begins: the one that started it ends it."""
+        signal.pthread_sigmask(signal.SIG_BLOCK, (signal.SIGINT,))
         for task, ready in iter(self.waiting.get, None):
             if self.over.is_set():
                 break
@@ -173,7 +174,6 @@ def work_of(setting: Task) -> Callable[[Task], Task]:
 
 
 def main() -> None:
-    signal.signal(signal.SIGINT, signal.SIG_IGN)  # the one that started this one ends it
     gc.set_threshold(100000)
     setting = work = None
     for line in sys.stdin.buffer:

@@ -2,6 +2,7 @@
 """Trials of the catalogue, the load of entries and the report, in SQLite and in PostgreSQL.
 
     scripts/range_trials.py check [--times]                      # in seconds, for the gate: a small range, both databases, some kills, one page
+    scripts/range_trials.py all [SEED]                           # in minutes: more interrupts and mutants, files that change in each way, 10,000 files
     scripts/range_trials.py kills COUNT [SEED]                   # so many kills amid add and load in each database, and of the server
     scripts/range_trials.py figures FOLDER [--program PATH] [--jobs N]   # what adding, finding and loading the recordings of FOLDER takes
 
@@ -14,7 +15,6 @@ from __future__ import annotations
 import argparse
 import contextlib
 import csv
-import ctypes
 import datetime
 import importlib.util
 import io
@@ -25,13 +25,11 @@ import pathlib
 import random
 import re
 import resource
-import shutil
 import signal
 import subprocess
 import sys
 import tempfile
 import time
-from html.parser import HTMLParser
 from typing import Any, Callable, Dict, Iterator, List, Optional, Sequence, Tuple
 
 sys.dont_write_bytecode = True
@@ -39,6 +37,7 @@ HERE = pathlib.Path(__file__).resolve().parent
 sys.path.insert(0, str(HERE.parent))
 
 import play_cases  # noqa: E402
+import range_hostile  # noqa: E402
 from ch10 import command, find  # noqa: E402
 from ch10.entry_rows import TABLES  # noqa: E402
 from ch10.facts import StrictSurvey  # noqa: E402
@@ -48,10 +47,11 @@ from ch10.store import StoreError, open_store  # noqa: E402
 from ch10.store_schema import ENTRIES  # noqa: E402
 from ch10.survey import Row, Survey  # noqa: E402
 from postgres_server import NotThere, server  # noqa: E402
+from range_calls import FEW, Bad, Stream, agree, ch10, child, state  # noqa: E402
 from range_limits import Hung, bounded, ends_on_term  # noqa: E402
+from range_page import check_report  # noqa: E402
 from range_recordings import packet, recording, text_body, time_body  # noqa: E402
 
-FEW = ('1553', '1553', 'arinc', 'uart', 'discrete', 'message')
 STAND_IN = r"""#!%s
 import sys
 sys.path.insert(0, %r)
@@ -68,15 +68,6 @@ else:
 """
 
 
-class Bad(Exception):
-    """What does not agree."""
-
-
-def agree(found: Any, wanted: Any, what: str) -> None:
-    if found != wanted:
-        raise Bad('%s: %.500r, wanted %.500r' % (what, found, wanted))
-
-
 def to_other_python() -> None:
     """Goes on in the system's Python, where that one sees a driver of PostgreSQL and this one does not."""
     system = '/usr/bin/python3'
@@ -87,20 +78,6 @@ def to_other_python() -> None:
 
 def has_driver() -> bool:
     return any(importlib.util.find_spec(name) for name in ('psycopg2', 'psycopg'))
-
-
-def ch10(words: Sequence[str], status: int = 0) -> str:
-    """What a call writes, made in this process."""
-    to = Stream()
-    ended, line = command.answer(list(words), lambda: b'', lambda: to)
-    if ended != status:
-        raise Bad('ch10 %s ends with %d: %s' % (' '.join(words)[:200], ended, line))
-    return to.getvalue().decode()
-
-
-class Stream(io.BytesIO):
-    def isatty(self) -> bool:
-        return False
 
 
 def program(folder: str) -> str:
@@ -294,29 +271,6 @@ def check_days(room: str, dsn: str) -> None:
 
 # ---- kills
 
-def child(words: Sequence[str], prepare: Optional[Callable[[], None]] = None) -> int:
-    """Makes a call in a process of its own, which begins at once, and answers its number."""
-    sys.stdout.flush()
-    number = os.fork()
-    if number == 0:
-        try:
-            os.setsid()
-            ends_with_parent()
-            if prepare:
-                prepare()
-            status, _ = command.answer(list(words), lambda: b'', Stream)
-            os._exit(status)
-        finally:
-            os._exit(99)
-    return number
-
-
-def ends_with_parent() -> None:
-    """So that no call is left where its trial is killed."""
-    with contextlib.suppress(OSError, AttributeError):
-        ctypes.CDLL(None).prctl(1, signal.SIGKILL)
-
-
 def killed_after(words: Sequence[str], seconds: float) -> bool:
     """Whether a call was still at work when it was killed after some time."""
     number = child(words)
@@ -358,33 +312,6 @@ def killed_at(words: Sequence[str], statement: int) -> bool:
     if os.WIFEXITED(status) and os.WEXITSTATUS(status):
         raise Bad('%s ends with %d' % (' '.join(words)[:100], os.WEXITSTATUS(status)))
     return os.WIFSIGNALED(status)
-
-
-HALVES = (
-    'SELECT count(*) FROM recording r WHERE packets <> (SELECT coalesce(sum(packets), 0) FROM channel c WHERE c.recording = r.id)',
-    'SELECT count(*) FROM recording r WHERE entries <> (SELECT coalesce(sum(entries), 0) FROM channel c WHERE c.recording = r.id)',
-    'SELECT count(*) FROM recording r WHERE damaged <> (SELECT count(*) FROM damage d WHERE d.recording = r.id)',
-    'SELECT count(*) FROM recording r WHERE NOT EXISTS (SELECT 1 FROM place p WHERE p.recording = r.id)')
-
-
-def state(dsn: str) -> Dict[str, int]:
-    """How many recordings there are, how many halves of them, and how many entries."""
-    try:
-        store = open_store(dsn, make=False)
-    except Wrong:
-        return dict(recordings=0, halves=0, entries=0, loaded=0)
-    with contextlib.closing(store):
-        def one(text: str) -> int:
-            return int(store.rows(text)[0][0])
-        agree(one('SELECT count(DISTINCT sha256) FROM recording'), one('SELECT count(*) FROM recording'), 'recordings, each once')
-        halves = sum(map(one, HALVES))
-        entries = 0
-        for kind, (name, _) in ENTRIES.items():
-            there = store.rows('SELECT recording, channel, count(*) FROM %s GROUP BY recording, channel ORDER BY recording, channel' % name)
-            told = store.rows('SELECT recording, channel, entries FROM loaded WHERE data_type = ? ORDER BY recording, channel', (kind,))
-            agree(there, told, 'entries that are there, and those that were noted, of ' + name)
-            entries += sum(number for _, _, number in there)
-        return dict(recordings=one('SELECT count(*) FROM recording'), halves=halves, entries=entries, loaded=one('SELECT count(DISTINCT recording) FROM loaded'))
 
 
 def kill_words(name: str, dsn: str, folder: str, jobs: int) -> List[str]:
@@ -435,112 +362,6 @@ def kill_some(folder: str, dsn: str, number: int, draw: random.Random, count: in
     return seen
 
 
-# ---- the page
-
-class Page(HTMLParser):
-    """What has to hold of a page: closed tags, links that lead somewhere, nothing from elsewhere, words for pictures and tables."""
-
-    EMPTY = {'meta', 'br', 'path', 'rect', 'circle', 'line'}
-
-    def __init__(self) -> None:
-        HTMLParser.__init__(self)
-        self.open: List[str] = []
-        self.ids: List[str] = []
-        self.links: List[str] = []
-        self.faults: List[str] = []
-        self.tags: Dict[str, int] = {}
-        self.heads: List[int] = []
-
-    def handle_starttag(self, tag: str, attrs: List[Tuple[str, Optional[str]]]) -> None:
-        said = dict(attrs)
-        self.tags[tag] = self.tags.get(tag, 0) + 1
-        if tag not in self.EMPTY:
-            self.open.append(tag)
-        if 'id' in said:
-            self.ids.append(said['id'])
-        if re.fullmatch('h[1-6]', tag):
-            self.heads.append(int(tag[1]))
-        for name, value in attrs:
-            if name.startswith('on') or name in ('src', 'srcset', 'data', 'action'):
-                self.faults.append('%s of %s' % (name, tag))
-            if name in ('href', 'xlink:href'):
-                self.links.append(value or '')
-            if value and 'url(' in value and 'url(#' not in value:
-                self.faults.append('%s of %s: %s' % (name, tag, value[:40]))
-        if tag in ('script', 'img', 'iframe', 'link', 'object', 'embed'):
-            self.faults.append(tag)
-        if tag == 'svg' and not (said.get('role') == 'img' and said.get('aria-label')):
-            self.faults.append('a picture without words')
-        if tag == 'th' and 'scope' not in said:
-            self.faults.append('a head without a scope')
-
-    def handle_startendtag(self, tag: str, attrs: List[Tuple[str, Optional[str]]]) -> None:
-        self.handle_starttag(tag, attrs)
-        if tag not in self.EMPTY:
-            self.open.pop()
-
-    def handle_endtag(self, tag: str) -> None:
-        if tag in self.EMPTY:
-            return
-        if not self.open or self.open.pop() != tag:
-            self.faults.append('</%s> that closes something else' % tag)
-
-
-def check_page(text: str, names: Sequence[str]) -> None:
-    page = Page()
-    page.feed(text)
-    page.close()
-    agree((page.faults, page.open), ([], []), 'the page')
-    agree(sorted(set(page.ids)), sorted(page.ids), 'the ids of the page')
-    agree([link for link in page.links if link[1:] not in page.ids or link[:1] != '#'], [], 'links that lead nowhere')
-    agree(page.tags['table'], page.tags['caption'], 'tables with captions')
-    agree([two for one, two in zip(page.heads, page.heads[1:]) if two > one + 1], [], 'steps between heads')
-    for name in names:
-        agree(name in text, True, '%s on the page' % name)
-    agree(re.findall(r'(?:https?:)?//(?!www\.w3\.org/2000/svg)[^\s<"\']{3,60}', text), [], 'addresses on the page')
-
-
-def browser() -> str:
-    for name in ('chromium', 'chromium-browser', 'google-chrome'):
-        if shutil.which(name):
-            return shutil.which(name)
-    raise NotThere('no browser here (Debian: chromium)')
-
-
-def picture_of(page: str, to: str, height: int = 1600) -> None:
-    """The picture that a browser makes of a page."""
-    with tempfile.TemporaryDirectory() as room:
-        words = [browser(), '--headless', '--no-sandbox', '--disable-gpu', '--hide-scrollbars', '--user-data-dir=' + room, '--screenshot=' + to,
-                 '--window-size=1200,%d' % height, 'file://' + page]
-        try:
-            done = subprocess.run(words, stdout=subprocess.DEVNULL, stderr=subprocess.PIPE, timeout=120)
-        except subprocess.TimeoutExpired:
-            raise NotThere('the browser does not end within two minutes')
-    if done.returncode or not os.path.exists(to):
-        raise Bad('the browser: ' + done.stderr.decode(errors='replace')[-300:])
-
-
-def ink_of(picture: bytes) -> int:
-    """How many bytes a picture has, after its head is looked at."""
-    agree(picture[:8], b'\x89PNG\r\n\x1a\n', 'a picture')
-    return len(picture)
-
-
-def check_report(folder: str, room: str, made: str) -> None:
-    names = ['r001.ch10', 'r007.ch10', 'r003.ch10', 'pair.img', 'broken.img', 'empty.ch10']
-    text = ch10(['report', '--program', made] + [os.path.join(folder, name) for name in names], 1)
-    check_page(text, names + ['FLT1', 'RANGE TRIAL', 'BadDirectory'])
-    page = os.path.join(room, 'report.html')
-    pathlib.Path(page).write_text(text)
-    try:
-        picture = os.path.join(room, 'report.png')
-        picture_of(page, picture)
-        if ink_of(pathlib.Path(picture).read_bytes()) < 20000:
-            raise Bad('the page looks empty')
-    except NotThere as why:
-        print('NOT TRIED: the page in a browser: %s' % why)
-
-
 # ---- all of it, small
 
 # A statement that takes longer, or waits longer for others, is ended by the server, and the trial with it.
@@ -567,6 +388,7 @@ def check(say: Callable[[str], Any]) -> int:
         def trial(what: str) -> Any:
             return bounded(what, postgres, say=say)
 
+        check_bounds()
         folder = os.path.join(room, 'flights')
         with trial('the recordings'):
             small_range(folder, count)
@@ -597,8 +419,46 @@ def check(say: Callable[[str], Any]) -> int:
             check_statuses(folder, lite, made)
         with trial('the report'):
             check_report(folder, room, made)
+        dsns = [os.path.join(room, 'hostile.sqlite')] + ([another_database(postgres)] if postgres else [])
+        for hostile in range_hostile.TRIALS:
+            with trial('hostile: ' + hostile.__name__):
+                hostile(room, dsns, made)
         print('range: %d answers of %s agree, %d entries loaded, %d kills' % (
             len(found[lite]), 'both databases' if postgres else 'SQLite', total, kills))
+    return 0
+
+
+def check_bounds() -> None:
+    """A trial that loops, itself or in a process below it, or that waits, is ended, and said to be."""
+    def loop() -> None:
+        while True:
+            pass
+    for what, act, bounds in (('a loop', loop, (0.2, 60)), ('a loop below', lambda: os.waitpid(child([], loop), 0), (0.2, 60)),
+                              ('a wait', lambda: time.sleep(60), (60, 0.2))):
+        try:
+            with bounded(what, None, *bounds):
+                act()
+                time.sleep(60)
+        except Hung as hung:
+            agree(str(hung).startswith('%s: ended after ' % what), True, 'what is said of ' + what)
+        else:
+            raise Bad('%s was not ended' % what)
+
+
+def another_database(dsn: str) -> str:
+    """An empty database of the same server."""
+    with contextlib.closing(open_store(dsn, make=False)) as store:
+        store.rows('CREATE DATABASE other')
+    return dsn.replace('dbname=postgres', 'dbname=other')
+
+
+def everything(seed: int) -> int:
+    """What takes minutes."""
+    with tempfile.TemporaryDirectory(prefix='ch10-range-') as room, both(room) as (lite, postgres):
+        dsns = [lite] + ([postgres] if postgres else [])
+        for name, act in range_hostile.LONG_TRIALS:
+            with bounded(name, postgres, work=600, passed=3600, say=print):
+                act(room, dsns, program(room), seed)
     return 0
 
 
@@ -726,6 +586,8 @@ def main(words: List[str]) -> int:
     ends_on_term()
     if words[:1] == ['check'] and words[1:] in ([], ['--times']):
         return check(print if words[1:] else lambda line: None)
+    if words[:1] == ['all'] and len(words) <= 2:
+        return everything(int(words[1]) if words[1:] else 1)
     if len(words) in (2, 3) and words[0] == 'kills':
         return kills(int(words[1]), int(words[2]) if len(words) == 3 else 1)
     if words[:1] == ['figures']:

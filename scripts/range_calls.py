@@ -1,0 +1,105 @@
+"""Calls of ch10 for the trials of the catalogue: in this process or in one of their own, with what they write."""
+from __future__ import annotations
+
+import contextlib
+import ctypes
+import io
+import os
+import signal
+import sys
+from typing import Any, Callable, Dict, Optional, Sequence, Tuple
+
+from ch10 import command
+from ch10.standard import Wrong
+from ch10.store import open_store
+from ch10.store_schema import ENTRIES
+
+
+FEW = ('1553', '1553', 'arinc', 'uart', 'discrete', 'message')
+
+
+class Bad(Exception):
+    """What does not agree."""
+
+
+def agree(found: Any, wanted: Any, what: str) -> None:
+    if found != wanted:
+        raise Bad('%s: %.500r, wanted %.500r' % (what, found, wanted))
+
+
+def ch10(words: Sequence[str], status: int = 0) -> str:
+    """What a call writes, made in this process."""
+    to = Stream()
+    ended, line = command.answer(list(words), lambda: b'', lambda: to)
+    if ended != status:
+        raise Bad('ch10 %s ends with %d: %s' % (' '.join(words)[:200], ended, line))
+    return to.getvalue().decode()
+
+
+def answered(words: Sequence[str]) -> Tuple[int, str]:
+    """The status and the line that a call ends with."""
+    ended, line = command.answer(list(words), lambda: b'', Stream)
+    return ended, line or ''
+
+
+def line_of(words: Sequence[str], status: int) -> str:
+    """The line that a call ends with, which has to end so."""
+    ended, line = answered(words)
+    if ended != status:
+        raise Bad('ch10 %s ends with %d: %s' % (' '.join(words)[:200], ended, line))
+    return line
+
+
+class Stream(io.BytesIO):
+    def isatty(self) -> bool:
+        return False
+
+
+def child(words: Sequence[str], prepare: Optional[Callable[[], None]] = None) -> int:
+    """Makes a call in a process of its own, which begins at once, and answers its number."""
+    sys.stdout.flush()
+    number = os.fork()
+    if number == 0:
+        try:
+            os.setsid()
+            ends_with_parent()
+            if prepare:
+                prepare()
+            status, _ = command.answer(list(words), lambda: b'', Stream)
+            os._exit(status)
+        finally:
+            os._exit(99)
+    return number
+
+
+def ends_with_parent() -> None:
+    """So that no call is left where its trial is killed."""
+    with contextlib.suppress(OSError, AttributeError):
+        ctypes.CDLL(None).prctl(1, signal.SIGKILL)
+
+
+HALVES = (
+    'SELECT count(*) FROM recording r WHERE packets <> (SELECT coalesce(sum(packets), 0) FROM channel c WHERE c.recording = r.id)',
+    'SELECT count(*) FROM recording r WHERE entries <> (SELECT coalesce(sum(entries), 0) FROM channel c WHERE c.recording = r.id)',
+    'SELECT count(*) FROM recording r WHERE damaged <> (SELECT count(*) FROM damage d WHERE d.recording = r.id)',
+    'SELECT count(*) FROM recording r WHERE NOT EXISTS (SELECT 1 FROM place p WHERE p.recording = r.id)')
+
+
+def state(dsn: str) -> Dict[str, int]:
+    """How many recordings there are, how many halves of them, and how many entries."""
+    try:
+        store = open_store(dsn, make=False)
+    except Wrong:
+        return dict(recordings=0, halves=0, entries=0, loaded=0)
+    with contextlib.closing(store):
+        def one(text: str) -> int:
+            return int(store.rows(text)[0][0])
+        agree(one('SELECT count(DISTINCT sha256) FROM recording'), one('SELECT count(*) FROM recording'), 'recordings, each once')
+        halves = sum(map(one, HALVES))
+        entries = 0
+        for kind, (name, _) in ENTRIES.items():
+            there = store.rows('SELECT recording, channel, count(*) FROM %s GROUP BY recording, channel ORDER BY recording, channel' % name)
+            told = store.rows('SELECT recording, channel, entries FROM loaded WHERE data_type = ? ORDER BY recording, channel', (kind,))
+            agree(there, told, 'entries that are there, and those that were noted, of ' + name)
+            entries += sum(number for _, _, number in there)
+        return dict(recordings=one('SELECT count(*) FROM recording'), halves=halves, entries=entries, loaded=one('SELECT count(DISTINCT recording) FROM loaded'))
