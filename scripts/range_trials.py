@@ -384,11 +384,11 @@ def both(room: str) -> Iterator[Tuple[str, Optional[str]]]:
 
 def check(say: Callable[[str], Any]) -> int:
     count = 9
+    check_bounds()  # which ends all that runs below this process
     with tempfile.TemporaryDirectory(prefix='ch10-range-') as room, both(room) as (lite, postgres):
         def trial(what: str) -> Any:
             return bounded(what, postgres, say=say)
 
-        check_bounds()
         folder = os.path.join(room, 'flights')
         with trial('the recordings'):
             small_range(folder, count)
