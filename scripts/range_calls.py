@@ -5,7 +5,9 @@ import contextlib
 import ctypes
 import io
 import os
+import pathlib
 import signal
+import subprocess
 import sys
 from typing import Any, Callable, Dict, Optional, Sequence, Tuple
 
@@ -15,7 +17,24 @@ from ch10.store import open_store
 from ch10.store_schema import ENTRIES
 
 
+HERE = pathlib.Path(__file__).resolve().parent
 FEW = ('1553', '1553', 'arinc', 'uart', 'discrete', 'message')
+
+
+STAND_IN = r"""#!%s
+import sys
+sys.path.insert(0, %r)
+from judge_image import answer, listed
+from judge_recording import verdict
+data = b'' if sys.argv[1] == '--version' else sys.stdin.buffer.read()
+if sys.argv[1] == '--version':
+    print('r10 stand-in')
+elif sys.argv[1] == 'check':
+    print(verdict(data))
+else:
+    found, status = answer(listed, data)
+    print('\n'.join(found) if status else '')
+"""
 
 
 class Bad(Exception):
@@ -103,3 +122,16 @@ def state(dsn: str) -> Dict[str, int]:
             agree(there, told, 'entries that are there, and those that were noted, of ' + name)
             entries += sum(number for _, _, number in there)
         return dict(recordings=one('SELECT count(*) FROM recording'), halves=halves, entries=entries, loaded=one('SELECT count(DISTINCT recording) FROM loaded'))
+
+
+def program(folder: str) -> str:
+    """The program r10: of R10 in the environment, the build that is kept, or else a stand-in in a folder, which judges by the same rules."""
+    if os.environ.get('R10'):
+        return os.environ['R10']
+    kept = subprocess.run([str(HERE / 'quick_build.py'), '--current'], stdout=subprocess.PIPE, stderr=subprocess.DEVNULL)
+    if kept.returncode == 0:
+        return kept.stdout.decode().strip()
+    path = os.path.join(folder, 'r10-stand-in')
+    pathlib.Path(path).write_text(STAND_IN % (sys.executable, str(HERE)))
+    os.chmod(path, 0o755)
+    return path

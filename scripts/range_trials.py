@@ -38,35 +38,18 @@ sys.path.insert(0, str(HERE.parent))
 
 import play_cases  # noqa: E402
 import range_hostile  # noqa: E402
-from ch10 import command, find  # noqa: E402
+from ch10 import catalogue, command, find, load  # noqa: E402
 from ch10.entry_rows import TABLES  # noqa: E402
 from ch10.facts import StrictSurvey  # noqa: E402
-from ch10.load import SPREAD  # noqa: E402
 from ch10.standard import Wrong  # noqa: E402
 from ch10.store import StoreError, open_store  # noqa: E402
 from ch10.store_schema import ENTRIES  # noqa: E402
 from ch10.survey import Row, Survey  # noqa: E402
-from postgres_server import NotThere, server  # noqa: E402
-from range_calls import FEW, Bad, Stream, agree, ch10, child, state  # noqa: E402
+from postgres_server import NotThere, running_server, server  # noqa: E402
+from range_calls import FEW, Bad, Stream, agree, ch10, child, program, state  # noqa: E402
 from range_limits import Hung, bounded, ends_on_term  # noqa: E402
 from range_page import check_report  # noqa: E402
 from range_recordings import packet, recording, text_body, time_body  # noqa: E402
-
-STAND_IN = r"""#!%s
-import sys
-sys.path.insert(0, %r)
-from judge_image import answer, listed
-from judge_recording import verdict
-data = b'' if sys.argv[1] == '--version' else sys.stdin.buffer.read()
-if sys.argv[1] == '--version':
-    print('r10 stand-in')
-elif sys.argv[1] == 'check':
-    print(verdict(data))
-else:
-    found, status = answer(listed, data)
-    print('\n'.join(found) if status else '')
-"""
-
 
 def to_other_python() -> None:
     """Goes on in the system's Python, where that one sees a driver of PostgreSQL and this one does not."""
@@ -78,18 +61,6 @@ def to_other_python() -> None:
 
 def has_driver() -> bool:
     return any(importlib.util.find_spec(name) for name in ('psycopg2', 'psycopg'))
-
-
-def program(folder: str) -> str:
-    """The program r10: of R10 in the environment, the proved build, or else a stand-in in a folder."""
-    proved = HERE.parent / 'crates' / 'r10_cli' / 'out' / 'r10_cli'
-    found = os.environ.get('R10') or (str(proved) if proved.exists() else None)
-    if found:
-        return found
-    path = os.path.join(folder, 'r10-stand-in')
-    pathlib.Path(path).write_text(STAND_IN % (sys.executable, str(HERE)))
-    os.chmod(path, 0o755)
-    return path
 
 
 # ---- a small range
@@ -258,7 +229,7 @@ def check_days(room: str, dsn: str) -> None:
     for name, data in made.items():
         pathlib.Path(folder, name + '.ch10').write_bytes(data)
     said = ch10(['load', '--db', dsn, '--unjudged', '--jobs', '2', folder], 3)
-    agree([line for line in said.splitlines() if line.startswith('unread')], ['unread %s: %s' % (os.path.join(folder, 'many.ch10'), SPREAD)], 'what is not loaded')
+    agree([line for line in said.splitlines() if line.startswith('unread')], ['unread %s: %s' % (os.path.join(folder, 'many.ch10'), load.SPREAD)], 'what is not loaded')
     with contextlib.closing(open_store(dsn, make=False)) as store:
         held = store.rows('SELECT e.tableoid::regclass::text, count(*) FROM entry_uart e JOIN place p ON p.recording = e.recording '
                           'WHERE p.path LIKE ? GROUP BY 1 ORDER BY 1', (folder + '%',))
@@ -353,13 +324,44 @@ def kill_some(folder: str, dsn: str, number: int, draw: random.Random, count: in
             span = span * 1.2 if was_killed and after[key] == before[key] else max(span * 0.8, 0.1)
             before = after
             if after[key] >= count:  # all is there: begin anew
-                with contextlib.closing(open_store(dsn)) as store:
-                    for table in ['loaded'] + [table for table, _ in ENTRIES.values()] + (['recording'] if name == 'add' else []):
-                        store.rows('DELETE FROM ' + table)
+                empty(dsn, name)
                 before = state(dsn)
         ch10(words)
         agree(unharmed(before, dsn, name)[key] >= count, True, 'what the next %s does' % name)
     return seen
+
+
+def kill_server(folder: str, number: int, draw: random.Random, count: int) -> int:
+    """Kills the server, so many times amid add and as many amid load, and starts it again each time: no half, and the next call does the rest."""
+    amid = 0
+    with running_server() as one:
+        for name in ('add', 'load'):
+            key = 'recordings' if name == 'add' else 'loaded'
+            words, span = kill_words(name, one.dsn, folder, 2), 1.0
+            for _ in range(number):
+                before = state(one.dsn)
+                call = child(words)
+                time.sleep(draw.random() * span)
+                one.kill()
+                ended = os.waitstatus_to_exitcode(os.waitpid(call, 0)[1])
+                one.start()
+                after = unharmed(before, one.dsn, name)
+                agree(ended in (0, 3), True, 'the status of %s whose server is killed' % name)
+                agree(ended == 3 or after[key] >= count, True, 'what is done where %s ends well' % name)
+                amid += ended == 3 and after[key] > before[key]
+                span = span * 0.7 if ended == 0 else span * 1.2 if after[key] == before[key] else span
+                if after[key] >= count:
+                    empty(one.dsn, name)
+            ch10(words)
+            agree(unharmed(state(one.dsn), one.dsn, name)[key] >= count, True, 'what the next %s does' % name)
+    return amid
+
+
+def empty(dsn: str, name: str) -> None:
+    """Takes out what load has done, or add too."""
+    with contextlib.closing(open_store(dsn)) as store:
+        for table in ['loaded'] + [table for table, _ in ENTRIES.values()] + (['recording'] if name == 'add' else []):
+            store.rows('DELETE FROM ' + table)
 
 
 # ---- all of it, small
@@ -484,22 +486,36 @@ def check_two_at_once(folder: str, dsn: str, name: str, wanted: int) -> None:
     agree((found['halves'], found['recordings' if name == 'add' else 'loaded']), (0, wanted), 'what two calls of %s have done' % name)
 
 
+MANY = 150
+
+
 def kills(number: int, seed: int) -> int:
+    """Kills, at each statement with transactions as they are, and at random moments with smaller ones, so that some of the work is kept."""
     with tempfile.TemporaryDirectory(prefix='ch10-range-') as room, both(room) as (lite, postgres):
         folder, few = os.path.join(room, 'flights'), os.path.join(room, 'few')
         small_range(few, 3, 8000)
         os.makedirs(folder)
-        for place in range(40):
-            pathlib.Path(folder, 'r%03d.ch10' % place).write_bytes(recording(seed, place, 60000, FEW))
-        for name, dsn in (('SQLite', lite), ('PostgreSQL', postgres)):
-            if dsn:
-                each = kill_each(few, dsn, 1, 3)
-                with contextlib.closing(open_store(dsn)) as store:
-                    for table in ['loaded'] + [table for table, _ in ENTRIES.values()] + ['recording']:
-                        store.rows('DELETE FROM ' + table)
-                seen = kill_some(folder, dsn, number, random.Random(seed), 40)
-                print('%s: killed at each of %d statements, and at random moments %d times in add and %d in load, %d of them after something was kept: '
-                      'no half, no double' % (name, each, seen['add'], seen['load'], seen['amid']))
+        for place in range(MANY):
+            pathlib.Path(folder, 'r%03d.ch10' % place).write_bytes(recording(seed, place, 20000, FEW))
+        each = {dsn: kill_each(few, dsn, 1, 3) for dsn in (lite, postgres) if dsn}
+        catalogue.MOST_TOGETHER, load.TOGETHER = 16, 1 << 19
+        for dsn in each:
+            name = 'SQLite' if dsn == lite else 'PostgreSQL'
+            empty(dsn, 'add')
+            with bounded('kills in ' + name, postgres, work=3600, passed=7200):
+                seen = kill_some(folder, dsn, number, random.Random(seed), MANY)
+            print('%s: killed at each of %d statements, and at random moments %d times in add and %d in load, %d of them after something was kept: '
+                  'no half, no double' % (name, each[dsn], seen['add'], seen['load'], seen['amid']), flush=True)
+    if postgres:
+        with tempfile.TemporaryDirectory(prefix='ch10-range-') as room, bounded('kills of the server', None, work=3600, passed=7200):
+            folder = os.path.join(room, 'flights')
+            os.makedirs(folder)
+            for place in range(MANY):
+                pathlib.Path(folder, 'r%03d.ch10' % place).write_bytes(recording(seed, place, 20000, FEW))
+            times = max(number // 10, 1)
+            amid = kill_server(folder, times, random.Random(seed), MANY)
+            print('PostgreSQL: the server was killed %d times amid add and %d amid load, %d of them after something was kept: no half, no double' % (
+                times, times, amid))
     return 0
 
 
