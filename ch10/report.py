@@ -1,6 +1,7 @@
 """`ch10 report`: one page about some recordings, to look at in a browser or on paper. It takes nothing from elsewhere: no script, no picture, no font."""
 from __future__ import annotations
 
+import os
 import re
 import struct
 from collections import Counter
@@ -9,7 +10,7 @@ from typing import Any, Dict, Iterable, List, NamedTuple, Optional, Sequence, Tu
 
 from .bodies import BUS_ENTRY, whole
 from .buses import ERRORS_1553, command_1553, word_429
-from .catalogue import Input, image_tasks, inputs_of, opened, title, unread
+from .catalogue import Input, image_tasks, inputs_of, line_of, opened, title, unread
 from .facts import facts_of, nothing_in, program_of, verdict_of_image
 from .find import lost_text, verdict_text
 from .inputs import Output, is_recording
@@ -42,10 +43,12 @@ svg { max-width: 100%; height: auto; } figure { margin: 0.6rem 0; }
 @media print {
   body { max-width: none; padding: 0; font-size: 10.5pt; } nav, .skip { display: none; } a { color: inherit; text-decoration: none; }
   .scroll { overflow: visible; } table { font-size: 8pt; } tr, figure { break-inside: avoid; } h2, h3, caption { break-after: avoid; }
-  section.recording { break-before: page; } thead { display: table-header-group; }
+  section.recording { break-before: page; } thead { display: table-header-group; } .wrap { min-width: 8rem; }
+  pre { columns: 3; font-size: 7pt; }
 }
 """
 MOST_STRETCHES = 500
+MOST_STRIPS = 12  # of a picture
 MEANS = {'strict': 'This recorder may have written it: it keeps each of its rules.',
          'lenient': 'Any recorder may have written it: each packet is framed, checked and counted as the standard says.',
          'faulty': 'A packet is none of any recorder\'s, first the one at this offset.',
@@ -65,7 +68,8 @@ class Part(NamedTuple):
 def table(caption: str, heads: Sequence[str], rows: Iterable[Sequence[Any]], left: Sequence[str] = ()) -> List[str]:
     """A table whose first column names its rows; a cell that is a pair is a class and HTML as it stands."""
     def cell(place: int, value: Any) -> str:
-        name, text = value if isinstance(value, tuple) else ('left' if heads[place] in left else '', escape('-' if value is None else str(value)))
+        plain = ('left time' if heads[place] == 'name' else 'left') if heads[place] in left else ''
+        name, text = value if isinstance(value, tuple) else (plain, escape('-' if value is None else str(value)))
         kind = ' class="%s"' % name if name else ''
         return '<th scope="row"%s>%s</th>' % (kind, text) if place == 0 else '<td%s>%s</td>' % (kind, text)
     made = ['<div class="scroll" tabindex="0" role="region" aria-label="%s"><table><caption>%s</caption><thead><tr>' % (escape(caption, True), escape(caption))]
@@ -149,17 +153,27 @@ def bus_parts(data: Any, begin: int, end: int, survey: Survey) -> List[str]:
 
 # ---- one recording
 
-def picture_of(data: Any, begin: int, end: int, survey: Survey, name: str) -> List[str]:
+def pictures_of(data: Any, begin: int, end: int, survey: Survey, name: str) -> List[str]:
+    """The rates and losses of the channels, so many in a picture that each fits on a sheet of paper."""
     some = survey.drawn()
     if not survey.rows or not some:
         return []
     sources = {(row.channel, row.kind): row for row in some}
-    by_packets = {(row.channel, row.kind) for row in some if not row.entries}
-    drawn = Picture(name, sources, by_packets, *ends_of(some), survey)
-    drawn.fill(marks(data, begin, survey, sources, by_packets), None)
-    about = 'Rates and losses of each channel over time; the same numbers stand in the table of channels'
-    text = drawn.text(survey, end - begin).replace('<svg ', '<svg role="img" aria-label="%s" ' % escape(about, True), 1)
-    return ['<h3>Rates and losses</h3><figure>', text, '<figcaption>%s.</figcaption></figure>' % escape(about)]
+    by_packets = {key for key, row in sources.items() if not row.entries}
+    keys, drawn = sorted(sources), []
+    for at in range(0, len(keys), MOST_STRIPS):
+        drawn.append(Picture(name, {key: sources[key] for key in keys[at:at + MOST_STRIPS]}, by_packets, *ends_of(some), survey))
+    by_key = {key: one for one in drawn for key in one.sources}
+    for mark in marks(data, begin, survey, sources, by_packets):
+        by_key[mark[0]].fill((mark,), None)
+    made = ['<h3>Rates and losses</h3>']
+    for one in drawn:
+        first, last = min(one.sources)[0], max(one.sources)[0]
+        about = 'Rates and losses of %s over time; the same numbers stand in the table of channels' % (
+            'channel %d' % first if first == last else 'channels %d to %d' % (first, last))
+        text = one.text(survey, end - begin).replace('<svg ', '<svg role="img" aria-label="%s" ' % escape(about, True), 1)
+        made += ['<figure>', text, '<figcaption>%s.</figcaption></figure>' % escape(about)]
+    return made
 
 
 def channel_part(survey: Survey) -> List[str]:
@@ -227,32 +241,45 @@ def part_of(task: Dict[str, Any], data: Any, program: Optional[str]) -> Part:
         return Part(task, facts, facts_part(task, facts) + ['<p>%s.</p>' % escape(task['fault'])])
     survey = Survey(data, begin, end)
     facts = facts_of(data, begin, end, program, survey)
-    made = facts_part(task, facts) + picture_of(data, begin, end, survey, title(task).rpartition('/')[2]) + channel_part(survey)
+    made = facts_part(task, facts) + pictures_of(data, begin, end, survey, title(task).rpartition('/')[2]) + channel_part(survey)
     return Part(task, facts, made + damage_part(survey) + clock_part(survey) + bus_parts(data, begin, end, survey) + setup_part(survey))
 
 
 # ---- the page
 
+def titles_of(parts: Sequence[Part]) -> Tuple[str, List[str]]:
+    """The folder that all recordings lie in, or '', and what each is called within it."""
+    titles = [title(part.task) for part in parts]
+    folders = {part.task['place'].rpartition('/')[0] for part in parts}
+    folder = line_of(os.path.commonpath(folders)) if folders and all(one.startswith('/') for one in folders) else ''
+    front = folder.rstrip('/') + '/'
+    if folder and all(one.startswith(front) for one in titles):
+        return folder, [one[len(front):] for one in titles]
+    return '', titles
+
+
 def page(parts: Sequence[Part]) -> List[str]:
+    folder, titles = titles_of(parts)
     head = 'Report on %s' % ('1 recording' if len(parts) == 1 else '%d recordings' % len(parts))
     made = ['<!DOCTYPE html>', '<html lang="en">', '<head>', '<meta charset="utf-8">',
             '<meta http-equiv="Content-Security-Policy" content="default-src \'none\'; style-src \'unsafe-inline\'">',
             '<meta name="viewport" content="width=device-width, initial-scale=1">', '<title>%s</title>' % head, '<style>%s</style>' % STYLE, '</head>', '<body>',
             '<a class="skip" href="#recordings">To the recordings</a>', '<header><h1>%s</h1>' % head,
-            '<p>Written by ch10 report from the recordings alone. Times are civil times of the recordings.</p></header>',
+            '<p>Written by ch10 report from the recordings alone%s. Times are civil times of the recordings.</p></header>' % (
+                ', which lie in %s' % escape(folder) if folder else ''),
             '<nav aria-label="Contents"><ul><li><a href="#overview">Overview</a></li><li><a href="#timeline">Time line</a></li>']
-    made += ['<li><a href="#r%d">%s</a></li>' % (number, escape(title(part.task))) for number, part in enumerate(parts)]
+    made += ['<li><a href="#r%d">%s</a></li>' % (number, escape(one)) for number, one in enumerate(titles)]
     made += ['</ul></nav>', '<main id="main">', '<section id="overview" aria-labelledby="overview-head"><h2 id="overview-head">Overview</h2>']
-    rows = [(('left', '<a href="#r%d">%s</a>' % (number, escape(title(part.task)))), ('left', verdict_html(part.facts)), size_text(part.facts['size']),
+    rows = [(('left', '<a href="#r%d">%s</a>' % (number, escape(titles[number]))), ('left', verdict_html(part.facts)), size_text(part.facts['size']),
              ('time', time_text(part.facts, 'first_time')), ('time', time_text(part.facts, 'last_time')), size_text(part.facts['entries']), size_text(part.facts['losses']),
              lost_text(part.facts), part.facts['damaged']) for number, part in enumerate(parts)]
     made += table('The recordings: verdicts, times, losses, messages lost, damaged stretches', (
         'recording', 'verdict', 'bytes', 'first time', 'last time', 'entries', 'losses', 'lost', 'damaged'), rows, ('recording', 'verdict'))
     made += ['</section>', '<section id="timeline" aria-labelledby="timeline-head"><h2 id="timeline-head">Time line</h2>']
-    made += timeline([(title(part.task), part.facts) for part in parts])
+    made += timeline([(one, part.facts) for one, part in zip(titles, parts)])
     made += ['</section>', '<div id="recordings">']
     for number, part in enumerate(parts):
-        made += ['<section class="recording" id="r%d" aria-labelledby="r%d-head"><h2 id="r%d-head">%s</h2>' % (number, number, number, escape(title(part.task)))]
+        made += ['<section class="recording" id="r%d" aria-labelledby="r%d-head"><h2 id="r%d-head">%s</h2>' % (number, number, number, escape(titles[number]))]
         made += part.html + ['</section>']
     return made + ['</div>', '</main>', '</body>', '</html>']
 

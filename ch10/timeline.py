@@ -12,6 +12,7 @@ WIDTH, LEFT, RIGHT, ROW, TOP = 960, 250, 50, 22, 34
 SPACE = WIDTH - LEFT - RIGHT
 COLOURS = {'strict': '#14532d', 'lenient': '#1e40af', 'faulty': '#9b1c1c', 'unjudged': '#4a5159'}
 DAY = 864000000000
+MOST_WORD = 65  # how wide a word beside a bar is
 
 
 def timeline(parts: Sequence[Tuple[str, Dict[str, Any]]]) -> List[str]:
@@ -49,10 +50,18 @@ def drawn(some: Sequence[Tuple[str, Dict[str, Any], int, int]], dated: bool) -> 
         made.append('<rect x="%.1f" y="%d" width="%.1f" height="12" fill="%s"><title>%s: %s to %s, %s</title></rect>' % (
             x, y + 2, wide, COLOURS[facts['verdict']], escape(name), facts['first_time'], facts['last_time'], facts['verdict']))
         if facts['verdict'] == 'faulty' or facts['damaged']:
-            at_left = x + wide > LEFT + SPACE - 60
-            made.append('<text x="%.1f" y="%d" text-anchor="%s" fill="%s" font-weight="bold">%s</text>' % (
-                x - 5 if at_left else x + wide + 5, y + 12, 'end' if at_left else 'start', COLOURS['faulty'], 'faulty' if facts['verdict'] == 'faulty' else 'damaged'))
+            made.append(word(x, wide, y + 12, 'faulty' if facts['verdict'] == 'faulty' else 'damaged'))
     return made + ['</svg><figcaption>%s. A bar is a recording; its times stand in the overview.</figcaption></figure>' % escape(said)]
+
+
+def word(x: float, wide: float, y: int, text: str) -> str:
+    """A word beside a bar, or, where there is no room on either side, within it."""
+    form = '<text x="%.1f" y="%d" text-anchor="%s" fill="%s" font-weight="bold"%s>%s</text>'
+    if x + wide <= LEFT + SPACE - MOST_WORD:
+        return form % (x + wide + 5, y, 'start', COLOURS['faulty'], '', text)
+    if x >= LEFT + MOST_WORD:
+        return form % (x - 5, y, 'end', COLOURS['faulty'], '', text)
+    return form % (x + wide / 2, y - 1, 'middle', '#fff', ' font-size="10"', text)
 
 
 def mark_text(ticks: int, step: int, dated: bool) -> str:

@@ -12,6 +12,7 @@ from typing import Dict, List, Optional, Sequence, Tuple
 
 from postgres_server import NotThere
 from range_calls import Bad, agree, ch10
+from range_recordings import recording
 
 
 class Page(HTMLParser):
@@ -107,6 +108,13 @@ def check_report(folder: str, room: str, made: str) -> None:
     names = ['r001.ch10', 'r007.ch10', 'r003.ch10', 'pair.img', 'broken.img', 'empty.ch10']
     text = ch10(['report', '--program', made] + [os.path.join(folder, name) for name in names], 1)
     check_page(text, names + ['FLT1', 'RANGE TRIAL', 'BadDirectory'])
+    agree((folder + '/' in text, ' lie in %s.' % folder in text), (False, True), 'the folder of all, once')
+    alone = ch10(['report', '--program', made, os.path.join(folder, 'r007.ch10')], 1)
+    agree(re.findall('fill="(#[0-9a-f]+)" font-weight="bold"[^>]*>(?:faulty|damaged)<', alone), ['#fff'], 'the word in a bar that has no room beside it')
+    wide = os.path.join(room, 'wide.ch10')
+    pathlib.Path(wide).write_bytes(recording(1, 1, 5000))
+    strips = [len(re.findall(r'>channel \d+<', figure)) for figure in ch10(['report', '--program', made, wide]).split('<figure>')[2:]]
+    agree((max(strips), sum(strips)), (12, 50), 'channels of a picture that fits on a sheet of paper')
     page = os.path.join(room, 'report.html')
     pathlib.Path(page).write_text(text)
     try:
