@@ -20,6 +20,7 @@ SMALL = 1 << 26  # bytes of a file that is read; a larger one is mapped
 ENDINGS = ('.ch10', '.c10', '.img')
 PLACE_COLUMNS = ('path', 'file_number', 'recording', 'volume', 'file_name', 'closed', 'listed_size', 'seen')
 MOST_TOGETHER, MOST_WAIT = 64, 1.0  # recordings, or seconds, that a transaction takes together
+AHEAD = 32  # recordings for each worker, whose facts wait while others go into the database
 MOST_PLACE = 2000  # bytes, for an index takes no more
 PARAMETERS = 900  # values in one statement, of which some builds of SQLite take no more than 999
 
@@ -262,7 +263,7 @@ def added(store: Store, asked: Any, failed: List[Tuple[str, str]], passed: List[
     setting = dict(work='catalogue', db=asked.db, program=program, judge=program and version_of(program), anew=asked.anew, most=memory)
     held: List[Tuple[Task, Task]] = []
     last = time.monotonic()
-    with Pool(asked.jobs or processors(), setting, Room(memory)) as pool:
+    with Pool(asked.jobs or processors(), setting, Room(memory), AHEAD) as pool:
         for task, facts in pool.done(tasks_of(inputs_of(asked.inputs, asked.place, passed, failed), failed)):
             if 'error' in facts:
                 failed.append((title(task), facts['error']))
@@ -299,7 +300,7 @@ def add(asked: Any, data: None, out: Output) -> None:
 
 def line_of(text: str) -> str:
     """A text as a line takes it."""
-    return ''.join(letter if letter.isprintable() else '?' for letter in text)
+    return text if text.isprintable() else ''.join(letter if letter.isprintable() else '?' for letter in text)
 
 
 def unread(failed: Sequence[Tuple[str, str]], out: Optional[Output] = None) -> None:

@@ -112,14 +112,11 @@ def found(store: Store, question: Question, limit: Optional[int]) -> List[Dict[s
     rows = store.rows('SELECT %s FROM recording r WHERE %s ORDER BY r.first_time IS NULL, r.first_time, r.sha256%s' % (
         ', '.join('r.' + name for name in RECORDING), joined(question.recording), '' if limit is None else ' LIMIT %d' % limit),
         values_of(question.recording))
-    made = [dict(zip(RECORDING, row)) for row in rows]
-    places: Dict[int, List[Dict[str, Any]]] = {}
-    for row in of_recordings(store, 'place', PLACE_COLUMNS, 'path, file_number', [facts['id'] for facts in made]):
-        place = dict(zip(PLACE_COLUMNS, row[1:]))
-        place['closed'] = None if place['closed'] is None else bool(place['closed'])
-        places.setdefault(row[0], []).append(place)
-    for facts in made:
-        facts['places'] = places.get(facts['id'], [])
+    made = [dict(zip(RECORDING, row), places=[]) for row in rows]
+    places = {facts['id']: facts['places'] for facts in made}
+    for number, path, file_number, volume, name, closed, size, seen in of_recordings(store, 'place', PLACE_COLUMNS, 'path, file_number', list(places)):
+        places[number].append({'path': path, 'file_number': file_number, 'volume': volume, 'file_name': name, 'closed': closed if closed is None else bool(closed),
+                               'listed_size': size, 'seen': seen})
     return made
 
 
@@ -142,14 +139,16 @@ def channels_of(store: Store, question: Question, ids: Sequence[int]) -> Dict[in
 
 def aligned(rows: Sequence[Sequence[Any]], left: Sequence[str]) -> List[str]:
     """Rows in columns: those of times and those whose heads are named to the left, all others to the right."""
-    texts = [[str(cell) for cell in row] for row in rows]
-    widths = [max(map(len, column)) for column in zip(*texts)]
-    is_left = [head in left or head.endswith('time') for head in texts[0]]
-    return [' '.join(cell.ljust(width) if at_left else cell.rjust(width) for cell, width, at_left in zip(row, widths, is_left)).rstrip() for row in texts]
+    columns = []
+    for cells in zip(*rows):
+        texts = list(map(str, cells))
+        width = max(map(len, texts))
+        columns.append([text.ljust(width) for text in texts] if texts[0] in left or texts[0].endswith('time') else [text.rjust(width) for text in texts])
+    return [' '.join(row).rstrip() for row in zip(*columns)]
 
 
-def printable(text: Any) -> str:
-    return ''.join(letter if letter.isprintable() else '?' for letter in str(text))
+def printable(text: str) -> str:
+    return text if text.isprintable() else ''.join(letter if letter.isprintable() else '?' for letter in text)
 
 
 def verdict_text(facts: Dict[str, Any]) -> str:

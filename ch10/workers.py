@@ -96,10 +96,11 @@ class Worker:
 
 
 class Pool:
-    """So many workers, each started when there is a task for it; with one, this process does the work by itself."""
+    """So many workers, each started when there is a task for it; with one, this process does the work by itself. Of what is done so much for each may wait to be
+    taken: it is held in memory."""
 
-    def __init__(self, number: int, setting: Task, room: Optional[Room] = None) -> None:
-        self.number, self.room, self.over = number, room, threading.Event()
+    def __init__(self, number: int, setting: Task, room: Optional[Room] = None, ahead: int = 2) -> None:
+        self.number, self.room, self.over, self.most = number, room, threading.Event(), ahead * number
         self.alone = work_of(setting) if number == 1 else None
         self.waiting: queue.Queue = queue.Queue()
         self.workers = [Worker(setting) for _ in range(number)] if number > 1 else []
@@ -146,7 +147,7 @@ class Pool:
         for task in tasks:
             self.waiting.put((task, ready))
             under_way += 1
-            while under_way >= 2 * self.number or under_way and not ready.empty():
+            while under_way >= self.most or under_way and not ready.empty():
                 yield ready.get()
                 under_way -= 1
         for _ in range(under_way):
