@@ -13,7 +13,7 @@ from .facts import CHANNEL_COLUMNS, RECORDING_COLUMNS, facts_of, most, nothing_i
 from .inputs import Output, is_recording, shown
 from .medium import directory
 from .standard import Fault
-from .store import Store, open_store
+from .store import Store, StoreError, open_store
 from .workers import Pool, Room, Task, processors
 
 SMALL = 1 << 26  # bytes of a file that is read; a larger one is mapped
@@ -22,6 +22,7 @@ PLACE_COLUMNS = ('path', 'file_number', 'recording', 'volume', 'file_name', 'clo
 MOST_TOGETHER, MOST_WAIT = 64, 1.0  # recordings, or seconds, that a transaction takes together
 AHEAD = 32  # recordings for each worker, whose facts wait while others go into the database
 MOST_PLACE = 2000  # bytes, for an index takes no more
+TAKEN_OUT = 'the database: somebody took a recording out of the catalogue meanwhile; the next call adds it'
 PARAMETERS = 900  # values in one statement, of which some builds of SQLite take no more than 999
 
 
@@ -163,7 +164,10 @@ def record(store: Store, found: Sequence[Tuple[Task, Task]], anew: bool) -> List
         fresh = {facts['sha256']: facts for _, facts in found if not facts.get('known')}
         new = store.insert_new('recording', RECORDING_COLUMNS, [
             tuple(dict(fresh[key], added=moment)[name] for name in RECORDING_COLUMNS) for key in sorted(fresh)], 1)
-        ids = dict(recordings_of(store, sorted({facts['sha256'] for _, facts in found})))
+        sums = {facts['sha256'] for _, facts in found}
+        ids = dict(recordings_of(store, sorted(sums)))
+        if len(ids) < len(sums):
+            raise StoreError(TAKEN_OUT)
         for key in sorted(fresh):
             ways[key] = 'added' if (key,) in new else replace(store, ids[key], fresh[key], anew)
         details(store, [(ids[key], fresh[key]) for key in sorted(fresh) if ways[key] != 'known'])
@@ -179,8 +183,10 @@ def recordings_of(store: Store, sums: Sequence[str]) -> Iterator[Tuple[str, int]
 
 def replace(store: Store, number: int, facts: Task, anew: bool) -> str:
     """Takes what was found in place of what stood there, where it had no verdict or the call asks for it."""
-    (verdict,), = store.rows('SELECT verdict FROM recording WHERE id = ?' + store.for_update, (number,))
-    if not anew and (verdict != 'unjudged' or facts['verdict'] == 'unjudged'):
+    there = store.rows('SELECT verdict FROM recording WHERE id = ?' + store.for_update, (number,))
+    if not there:
+        raise StoreError(TAKEN_OUT)
+    if not anew and (there[0][0] != 'unjudged' or facts['verdict'] == 'unjudged'):
         return 'known'
     names = [name for name in RECORDING_COLUMNS if name not in ('sha256', 'added')]
     store.rows('UPDATE recording SET %s WHERE id = ?' % ', '.join(name + ' = ?' for name in names), [facts[name] for name in names] + [number])

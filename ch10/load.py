@@ -7,14 +7,14 @@ from contextlib import closing
 from typing import Any, Dict, FrozenSet, Iterator, List, NamedTuple, Optional, Sequence, Set, Tuple
 
 from .bodies import counts
-from .catalogue import added, now, opened, title, unread
+from .catalogue import TAKEN_OUT, added, now, opened, title, unread
 from .clocks import TimeLine
 from .entry_rows import END, FRONT, TABLES, Reader, days_of, flat, packed
 from .facts import sum_of
 from .inputs import Output
 from .packets import loss_of, packets
 from .standard import DISCRETE, TIME, Fault
-from .store import Store, open_store
+from .store import Store, StoreError, open_store
 from .times import Clock, time
 from .workers import Pool, Task, processors
 
@@ -131,7 +131,10 @@ def part_of(data: Any, begin: int, layout: Layout, cut: int, passed: Dict[int, i
 # ---- what is to be loaded
 
 def wanted_of(store: Store, task: Task, sum_: str, chosen: Optional[Sequence[int]]) -> Wanted:
-    (number, first, last), = store.rows('SELECT id, first_time, last_time FROM recording WHERE sha256 = ?', (sum_,))
+    found = store.rows('SELECT id, first_time, last_time FROM recording WHERE sha256 = ?', (sum_,))
+    if not found:
+        raise StoreError(TAKEN_OUT)
+    number, first, last = found[0]
     there = set(store.rows('SELECT channel, data_type FROM loaded WHERE recording = ?', (number,)))
     rows = store.rows('SELECT channel, data_type, entries FROM channel WHERE recording = ? AND entries > 0 ORDER BY channel, data_type', (number,))
     return Wanted(task, number, sum_, {(channel, kind): entries for channel, kind, entries in rows

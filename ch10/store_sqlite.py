@@ -17,7 +17,7 @@ class Sqlite(Store):
     """While something is added it has a log beside it, so that questions need not wait. Who closes it last leaves one file, which can be read where nothing can be written."""
 
     engine = 'sqlite'
-    words = {'identity': 'INTEGER PRIMARY KEY', 'text': 'TEXT', 'bytes': 'BLOB', 'time': 'TEXT'}
+    words = {'identity': 'INTEGER PRIMARY KEY AUTOINCREMENT', 'text': 'TEXT', 'bytes': 'BLOB', 'time': 'TEXT'}
 
     def __init__(self, path: str, make: bool) -> None:
         self.writes = make
@@ -30,7 +30,7 @@ class Sqlite(Store):
                 self.base.execute('PRAGMA synchronous = NORMAL')
                 self.base.execute('PRAGMA foreign_keys = ON')
             else:
-                self.base = sqlite3.connect('file:%s?mode=ro' % quote(os.fsencode(path)), timeout=WAIT, isolation_level=None, uri=True)
+                self.base = sqlite3.connect('file://%s?mode=ro' % quote(os.fsencode(os.path.abspath(path))), timeout=WAIT, isolation_level=None, uri=True)
             self.tables()
         except FAULTS as error:
             raise StoreError('the database %r: %s' % (path[:200], error))

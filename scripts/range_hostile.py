@@ -2,12 +2,14 @@
 from __future__ import annotations
 
 import contextlib
+import datetime
 import os
 import pathlib
 import pwd
 import random
 import resource
 import signal
+import sqlite3
 import string
 import struct
 import subprocess
@@ -16,8 +18,9 @@ import time
 from typing import Any, Callable, Dict, Iterator, List, Sequence, Tuple
 
 import play_cases
-from ch10 import load
+from ch10 import catalogue, load
 from ch10.store import open_store
+from ch10.store_schema import ENTRIES
 from postgres_server import children_of
 from range_calls import FEW, Bad, agree, answered, ch10, child, line_of, state
 from range_page import check_page
@@ -34,15 +37,15 @@ def small(number: int, name: str = 'NAV', lost: int = 0, more: str = '') -> byte
     """A small recording with a setup text, a time, and some UART entries, after a loss if one is given."""
     text = 'G\\PN:TRIAL %d;R-1\\ID:R;R-1\\TK1-1:5;R-1\\DSI-1:%s;R-1\\CDT-1:UARTIN;%s' % (number, name.replace(';', ','), more)
     parts = [packet(0, 0, 0x01, 1, struct.pack('<I', 0x0C) + text.encode('latin-1', 'replace'), 1),
-             packet(1, 0, 0x11, 2 + number, time_body(play_moment(number)))]
+             packet(1, 0, 0x11, 2 + number, time_body(moment_of(number)))]
     if lost:
         parts.append(packet(0, 1, 0x00, 3, bytes(4) + b'LOSS' + struct.pack('<HHQ', 5, 0, lost)))
     parts.append(packet(5, 0, 0x50, 4 + number, text_body([(2, b'ab')] * 9, 4 + number, 1 << 31), 1, 0x10 if lost else 0))
     return b''.join(parts)
 
 
-def play_moment(number: int) -> Any:
-    import datetime
+def moment_of(number: int) -> datetime.datetime:
+    """A time for each small recording: an hour after the one before."""
     return datetime.datetime(2026, 1, 1) + datetime.timedelta(hours=number)
 
 
@@ -62,11 +65,6 @@ def each(dsns: Sequence[str], words: Callable[[str], List[str]], status: int = 0
     for other in said[1:]:
         agree(other, said[0], 'the answer of another database to ' + ' '.join(words('DSN')))
     return said[0]
-
-
-def paths_in(text: str) -> List[str]:
-    import json
-    return sorted(place['path'] for line in text.splitlines() for place in json.loads(line)['places'])
 
 
 def names(room: str, dsns: Sequence[str], made: str) -> None:
@@ -184,6 +182,36 @@ def newer(room: str, dsns: Sequence[str], made: str) -> None:
         raw.close()
 
 
+def taken_out(room: str, dsns: Sequence[str], made: str) -> None:
+    """A recording that somebody deletes while it is added or loaded is a line, and the next call adds it; its number goes to no other."""
+    folder = folder_of(room, 'taken', {'a.ch10': small(140), 'b.ch10': small(141)})
+    for dsn in dsns:
+        ch10(['catalogue', 'add', '--db', dsn, '--unjudged', '--jobs', '1', folder])
+        numbers = []
+
+        def delete() -> None:
+            with contextlib.closing(open_raw(dsn)) as store:
+                numbers.extend(store.rows("SELECT id FROM recording WHERE id = (SELECT max(recording) FROM place WHERE path LIKE ?)", (folder + '%',)))
+                store.rows('DELETE FROM recording WHERE id = ?', numbers[-1])
+
+        kept = catalogue.record
+        catalogue.record = lambda *words: (delete(), kept(*words))[1]
+        try:
+            agree('took a recording out' in line_of(['catalogue', 'add', '--db', dsn, '--unjudged', '--jobs', '1', folder], 3), True, 'a recording that is taken out')
+        finally:
+            catalogue.record = kept
+        ch10(['catalogue', 'add', '--db', dsn, '--unjudged', '--jobs', '1', folder])
+        with after_adding(delete):
+            agree('took a recording out' in line_of(['load', '--db', dsn, '--unjudged', '--jobs', '1', folder], 3), True, 'a recording that is taken out of what is loaded')
+        ch10(['load', '--db', dsn, '--unjudged', '--jobs', '1', folder])
+        agree(counts(dsn, folder), [('a.ch10', 10), ('b.ch10', 10)], 'entries after a recording was taken out')
+        delete()
+        agree(len(set(numbers)), 3, 'numbers of recordings that were taken out')
+        with contextlib.closing(open_raw(dsn)) as store:
+            for table, _ in ENTRIES.values():
+                store.rows('DELETE FROM %s WHERE recording = ?' % table, numbers[-1])
+
+
 def open_raw(dsn: str) -> Any:
     """A database as it is, of whatever version."""
     from ch10.store import is_postgresql
@@ -289,8 +317,11 @@ def wrong(room: str, dsns: Sequence[str], made: str) -> None:
             continue  # without a driver
         said = line_of(['catalogue', 'add', '--db', dsn, '--unjudged', folder], status)
         agree(('heim' in said, '\n' in said), (False, False), 'what is said of %r' % dsn)
+    for name in ('odd ?#%&=:.sqlite', "it's.sqlite"):
+        for path in (os.path.join(room, name), '/' + os.path.join(room, name)):
+            ch10(['catalogue', 'add', '--db', path, '--unjudged', folder])
+            agree(len(ch10(['catalogue', 'find', '--db', path]).splitlines()), 2, 'recordings of the database %r' % path)
     other = os.path.join(room, 'other.sqlite')
-    import sqlite3
     with contextlib.closing(sqlite3.connect(other)) as base:
         base.execute('CREATE TABLE recording (mine)')
         base.commit()
@@ -423,7 +454,7 @@ def mutants(room: str, dsns: Sequence[str], made: str, number: int = 40, seed: i
     agree(status in (0, 1), True, 'the status of a report on mutants')
 
 
-TRIALS = (names, numbers, inputs, vanishing, newer, rights, full, wrong, interrupts, against, mutants)
+TRIALS = (names, numbers, inputs, vanishing, taken_out, newer, rights, full, wrong, interrupts, against, mutants)
 
 
 def many(room: str, dsns: Sequence[str], made: str, number: int = 10000) -> None:
