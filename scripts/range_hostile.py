@@ -291,16 +291,16 @@ def rights(room: str, dsns: Sequence[str], made: str) -> None:
 
 def full(room: str, dsns: Sequence[str], made: str) -> None:
     """A disk that is full is a line, and leaves what was whole; a later call adds the rest."""
-    folder = folder_of(room, 'full', {'r%03d.ch10' % number: small(200 + number, 'N' * 40, 0, 'G\\COM:%s;' % (LONG[number:])) for number in range(150)})
+    folder = folder_of(room, 'full', {'r%03d.ch10' % number: small(200 + number, 'N' * 40, 0, 'G\\COM:%s;' % (LONG[number:])) for number in range(80)})
     path = os.path.join(room, 'full.sqlite')
-    for size in (100, 300, 400):
+    for size in (100, 200, 300):
         def limited() -> None:
             resource.setrlimit(resource.RLIMIT_FSIZE, (size << 10, size << 10))
         status = os.waitpid(child(['catalogue', 'add', '--db', path, '--unjudged', '--jobs', '1', folder], limited), 0)[1]
         agree(os.waitstatus_to_exitcode(status), 3, 'a call whose disk is full at %d KiB' % size)
     ch10(['catalogue', 'add', '--db', path, '--unjudged', '--jobs', '1', folder])
     with contextlib.closing(open_store(path, make=False)) as store:
-        agree(store.rows('SELECT count(*), count(DISTINCT sha256) FROM recording'), [(150, 150)], 'what is added after a disk was full')
+        agree(store.rows('SELECT count(*), count(DISTINCT sha256) FROM recording'), [(80, 80)], 'what is added after a disk was full')
         agree(store.rows('PRAGMA integrity_check'), [('ok',)], 'a database whose disk was full')
     with open('/dev/full', 'wb') as to:
         done = subprocess.run([sys.executable, str(HERE / 'ch10.py'), 'report', '--unjudged', folder], stdout=to, stderr=subprocess.PIPE)
@@ -435,7 +435,7 @@ def mutant(draw: random.Random, data: bytes) -> bytes:
     return made[:draw.randrange(len(made))] if draw.random() < 0.1 else made
 
 
-def mutants(room: str, dsns: Sequence[str], made: str, number: int = 40, seed: int = 3) -> None:
+def mutants(room: str, dsns: Sequence[str], made: str, number: int = 16, seed: int = 3) -> None:
     """Recordings with changed bytes, headers and order: each has a row, its entries are loaded or it is named, and both databases have the same."""
     draw = random.Random(seed)
     files = {'m%04d.ch10' % place: mutant(draw, recording(seed, place, 15000, FEW)) for place in range(number)}
