@@ -89,9 +89,10 @@ def answers(dsn: str) -> List[str]:
     """What a catalogue answers to the questions, without what is of the moment."""
     made = []
     for question in QUESTIONS:
-        for more in ([], ['--json'], ['--channels'], ['--channels', '--json']):
+        has_channel = any(word in question for word in ('--name', '--type', '--channel', '--losses', '--jumps'))
+        for more in ([], ['--json'], ['--channels'], ['--channels', '--json'])[:4 if has_channel else 2]:
             made.append(settled(ch10(['catalogue', 'find', '--db', dsn] + question + more)))
-    for line in ch10(['catalogue', 'find', '--db', dsn, '--json']).splitlines():
+    for line in ch10(['catalogue', 'find', '--db', dsn, '--json']).splitlines()[::3]:
         sum_ = json.loads(line)['sha256']
         made += [settled(ch10(['catalogue', 'show', '--db', dsn, sum_])), settled(ch10(['catalogue', 'show', '--db', dsn, '--json', sum_[:20]]))]
     return made
