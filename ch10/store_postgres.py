@@ -90,11 +90,9 @@ class Postgres(Store):
             for at in range(0, len(missing), MOST_DAYS):
                 with self.transaction():
                     self.lock_for_migrations()
-                    for day in self.without(table, missing[at:at + MOST_DAYS]):
-                        name, following = partition_of(table, day), datetime.date.fromisoformat(day).toordinal() + 1
-                        self.rows('CREATE TABLE %s (LIKE %s INCLUDING ALL)' % (name, table))
-                        self.rows("ALTER TABLE %s ATTACH PARTITION %s FOR VALUES FROM ('%s') TO (%s)" % (
-                            table, name, day, "'%s'" % datetime.date.fromordinal(following) if following <= LAST_DAY else 'MAXVALUE'))
+                    made = [day_made(table, day) for day in self.without(table, missing[at:at + MOST_DAYS])]
+                    if made:
+                        self.rows(';\n'.join(made))  # all in one go: an answer for each would have to be waited for
 
     def without(self, table: str, days: Sequence[str]) -> List[str]:
         """Those of some days that a table has no partition for."""
@@ -127,6 +125,13 @@ class Postgres(Store):
 
 def partition_of(table: str, day: str) -> str:
     return '%s_%s' % (table, day.replace('-', ''))
+
+
+def day_made(table: str, day: str) -> str:
+    """The statements that make the partition of a day."""
+    name, following = partition_of(table, day), datetime.date.fromisoformat(day).toordinal() + 1
+    end = "'%s'" % datetime.date.fromordinal(following) if following <= LAST_DAY else 'MAXVALUE'
+    return "CREATE TABLE %s (LIKE %s INCLUDING ALL);\nALTER TABLE %s ATTACH PARTITION %s FOR VALUES FROM ('%s') TO (%s)" % (name, table, table, name, day, end)
 
 
 def one_line(error: BaseException) -> str:

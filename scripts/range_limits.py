@@ -141,5 +141,7 @@ def bounded(what: str, dsn: Optional[str] = None, work: float = WORK, passed: fl
 
 
 def ends_on_term() -> None:
-    """SIGTERM ends this process as an exception does: what it started is stopped, and its folders are removed."""
+    """SIGTERM ends this process as an exception does: what it started is stopped, and its folders are removed. SIGINT does too, also where a shell that started this
+    one in the background has it ignored: what is started here would ignore it too."""
     signal.signal(signal.SIGTERM, lambda *_: sys.exit(143))
+    signal.signal(signal.SIGINT, signal.default_int_handler)

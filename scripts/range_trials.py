@@ -544,6 +544,7 @@ def figures(folder: str, made: str, jobs: int, loads: int) -> int:
             print_finds(name, dsn)
             found[name], sizes[name] = dsn, bytes_of(dsn)
             print('%s: the catalogue has %.2f MB' % (name, sizes[name] / 1e6))
+        print('%d answers of both databases agree' % same_answers(list(found.values())), flush=True)
         some = paths[:loads]
         for name, dsn in found.items():
             start, work = spent()
@@ -553,6 +554,18 @@ def figures(folder: str, made: str, jobs: int, loads: int) -> int:
             print('%s: %d entries loaded at %.0f a second, %.2f microseconds of a processor for each beside the server; %.0f bytes for each' % (
                 name, entries, entries / passed, used * 1e6 / entries, (bytes_of(dsn) - sizes[name]) / max(entries, 1)))
     return 0
+
+
+def same_answers(dsns: Sequence[str]) -> int:
+    """Sees that databases answer alike: each two conditions, the channels of some, and all that is kept of each damaged recording and each tenth of the others."""
+    asked = [['find', '--json'] + one + other for one, other in itertools.combinations(CONDITIONS, 2)]
+    asked += [['find', '--channels'] + question[2:] for question in asked[::5]]
+    shown = [json.loads(line) for line in ch10(['catalogue', 'find', '--db', dsns[0], '--json']).splitlines()]
+    asked += [['show', '--json', facts['sha256']] for place, facts in enumerate(shown) if facts['damaged'] or place % 10 == 0]
+    for words in asked:
+        said = [settled(ch10(['catalogue'] + words + ['--db', dsn])) for dsn in dsns]
+        agree(said[1:], said[:-1], 'the answers to ' + ' '.join(words))
+    return len(asked)
 
 
 def bytes_of(dsn: str) -> int:
