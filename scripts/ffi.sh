@@ -9,7 +9,7 @@
 #     scripts/ffi.sh check             # runs both, ffi/calls.c, which calls each function, also as C++, ffi/flight.c, ffi/disk.c and ffi/commits.c, and compares what they print with ffi/*.expected
 #     scripts/ffi.sh kept              # prints where the library is: the proved one if it is there, else one that is not proved
 #     scripts/ffi.sh proved            # prints where the proved library is; status 1 if it is not there, or a source has changed
-#     scripts/ffi.sh behind-ci         # `rt ci`; after it `check` over its libraries, an installation of what was proved, and sessions: the gate
+#     scripts/ffi.sh behind-ci         # `rt ci`; after it `check` over its libraries, an installation of what was proved, the service, and sessions: the gate
 #
 # With --quick as the word after it, `build`, `examples` and `check` take a library that is not proved: it is made once, in one to three minutes, and kept
 # (scripts/quick_build.py). `build` prints where the library is.
@@ -275,6 +275,7 @@ behind_ci() {
             fi
         ) || status=1
         installed || status=1
+        R10=$top/crates/r10_cli/out/r10_cli "$top/scripts/recorder.sh" check || status=1
         "$top/scripts/hammer.py" --gate || status=1
         [ "$status" = 0 ] || last=$(sed 's/^\([0-9]* passed, \)[0-9]* failed/\11 failed/' "$room/last")
     fi

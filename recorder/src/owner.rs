@@ -88,6 +88,8 @@ pub struct Lane {
     pub(crate) untold: u64,
     /// what of them it was given, and no message was accepted after
     pub(crate) told: u64,
+    /// all that this recorder was given, which counts them with what overflowed
+    pub(crate) given: u64,
     pub refused: u64,
     /// messages that came while nothing was recorded
     pub passed: u64,
@@ -160,6 +162,7 @@ impl Owner {
             lost: 0,
             untold: 0,
             told: 0,
+            given: 0,
             refused: 0,
             passed: 0,
             longest: 1,
@@ -456,7 +459,8 @@ impl Owner {
 /// Gives the recorder the number of messages that were lost before the channel's next one, so that its file has it.
 fn tell_lost(recorder: &mut Recorder, lane: &mut Lane) {
     if lane.untold > 0 && recorder.lose(lane.channel.id, lane.untold).is_ok() {
-        lane.told += std::mem::take(&mut lane.untold);
+        lane.told += lane.untold;
+        lane.given += std::mem::take(&mut lane.untold);
     }
 }
 

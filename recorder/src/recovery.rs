@@ -71,6 +71,7 @@ impl Owner {
             let lane = &mut self.lanes[place];
             let lost = lane.pending.len() - there;
             lane.durable += there as u64;
+            lane.given = 0;
             // what the recorder was given of losses is in no file either, where the message is not that was to carry it
             lane.untold += std::mem::take(&mut lane.told) + lane.pending.drain(..).skip(there).map(|it| it.lost).sum::<u64>();
             lane.waiting = 0;

@@ -400,7 +400,7 @@ impl Owner {
         let mut channels = Vec::new();
         for lane in &mut self.lanes {
             let overflow = match &mut self.recorder {
-                Some(recorder) => recorder.channel(lane.channel.id)?.map_or(0, |it| it.lost),
+                Some(recorder) => recorder.channel(lane.channel.id)?.map_or(0, |it| it.lost.saturating_sub(lane.given)),
                 None => 0,
             };
             let (count, length, bytes) = lane.last.clone().unwrap_or_default();
