@@ -95,7 +95,7 @@ def a_flood(room: Room, count: int = 100_000) -> str:
     ports = room.ports(2)
     service = Service(room, settings(udp_channels(ports), blocks=1 << 19, commit_ms=10))
     before = service.figures()['memory_kib']
-    load = room.load(ports[:1], count=count, rate=0, size=40)
+    load = room.load(ports[:1], count=count, rate=0, size=40, seconds=900)
     gentle = room.load(ports[1:], count=200, rate=400)
     figures = service.until_durable(count + 200, 900)
     load.wait()
