@@ -266,16 +266,18 @@ def entries(image: bytes, file: int, channel: Optional[int] = None) -> list[Entr
     return found
 
 
+# what follows the numbers of a message of load goes on from one of these bytes
+BODY = bytes(range(256)) * 257
+
+
 def load_numbers(found: list[Entry]) -> list[tuple[int, int, int]]:
     """Run, number and gap of each message of load, whose bytes are compared with what they have to be."""
     numbers = []
     for entry in found:
         body = bytes.fromhex(entry.words[-1])
         run, number = int.from_bytes(body[:8], 'little'), int.from_bytes(body[8:16], 'little')
-        must(
-            body[16:] == bytes((number * 31 + at) & 255 for at in range(len(body) - 16)),
-            f'message {number} of run {run} has other bytes',
-        )
+        wanted = BODY[number * 31 % 256 :][: len(body) - 16]
+        must(body[16:] == wanted, f'message {number} of run {run} has other bytes')
         numbers.append((run, number, int(entry.gap.rstrip('+') or 0)))
     return numbers
 
