@@ -12,8 +12,8 @@
 set -u
 
 top=$(cd "$(dirname "$(readlink -f "${BASH_SOURCE[0]}")")/.." && pwd)
-readonly PACKAGES="librust-clap-dev librust-nix-dev librust-sd-notify-dev librust-serde-dev librust-serde-derive-dev librust-serde-json-dev librust-signal-hook-dev
- librust-time-dev librust-toml-dev"
+readonly PACKAGES="librust-clap-dev librust-nix-dev librust-sd-notify-dev librust-serde-dev librust-serde-derive-dev librust-serde-json-dev librust-signal-hook-dev \
+librust-time-dev librust-toml-dev"
 readonly REGISTRY=/usr/share/cargo/registry
 
 give_up() {
