@@ -260,15 +260,20 @@ def of_ways() -> Maker:
     return make
 
 
+def damaged(parts: List[bytes]) -> List[bytes]:
+    """A recording with a bit turned in each tenth packet, after its header."""
+    return [part[:25] + bytes((part[25] ^ 1,)) + part[26:] if place % 10 == 5 else part for place, part in enumerate(parts)]
+
+
 def by_ways() -> Tuple[object, object]:
     """By one process and by three, and by numpy where it is installed: the same bytes, and the same summary."""
     extra = of_ways().parts
-    recordings = [flight(random.Random('ways'), 300) + extra, extra, 2 * flight(random.Random('twice'), 60)]
+    recordings = [flight(random.Random('ways'), 300) + extra, extra, 2 * flight(random.Random('twice'), 60), damaged(flight(random.Random('damaged'), 100))]
     wrong = []
     for which, parts in enumerate(recordings):
         data = b''.join(parts)
         for words in (['csv'], ['json'], ['csv', '--kind', 'uart'], ['json', '--channel', '7'], ['csv', '--kind', 'arinc', '--turned-labels'], ['json', '--kind', '1553'],
-                      ['csv', '--raw'], ['summary', '--json']):
+                      ['csv', '--raw'], ['csv', '--keep-going'], ['summary', '--json']):
             wanted = None
             for least, each, together, few, ahead, jobs in WAYS:
                 with ways(least, each, together, few, ahead):
