@@ -7,6 +7,7 @@ import re
 import shutil
 import subprocess
 import tempfile
+import time
 from html.parser import HTMLParser
 from typing import Dict, List, Optional, Sequence, Tuple
 
@@ -87,13 +88,19 @@ def browser() -> str:
 
 def picture_of(page: str, to: str, height: int = 1600) -> None:
     """The picture that a browser makes of a page."""
-    with tempfile.TemporaryDirectory() as room:
+    room = tempfile.mkdtemp(prefix='ch10-browser-')
+    try:
         words = [browser(), '--headless', '--no-sandbox', '--disable-gpu', '--hide-scrollbars', '--user-data-dir=' + room, '--screenshot=' + to,
                  '--window-size=1200,%d' % height, 'file://' + page]
         try:
             done = subprocess.run(words, stdout=subprocess.DEVNULL, stderr=subprocess.PIPE, timeout=120)
         except subprocess.TimeoutExpired:
             raise NotThere('the browser does not end within two minutes')
+    finally:
+        end = time.monotonic() + 10
+        while os.path.exists(room) and time.monotonic() < end:  # processes of the browser write there for a while yet
+            shutil.rmtree(room, ignore_errors=True)
+            time.sleep(0.05)
     if done.returncode or not os.path.exists(to):
         raise Bad('the browser: ' + done.stderr.decode(errors='replace')[-300:])
 
