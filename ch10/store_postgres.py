@@ -33,7 +33,7 @@ def driver() -> Any:
 
 class Postgres(Store):
     engine = 'postgresql'
-    for_update = ' FOR UPDATE'
+    for_update = ' FOR NO KEY UPDATE'  # others may still refer to the row
     words = {'identity': 'BIGINT GENERATED ALWAYS AS IDENTITY PRIMARY KEY', 'text': 'TEXT COLLATE "C"', 'bytes': 'BYTEA', 'time': 'TIMESTAMP(6)'}
 
     def __init__(self, dsn: str) -> None:

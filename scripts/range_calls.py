@@ -74,8 +74,8 @@ class Stream(io.BytesIO):
         return False
 
 
-def child(words: Sequence[str], prepare: Optional[Callable[[], None]] = None) -> int:
-    """Makes a call in a process of its own, which begins at once, and answers its number."""
+def child(words: Sequence[str], prepare: Optional[Callable[[], None]] = None, says: bool = False) -> int:
+    """Makes a call in a process of its own, which begins at once, and answers its number. What is wrong may be said on standard error."""
     sys.stdout.flush()
     number = os.fork()
     if number == 0:
@@ -84,7 +84,9 @@ def child(words: Sequence[str], prepare: Optional[Callable[[], None]] = None) ->
             ends_with_parent()
             if prepare:
                 prepare()
-            status, _ = command.answer(list(words), lambda: b'', Stream)
+            status, line = command.answer(list(words), lambda: b'', Stream)
+            if says and line:
+                print(line, file=sys.stderr, flush=True)
             os._exit(status)
         finally:
             os._exit(99)

@@ -376,7 +376,7 @@ def against(room: str, dsns: Sequence[str], made: str) -> None:
     folder = folder_of(room, 'against', {'r%03d.ch10' % number: small(24 * number + 7) for number in range(60)})
     paths = sorted(os.path.join(folder, name) for name in os.listdir(folder))
     for dsn in dsns:
-        calls = [child(['load', '--db', dsn, '--unjudged', '--jobs', '1'] + some) for some in (paths[:45], paths[:14:-1], paths[::3])]
+        calls = [child(['load', '--db', dsn, '--unjudged', '--jobs', '1'] + some, says=True) for some in (paths[:45], paths[:14:-1], paths[::3])]
         agree([os.waitpid(number, 0)[1] for number in calls], [0, 0, 0], 'loads at a time')
         agree(counts(dsn, folder), [(os.path.basename(path), 10) for path in paths], 'entries that loads at a time have loaded')
 
@@ -406,7 +406,19 @@ def check_days_beside(dsns: Sequence[str]) -> None:
                 one.rows("INSERT INTO entry_uart (recording, count, time, channel) VALUES (0, 0, '1999-01-01', 0)")
                 other.make_days({('entry_uart', '1999-01-02'), ('entry_uart', '1999-01-01')})
                 one.rows('ROLLBACK')
+                check_places_beside(one, other)
                 agree(other.without('entry_uart', ['1999-01-01', '1999-01-02', '1999-01-03']), ['1999-01-03'], 'days without a table')
+
+
+def check_places_beside(one: Any, other: Any) -> None:
+    """While one call may give a recording another verdict, another one notes where it lies: else each could wait for the other."""
+    (number,), = one.rows('SELECT min(id) FROM recording')
+    one.rows('BEGIN')
+    one.rows('SELECT verdict FROM recording WHERE id = ?' + one.for_update, (number,))
+    other.rows('BEGIN')
+    other.rows("INSERT INTO place (path, recording, seen) VALUES ('beside', ?, '')", (number,))
+    other.rows('ROLLBACK')
+    one.rows('ROLLBACK')
 
 
 def mutant(draw: random.Random, data: bytes) -> bytes:
