@@ -1,4 +1,4 @@
--- What workers asked of the recorder that they share: each thing that is told was done to what the lock kept at the time.
+-- What workers asked of the recorder that they share, and what was done then to what the lock kept at the time.
 use Rattle.std.specs.Prelude.{◌≡◌, ℕ, ◌+◌, ◌%◌, ◌^◌, Bool, true, false, List, [], ◌∷◌, length, slice_index_or, Result, None, IfErr, OnOk}
 use Rattle.std.specs.List.{AllByRecursion}
 use Rattle.r10_body.specs.declared.refusal.Refusal.{Refusal}
@@ -110,6 +110,6 @@ pub record Worked {X : Type 0} (answers : Bool → Type 0) (wanted : List X → 
   pub as_wanted : IfLet answer wanted asks
   pub done : AllByRecursion was_done asks
 
--- of what a reader asked nothing more is told here: what it wrote down tells it
+-- of what a reader asked there is nothing more here; ReadsOn has what it wrote down
 abbrev pub IsNoted : Watched → Type 0
 IsNoted watched = Unit {0}

@@ -57,7 +57,7 @@ pub record IsRound (channels : ℕ) (last : Bool) (round : Round) (asks : List A
 
 -- ---- turns, of the recorder that is shared
 
--- the writer looks whether all feeds are over, and control; it goes round, as the last time or not; it tells readers of a commit; it announces that it waits; it sleeps
+-- the writer looks whether all feeds are over, and control; it goes round, as the last time or not; it wakes the readers after a commit; it announces that it waits; it sleeps
 pub data Turned : Type 0 where
   Looks : Bool → Turned
   Goes : Bool → Round → Turned
@@ -65,7 +65,7 @@ pub data Turned : Type 0 where
   Announces : Turned
   Sleeps : Turned
 
--- after a round that has committed the readers are told
+-- after a round that has committed the readers are woken
 abbrev pub tells_of : Round → List Turned
 tells_of round = if round.committed then Tells ∷ [] else []
 
