@@ -171,7 +171,7 @@ fn losses_outside_mark_the_next_message() -> Result<(), Error> {
     recorder.lose(3, 40)?;
     recorder.lose(3, 0)?;
     recorder.lose(3, 2)?;
-    assert_eq!(recorder.lose(8, 1), Err(Error::NO_CHANNEL));
+    assert_eq!(recorder.lose(9, 1), Err(Error::NO_CHANNEL));
     recorder.offer(3, 1001, Message::Uart { parity: false, sub: 0, bytes: b"one" })?;
     recorder.pump(3, 1)?;
     recorder.commit()?;
