@@ -3,7 +3,7 @@ import random
 import subprocess
 import time
 
-from trying import Room, Service, Trail, Wrong, files, judge, lines_of, must, settings, trial, udp_channels
+from trying import Room, Service, Trail, Wrong, files, judge, lines_of, must, seconds, settings, trial, udp_channels
 
 
 @trial
@@ -62,7 +62,7 @@ def kills(room: Room, count: int = 4, seed: int = 1) -> str:
         service = Service(room, text, disk={'slow': chance.choice((0, 300, 2000))} if room.has_disk else None)
         if number == 0:
             service.ask('.RECORD')
-        service.wait_for(': recording', 5)
+        service.wait_for(': recording', 30)
         gone.append(time.monotonic() - start)
         load = room.load(ports, rate=chance.choice((500, 5000, 30000)), size=chance.choice((16, 40, 700)), run=number, seconds=60)
         time.sleep(chance.uniform(0.1, 0.7))
@@ -82,8 +82,8 @@ def kills(room: Room, count: int = 4, seed: int = 1) -> str:
                 service.kill()
                 acknowledged = {}
                 (room.folder / 'lines').write_text('')
-    must(max(gone) < 2, f'to record again took {max(gone):.2f} s')
-    must(sum_of['untold'] == 0, f'{sum_of}')
+    must(max(gone) < seconds(2), f'to record again took {max(gone):.2f} s')
+    must(sum_of['untold'] == 0 and sum_of['acknowledged'] > 0, f'{sum_of}')
     counted = f"{sum_of['acknowledged']} acknowledged of {sum_of['messages']} messages, 0 missing"
     return f'{count} kills, {counted}, recording again within {max(gone):.2f} s'
 
@@ -119,7 +119,9 @@ def power_cuts(room: Room, runs: int = 1, places: int = 6, seed: int = 1) -> str
         (room.folder / 'lines').write_text('')
         service = Service(room, text, disk={'trail': room.folder / 'trail'})
         load = room.load(ports, rate=chance.choice((500, 5000, 20000)), size=chance.choice((16, 60, 300)), run=number, seconds=20)
-        time.sleep(chance.uniform(0.3, 0.6))
+        # (on a busy machine that may be too short for a commit)
+        service.until_durable(100, 60)
+        time.sleep(chance.uniform(0.2, 0.5))
         service.end() if chance.random() < 0.5 else service.kill()
         load.kill()
         load.wait()
@@ -141,7 +143,7 @@ def power_cuts(room: Room, runs: int = 1, places: int = 6, seed: int = 1) -> str
         service = Service(room, text)
         if not files(last) or files(last)[-1][3] == '1':
             service.ask('.RECORD')
-        service.wait_for(': recording', 3)
+        service.wait_for(': recording', 30)
         load = room.load(ports, rate=1000, run=2000, count=100)
         service.until_durable(100)
         load.wait()
@@ -152,6 +154,7 @@ def power_cuts(room: Room, runs: int = 1, places: int = 6, seed: int = 1) -> str
             'it does not record on',
         )
         on += 1
+    must(sum_of > 0, 'nothing was acknowledged: the machine is too busy for this trial')
     return f'{runs} runs of {steps} operations, {images} media, {sum_of} acknowledged messages, 0 missing, recorded on from {on}'
 
 

@@ -2,7 +2,7 @@
 import socket
 import time
 
-from trying import Room, Service, entries, files, load_numbers, must, settings, trial, udp_channels
+from trying import Room, Service, entries, files, load_numbers, must, seconds, settings, trial, udp_channels
 
 
 @trial
@@ -84,7 +84,7 @@ def the_end_and_the_manager(room: Room) -> str:
         except BlockingIOError:
             pass
     must('READY=1' in seen and 'STOPPING=1' in seen and seen.count('WATCHDOG=1') >= 5, f'{seen}')
-    must(took < 2, f'the end took {took:.2f} s')
+    must(took < seconds(2), f'the end took {took:.2f} s')
     must(files((room.folder / 'medium').read_bytes())[0][3] == '1', 'the file is not closed')
     return f'ended in {took:.2f} s'
 

@@ -37,6 +37,11 @@ def must(holds: Any, text: str) -> None:
         raise Wrong(text)
 
 
+def seconds(wanted: float) -> float:
+    """So many seconds, and more where more processes want a processor than there are: then the service waits for one too."""
+    return wanted * max(1.0, 2 * os.getloadavg()[0] / (os.cpu_count() or 1))
+
+
 class Room:
     """A folder for a trial, with programs, a free range of ports, and what is left of it when it goes wrong."""
 
