@@ -14,7 +14,7 @@
     buses, fields    what entries mean, and the columns that say so
     recording    the interface for other programs: files, packets and typed entries of an input
     inputs       what a call reads and writes
-    parallel, vector    lines by several processes, and by numpy
+    parallel, vector    lines by several processes, and by numpy; walk, which stands on packets and bodies, finds entries by numpy
     table, lines, picture, cuts, database, script    the commands
     command      the words of a call
 
