@@ -5,7 +5,7 @@ use std::io;
 use std::ops::Range;
 use std::os::unix::fs::{FileExt, FileTypeExt, MetadataExt};
 use std::path::{Path, PathBuf};
-use std::time::Instant;
+use std::time::{Duration, Instant};
 
 use nix::sys::stat::{major, minor};
 use r10::{Disk, Error, Recorder};
@@ -15,6 +15,9 @@ use crate::{info, warning};
 
 /// How many operations may wait before the library asks for memory.
 const ROOM: usize = 4096;
+
+/// How long a medium may be in use by a program that is gone.
+const GONE: Duration = Duration::from_secs(2);
 
 /// The bytes of a plain read.
 const PART: u64 = 1 << 20;
@@ -137,7 +140,14 @@ impl Medium {
 
     /// Takes the medium for this program alone.
     fn take(&self) -> Result<Disk, Refusal> {
-        Disk::open(&self.path, self.blocks).map_err(|error| match error.kind() {
+        let start = Instant::now();
+        let mut opened = Disk::open(&self.path, self.blocks);
+        // one that was killed just now has it until the system has cleared it away
+        while opened.as_ref().is_err_and(|error| error.kind() == io::ErrorKind::WouldBlock) && start.elapsed() < GONE {
+            std::thread::sleep(Duration::from_millis(20));
+            opened = Disk::open(&self.path, self.blocks);
+        }
+        opened.map_err(|error| match error.kind() {
             io::ErrorKind::WouldBlock => Refusal::Taken(format!(
                 "the medium {} is used by another program: end that one, or give this one a medium of its own",
                 self.name()
