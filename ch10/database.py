@@ -14,6 +14,7 @@ from .medium import File, bytes_of
 from .packets import UNTOLD
 from .replay import Ordered, Part
 from .standard import BUS, Data, Fault, Wrong
+from .store_schema import MOST_NUMBER
 from .survey import Survey, name_of
 
 FRONT = (('file', WHOLE), ('channel', WHOLE), ('name', TEXT), ('count', WHOLE), ('time', TEXT), ('lost', WHOLE))
@@ -130,7 +131,7 @@ def add(asked: Namespace, data: Data, begin: int, end: int, base: Database, numb
                         survey.fault and str(survey.fault), end - begin - survey.size)])
     base.add('channels', [(number, row.channel, survey.names.channel(row.channel) or None, name_of(row.kind), row.packets,
                            row.entries if row.has_entries() else None, row.bytes, row.first(), row.last(), civil(row.first()), civil(row.last()), row.rate(),
-                           row.losses, row.lost, row.untold, row.jumps, row.opaque, row.bad) for row in survey.rows])
+                           row.losses, row.lost and min(row.lost, MOST_NUMBER), row.untold, row.jumps, row.opaque, row.bad) for row in survey.rows])
     base.add('damage', [(number, one.offset, one.length, one.why, one.channel, None if one.kind is None else name_of(one.kind)) for one in survey.damage])
     for line in survey.times:
         add_clock(base, number, line, span)
@@ -151,6 +152,11 @@ def add_clock(base: Database, number: int, line: TimeLine, span: Tuple[int, int]
     base.add('clock_jumps', [(number, line.channel, jump.offset, jump.count, jump.by / 10 ** 7) for jump in line.jumps()])
 
 
+def told(lost: int) -> Optional[int]:
+    """How many were lost, as far as a column takes it; none where the recording does not tell how many."""
+    return None if lost == UNTOLD else min(lost, MOST_NUMBER)
+
+
 def add_part(base: Database, number: int, ordered: Ordered, part: Part, reader: Reader) -> None:
     """Adds the entries of a part, by their counts."""
     clock = ordered.survey.clock
@@ -163,9 +169,9 @@ def add_part(base: Database, number: int, ordered: Ordered, part: Part, reader: 
         for count, values in reader.entries(packet, ordered.states.get(place)):
             if part.low <= count < part.high:
                 when = clock.text(count) if clock else None
-                rows.append((number, packet.channel, name, count, when, None if lost == UNTOLD else lost, *values))
+                rows.append((number, packet.channel, name, count, when, told(lost), *values))
                 if packet.flags & 0x10 and first:
-                    losses.append((number, packet.channel, name_of(packet.kind), count, when, None if lost == UNTOLD else lost))
+                    losses.append((number, packet.channel, name_of(packet.kind), count, when, told(lost)))
             lost, first = 0, False
     for name, rows in held.items():
         rows.sort(key=lambda row: (row[3], row[1]))

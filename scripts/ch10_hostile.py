@@ -4,6 +4,7 @@ import datetime
 import os
 import pathlib
 import random
+import sqlite3
 import subprocess
 import sys
 import tempfile
@@ -84,6 +85,26 @@ def wrong_scripts() -> Tuple[object, object]:
     odd = [run(['tmats'], good.replace('bus = 3', new).encode())[0] for new in ('bus = []', 'bus = "b"', 'bus = 1.5')]
     by_hand = script.by_lines('a = _\nb = 1_000\n[[x]]\nc = "d"\n')
     return (found, odd, by_hand), ([(1, '', 0, True)] * 9, [0] * 3, ({'a': '_', 'b': 1000}, {'x': [{'c': 'd'}]}))
+
+
+# a setup, a time, a report of 2^64 - 2 lost messages, and the message after them
+MANY_LOST = bytes.fromhex(
+    '25eb00001c0000000400000008000001e8030000000035f00c00000025eb0100240000000c00000008000011e8030000000046000103000078563412'
+    '2902242025eb00002c0000001400000008010000e8030000000055f0000000004c4f535305000000feffffffffffffff25eb05002c00000012000000'
+    '08001050e90300000000693f00000080e9030000000000000100000041000000'
+)
+
+
+def more_lost_than_a_column_takes() -> Tuple[object, object]:
+    """A loss of more than 2^63 - 1 messages stands whole in csv, and as the greatest number in a database."""
+    rows = [row.split(',')[4] for row in run(['csv', '--kind', 'uart'], MANY_LOST)[1].splitlines()]
+    with tempfile.TemporaryDirectory() as folder:
+        path = str(pathlib.Path(folder, 'flight.db'))
+        status = run(['sqlite', '--out', path], MANY_LOST)[0]
+        base = sqlite3.connect(path)
+        found = [base.execute('SELECT lost FROM ' + it).fetchone()[0] for it in ('uart', 'losses', 'channels WHERE channel = 5')]
+        base.close()
+    return (status, rows, found), (0, ['lost', str(2 ** 64 - 2)], [2 ** 63 - 1] * 3)
 
 
 # ---- files, pipes and processes
@@ -178,4 +199,4 @@ def syntax() -> Tuple[object, object]:
     return (found, len(said), start.index('version_info < (3, 7)') < start.index('from ch10')), ([], 1, True)
 
 
-TRIALS: List[Callable] = [damaged_front, within_another, once_wrong, counter_anew, wrong_scripts, inputs_of_the_shell, memory, version, signatures, syntax]
+TRIALS: List[Callable] = [damaged_front, within_another, once_wrong, counter_anew, wrong_scripts, more_lost_than_a_column_takes, inputs_of_the_shell, memory, version, signatures, syntax]
