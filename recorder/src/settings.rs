@@ -267,7 +267,7 @@ impl Reader<'_> {
     }
 
     fn settings(&mut self, it: Document) -> Settings {
-        let directory = self.number_or("directory", &it.directory, 64, 1..=64);
+        let directory = self.number_or("directory", &it.directory, 63, 1..=64);
         let blocks = self.number("blocks", &it.blocks, directory + 2..=16_777_216);
         let volume = self.word("volume", &it.volume, 32);
         let nodes = self.number_or("nodes", &it.nodes, 1000, 1..=32_765);
@@ -508,14 +508,14 @@ input = { udp = \"127.0.0.1:20005\" }
         let it = read(GOOD, Path::new("/f")).unwrap();
         assert_eq!((it.medium, it.socket), (PathBuf::from("/f/m"), PathBuf::from("/f/c")));
         assert_eq!((it.commit, it.begin, it.channels.len()), (Duration::from_millis(100), Begin::Resume, 1));
-        assert!(it.script.contains("blocks = 4096\ndirectory = 64\n"));
+        assert!(it.script.contains("blocks = 4096\ndirectory = 63\n"));
     }
 
     #[test]
     fn each_fault_has_line_key_value_and_limit() {
         for (old, new, wanted) in [
-            ("blocks = 4096", "blocks = 65", "line 2: blocks = 65: give a number from 66 to 16777216"),
-            ("blocks = 4096", "blocks = 16777217", "line 2: blocks = 16777217: give a number from 66 to 16777216"),
+            ("blocks = 4096", "blocks = 64", "line 2: blocks = 64: give a number from 65 to 16777216"),
+            ("blocks = 4096", "blocks = 16777217", "line 2: blocks = 16777217: give a number from 65 to 16777216"),
             ("\"VOL\"", "\"A B\"", "line 3: volume = \"A B\": give 1 to 32 letters, digits, '.', '_' or '-'"),
             ("id = 5", "id = 0", "line 7: id = 0: give a number from 1 to 65535"),
             ("id = 5", "id = 2", "line 7: id = 2: another channel has this ID; give each channel, time and event an ID of its own"),
@@ -579,8 +579,8 @@ input = { udp = \"127.0.0.1:20005\" }
         let script = read(GOOD, Path::new("/f")).unwrap().script;
         assert!(is_taken(&script));
         for (line, least, most) in [
-            ("blocks = 4096", 66, 16_777_216),
-            ("directory = 64", 1, 64),
+            ("blocks = 4096", 65, 16_777_216),
+            ("directory = 63", 1, 64),
             ("nodes = 1000", 1, 32_765),
             ("time = 1", 1, 65_535),
             ("id = 5", 1, 65_535),
