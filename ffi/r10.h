@@ -138,7 +138,7 @@ typedef struct r10_entry {
     uint16_t year, month, day, hour, minute, second, centi; /* time */
     uint8_t kind;
     uint8_t bus;     /* ARINC */
-    bool gap;        /* at least one message before it on its channel was refused for an overflow */
+    bool gap;        /* at least one message right before it on its channel was lost */
     bool parity;     /* UART, ARINC */
     bool format;     /* ARINC, message */
     bool data_error; /* message */

@@ -3,7 +3,7 @@
 ghost use Rattle.std.specs.Prelude.{◌≡◌, ◌↔◌, IsTrue};
 ghost use Rattle.r10_body.specs.Gaps.{IsSoundGap, gap_after, is_gap};
 
-/// Whether messages of a channel were refused between a message and the one before it, because the channel's lane was full.
+/// Whether messages of a channel were lost between a message and the one before it: its lane was full, or they were lost before they were offered.
 #[derive(Clone, Copy, Debug, PartialEq, Eq)]
 pub enum Gap {
     /// None were.
@@ -15,7 +15,7 @@ pub enum Gap {
 }
 
 impl Gap {
-    /// The gap behind so many refusals.
+    /// The gap after so many lost messages.
     pub fn after(missed: u64) -> Gap
         ensures is { result ≡ gap_after missed }
         ensures sound { IsSoundGap result }
