@@ -105,6 +105,8 @@ class Build:
 
     def __init__(self, name: str, lanes: int) -> None:
         self.name, self.lanes = name, lanes
+        # how many jobs at once, in all crates
+        self.jobs = max(lanes, min(2 * lanes - 1, free_memory() // MEMORY))
         self.rtlib = tool(kit())
         self.place = place_of_lanes()
         self.named = {it: deps for it, deps in named().items() if it in below(name)}
@@ -281,10 +283,13 @@ class Build:
                 give_up('crates.txt has a circle')
             free = [it for it in range(lanes) if it not in self.running]
             chosen = sorted(ready, key=lambda it: -self.longest[it])[:len(free)]
-            # processors that no other crate is ready for go to those that are
-            spare = max(0, lanes - sum(jobs for _, jobs, _, _ in self.running.values()) - len(chosen))
-            for place, name in enumerate(chosen):
-                more = spare // len(chosen) + (place < spare % len(chosen))
+            # A proof keeps the jobs that it begins with. All wait at last for the longest chain: what begins it gets a job for each processor, if memory has room,
+            # whatever else is at work. What is left over goes to the others.
+            jobs = self.jobs - sum(it for _, it, _, _ in self.running.values()) - len(chosen)
+            longest = max(self.longest[it] for it in self.named if it not in done)
+            for name in chosen:
+                more = max(0, min(lanes - 1, jobs if self.longest[name] == longest else lanes - self.jobs + jobs))
+                jobs -= more
                 # (a lane that kept work on this crate when it was stopped)
                 number = next((it for it in free if (self.lane(it) / 'crates' / name / 'out' / 'incremental').is_dir()), free[0])
                 free.remove(number)
