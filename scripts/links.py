@@ -1,25 +1,47 @@
 #!/usr/bin/env python3
-"""Looks whether the links of the documents lead somewhere, and whether the files are there that they name.
+"""Looks whether the links of the documents lead somewhere, and whether the files, functions and clauses that they name are there.
 
     scripts/links.py
 
-It reads README.md, docs/ and the README of each crate. A link has to lead to a file, and what follows its # to a heading of that file. A name in
-backquotes that has the form of a file's has to be one: below the top, in a folder that documents speak of, or in the crate whose README it stands in.
-`src/{one,two}.rt` are two names. Names with NAME, *, .. or < in them are forms of names, and are passed over, as are those in PASSED. Status 1 where one leads nowhere.
+It reads README.md, docs/ and the README of each crate. A link has to lead to a file, and what follows its # to a heading of that
+file. A name in backquotes that has the form of a file's has to be one: below the top, in a folder that documents speak of, or in
+the crate whose README it stands in. `src/{one,two}.rt` are two names. Names with NAME, *, .. or < in them are forms of names, and
+are passed over, as are those in PASSED. Status 1 where one leads nowhere.
+
+In a crate's README, and in the documents of NAMING, a word in backquotes has to be something of the sources: a function, a clause,
+a type, a definition, a field, a file, a crate, or a word of WORDS. Where a README says what is proved, it has to be of its own
+crate, or named there. `r10_..` has to be a crate, or of this crate. "`FUNCTION`, clause `NAME`" has to be a clause of that function.
 """
 from __future__ import annotations
 
+import collections
 import pathlib
 import re
 import sys
 
+import reads
+
 TOP = pathlib.Path(__file__).resolve().parent.parent
 LINK = re.compile(r'\]\(([^)\s]+)\)')
 ENDINGS = 'py|sh|rt|antt|toml|h|c|rs|txt|tmt|expected|edit|md|svg'
-NAME = re.compile(r'(?<![\w./<-])((?:[\w.]+/)*[\w{},.*-]+\.(?:' + ENDINGS + r')(?!\w)|(?:src|specs|proofs|scripts|crates|ffi|ch10|docs|examples|bench|recorder|r10_\w+)/[\w./{},*-]+)')
+PLACES = r'src|specs|proofs|scripts|crates|ffi|ch10|docs|examples|bench|recorder|r10_\w+'
+NAME = re.compile(rf'(?<![\w./<-])((?:[\w.]+/)*[\w{{}},.*-]+\.(?:{ENDINGS})(?!\w)|(?:{PLACES})/[\w./{{}},*-]+)')
 FOLDERS = ('', 'crates', 'docs', 'scripts', 'examples', 'ffi', 'recorder')
 # What a user's own program or call makes, and files of the toolchain.
 PASSED = {'Reads.antt', 'program.c', 'script.toml', 'report.html', 'rtlib.py', 'START-HERE.md', 'lib.rs', 'settings.toml'}
+
+# Documents in which each word in backquotes with _, :: or a capital is one of the sources.
+NAMING = ('README.md', 'docs/ARCHITECTURE.md', 'docs/DECISIONS.md', 'docs/FORMAT.md', 'docs/MODEL.md')
+# Words of the language, of its ported crates, of C and of the system.
+WORDS = {'u64', 'MAX', 'Ok', 'Err', 'Some', 'None', 'Option', 'Result', 'Global', 'AllocError', 'BufWriter', 'Default', 'Copy',
+         'Drop', 'malloc', 'stdin', 'stdout', 'r10', '_', '524_284', 'IsPair', 'slots_beside'}
+WORD = r"[^\W\d][\w\-'₀-₉]*"
+PUBLIC = r'(?:pub(?:\(crate\))? )?'
+IN_CODE = re.compile(rf'(?m)\bfn (\w+)|^ *{PUBLIC}(?:struct|enum|trait|type|const|static|mod) (\w+)'
+                     rf'|\b(?:ensures|requires) (\w+) \{{|^ *ghost (\w+) ?[:=]|^ +([A-Z]\w*) *(?:[,({{]|$)|^ +{PUBLIC}(\w+):')
+IN_SPECS = re.compile(rf'(?m)^(?:  )?(?:(?:abbrev|unfoldable|opaque|pub) )*(?:(?:record|data) )?({WORD}) [:(]'
+                      rf'|^ +(?:pub )?({WORD})(?: {WORD})* :|^(?:pub )?(?:record|data) ({WORD})')
+CLAUSES = re.compile(r'`([\w:]+)`, clauses? `(\w+)`(?: and `(\w+)`)?')
 
 
 def slug(heading: str) -> str:
@@ -60,6 +82,63 @@ def is_there(name: str, home: pathlib.Path | None) -> bool:
     return any(next((TOP / 'crates').glob(form + name), None) for form in ('*/', '*/*/'))
 
 
+class Sources:
+    """What the sources define, crate by crate, the words in each, and the clauses of each public function."""
+
+    def __init__(self) -> None:
+        self.defined: dict[str, set[str]] = collections.defaultdict(set)
+        self.words: dict[str, set[str]] = collections.defaultdict(set)
+        for path in sorted((TOP / 'crates').glob('*/*/**/*')):
+            crate, folder = path.relative_to(TOP / 'crates').parts[:2]
+            if path.suffix in ('.rt', '.antt', '.edit') and folder in ('src', 'specs', 'proofs', 'must-fail', 'slips'):
+                self.defined[crate].add(path.stem)
+                if path.suffix != '.edit':
+                    text = reads.without_comments(path.read_text(encoding='utf-8'))
+                    made = (IN_CODE if path.suffix == '.rt' else IN_SPECS).findall(text)
+                    self.defined[crate].update(name for names in made for name in names if name)
+                    self.words[crate].update(re.findall(WORD, text))
+        listed = TOP / 'crates.txt'
+        self.crates = {path.name for path in (TOP / 'crates').glob('*')}
+        self.others = self.crates | set(re.findall(r'\w+', listed.read_text(encoding='utf-8')) if listed.is_file() else ())
+        for path in (TOP / 'ffi').glob('*.h'):
+            self.others.update(re.findall(r'\w+', path.read_text(encoding='utf-8')))
+        self.clauses: dict[str, set[str]] = collections.defaultdict(set)
+        for source in reads.Tree(TOP).all_sources():
+            for item in source.functions:
+                self.clauses[item.name.rsplit('::', 1)[-1]].update(name for name, _ in reads.clauses_of(item.text))
+
+    def fault_of(self, name: str, crate: str | None, is_proved: bool) -> str | None:
+        """What is wrong with a name, in the README of a crate or in another document."""
+        if name.isdigit() or name in WORDS:
+            return None
+        if crate and name.startswith('r10_') and name not in self.crates | self.defined[crate]:
+            return f'there is no crate {name}'
+        if not any(name in it for it in [self.others, *self.defined.values()]):
+            return f'the sources have no {name}'
+        if crate and is_proved and name not in self.defined[crate] | self.words[crate] | self.crates:
+            return f'{name} is not of {crate}'
+        return None
+
+
+def faults_of_names(path: pathlib.Path, sources: Sources) -> list[str]:
+    """Which functions, clauses and definitions are not there that a document names."""
+    crate = path.parent.name if path.parent.parent.name == 'crates' else None
+    if not crate and str(path.relative_to(TOP)) not in NAMING:
+        return []
+    found, section = [], ''
+    for number, line in enumerate(path.read_text(encoding='utf-8').split('\n'), 1):
+        section = line if line.startswith('## ') else section
+        faults = []
+        for code in re.findall(r'`((?:\w+::)*\w+)`', line):
+            if crate or re.search(r'_|::|^[A-Z][a-z]', code):
+                faults += [sources.fault_of(name, crate, section.startswith('## Proved')) for name in code.split('::')]
+        for function, *clauses in CLAUSES.findall(line):
+            there = sources.clauses[function.rsplit('::', 1)[-1]]
+            faults += [f'{function} has no clause {clause}' for clause in clauses if clause and clause not in there]
+        found += [f'{path.relative_to(TOP)}:{number}: {fault}' for fault in faults if fault]
+    return found
+
+
 def faults_of(path: pathlib.Path) -> list[str]:
     """Where a document leads nowhere."""
     home = path.parent if path.parent.parent.name == 'crates' else None
@@ -89,7 +168,8 @@ def main() -> int:
         print(__doc__, file=sys.stderr)
         return 2
     paths = [TOP / 'README.md', *sorted((TOP / 'docs').glob('*.md')), *sorted((TOP / 'crates').glob('*/README.md'))]
-    found = [fault for path in paths for fault in faults_of(path)]
+    sources = Sources()
+    found = [fault for path in paths for fault in faults_of(path) + faults_of_names(path, sources)]
     for fault in found:
         print(fault)
     print(f'links: {len(paths)} documents, {len(found)} that lead nowhere')
