@@ -10,7 +10,7 @@ are passed over, as are those in PASSED. Status 1 where one leads nowhere.
 
 In a crate's README, and in the documents of NAMING, a word in backquotes has to be something of the sources: a function, a clause,
 a type, a definition, a field, a file, a crate, or a word of WORDS. Where a README says what is proved, it has to be of its own
-crate, or named there. `r10_..` has to be a crate, or of this crate. "`FUNCTION`, clause `NAME`" has to be a clause of that function.
+crate, or named there. `r10_..` has to be a crate, or of this crate. "`FUNCTION`, clause `NAME`" has to be one of that function.
 """
 from __future__ import annotations
 

@@ -12,7 +12,8 @@ mkdir -p "$room/scripts" "$room/docs" "$room/crates/r10_one/src"
 cp "$top/scripts/links.py" "$top/scripts/reads.py" "$room/scripts"
 touch "$room/crates/r10_one/src/other.rt"
 printf 'pub fn go(n: u64)\n    ensures comes { n ≡ n }\n{\n    helper(n)\n}\n\npub enum Kind {\n    Small,\n}\n' >"$room/crates/r10_one/src/lib.rt"
-mkdir -p "$room/crates/r10_two/specs"
+mkdir -p "$room/crates/r10_two/specs" "$room/crates/r10_two/src"
+echo 'pub fn r10_go() {}' >"$room/crates/r10_two/src/lib.rt"
 printf 'use Rattle.std.specs.Prelude.{ℕ}\n\nabbrev pub Run : ℕ → Type 0\nRun n = Unit {0}\n' >"$room/crates/r10_two/specs/Runs.antt"
 printf '# Two words, `one` more\n\n# Two words, one more\n' >"$room/docs/ONE.md"
 printf 'In `src/lib.rt`.\n' >"$room/crates/r10_one/README.md"
@@ -33,12 +34,14 @@ check "a name of nothing" is "$(of '`Kind::Large` `Walk`')" 2
 check "a clause that the function has not" is "$(of '`go`, clause `Run`')" 1
 echo >"$room/README.md"
 in_crate() {
-    printf '# r10_one\n\n## Proved\n\n%s\n' "$1" >"$room/crates/r10_one/README.md"
+    printf '# r10_one\n\n## %s\n\n%s\n' "${2:-Proved}" "$1" >"$room/crates/r10_one/README.md"
     "$room/scripts/links.py" | grep -c '^crates/r10_one/README.md:5: '
 }
 check "names in the README of a crate" is "$(in_crate '`go`, `comes`, `helper`, `Small`, `lib`: see `r10_two`.')" 1
 check "a name of another crate under what is proved" is "$(in_crate '`Run`')" 1
+check "and elsewhere" is "$(in_crate '`Run`' Neither)" 0
 check "a crate that is not there" is "$(in_crate '`r10_three`')" 1
+check "a call of another crate that is no crate" is "$(in_crate '`r10_go`' Neither)" 1
 echo 'fn helper() {}' >>"$room/crates/r10_one/src/other.rt"
 check "names that are there" is "$(in_crate '`go`, `comes`, `helper`, `Small`, `lib`: see `r10_two`.')" 0
 "$room/scripts/links.py" >/dev/null
