@@ -1,13 +1,17 @@
 #!/usr/bin/env python3
 """What the proofs say twice, or for nobody: lemmas whose statement stands twice, lemmas without a use, and laws that nobody calls.
 
-    scripts/said_once.py            prints each of them, and how many there are
-    scripts/said_once.py --check    as that, with status 1 if there is one that `ALLOWED` does not name
+    scripts/said_once.py            prints what is found by kind, file by file, and how many there are
+    scripts/said_once.py CRATE..    only what one of these crates has a part in
+    scripts/said_once.py --check    prints all, with status 1 if there is one that `ALLOWED` does not name
 
-Statements are compared up to the names of their variables. A use is a word in the lemma's own file or in a file that imports it,
-or its path in a function's `tactic`. A worked value (a statement without variables) needs none. A law is a public function whose
-body is empty or only calls laws. If nobody calls it, its crate's README has to name it. It reads the files as they stand, in some
-ten seconds, and proves nothing.
+Statements are compared up to the names of their variables. Of each that stands twice one line says where it can stay: in the
+lowest crate that has it, if the others stand on that one, or else in the highest crate on which all of them stand. Crates come
+lowest first, as in crates.txt: that is the order in which they are proved again.
+
+A use is a word in the lemma's own file or in a file that imports it, or its path in a function's `tactic`. A worked value (a
+statement without variables) needs none. A law is a public function whose body is empty or only calls laws. If nobody calls it, its
+crate's README has to name it. It reads the files as they stand, in some seconds, and proves nothing.
 """
 import collections
 import re
@@ -23,7 +27,8 @@ STATEMENT = re.compile(rf"^(pub )?({NAME}) : (.*)$")
 HEAD = re.compile(r"^(?:(?:use|abbrev|record|data|module|ruleset|unfoldable|opaque|pub) |--)")
 IMPORT = re.compile(r"(?m)^[ \t]*((?:pub |ghost |unfoldable )*)use (Rattle\.[^;{\n]*?)(?:\.\{([^}]*)\})?;?[ \t]*$")
 TACTIC = re.compile(rf"(\w+)::proofs::([\w:]+)::({LETTER}+)")
-LAW = re.compile(r"(?m)^pub fn (\w+)[^{;]*\n(?:    .*\n)*?(?:\{\}|\{\n(?:    (?:\w+(?:::<\w+>)?\(\);|let _ = &?\w+;)\n)*\})$")
+BODY = r"(?:\{\}|\{\n(?:    (?:\w+(?:::<\w+>)?\(\);|let _ = &?\w+;)\n)*\})"
+LAW = re.compile(rf"(?m)^pub fn (\w+)[^{{;]*\n(?:    .*\n)*?{BODY}$")
 # (two records of one name, each with fields of its own; two functions from numbers to answers)
 ALLOWED = {
     "crates/r10_control/proofs/Apart.antt apart_of",
@@ -142,26 +147,94 @@ def idle_laws(top, files):
                 yield f"{path} {name}"
 
 
+class Crates:
+    """The crates in their order, lowest first, and on which each stands."""
+
+    def __init__(self, top):
+        path = top / "crates.txt"
+        lines = path.read_text(encoding="utf-8").splitlines() if path.is_file() else []
+        listed = [line for line in lines if line.strip() and not line.startswith("#")]
+        self.below = {}
+        for line in listed:
+            name, used = line.split(":")[0].split()[0], line.split(":")[1].split()
+            self.below[name] = set(used).union(*(self.below.get(it, set()) for it in used))
+        self.order = {name: at for at, name in enumerate(self.below)}
+
+    def place(self, path):
+        """The place of a file's crate in the order."""
+        return self.order.get(crate_of(path), len(self.order)), path
+
+    def home(self, paths):
+        """Where a statement of these files can stay: a file of theirs, or a crate on which all of them stand."""
+        lowest = min(paths, key=self.place)
+        names = {crate_of(path) for path in paths}
+        if all(name == crate_of(lowest) or crate_of(lowest) in self.below.get(name, ()) for name in names):
+            return lowest
+        shared = set.intersection(*(self.below.get(name, set()) for name in names)) & set(self.order)
+        return max(shared, key=self.order.get, default="no crate")
+
+
+def crate_of(path):
+    """The crate of a file."""
+    return path.split("/")[1]
+
+
+def short(path):
+    """A file's path as it is printed."""
+    return path.removeprefix("crates/")
+
+
+def twice(groups, crates):
+    """A line for each statement that stands twice: where it can stay, and where else it stands."""
+    lines = []
+    for group in groups:
+        home = crates.home([it.path for it in group])
+        rest = sorted(group, key=lambda it: crates.place(it.path))
+        kept = [it for it in rest if it.path == home][:1]
+        rest = [it for it in rest if it not in kept]
+        stays = f"{short(home)} {kept[0].name}, also" if kept else f"to {home}, from"
+        others = ", ".join(f"{short(it.path)} {it.name}" for it in rest)
+        lines.append((crates.place(home if kept else f"crates/{home}"), f"    {stays} {others}"))
+    return [line for _, line in sorted(lines)]
+
+
+def by_file(pairs, crates):
+    """A line for each file, with the names in it."""
+    files = collections.defaultdict(list)
+    for path, name in pairs:
+        files[path].append(name)
+    return [f"    {short(path)}: {', '.join(sorted(files[path]))}" for path in sorted(files, key=crates.place)]
+
+
 def main(words, top=TOP):
     """Prints what is found; the status says whether something is that is not allowed."""
-    if words not in ([], ["--check"]):
-        print("usage: scripts/said_once.py [--check]", file=sys.stderr)
+    is_check, only = words == ["--check"], [] if words == ["--check"] else words
+    if any(not (top / "crates" / word).is_dir() or word.startswith("-") for word in only):
+        print("usage: scripts/said_once.py [--check | CRATE..]", file=sys.stderr)
         return 2
-    files = files_of(top)
+    files, crates = files_of(top), Crates(top)
     lemmas = [it for path, text in files.items() if "/proofs/" in path for it in lemmas_of(path, text)]
     groups = collections.defaultdict(list)
     for it in lemmas:
-        groups[without_names(it.statement)].append(f"{it.path} {it.name}")
-    found = {
-        "lemma said twice": [name for group in groups.values() if len(group) > 1 for name in group],
-        "lemma without a use": [f"{it.path} {it.name}" for it in without_use(files, lemmas)],
-        "law that nobody calls and no README names": list(idle_laws(top, files)),
-    }
-    bad = [(kind, name) for kind, names in found.items() for name in sorted(names) if name not in ALLOWED]
-    for kind, name in bad:
-        print(f"{kind}: {name}")
-    print(f"said_once: {len(lemmas)} lemmas; {', '.join(f'{len(names)} times a {kind}' for kind, names in found.items())}")
-    return int(bool(bad) and bool(words))
+        groups[without_names(it.statement)].append(it)
+
+    def counts(path, name):
+        return f"{path} {name}" not in ALLOWED and (not only or crate_of(path) in only)
+
+    doubled = [group for group in groups.values() if len(group) > 1 and any(counts(it.path, it.name) for it in group)]
+    unused = [(it.path, it.name) for it in without_use(files, lemmas) if counts(it.path, it.name)]
+    idle = [pair for pair in map(str.split, idle_laws(top, files)) if counts(*pair)]
+    copies = sum(len(group) - 1 for group in doubled)
+    for head, lines in (
+        (f"{len(doubled)} statements stand twice or more, in {copies} lemmas too many; where each can stay:",
+         twice(doubled, crates)),
+        (f"{len(unused)} lemmas without a use:", by_file(unused, crates)),
+        (f"{len(idle)} laws that nobody calls and no README names:", by_file(idle, crates)),
+    ):
+        if lines:
+            print("\n".join([head, *lines]))
+    print(f"said_once: {len(lemmas)} lemmas, {copies} too many and {len(unused)} without a use; {len(idle)} idle laws")
+    return int(is_check and bool(doubled or unused or idle))
 
 
 if __name__ == "__main__":

@@ -11,6 +11,7 @@ anew() {
     rm -rf "$room/crates" "$room/scripts"
     mkdir -p "$room/scripts" "$low/src" "$low/proofs" "$high/src" "$high/proofs/calls/f"
     cp "$here/../said_once.py" "$room/scripts"
+    printf 'r10_low:\nr10_high: r10_low\nr10_side: r10_low\n' >"$room/crates.txt"
     printf 'Laws: `a_law`.\n' >"$low/README.md"
     printf '/// A law.\npub fn a_law()\n    ensures { (n : ℕ) → n ≡ n }\n{}\n' >"$low/src/laws.rt"
     printf 'use Rattle.std.Common.{refl}\n\n-- it is itself\npub itself : (n : ℕ) → n ≡ n\nitself n = refl\n\na-worked-value : 1 ≡ 1\na-worked-value = refl\n' >"$low/proofs/Same.antt"
@@ -23,20 +24,36 @@ says() {
 }
 
 anew
-check "a tree in which all is said once" says 0 "0 times a lemma said twice, 0 times a lemma without a use, 0 times a law"
+check "a tree in which all is said once" says 0 "said_once: 2 lemmas, 0 too many and 0 without a use; 0 idle laws"
 anew
 printf '\npub also : (other : ℕ) → other ≡ other\nalso other = itself other\n\npub used : (m k : ℕ) → m ≡ k → m ≡ k\nused m k e = also m\n\nlast : 2 ≡ 2\nlast = used 2 2 refl\n' >>"$low/proofs/Same.antt"
-check "a statement that stands twice, under other names" says 1 "lemma said twice: crates/r10_low/proofs/Same.antt also"
+check "a statement that stands twice, under other names" says 1 "1 statements stand twice or more, in 1 lemmas too many; where each can stay:
+    r10_low/proofs/Same.antt itself, also r10_low/proofs/Same.antt also"
+check "nothing of it is of another crate" test "$("$room/scripts/said_once.py" r10_high | grep -c .)" = 1
+anew
+printf 'also : (other : ℕ) → other ≡ other\nalso other = refl\n\nlast : 2 ≡ 2\nlast = also 2\n' >"$high/proofs/More.antt"
+check "in two crates: it can stay in the lower one" says 1 "
+    r10_low/proofs/Same.antt itself, also r10_high/proofs/More.antt also
+"
+mkdir -p "$room/crates/r10_side/proofs"
+for crate in high side; do
+    printf 'also : (other : ℕ) → other ≡ 2\nalso other = refl\n\nlast : 2 ≡ 2\nlast = also 2\n' >"$room/crates/r10_$crate/proofs/More.antt"
+done
+check "in two crates side by side: it can go to one below" says 1 "
+    to r10_low, from r10_high/proofs/More.antt also, r10_side/proofs/More.antt also
+"
 anew
 printf '\npub idle : (m k : ℕ) → m ≡ k → m ≡ k\nidle m k e = helper m k e\n\nhelper : (m k : ℕ) → m ≡ k → k ≡ k\nhelper m k e = refl\n' >>"$low/proofs/Same.antt"
-check "a lemma without a use" says 1 "lemma without a use: crates/r10_low/proofs/Same.antt idle"
-check "and one that such a lemma alone uses" says 1 "lemma without a use: crates/r10_low/proofs/Same.antt helper"
+check "a lemma without a use, and one that such a lemma alone uses" says 1 "2 lemmas without a use:
+    r10_low/proofs/Same.antt: helper, idle
+"
 printf '#[tactic(auto, using(r10_low::proofs::Same::idle))]\n' >"$high/src/lib.rt"
-check "a lemma that a function's tactic names" says 0 "0 times a lemma without a use"
+check "a lemma that a function's tactic names" says 0 "0 without a use"
 anew
 echo >"$low/README.md"
-check "a law that nobody calls and no README names" says 1 "law that nobody calls and no README names: crates/r10_low/src/laws.rt a_law"
+check "a law that nobody calls and no README names" says 1 "1 laws that nobody calls and no README names:
+    r10_low/src/laws.rt: a_law"
 printf 'pub fn f() {\n    a_law();\n    g();\n}\n' >"$high/src/lib.rt"
-check "a law that a function calls" says 0 "0 times a law"
+check "a law that a function calls" says 0 "0 idle laws"
 check "other words are refused" test "$("$room/scripts/said_once.py" --all 2>/dev/null; echo $?)" = 2
 exit "$failed"
