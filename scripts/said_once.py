@@ -18,6 +18,8 @@ import re
 import sys
 from pathlib import Path
 
+import reads
+
 TOP = Path(__file__).resolve().parent.parent
 NAME = r"[^\s(){}\[\],:;.λ→×≡∷]+"
 LETTER = r"[\w\-'₀-₉]"
@@ -25,7 +27,6 @@ WORD = re.compile(rf"{LETTER}+|[^\s(){{}}\[\],.]")
 TOKEN = re.compile(r"[(){}\[\],.]|[^\s(){}\[\],.]+(?:\.[^\s(){}\[\],.]+)*")
 STATEMENT = re.compile(rf"^(pub )?({NAME}) : (.*)$")
 HEAD = re.compile(r"^(?:(?:use|abbrev|record|data|module|ruleset|unfoldable|opaque|pub) |--)")
-IMPORT = re.compile(r"(?m)^[ \t]*((?:pub |ghost |unfoldable )*)use (Rattle\.[^;{\n]*?)(?:\.\{([^}]*)\})?;?[ \t]*$")
 TACTIC = re.compile(rf"(\w+)::proofs::([\w:]+)::({LETTER}+)")
 BODY = r"(?:\{\}|\{\n(?:    (?:\w+(?:::<\w+>)?\(\);|let _ = &?\w+;)\n)*\})"
 LAW = re.compile(rf"(?m)^pub fn (\w+)[^{{;]*\n(?:    .*\n)*?{BODY}$")
@@ -89,7 +90,7 @@ def without_names(statement):
 
 def imports_of(text):
     """What a file imports: (module, name there, name here); a module as a whole has no name there."""
-    for _, path, names in IMPORT.findall(text):
+    for _, path, names in reads.IMPORT.findall(text):
         if not names:
             path, _, alias = path.partition(" as ")
             yield path.strip(), None, alias.strip() or path.rsplit(".", 1)[-1]
@@ -104,7 +105,7 @@ def module_of(path):
 
 def without_use(files, lemmas):
     """The lemmas of which no file has a use, also where one is used by such alone."""
-    bodies = {path: IMPORT.sub("", text) for path, text in files.items()}
+    bodies = {path: reads.IMPORT.sub("", text) for path, text in files.items()}
     counts = {path: collections.Counter(WORD.findall(text)) for path, text in bodies.items()}
     users = collections.defaultdict(list)
     for path, text in files.items():

@@ -1,10 +1,8 @@
 #!/usr/bin/env bash
 # Tests of scripts/build.sh with a stand-in for the toolchain: some twenty seconds. Status 1 where one fails.
 set -u
-here=$(cd "$(dirname "$(readlink -f "${BASH_SOURCE[0]}")")" && pwd)
 # shellcheck disable=SC2016,SC2317 source=scripts/tests/kit.sh
-. "$here/kit.sh"
-room=$(mktemp -d)
+. "$(dirname "$(readlink -f "${BASH_SOURCE[0]}")")/kit.sh"
 trap 'rm -f "$room/a kit/slow"; rm -rf "$room"' EXIT
 kit="$room/a kit"
 top="$room/a folder"
@@ -34,8 +32,6 @@ build() {
     errors=$(cat "$room/errors")
 }
 count() { if [ -f "$kit/proofs" ]; then wc -l <"$kit/proofs"; else echo 0; fi; }
-is() { [ "$1" = "$2" ] || { echo "    '$1' is not '$2'"; false; }; }
-says() { [[ $1 == *"$2"* ]] || { echo "    '$1' does not say '$2'"; false; }; }
 ended() { ! pgrep -f "$kit/bin/rt" >/dev/null; }
 
 build 0

@@ -1,18 +1,12 @@
 #!/usr/bin/env bash
 # Tests of scripts/install.sh and scripts/deb.sh, over the builds that are kept: some twenty seconds. Status 1 where one fails.
 set -u
-here=$(cd "$(dirname "$(readlink -f "${BASH_SOURCE[0]}")")" && pwd)
-top=$(cd "$here/../.." && pwd)
 # shellcheck disable=SC2016,SC2317 source=scripts/tests/kit.sh
-. "$here/kit.sh"
+. "$(dirname "$(readlink -f "${BASH_SOURCE[0]}")")/kit.sh"
 program=$("$top/scripts/quick_build.py" --current) && { "$top/scripts/ffi.sh" proved || "$top/scripts/quick_build.py" --library --current; } >/dev/null || {
     echo "NOT TRIED: an installation (no build of the program and of the library is kept)"
     exit 0
 }
-room=$(mktemp -d)
-trap 'rm -rf "$room"' EXIT
-is() { [ "$1" = "$2" ] || { echo "    '$1' is not '$2'"; false; }; }
-says() { [[ $1 == *"$2"* ]] || { echo "    '$1' does not say '$2'"; false; }; }
 version=$(cat "$top/VERSION")
 
 check "the program has the number in VERSION" is "$("$program" --version)" "r10 $version"

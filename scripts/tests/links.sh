@@ -1,13 +1,8 @@
 #!/usr/bin/env bash
 # Tests of scripts/links.py, over documents that are made here. In no time. Status 1 where one fails.
 set -u
-here=$(cd "$(dirname "$(readlink -f "${BASH_SOURCE[0]}")")" && pwd)
-top=$(cd "$here/../.." && pwd)
 # shellcheck disable=SC2016,SC2317 source=scripts/tests/kit.sh
-. "$here/kit.sh"
-is() { [ "$1" = "$2" ] || { echo "    '$1' is not '$2'"; false; }; }
-room=$(mktemp -d)
-trap 'rm -rf "$room"' EXIT
+. "$(dirname "$(readlink -f "${BASH_SOURCE[0]}")")/kit.sh"
 mkdir -p "$room/scripts" "$room/docs" "$room/crates/r10_one/src"
 cp "$top/scripts/links.py" "$top/scripts/reads.py" "$room/scripts"
 touch "$room/crates/r10_one/src/other.rt"

@@ -1,13 +1,10 @@
 #!/usr/bin/env bash
 # Tests of scripts/proofs.py, over three crates that are made here. A second; status 1 where one fails.
 set -u
-here=$(cd "$(dirname "$(readlink -f "${BASH_SOURCE[0]}")")" && pwd)
 # shellcheck disable=SC2016,SC2317 source=scripts/tests/kit.sh
-. "$here/kit.sh"
-room=$(mktemp -d)
-trap 'rm -rf "$room"' EXIT
+. "$(dirname "$(readlink -f "${BASH_SOURCE[0]}")")/kit.sh"
 mkdir -p "$room/scripts" "$room/docs"
-cp "$here/../proofs.py" "$here/../pictures.py" "$room/scripts"
+cp "$top/scripts/proofs.py" "$top/scripts/pictures.py" "$room/scripts"
 printf '# Lowest first.\nr10_low: thiserror\nr10_mid: r10_low\nr10_top: r10_low r10_mid\n' >"$room/crates.txt"
 for crate in low mid top; do
     mkdir -p "$room/crates/r10_$crate/src" "$room/crates/r10_$crate/must-fail"
@@ -20,7 +17,6 @@ says() {
     status=$?
     [ "$status" = "$1" ] && [ "$said" = "$2" ] || { echo "    status $status: $said"; false; }
 }
-is() { [ "$1" = "$2" ] || { echo "    '$1' is not '$2'"; false; }; }
 
 check "a README without its neighbours" says 1 "proofs: crates/r10_low/README.md does not name its neighbours as scripts/proofs.py does: run it"
 "$room/scripts/proofs.py"

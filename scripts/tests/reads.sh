@@ -1,14 +1,11 @@
 #!/usr/bin/env bash
 # Tests of scripts/reads.py, over a small tree of two crates that is made here, and of what it finds for the theorem. Some seconds; status 1 where one fails.
 set -u
-here=$(cd "$(dirname "$(readlink -f "${BASH_SOURCE[0]}")")" && pwd)
 # shellcheck disable=SC2016,SC2317 source=scripts/tests/kit.sh
-. "$here/kit.sh"
-room=$(mktemp -d)
-trap 'rm -rf "$room"' EXIT
+. "$(dirname "$(readlink -f "${BASH_SOURCE[0]}")")/kit.sh"
 low="$room/crates/r10_low" high="$room/crates/r10_high"
 mkdir -p "$room/scripts" "$room/docs" "$low/src" "$low/specs" "$high/src" "$high/specs"
-cp "$here/../reads.py" "$room/scripts"
+cp "$top/scripts/reads.py" "$room/scripts"
 cat >"$low/src/count.rt" <<'RT'
 ghost use Rattle.r10_low.specs.Counts.{IsCount};
 

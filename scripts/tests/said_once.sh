@@ -1,16 +1,13 @@
 #!/usr/bin/env bash
 # Tests of scripts/said_once.py over a small tree of two crates. A second; status 1 where one fails.
 set -u
-here=$(cd "$(dirname "$(readlink -f "${BASH_SOURCE[0]}")")" && pwd)
 # shellcheck disable=SC2016,SC2317 source=scripts/tests/kit.sh
-. "$here/kit.sh"
-room=$(mktemp -d)
-trap 'rm -rf "$room"' EXIT
+. "$(dirname "$(readlink -f "${BASH_SOURCE[0]}")")/kit.sh"
 low="$room/crates/r10_low" high="$room/crates/r10_high"
 anew() {
     rm -rf "$room/crates" "$room/scripts"
     mkdir -p "$room/scripts" "$low/src" "$low/proofs" "$high/src" "$high/proofs/calls/f"
-    cp "$here/../said_once.py" "$room/scripts"
+    cp "$top/scripts/said_once.py" "$top/scripts/reads.py" "$room/scripts"
     printf 'r10_low:\nr10_high: r10_low\nr10_side: r10_low\n' >"$room/crates.txt"
     printf 'Laws: `a_law`.\n' >"$low/README.md"
     printf '/// A law.\npub fn a_law()\n    ensures { (n : ℕ) → n ≡ n }\n{}\n' >"$low/src/laws.rt"

@@ -1,11 +1,8 @@
 #!/usr/bin/env bash
 # Tests that the version is one number: that of the file VERSION. Without a build, in no time. Status 1 where one fails.
 set -u
-here=$(cd "$(dirname "$(readlink -f "${BASH_SOURCE[0]}")")" && pwd)
-top=$(cd "$here/../.." && pwd)
 # shellcheck disable=SC2317 source=scripts/tests/kit.sh
-. "$here/kit.sh"
-is() { [ "$1" = "$2" ] || { echo "    '$1' is not '$2'"; false; }; }
+. "$(dirname "$(readlink -f "${BASH_SOURCE[0]}")")/kit.sh"
 version=$(cat "$top/VERSION")
 IFS=. read -r major minor patch <<<"$version"
 number=$((10000 * major + 100 * minor + patch))

@@ -1,18 +1,12 @@
 #!/usr/bin/env bash
 # Tests of the program's words, over the build that is kept: its cases, its help, and the lines that help shows. Some ten seconds; status 1 where one fails.
 set -u
-here=$(cd "$(dirname "$(readlink -f "${BASH_SOURCE[0]}")")" && pwd)
-top=$(cd "$here/../.." && pwd)
 # shellcheck disable=SC2016,SC2317 source=scripts/tests/kit.sh
-. "$here/kit.sh"
+. "$(dirname "$(readlink -f "${BASH_SOURCE[0]}")")/kit.sh"
 program=${1:-$("$top/scripts/quick_build.py" --current)} || {
     echo "NOT TRIED: the program's words (no build of the program is kept)"
     exit 0
 }
-room=$(mktemp -d)
-trap 'rm -rf "$room"' EXIT
-is() { [ "$1" = "$2" ] || { echo "    '$1' is not '$2'"; false; }; }
-says() { [[ $1 == *"$2"* ]] || { echo "    '$1' does not say '$2'"; false; }; }
 
 check "each case of r10_rows is answered as it stands there" "$top/scripts/run_rows.py" "$program"
 
