@@ -157,15 +157,22 @@ class Resync:
     def __init__(self, data: Data, begin: int, end: int) -> None:
         self.data, self.begin, self.end = data, begin, end
         self.last: Dict[int, int] = {}  # the last sequence number of each channel
+        self.before: Dict[int, int] = {}  # how many bytes had been passed over by then
+        self.passed = 0  # and have been by now
         self.seen: Set[Tuple[int, int]] = set()  # channels with types
 
     def note(self, channel: int, kind: int, sequence: int) -> None:
         """Takes note of a packet that was read, or that is at fault after a right header."""
-        self.last[channel] = sequence
+        self.last[channel], self.before[channel] = sequence, self.passed
         self.seen.add((channel, kind))
 
     def after(self, at: int, length: Optional[int]) -> int:
         """Where to go on after a fault at a place, of a packet of this length where its header is right."""
+        following = self.place_after(at, length)
+        self.passed += following - at
+        return following
+
+    def place_after(self, at: int, length: Optional[int]) -> int:
         data, end = self.data, self.end
         limit = None if length is None else at + length
         if limit == end:
@@ -212,11 +219,12 @@ class Resync:
         Less of it is enough where it is next by the length of a right header.
         """
         head, run, exact, near, against, first = head_at(self.data, place, self.end), 0, 0, 0, 0, set()
-        most = max(min(passed // 32, NEAR), 1)
+        passed += self.passed
         while head and run < ROW:
             key = head.channel, head.kind
             if key in self.seen and key not in first:
                 gone = missing(self.last[head.channel], head.sequence)
+                most = max(min((passed - self.before[head.channel]) // 32, NEAR), 1)
                 exact += gone == 0
                 near += 0 < gone <= most
                 against += gone > most
