@@ -65,21 +65,24 @@ def one_part(data: Data, number: Optional[int]) -> Tuple[str, int, int]:
     return ('%s, file %d of %s' % (shown(file.name), number, shown(volume)),) + bytes_of(data, file)
 
 
+HELD = 1 << 18
+
+
 class Output:
-    """What is written to a stream of bytes, by large writes."""
+    """What is written to a stream of bytes, by large writes. What has HELD bytes or more is written before the call ends."""
 
     def __init__(self, to: BinaryIO) -> None:
         self.held: List[Any] = []
         self.size, self.to = 0, to
 
     def write(self, data: Any) -> None:
-        if len(data) >= 1 << 18:
+        if len(data) >= HELD:
             self.flush()
             self.to.write(data)
             return
         self.held.append(data)
         self.size += len(data)
-        if self.size >= 1 << 18:
+        if self.size >= HELD:
             self.flush()
 
     def line(self, text: str) -> None:

@@ -1,16 +1,18 @@
 """Lines of entries made by numpy where it is installed: the same bytes as `ch10.lines` makes without it, many entries at a time.
 
-A line is a row of pieces. The lines of some entries are given their places in one array of bytes first; then each piece of all of them is written, from left to
-right. What is rare is left to the plain way: types with few entries, and bodies of very long messages.
+A line is a row of pieces. The lines of some entries are given their places in one array of bytes first; then each piece of all of them
+is written, from left to right, but for the fronts of lines, which are written last. So a piece may be written with some bytes too many.
+What is rare is left to the plain way: types with few entries, and bodies of very long messages.
 """
 from __future__ import annotations
 
 from binascii import hexlify
-from typing import Any, Callable, Dict, Iterator, List, Optional, Tuple, TYPE_CHECKING
+from typing import Any, Callable, Dict, Iterator, List, Optional, Tuple, Union, TYPE_CHECKING
 
 from . import walk
 from .buses import FLAGS_1553, ODD, RT_TO_RT, TURNED, block_1553, changed_bits, command_1553, named
 from .fields import MESSAGE_ERRORS
+from .inputs import HELD
 from .replay import Ordered, Part
 from .standard import ARINC, BUS, COUNT_BITS, DISCRETE, MESSAGE, UART
 from .times import DAY, civil
@@ -34,9 +36,12 @@ LONGEST = 512  # bytes of a text that are taken together; longer ones go the pla
 SHORT = 64  # bytes of a text, of those that are written by themselves
 EACH = 4 << 20  # bytes of packets that a part has, or more
 TOGETHER = 40000  # entries whose lines are made at once
+NEAR = 1 << 19  # bytes of lines that are written together, so that they stay in the processor's cache
 MOST_WORDS = 40
+ROOM = bytes(4 * LONGEST)  # after bytes that pieces are parts of
 SECOND = 10 ** 7
 LAST_DAY = {True: 3652059, False: 366}
+LAST = (1 << 63) - 1
 
 
 # ---- pieces
@@ -47,41 +52,37 @@ class Piece:
     def __init__(self, source: Array, starts: Optional[Array], wide: int, lengths: Optional[Array] = None) -> None:
         self.source, self.starts, self.wide, self.lengths = source, starts, wide, lengths
 
-    def write(self, out: Array, at: Array, room: Optional[Array]) -> None:
-        """Writes it at these places of lines that have so much room from there on.
+    def write(self, out: Array, held: slice, at: Array, room: Optional[Array]) -> None:
+        """Writes those of some lines at these places, each of which has so much room from there on.
 
-        Bytes after its own are written too where there is room for them in the line: what comes after it is written later.
+        Bytes after its own are written too where there is room for them: what belongs there is written later.
         """
-        if self.lengths is None:
-            walk.wide_view(out, self.wide)[at] = self.items(self.wide, None)
+        left = () if self.lengths is None else numpy.flatnonzero(room < self.wide)
+        if not len(left):
+            walk.wide_view(out, self.wide)[at] = self.items(self.wide, held)
             return
-        is_tight = room < self.wide
-        if not is_tight.any():
-            walk.wide_view(out, self.wide)[at] = self.items(self.wide, None)
-            return
-        rest = numpy.flatnonzero(~is_tight)
-        if len(rest):
-            walk.wide_view(out, self.wide)[at[rest]] = self.items(self.wide, rest)
-        tight = numpy.flatnonzero(is_tight)
-        lengths = self.lengths[tight]
-        for length in numpy.unique(lengths).tolist():
-            some = tight[lengths == length]
-            if length:
-                walk.wide_view(out, length)[at[some]] = self.items(length, some)
+        wide, some, lengths = self.wide, numpy.flatnonzero(room >= self.wide), self.lengths[held]
+        while True:  # each time the longest of those that are left, and what has room for as much
+            if len(some):
+                walk.wide_view(out, wide)[at[some]] = self.items(wide, some + held.start)
+            wide = int(lengths[left].max()) if len(left) else 0
+            if not wide:
+                return
+            fits = room[left] >= wide
+            some, left = left[fits], left[~fits]
 
-    def items(self, wide: int, some: Optional[Array]) -> Array:
-        starts = self.starts if some is None else self.starts[some]
-        return walk.wide_view(self.source, wide)[starts]
+    def items(self, wide: int, some: Union[Array, slice]) -> Array:
+        return walk.wide_view(self.source, wide)[self.starts[some]]
 
 
 class Fixed(Piece):
     """A piece of one length, a row of bytes for each line."""
 
     def __init__(self, rows: Array) -> None:
-        Piece.__init__(self, rows, None, rows.shape[1])
+        Piece.__init__(self, rows.view('V%d' % rows.shape[1])[:, 0], None, rows.shape[1])
 
-    def items(self, wide: int, some: Optional[Array]) -> Array:
-        return self.source.view('V%d' % wide)[:, 0]
+    def items(self, wide: int, some: Union[Array, slice]) -> Array:
+        return self.source[some]
 
 
 class Always(Piece):
@@ -90,7 +91,7 @@ class Always(Piece):
     def __init__(self, text: bytes) -> None:
         Piece.__init__(self, numpy.frombuffer(text, 'V%d' % len(text)), None, len(text))
 
-    def items(self, wide: int, some: Optional[Array]) -> Array:
+    def items(self, wide: int, some: Union[Array, slice]) -> Array:
         return self.source
 
 
@@ -100,31 +101,37 @@ class Table:
     def __init__(self, make: Callable[[int], bytes]) -> None:
         self.make = make
         self.rows, self.lengths, self.is_known = numpy.zeros((0, 1), numpy.uint8), numpy.zeros(0, numpy.int64), numpy.zeros(0, bool)
+        self.is_whole = False
 
     def pieces(self, keys: Array) -> Piece:
-        top = int(keys.max()) + 1
-        if top > len(self.is_known):
-            self.widen(1 << (top - 1).bit_length(), self.rows.shape[1])
-        is_new = numpy.zeros(len(self.is_known), bool)
-        is_new[keys] = True
-        for key in numpy.flatnonzero(is_new & ~self.is_known).tolist():
-            self.add(key, self.make(key))
+        if not self.is_whole:
+            top = int(keys.max()) + 1
+            if top > len(self.is_known):
+                self.widen(1 << max((top - 1).bit_length(), 6), self.rows.shape[1])
+            is_known = self.is_known[keys]
+            if not is_known.all():
+                self.add(numpy.unique(keys[~is_known]))
         return TableRows(self, keys)
 
     def widen(self, number: int, wide: int) -> None:
-        more = number - len(self.is_known)
-        self.rows = numpy.pad(self.rows, ((0, more), (0, wide - self.rows.shape[1])))
-        self.lengths, self.is_known = numpy.pad(self.lengths, (0, more)), numpy.pad(self.is_known, (0, more))
+        rows, lengths, is_known = self.rows, self.lengths, self.is_known
+        self.rows, self.lengths = numpy.zeros((number, wide), numpy.uint8), numpy.zeros(number, numpy.int64)
+        self.is_known = numpy.zeros(number, bool)
+        self.rows[:len(rows), :rows.shape[1]] = rows
+        self.lengths[:len(rows)], self.is_known[:len(rows)] = lengths, is_known
 
-    def add(self, key: int, text: bytes) -> None:
-        if len(text) > self.rows.shape[1]:
-            self.widen(len(self.is_known), len(text) + len(text) // 4)
-        self.rows[key, :len(text)] = numpy.frombuffer(text, numpy.uint8)
-        self.lengths[key], self.is_known[key] = len(text), True
+    def add(self, keys: Array) -> None:
+        texts = list(map(self.make, keys.tolist()))
+        lengths = numpy.array(list(map(len, texts)), numpy.int64)
+        if lengths.max() > self.rows.shape[1]:
+            self.widen(len(self.is_known), int(lengths.max()))
+        wide = self.rows.shape[1]
+        self.rows[keys] = numpy.frombuffer(b''.join([text.ljust(wide, b'\0') for text in texts]), numpy.uint8).reshape(-1, wide)
+        self.lengths[keys], self.is_known[keys] = lengths, True
 
     def fill(self, rows: Array, lengths: Array) -> 'Table':
         """Takes these texts, of the numbers from 0 on."""
-        self.rows, self.lengths, self.is_known = numpy.ascontiguousarray(rows), lengths.astype(numpy.int64), numpy.ones(len(rows), bool)
+        self.rows, self.lengths, self.is_whole = numpy.ascontiguousarray(rows), lengths.astype(numpy.int64), True
         return self
 
 
@@ -133,13 +140,13 @@ class TableRows(Piece):
 
     def __init__(self, table: Table, keys: Array) -> None:
         lengths = table.lengths[keys]
-        wide = int(lengths.max())
-        is_one = int(lengths.min()) == wide
-        Piece.__init__(self, table.rows, keys, wide, None if is_one else lengths)
+        most = int(lengths.max())
+        is_one = int(lengths.min()) == most
+        Piece.__init__(self, table.rows, keys, most if is_one else table.rows.shape[1], None if is_one else lengths)
 
-    def items(self, wide: int, some: Optional[Array]) -> Array:
-        rows = numpy.ndarray((len(self.source),), 'V%d' % wide, self.source, 0, (self.source.shape[1],))
-        return rows[self.starts if some is None else self.starts[some]]
+    def items(self, wide: int, some: Union[Array, slice]) -> Array:
+        rows = numpy.take(self.source, self.starts[some], 0)
+        return numpy.ndarray((len(rows),), 'V%d' % wide, rows, 0, (rows.shape[1],)) if wide else numpy.zeros(len(rows), 'V0')
 
 
 # ---- numbers
@@ -160,31 +167,19 @@ class Decimals:
         rows[:, 0] = self.four[values]
         return rows.view(numpy.uint8).reshape(len(values), 4 * chunks)
 
-    def plain(self, values: Array) -> Piece:
-        """Numbers without zeros before them."""
-        low, high = len(str(int(values.min()))), len(str(int(values.max())))
-        rows = self.right(values, -(-high // 4))
-        wide, lengths = rows.shape[1], None
-        starts = numpy.arange(wide - high, wide * len(rows), wide)
-        if low != high:
-            powers = 10 ** numpy.arange(1, high, dtype=numpy.int64)
-            lengths = numpy.searchsorted(powers, values, 'right') + 1
-            starts += high - lengths
-        return Piece(rows.reshape(-1) if lengths is None else padded(rows.reshape(-1), high), starts, high, lengths)
 
-    def fraction(self, values: Array) -> Piece:
-        """Seven digits."""
-        rows = self.right(values, 2)
-        return Piece(rows.reshape(-1), numpy.arange(1, 8 * len(rows), 8), 7)
+def sum_of(pieces: List[Piece], number: int) -> Array:
+    """How long so many rows of these pieces are."""
+    length = numpy.full(number, sum(piece.wide for piece in pieces if piece.lengths is None), numpy.int64)
+    for piece in pieces:
+        if piece.lengths is not None:
+            length += piece.lengths
+    return length
 
 
 def padded(octets: Array, more: int) -> Array:
     """Bytes with so many more after them, so that a piece may be read from each place."""
     return numpy.concatenate([octets, numpy.zeros(more, numpy.uint8)])
-
-
-def octets_of(data: bytes, more: int) -> Array:
-    return numpy.frombuffer(data + bytes(more), numpy.uint8)
 
 
 # ---- entries
@@ -211,12 +206,24 @@ class Block:
             if code and number[place]:
                 self.lost[first[place]] = code
 
-    def keep(self, held: Array) -> 'Block':
+    def keep(self, held: Union[Array, slice]) -> 'Block':
         """The entries that are held, as a block of their own."""
         found = Block.__new__(Block)
         found.__dict__.update({name: value[held] for name, value in self.__dict__.items() if name != 'columns'})
         found.columns = {name: value[held] for name, value in self.columns.items()}
         return found
+
+    def in_order(self) -> 'Block':
+        """The same entries by count, then channel, then place."""
+        is_one = len(self.channel) and (self.channel == self.channel[0]).all()
+        if is_one and (self.count[1:] >= self.count[:-1]).all():
+            return self
+        return self.keep(ranked(self.count, self.number, self.order))
+
+    def between(self, low: int, high: int) -> 'Block':
+        """Of entries in order those whose counts are low or more and below high."""
+        first, last = numpy.searchsorted(self.count, (low, min(high, LAST))).tolist()
+        return self if (first, last) == (0, len(self.count)) else self.keep(slice(first, last))
 
 
 class Vector:
@@ -229,7 +236,8 @@ class Vector:
                       ARINC: (self.words, self.word_pieces), DISCRETE: (self.states, self.state_pieces)}
         self.tables: Dict[tuple, Table] = {}
         self.decimals = Decimals()
-        self.changed: Dict[int, bytes] = {}
+        self.page_held = numpy.empty(0, numpy.uint8)  # what the lines of a page are made in
+        self.places: Optional[Tuple[Array, Array]] = None  # by the command word of a bus
         self.codes: Dict[int, int] = {0: 0}  # of how many were lost; and the other way
         self.losses: List[int] = [0]
         self.numbers: Dict[int, int] = {}  # of channels; and the other way
@@ -260,8 +268,7 @@ class Vector:
                 groups[kind] = [one for one in groups[kind] if one[0] not in gone]
             if not groups[kind]:
                 continue
-            if part.low or part.high < 1 << 63:
-                block = block.keep((block.count >= part.low) & (block.count < min(part.high, (1 << 63) - 1)))
+            block = block.in_order().between(part.low, part.high)
             if len(block.count):
                 blocks[kind] = block
         if not all(self.has_times(block) for block in blocks.values()):
@@ -275,41 +282,50 @@ class Vector:
             yield self.page(blocks, plain)
             return
         cuts = numpy.unique(numpy.partition(counts, range(TOGETHER, len(counts), TOGETHER))[TOGETHER::TOGETHER]).tolist()
-        for low, high in zip([-1] + cuts, cuts + [(1 << 63) - 1]):
-            some = {kind: block.keep(numpy.flatnonzero((block.count >= low) & (block.count < high))) for kind, block in blocks.items()}
+        for low, high in zip([-1] + cuts, cuts + [LAST]):
+            some = {kind: block.between(low, high) for kind, block in blocks.items()}
             held = numpy.flatnonzero((plain[0] >= low) & (plain[0] < high))
-            yield self.page({kind: block for kind, block in some.items() if len(block.count)}, tuple(one[held] for one in plain[:3]) + (
-                [plain[3][place] for place in held.tolist()],))
+            yield self.page({kind: block for kind, block in some.items() if len(block.count)},
+                            tuple(one[held] for one in plain[:3]) + ([plain[3][place] for place in held.tolist()],))
 
     def page(self, blocks: Dict[int, Block], plain: tuple) -> Array:
-        """The lines of some entries, as one array."""
-        made = [(block, self.front(block) + self.kinds[kind][1](kind, block)) for kind, block in blocks.items()]
-        lengths = []
-        for block, pieces in made:
-            fixed = sum(piece.wide for piece in pieces if piece.lengths is None)
-            length = numpy.full(len(block.count), fixed, numpy.int64)
-            for piece in pieces:
-                if piece.lengths is not None:
-                    length += piece.lengths
-            lengths.append(length)
+        """The lines of some entries, as one array, which holds until the next one is made."""
+        made = [(block, self.front(block), self.kinds[kind][1](kind, block)) for kind, block in blocks.items()]
+        fronts = [sum_of(front, len(block.count)) for block, front, _ in made]
+        lengths = [front + sum_of(pieces, len(front)) for (_, _, pieces), front in zip(made, fronts)]
         lengths.append(numpy.array([len(line) for line in plain[3]], numpy.int64))
-        counts, channels, order = (numpy.concatenate(some) for some in zip(*([(block.count, block.number, block.order) for block, _ in made] + [plain[:3]])))
+        spill = min(int(some.min()) for some in fronts + lengths[-1:] if len(some))
+        counts, channels, order = (
+            numpy.concatenate(some) for some in zip(*[(block.count, block.number, block.order) for block, _, _ in made], plain[:3]))
         ranks, lengths_of = ranked(counts, channels, order), numpy.concatenate(lengths)
         ends = numpy.empty(len(ranks), numpy.int64)
         ends[ranks] = numpy.cumsum(lengths_of[ranks])
-        out = numpy.empty(int(lengths_of.sum()), numpy.uint8)
-        place = 0
-        for (block, pieces), length in zip(made, lengths):
+        size = int(lengths_of.sum())
+        if len(self.page_held) < size + spill:
+            self.page_held = numpy.empty(size + spill + size // 8, numpy.uint8)
+        out, place, rows = self.page_held, 0, []
+        for (_, front_pieces, pieces), front, length in zip(made, fronts, lengths):
             end = ends[place:place + len(length)]
             place += len(length)
-            at = end - length
-            for piece in pieces:
-                if piece.wide:
-                    piece.write(out, at, end - at if piece.lengths is not None else None)
-                at += piece.wide if piece.lengths is None else piece.lengths
+            begin = end - length
+            rows.append((front_pieces, pieces, begin, begin + front, end + spill, numpy.searchsorted(begin, numpy.arange(0, size + NEAR, NEAR))))
+        for step in range(-(-size // NEAR)):
+            some = [(slice(*row[-1][step:step + 2].tolist()),) + row[:-1] for row in rows]
+            for held, _, pieces, _, at, limit in some:
+                at, limit = at[held], limit[held]
+                for piece in pieces if len(at) else ():
+                    if piece.wide:
+                        piece.write(out, held, at, limit - at if piece.lengths is not None else None)
+                    at = at + (piece.wide if piece.lengths is None else piece.lengths[held])
+            for held, pieces, _, at, _, _ in some:
+                at = at[held]
+                for piece in pieces if len(at) else ():
+                    length = piece.wide if piece.lengths is None else piece.lengths[held]
+                    piece.write(out, held, at, None if piece.lengths is None else length)
+                    at = at + length
         for line, end in zip(plain[3], ends[place:].tolist()):
             out[end - len(line):end] = numpy.frombuffer(line, numpy.uint8)
-        return out
+        return out[:size] if size >= HELD else out[:size].tobytes()
 
     # ---- what every line has
 
@@ -359,19 +375,29 @@ class Vector:
     def front(self, block: Block) -> List[Piece]:
         """The pieces from a line's begin to its time."""
         form, clock = self.form, self.ordered.survey.clock
-        channels = self.table(('front',), lambda key: form.front(self.channels[key]).encode('utf-8', 'replace')).pieces(block.channel)
-        pieces = [channels, self.decimals.plain(block.count)]
+        fronts = self.table(('front',), lambda key: form.front(self.channels[key]).encode('utf-8', 'replace')).pieces(block.channel)
+        least, most = len(str(int(block.count.min()))), len(str(int(block.count.max())))
+        digits = self.decimals.right(block.count, -(-most // 4))
+        columns = [digits[:, digits.shape[1] - most:]]
         if clock:
             second, before = block.columns['second'], form.around(True)[0]
             low = int(second.min())
-            if int(second.max()) - low < 1 << 16:
-                keys = second - low
-                texts = Table(lambda key: before + civil((low + key) * SECOND, clock.dated).encode() + b'.')
+            if int(second.max()) - low < len(second):
+                known, keys = numpy.arange(low, int(second.max()) + 1), second - low
             else:
                 known, keys = numpy.unique(second, return_inverse=True)
-                texts = Table(lambda key: before + civil(int(known[key]) * SECOND, clock.dated).encode() + b'.')
-            pieces += [texts.pieces(keys), self.decimals.fraction(block.columns['part'])]
-        return pieces
+            texts = [before + civil(each * SECOND, clock.dated).encode() + b'.' for each in known.tolist()]
+            columns += [numpy.take(numpy.frombuffer(b''.join(texts), numpy.uint8).reshape(len(texts), -1), keys.reshape(-1), 0),
+                        self.decimals.right(block.columns['part'], 2)[:, 1:]]
+        wide = sum(column.shape[1] for column in columns)
+        rows, at = numpy.empty((len(block.count), wide), numpy.uint8), 0
+        for column in columns:
+            rows[:, at:at + column.shape[1]] = column
+            at += column.shape[1]
+        if least == most:
+            return [fronts, Fixed(rows)]
+        fewer = most - 1 - numpy.searchsorted(10 ** numpy.arange(1, most, dtype=numpy.int64), block.count, 'right')
+        return [fronts, Piece(padded(rows.reshape(-1), wide), numpy.arange(0, wide * len(rows), wide) + fewer, wide, wide - fewer)]
 
     def table(self, name: tuple, make: Callable[[int], bytes]) -> Table:
         found = self.tables.get(name)
@@ -395,7 +421,7 @@ class Vector:
     # ---- UART and messages
 
     def walked(self, kind: int, packets: List[tuple], even_ends: bool) -> Tuple[bytes, Block]:
-        """The bodies of some packets put end to end, and their entries."""
+        """The bodies of some packets put end to end, with zeros after the last, and their entries."""
         bodies, starts, ends, at = [], [], [], 0
         for _, packet, _ in packets:
             body = packet.body
@@ -406,8 +432,8 @@ class Vector:
             if even_ends and at & 1:
                 bodies.append(b'\0')
                 at += 1
-        data = b''.join(bodies)
-        octets = octets_of(data, 0)
+        data = b''.join(bodies + [ROOM])
+        octets = numpy.frombuffer(data, numpy.uint8)
         places, number, _ = walk.walk(octets, starts, ends, [walk.number_in(kind, packet.word) for _, packet, _ in packets], kind)
         block = self.block(packets, number)
         block.columns['place'] = places
@@ -417,7 +443,7 @@ class Vector:
     def texts(self, kind: int, packets: List[tuple]) -> Tuple[Block, List[tuple]]:
         """Entries of UART or of messages, and the packets with an entry that is too long."""
         data, block = self.walked(kind, packets, False)
-        octets = octets_of(data, 0)
+        octets = numpy.frombuffer(data, numpy.uint8)
         places = block.columns['place']
         if not len(places):
             return block, []
@@ -426,7 +452,7 @@ class Vector:
         long = numpy.unique(block.of[sizes > LONGEST])
         if len(long):
             return block, [packets[place] for place in long.tolist()]
-        classes = numpy.frombuffer(CLASSES, numpy.uint8)[octets_of(data, 2)]
+        classes = numpy.frombuffer(data.translate(CLASSES), numpy.uint8)
         ends = numpy.stack([places + 12, places + 12 + sizes], 1).reshape(-1)
         found = numpy.where(sizes > 0, numpy.bitwise_or.reduceat(classes, ends)[::2], 8)
         prints = found & 8 == 0
@@ -436,12 +462,13 @@ class Vector:
         source, rest = data, numpy.flatnonzero(turned)
         if len(rest):
             escapes = JSON_ESCAPES if is_json else CSV_ESCAPES
-            texts = [data[start:start + size].decode('ascii').translate(escapes).encode('ascii') for start, size in zip(starts[rest].tolist(), sizes[rest].tolist())]
-            source += b''.join(texts)
+            texts = [data[start:start + size].decode('ascii').translate(escapes).encode('ascii')
+                     for start, size in zip(starts[rest].tolist(), sizes[rest].tolist())]
+            source = b''.join([data] + texts + [ROOM])
             sizes_of = numpy.array([len(text) for text in texts], numpy.int64)
             starts[rest], lengths[rest] = len(data) + numpy.cumsum(sizes_of) - sizes_of, sizes_of
         block.columns.update(head=heads, size=sizes, wraps=wraps.astype(numpy.int64), start=starts, length=lengths)
-        self.sources[kind] = octets_of(hexlify(data), 2 * LONGEST), octets_of(source, 4 * LONGEST)
+        self.sources[kind] = numpy.frombuffer(hexlify(data), numpy.uint8), numpy.frombuffer(source, numpy.uint8)
         return block, []
 
     def text_pieces(self, kind: int, block: Block) -> List[Piece]:
@@ -466,56 +493,49 @@ class Vector:
         places = block.columns['place']
         if not len(places):
             return block, []
-        octets = octets_of(data, 0)
-        number = (octets[places + 12].astype(numpy.int64) | octets[places + 13].astype(numpy.int64) << 8) // 2
-        left = numpy.unique(block.of[(number > MOST_WORDS) | (places & 1 != 0)])
-        if len(left):
-            return block, [packets[place] for place in left.tolist()]
-        words = numpy.concatenate([octets_of(data, 0).view('<u2'), numpy.zeros(MOST_WORDS + 4, '<u2')])
+        words = numpy.frombuffer(data, '<u2', len(data) // 2)
         at = places >> 1
+        number = (words[at + 6] >> 1).astype(numpy.int64)
+        is_left = (number > MOST_WORDS) | (places & 1 != 0)
+        if is_left.any():
+            return block, [packets[place] for place in numpy.unique(block.of[is_left]).tolist()]
         status, gap = words[at + 4].astype(numpy.int64), words[at + 5].astype(numpy.int64)
-        command = numpy.where(number > 0, words[at + 7], 0).astype(numpy.int64)
+        at += 7
+        has = number > 0
+        command = words[at].astype(numpy.int64) * has
         second, one, two = self.layout(command, number, status)
-        words_at = at + 7
+        first = 1 + (one == 1)
+        between = numpy.flatnonzero(second == 1)
+        first[between] = 2 + (number[between] > 2)
+        hole = numpy.where(two >= 0, two, numpy.where(one >= first, one, number))
+        many, rest = hole - first * has, numpy.maximum(number - hole - 1, 0)
 
         def word(place: Array) -> Array:
-            return numpy.where(place >= 0, words[words_at + numpy.maximum(place, 0)], 1 << 16).astype(numpy.int64)
+            return numpy.where(place >= 0, words[at + numpy.maximum(place, 0)], 1 << 16).astype(numpy.int64)
 
-        other, first_status, second_status = word(second), word(one), word(two)
-        first = numpy.ones(len(number), numpy.int64)
-        for _ in range(3):
-            first += (second == first) | (one == first) | (two == first)
-        many = number - (number > 0) - (second >= 0) - (one >= 0) - (two >= 0)
-        split = numpy.zeros(len(number), bool)
-        for hole in (second, one, two):
-            split |= (hole > first) & (hole < first + many)
-        starts, source = 4 * (words_at + first), hexlify(words.byteswap().tobytes())
-        rest = numpy.flatnonzero(split)
-        if len(rest):
-            held = numpy.arange(MOST_WORDS) < number[rest, None]
-            held[:, 0] = False
-            rows = numpy.arange(len(rest))
-            for hole in (second[rest], one[rest], two[rest]):
-                held[rows[hole >= 0], hole[hole >= 0]] = False
-            ranks = numpy.argsort(~held, axis=1, kind='stable')
-            starts[rest] = len(source) + 4 * MOST_WORDS * rows
-            source += hexlify(words[words_at[rest, None] + ranks].byteswap().tobytes())
-        self.sources[kind] = octets_of(source, 4 * MOST_WORDS)
-        block.columns.update(start=starts, many=many, number=number, status=status, gap=gap, command=command, other=other, one=first_status, two=second_status)
+        self.sources[kind] = numpy.frombuffer(hexlify(words.byteswap()), numpy.uint8)
+        block.columns.update(start=4 * (at + first), many=many, then=4 * (at + hole + 1), rest=rest, number=number, status=status, gap=gap,
+                             command=command, other=word(second) if len(between) else numpy.full(len(number), 1 << 16), one=word(one),
+                             two=word(two) if len(between) else numpy.full(len(number), 1 << 16))
         return block, []
 
-    @staticmethod
-    def layout(command: Array, number: Array, status: Array) -> Tuple[Array, Array, Array]:
+    def layout(self, command: Array, number: Array, status: Array) -> Tuple[Array, Array, Array]:
         """Where the second command word and the status words stand, or -1: as `ch10.buses.layout_1553`."""
-        rt, sends, sa, low = command >> 11, command >> 10 & 1, command >> 5 & 31, command & 31
-        size = numpy.where(low == 0, 32, low)
-        between = (status & RT_TO_RT != 0) & (number > 1)
-        least = numpy.where((sa == 0) | (sa == 31), low >> 4, size)
-        one = numpy.where(sends == 1, 1, 1 + least)
-        one = numpy.where((rt == 31) | (number <= one), -1, one)
-        one = numpy.where(between, numpy.where(number > 2, 2, -1), one)
-        two = numpy.where(between & (number > 3 + size) & (rt != 31), 3 + size, -1)
-        return numpy.where(between, 1, -1), numpy.where(number > 0, one, -1), two
+        if self.places is None:
+            every = numpy.arange(1 << 16)
+            rt, sends, sa, low = every >> 11, every >> 10 & 1, every >> 5 & 31, every & 31
+            size = numpy.where(low == 0, 32, low)
+            one = numpy.where(sends == 1, 1, 1 + numpy.where((sa == 0) | (sa == 31), low >> 4, size))
+            self.places = numpy.where(rt == 31, LAST, one), numpy.where(rt == 31, LAST, 3 + size)
+        one, second, two = self.places[0][command], numpy.full(len(command), -1), numpy.full(len(command), -1)
+        one[one >= number] = -1
+        between = numpy.flatnonzero((status & RT_TO_RT != 0) & (number > 1))
+        if len(between):
+            number, last = number[between], self.places[1][command[between]]
+            second[between] = 1
+            one[between] = numpy.where(number > 2, 2, -1)
+            two[between] = numpy.where(number > last, last, -1)
+        return second, one, two
 
     def message_pieces(self, kind: int, block: Block) -> List[Piece]:
         form, joints, columns, reader = self.form, self.joints[kind], block.columns, self.form.reader
@@ -534,13 +554,14 @@ class Vector:
         def other(key: int) -> bytes:
             return joints[9] + self.cells(kind, 9, (key >> 5, key & 31) if key < 1024 else (None, None))
 
-        def gap(place: int) -> Callable[[int], bytes]:
-            return lambda key: joints[place] + self.cells(kind, place, (key / 10,)) + (joints[16] + b'\n' if place == 15 else b'')
+        def gap(key: int) -> bytes:
+            return joints[14] + self.cells(kind, 14, ((key & 0xFF) / 10, (key >> 8) / 10)) + joints[16] + b'\n'
 
         is_mode = (command >> 5 & 31 == 0) | (command >> 5 & 31 == 31)
         other_word, one, two, status, gaps = columns['other'], columns['one'], columns['two'], columns['status'], columns['gap']
         return [
             self.lost(kind, block, quote), Piece(self.sources[kind], columns['start'], 4 * int(many.max()), 4 * many),
+            Piece(self.sources[kind], columns['then'], 4 * int(columns['rest'].max()), 4 * columns['rest']),
             self.table(('block', kind), block_of).pieces(block.channel << 11 | status >> 3 & 0x7FF),
             self.table(('terminal', kind), terminal).pieces(numpy.where(has, command >> 5, 2048)),
             self.table(('size', kind), size).pieces(numpy.where(has, command & 31 | is_mode.astype(numpy.int64) << 5, 64)),
@@ -548,7 +569,7 @@ class Vector:
             self.status_table(kind, 11).pieces(one), self.status_table(kind, 12).pieces(two),
             self.table(('flags', kind), lambda key: joints[13] + self.cells(kind, 13, (named(key, FLAGS_1553),))).pieces(
                 ((one & 0xFFFF) * (one < 1 << 16) | (two & 0xFFFF) * (two < 1 << 16)) & 0x7FF),
-            self.table(('gap', kind, 14), gap(14)).pieces(gaps & 0xFF), self.table(('gap', kind, 15), gap(15)).pieces(gaps >> 8)]
+            self.table(('gap', kind), gap).pieces(gaps)]
 
     def status_table(self, kind: int, place: int) -> Table:
         """The texts of status words: four hex digits, and no cell where there is none, which is 1 << 16."""
@@ -644,19 +665,21 @@ class Vector:
         most = int(bits.max())
         starts = numpy.arange(32, 32 * len(states) + 1, 32) - bits
         differ = (columns['before'] ^ states) & ((1 << bits) - 1)
-        keys, places = numpy.unique(differ.astype(numpy.uint64) << numpy.uint64(32) | (states & differ).astype(numpy.uint64), return_inverse=True)
-        changed = [self.changed.get(key) or self.changes(kind, key) for key in keys.tolist()]
+        changed = [self.changes(kind, place, differ, states) for place in range(4) if (differ >> 8 * place & 0xFF).any()]
         return [self.lost(kind, block, quote), hexes(states), Always(quote + joints[1] + quote),
-                Piece(padded(pairs.reshape(-1), 32), starts, most, None if int(bits.min()) == most else bits), Table(changed.__getitem__).pieces(places.reshape(-1))]
+                Piece(padded(pairs.reshape(-1), 32), starts, most, None if int(bits.min()) == most else bits),
+                Always(quote + joints[2] + quote)] + changed + [Always(quote + joints[3] + b'\n')]
 
+    def changes(self, kind: int, place: int, differ: Array, states: Array) -> Piece:
+        """What changed of eight discretes, after a space where one before these did."""
 
-    def changes(self, kind: int, key: int) -> bytes:
-        """What changed, and what stands around it: of the discretes that differ, in the upper half of the key, their states in the lower half."""
-        said = self.form.cell(kind, 2, changed_bits(key & 0xFFFFFFFF ^ key >> 32, key & 0xFFFFFFFF, 32)).encode()
-        said = self.form.quote + self.joints[kind][2] + said + self.joints[kind][3] + b'\n'
-        if len(self.changed) < 1 << 16:
-            self.changed[key] = said
-        return said
+        def text(key: int) -> bytes:
+            said = changed_bits((key >> 8 ^ key & 0xFF) << 8 * place, (key & 0xFF) << 8 * place, 32)
+            return (b' ' if key >> 16 and said else b'') + said.encode()
+
+        now = differ >> 8 * place & 0xFF
+        is_first = differ & ((1 << 8 * place) - 1) == 0
+        return self.table(('changed', kind, place), text).pieces((now << 8 | states >> 8 * place & now) + ((1 << 16) * ~is_first))
 
 
 def hexes(words: Array) -> Piece:

@@ -46,27 +46,29 @@ def walk(octets: Array, starts: Sequence[int], ends: Sequence[int], numbers: Seq
     at, end = numpy.array(starts, numpy.int64), numpy.array(ends, numpy.int64)
     most = None if numbers and numbers[0] is None else numpy.array(numbers, numpy.int64)
     number, bad = numpy.zeros(len(at), numpy.int64), numpy.zeros(len(at), bool)
+    sizes = numpy.ndarray((max(len(octets) - of_size - 1, 0),), '<u2', octets, of_size, (1,)) if len(octets) > of_size + 1 else None
     steps: List[tuple] = []
     live = numpy.flatnonzero(at < end if most is None else most > 0)
+    here, last, left = at[live], end[live], None if most is None else most[live]
     step = 0
-    while len(live) >= FEW:
-        here, last = at[live], end[live]
-        fits = here + head <= last
-        if not fits.all():
-            bad[live[~fits]] = True
-            live, here, last = live[fits], here[fits], last[fits]
-        size = octets[here + of_size].astype(numpy.int64) | octets[here + of_size + 1].astype(numpy.int64) << 8
-        behind = here + size + head
+    while len(live) >= FEW and sizes is not None:
+        behind = here + sizes[numpy.minimum(here, len(sizes) - 1)]
+        behind += head
         fits = behind <= last
         if not fits.all():
-            bad[live[~fits]] = True
-            live, here, last, behind, size = live[fits], here[fits], last[fits], behind[fits], size[fits]
+            wrong = live[~fits]
+            bad[wrong], number[wrong], at[wrong] = True, step, here[~fits]
+            live, here, last, behind = live[fits], here[fits], last[fits], behind[fits]
+            left = None if left is None else left[fits]
         steps.append((live, here))
-        number[live] += 1
-        following = behind + (size & 1) if is_even else behind
-        at[live] = following
         step += 1
-        live = live[following < last] if most is None else live[most[live] > step]
+        here = behind + (behind - here & 1) if is_even else behind
+        more = here < last if left is None else left > step
+        if not more.all():
+            number[live[~more]] = step
+            live, here, last = live[more], here[more], last[more]
+            left = None if left is None else left[more]
+    number[live], at[live] = step, here
     rest = [(int(place), *one_by_one(octets, int(at[place]), int(end[place]), None if most is None else int(most[place]) - step, kind)) for place in live]
     for place, found, is_bad in rest:
         number[place] += len(found)
