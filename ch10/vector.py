@@ -46,30 +46,70 @@ LAST = (1 << 63) - 1
 
 # ---- pieces
 
+VOIDS: Dict[int, Any] = {}  # types of so many bytes
+
+
+def void(wide: int) -> Any:
+    """The type of so many bytes."""
+    found = VOIDS.get(wide)
+    if found is None:
+        found = VOIDS[wide] = numpy.dtype('V%d' % wide)
+    return found
+
+
+class Sheet:
+    """The bytes that lines are written into."""
+
+    def __init__(self) -> None:
+        self.octets = numpy.empty(0, numpy.uint8)
+        self.views: Dict[int, Array] = {}  # items of so many bytes, one from each place on
+
+    def need(self, size: int) -> None:
+        if len(self.octets) < size:
+            self.octets, self.views = numpy.empty(size + size // 8, numpy.uint8), {}
+
+    def put(self, at: Array, wide: int, items: Array) -> None:
+        view = self.views.get(wide)
+        if view is None:
+            view = self.views[wide] = walk.wide_view(self.octets, wide)
+        view[at] = items
+
+
 class Piece:
     """What stands at one place of each line: the bytes of a source from some place on, as many as its length there or the same of each."""
 
     def __init__(self, source: Array, starts: Optional[Array], wide: int, lengths: Optional[Array] = None) -> None:
         self.source, self.starts, self.wide, self.lengths = source, starts, wide, lengths
+        self.at: Array = None  # where in a sheet it is to be
+        self.room: Optional[Array] = None  # and how much room there is from there on, where that may be less than .wide
 
-    def write(self, out: Array, held: slice, at: Array, room: Optional[Array]) -> None:
-        """Writes those of some lines at these places, each of which has so much room from there on.
+    def place(self, at: Array, limit: Optional[Array]) -> Array:
+        """Puts it at these places, with room up to the limit or for its own bytes alone. Answers where it ends."""
+        self.at = at
+        if self.lengths is None:
+            return at + self.wide
+        room = self.lengths if limit is None else limit - at
+        self.room = room if int(room.min()) < self.wide else None
+        return at + self.lengths
+
+    def write(self, sheet: Sheet, held: slice) -> None:
+        """Writes it for some lines.
 
         Bytes after its own are written too where there is room for them: what belongs there is written later.
         """
-        left = () if self.lengths is None else numpy.flatnonzero(room < self.wide)
-        if not len(left):
-            walk.wide_view(out, self.wide)[at] = self.items(self.wide, held)
+        at = self.at[held]
+        if self.room is None:
+            sheet.put(at, self.wide, self.items(self.wide, held))
             return
-        wide, some, lengths = self.wide, numpy.flatnonzero(room >= self.wide), self.lengths[held]
-        while True:  # each time the longest of those that are left, and what has room for as much
+        room, lengths, wide, left = self.room[held], self.lengths[held], self.wide, numpy.arange(len(at))
+        while True:  # each time what has room for the longest of those that are left
+            fits = room[left] >= wide
+            some, left = left[fits], left[~fits]
             if len(some):
-                walk.wide_view(out, wide)[at[some]] = self.items(wide, some + held.start)
+                sheet.put(at[some], wide, self.items(wide, some + held.start))
             wide = int(lengths[left].max()) if len(left) else 0
             if not wide:
                 return
-            fits = room[left] >= wide
-            some, left = left[fits], left[~fits]
 
     def items(self, wide: int, some: Union[Array, slice]) -> Array:
         return walk.wide_view(self.source, wide)[self.starts[some]]
@@ -79,7 +119,7 @@ class Fixed(Piece):
     """A piece of one length, a row of bytes for each line."""
 
     def __init__(self, rows: Array) -> None:
-        Piece.__init__(self, rows.view('V%d' % rows.shape[1])[:, 0], None, rows.shape[1])
+        Piece.__init__(self, rows.view(void(rows.shape[1]))[:, 0], None, rows.shape[1])
 
     def items(self, wide: int, some: Union[Array, slice]) -> Array:
         return self.source[some]
@@ -89,7 +129,7 @@ class Always(Piece):
     """A piece that is the same in each line."""
 
     def __init__(self, text: bytes) -> None:
-        Piece.__init__(self, numpy.frombuffer(text, 'V%d' % len(text)), None, len(text))
+        Piece.__init__(self, numpy.frombuffer(text, void(len(text))), None, len(text))
 
     def items(self, wide: int, some: Union[Array, slice]) -> Array:
         return self.source
@@ -145,8 +185,8 @@ class TableRows(Piece):
         Piece.__init__(self, table.rows, keys, most if is_one else table.rows.shape[1], None if is_one else lengths)
 
     def items(self, wide: int, some: Union[Array, slice]) -> Array:
-        rows = numpy.take(self.source, self.starts[some], 0)
-        return numpy.ndarray((len(rows),), 'V%d' % wide, rows, 0, (rows.shape[1],)) if wide else numpy.zeros(len(rows), 'V0')
+        rows = self.source.take(self.starts[some], 0)
+        return numpy.ndarray((len(rows),), void(wide), rows, 0, (rows.shape[1],))
 
 
 # ---- numbers
@@ -236,7 +276,7 @@ class Vector:
                       ARINC: (self.words, self.word_pieces), DISCRETE: (self.states, self.state_pieces)}
         self.tables: Dict[tuple, Table] = {}
         self.decimals = Decimals()
-        self.page_held = numpy.empty(0, numpy.uint8)  # what the lines of a page are made in
+        self.sheet = Sheet()
         self.places: Optional[Tuple[Array, Array]] = None  # by the command word of a bus
         self.codes: Dict[int, int] = {0: 0}  # of how many were lost; and the other way
         self.losses: List[int] = [0]
@@ -301,28 +341,26 @@ class Vector:
         ends = numpy.empty(len(ranks), numpy.int64)
         ends[ranks] = numpy.cumsum(lengths_of[ranks])
         size = int(lengths_of.sum())
-        if len(self.page_held) < size + spill:
-            self.page_held = numpy.empty(size + spill + size // 8, numpy.uint8)
-        out, place, rows = self.page_held, 0, []
-        for (_, front_pieces, pieces), front, length in zip(made, fronts, lengths):
+        self.sheet.need(size + spill)
+        place, rows = 0, []
+        for (_, fronts_of, pieces), front, length in zip(made, fronts, lengths):
             end = ends[place:place + len(length)]
             place += len(length)
             begin = end - length
-            rows.append((front_pieces, pieces, begin, begin + front, end + spill, numpy.searchsorted(begin, numpy.arange(0, size + NEAR, NEAR))))
+            at, limit = begin + front, end + spill
+            for piece in pieces:
+                at = piece.place(at, limit)
+            at = begin
+            for piece in fronts_of:
+                at = piece.place(at, None)
+            rows.append((fronts_of, [piece for piece in pieces if piece.wide], numpy.searchsorted(begin, numpy.arange(0, size + NEAR, NEAR)).tolist()))
         for step in range(-(-size // NEAR)):
-            some = [(slice(*row[-1][step:step + 2].tolist()),) + row[:-1] for row in rows]
-            for held, _, pieces, _, at, limit in some:
-                at, limit = at[held], limit[held]
-                for piece in pieces if len(at) else ():
-                    if piece.wide:
-                        piece.write(out, held, at, limit - at if piece.lengths is not None else None)
-                    at = at + (piece.wide if piece.lengths is None else piece.lengths[held])
-            for held, pieces, _, at, _, _ in some:
-                at = at[held]
-                for piece in pieces if len(at) else ():
-                    length = piece.wide if piece.lengths is None else piece.lengths[held]
-                    piece.write(out, held, at, None if piece.lengths is None else length)
-                    at = at + length
+            for which in (1, 0):
+                for row in rows:
+                    held = slice(row[2][step], row[2][step + 1])
+                    for piece in row[which] if held.start < held.stop else ():
+                        piece.write(self.sheet, held)
+        out = self.sheet.octets
         for line, end in zip(plain[3], ends[place:].tolist()):
             out[end - len(line):end] = numpy.frombuffer(line, numpy.uint8)
         return out[:size] if size >= HELD else out[:size].tobytes()
