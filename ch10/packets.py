@@ -114,6 +114,7 @@ ROW = 24  # packets that follow one another which are no copy within a packet
 FIRST_ROW = 8  # the same where no packet was read before
 MOST_ROWS = 4000  # right headers that are compared before a row that is known to be of the recording
 MORE = 64  # and after its first one
+AROUND = 20  # bytes of a packet that are neither its header nor its data: secondary header, checksum, and what fills it up
 NEAR = 8  # packets of its channel that may be missing before one that is near
 
 
@@ -177,11 +178,7 @@ class Resync:
         limit = None if length is None else at + length
         if limit == end:
             return end
-        claimed = limit if limit and self.goes_on(limit, limit - at, not self.is_led_over(at, limit)) else None
-        if length is None and end - at >= 24 and data[at:at + 2] == PATTERN:
-            claimed = at + HEADER.unpack_from(data, at)[2]
-            if not (claimed & 3 == at & 3 and at + 24 < claimed <= end and (claimed == end or self.goes_on(claimed, claimed - at))):
-                claimed = None
+        claimed = self.claimed(at) if limit is None else limit if self.is_claimed(at, limit) else None
         anchor = end if claimed is None else claimed
         place, has_others = find(data, PATTERN, at + 1, anchor), False
         while place >= 0:
@@ -193,6 +190,41 @@ class Resync:
                     break
             place = find(data, PATTERN, place + 1, anchor)
         return self.first_row(at, anchor, limit or claimed or at) if has_others else anchor
+
+    def is_claimed(self, at: int, limit: int) -> bool:
+        """Whether the next packet begins right after the one at fault, whose header is right."""
+        return self.goes_on(limit, limit - at, not self.is_led_over(at, limit)) or self.is_next(at, limit)
+
+    def claimed(self, at: int) -> Optional[int]:
+        """Where the next packet begins by the lengths in a header that is wrong. None where they do not show it."""
+        if not self.is_like(at):
+            return None
+        _, _, length, size, _, _, _, _, _, _, _ = HEADER.unpack_from(self.data, at)
+        place = at + length
+        if length & 3 == 0 and 24 < length and place <= self.end and (place == self.end or self.goes_on(place, length)):
+            return place
+        if length & 3 == 0 and 0 <= length - 24 - size <= AROUND and self.is_next(at, place):
+            return place
+        first = at + 24 + (size + 3 & -4)
+        return next((place for place in range(first, first + AROUND + 1, 4) if self.is_next(at, place)), None)
+
+    def is_like(self, at: int) -> bool:
+        """Whether the bytes at a place are a header, but for some that were changed: its sync pattern is right, or its checksum, of a right one."""
+        if self.end - at < 24:
+            return False
+        words = HEADER_WORDS.unpack_from(self.data, at)
+        return words[0] == SYNC or (SYNC + sum(words[1:])) & 0xFFFF == little(self.data, at + 22, 2) and any(words[1:])
+
+    def is_next(self, at: int, place: int) -> bool:
+        """Whether a packet begins at a place that one at fault leads to: its header and data checksum are right, none before it leads over that place, and what
+        comes after it, and after those that follow it, is like a header."""
+        if place >= self.end or self.is_led_over(at, place):
+            return False
+        run, head = 0, head_at(self.data, place, self.end)
+        while head and run < FIRST_ROW and sum_of(self.data, place):
+            place, run = place + head.length, run + 1
+            head = head_at(self.data, place, self.end)
+        return run > 0 and (run == FIRST_ROW or place == self.end or head is not None or self.is_like(place))
 
     def is_led_over(self, at: int, limit: int) -> bool:
         """Whether a packet begins before a limit and ends after it."""
@@ -234,7 +266,7 @@ class Resync:
                 break
             place += head.length
             head = head_at(self.data, place, self.end)
-        if place == self.end and run or run >= (ROW if self.last else FIRST_ROW):
+        if place == self.end and run or run >= ROW or run >= FIRST_ROW and against == 0:
             return True
         return against == 0 and (exact >= 2 or exact + near >= 2 and run >= 3 or is_next and (exact > 0 or run >= 3))
 
@@ -252,9 +284,19 @@ class Resync:
                 found = min(found, row[0].place)
                 for one in row:
                     known.setdefault(one.key(), []).append(one)
-            certain = [row for row in rows if self.kinship(row, known) >= (2 if len(row) > 1 else 3)]
+            certain = [row for row in rows if self.kinship(row, known) >= self.enough(row)]
             if not certain:
                 return found
+
+    def enough(self, row: List[Placed]) -> int:
+        """How much a row has to agree with packets that are known. A packet by itself needs more, unless its data checksum shows that it is one.
+
+        What begins after the row as a header does, with some bytes changed, is no rest of a packet that the row is a copy in.
+        """
+        behind = row[-1].end()
+        if sum_of(self.data, row[-1].place) and head_at(self.data, behind, self.end) is None and self.is_like(behind):
+            return 1
+        return 2 if len(row) > 1 or sum_of(self.data, row[0].place) else 3
 
     def rows(self, at: int, anchor: int, limit: int) -> List[List[Placed]]:
         """The rows between a fault and the anchor, and some after that; but not those within a packet whose end or whose data checksum is right. A packet whose
