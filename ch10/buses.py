@@ -5,8 +5,10 @@ from typing import Optional, Sequence, Tuple
 
 # ---- MIL-STD-1553
 
-ERRORS_1553 = ((12, 'message error'), (10, 'format error'), (9, 'response timeout'), (5, 'word count error'), (4, 'sync type error'), (3, 'invalid word'))
-FLAGS_1553 = ((10, 'message error'), (9, 'instrumentation'), (8, 'service request'), (4, 'broadcast received'), (3, 'busy'), (2, 'subsystem flag'),
+ERRORS_1553 = ((12, 'message error'), (10, 'format error'), (9, 'response timeout'), (5, 'word count error'),
+               (4, 'sync type error'), (3, 'invalid word'))
+FLAGS_1553 = ((10, 'message error'), (9, 'instrumentation'), (8, 'service request'), (4, 'broadcast received'), (3, 'busy'),
+              (2, 'subsystem flag'),
               (1, 'dynamic bus control'), (0, 'terminal flag'))
 RT_TO_RT = 1 << 11
 
@@ -22,7 +24,8 @@ def block_1553(status: int) -> Tuple[str, str]:
 
 
 def command_1553(command: Optional[int]) -> tuple:
-    """Of a command word: RT, R (the terminal receives) or T (it transmits), subaddress, word count (1 to 32), and in place of that a mode code."""
+    """Of a command word: RT, R (the terminal receives) or T (it transmits), subaddress, word count (1 to 32), and in place of that
+    a mode code."""
     if command is None:
         return None, None, None, None, None
     rt, sa, low = command >> 11, command >> 5 & 31, command & 31
@@ -31,7 +34,8 @@ def command_1553(command: Optional[int]) -> tuple:
 
 
 def layout_1553(command: int, number: int, is_between: bool) -> Tuple[Optional[int], Optional[int], Optional[int]]:
-    """Where, of so many words from a command word on, the second command word and the status words stand, as far as they are there."""
+    """Where, of so many words from a command word on, the second command word and the status words stand, as far as they are
+    there."""
     rt, sends, sa, low = command >> 11, command >> 10 & 1, command >> 5 & 31, command & 31
     size = low or 32
     if is_between and number > 1:  # receive, transmit, status, data, status
@@ -51,7 +55,8 @@ def flags_1553(first: Optional[int], second: Optional[int]) -> str:
 
 
 def message_1553(status: int, words: list) -> tuple:
-    """A message as columns: bus, errors, RT, T/R, SA, WC, mode code, RT and SA of a second command, status words, their flags, data words."""
+    """A message as columns: bus, errors, RT, T/R, SA, WC, mode code, RT and SA of a second command, status words, their flags, data
+    words."""
     bus, errors = block_1553(status)
     if not words:
         return (bus, errors) + (None,) * 9 + ('', [])
@@ -73,11 +78,13 @@ TURNED = bytes(int('{:08b}'.format(value)[::-1], 2) for value in range(256))
 def errors_429(head: int, word: int) -> str:
     """What the header says of a word's reception, and whether the word has the odd parity that the bus asks for."""
     is_odd = ODD[word & 0xFFFF] ^ ODD[word >> 16]
-    return '+'.join(name for held, name in ((head >> 23 & 1, 'format error'), (head >> 22 & 1, 'parity error'), (not is_odd, 'even parity')) if held)
+    return '+'.join(name for held, name in ((head >> 23 & 1, 'format error'), (head >> 22 & 1, 'parity error'),
+                                            (not is_odd, 'even parity')) if held)
 
 
 def word_429(word: int, turned: bool = False) -> tuple:
-    """A word as columns: label in octal, SDI, the 19 bits of data, SSM, parity bit. The label is bits 7 to 0, or these in the other order."""
+    """A word as columns: label in octal, SDI, the 19 bits of data, SSM, parity bit. The label is bits 7 to 0, or these in the other
+    order."""
     label = word & 0xFF
     return '%03o' % (TURNED[label] if turned else label), word >> 8 & 3, word >> 10 & 0x7FFFF, word >> 29 & 3, word >> 31
 

@@ -41,8 +41,8 @@ def printable(path: str) -> str:
 
 
 def inputs_of(paths: Sequence[str], base: Optional[str], passed: List[str], failed: List[Tuple[str, str]]) -> Iterator[Input]:
-    """The files of a call: those that it names, and of a folder those below it that look like recordings or images; the others are counted in `passed`, and folders
-    that cannot be read go to `failed`."""
+    """The files of a call: those that it names, and of a folder those below it that look like recordings or images; the others are
+    counted in `passed`, and folders that cannot be read go to `failed`."""
     def unreadable(error: OSError) -> None:
         failed.append((printable(error.filename), error.strerror or str(error)))
 
@@ -117,7 +117,8 @@ def image_tasks(path: str, place: str, data: Any) -> Iterator[Task]:
     for number, file in enumerate(files):
         begin = min(512 * file.first, len(data))
         end = min(begin + file.size, len(data))
-        yield dict(path=path, place=place, begin=begin, end=end, number=number, files=len(files), bytes=end - begin, volume=shown(volume),
+        yield dict(path=path, place=place, begin=begin, end=end, number=number, files=len(files), bytes=end - begin,
+                   volume=shown(volume),
                    name=shown(file.name), closed=file.closed, listed=most(file.size))
 
 
@@ -157,7 +158,8 @@ def now() -> str:
 
 
 def record(store: Store, found: Sequence[Tuple[Task, Task]], anew: bool) -> List[str]:
-    """Puts what was found into the database, all of it or nothing. Answers of each whether it was `added`, `judged` (it had no verdict before), or `known`."""
+    """Puts what was found into the database, all of it or nothing. Answers of each whether it was `added`, `judged` (it had no
+    verdict before), or `known`."""
     ways: Dict[str, str] = {}
     moment = now()
     with store.transaction():
@@ -189,7 +191,8 @@ def replace(store: Store, number: int, facts: Task, anew: bool) -> str:
     if not anew and (there[0][0] != 'unjudged' or facts['verdict'] == 'unjudged'):
         return 'known'
     names = [name for name in RECORDING_COLUMNS if name not in ('sha256', 'added')]
-    store.rows('UPDATE recording SET %s WHERE id = ?' % ', '.join(name + ' = ?' for name in names), [facts[name] for name in names] + [number])
+    store.rows('UPDATE recording SET %s WHERE id = ?' % ', '.join(name + ' = ?' for name in names),
+               [facts[name] for name in names] + [number])
     for table in ('channel', 'damage', 'attribute'):
         store.rows('DELETE FROM %s WHERE recording = ?' % table, (number,))
     return 'judged'
@@ -197,16 +200,20 @@ def replace(store: Store, number: int, facts: Task, anew: bool) -> str:
 
 def details(store: Store, found: Sequence[Tuple[int, Task]]) -> None:
     """The rows that belong to recordings."""
-    store.insert('channel', ('recording',) + CHANNEL_COLUMNS, ((number, *row) for number, facts in found for row in facts['channels']))
-    store.insert('damage', ('recording', 'byte_offset', 'byte_length', 'reason'), ((number, *row) for number, facts in found for row in facts['damage']))
-    store.insert('attribute', ('recording', 'code', 'value'), ((number, *row) for number, facts in found for row in facts['attributes']))
+    store.insert('channel', ('recording',) + CHANNEL_COLUMNS,
+                 ((number, *row) for number, facts in found for row in facts['channels']))
+    store.insert('damage', ('recording', 'byte_offset', 'byte_length', 'reason'),
+                 ((number, *row) for number, facts in found for row in facts['damage']))
+    store.insert('attribute', ('recording', 'code', 'value'),
+                 ((number, *row) for number, facts in found for row in facts['attributes']))
 
 
 def put_places(store: Store, found: Sequence[Tuple[Task, Task]], ids: Dict[str, int], moment: str) -> None:
     """Where the recordings lie; a file that has others now than before has those."""
     rows, files = {}, {}
     for task, facts in found:
-        rows[task['place'], task['number']] = (task['place'], task['number'], ids[facts['sha256']], task.get('volume'), task.get('name'), task.get('closed'),
+        rows[task['place'], task['number']] = (task['place'], task['number'], ids[facts['sha256']], task.get('volume'),
+                                               task.get('name'), task.get('closed'),
                                                task.get('listed'), moment)
         files[task['place']] = task['files']
     plain = sorted(place for place, number in files.items() if number == 0)
@@ -263,10 +270,12 @@ Added = Tuple[Task, Task, str]
 
 
 def added(store: Store, asked: Any, failed: List[Tuple[str, str]], passed: List[str]) -> Iterator[List[Added]]:
-    """Adds the inputs of a call, and gives what was done with each, a transaction's worth at a time. What can't be read goes to `failed`."""
+    """Adds the inputs of a call, and gives what was done with each, a transaction's worth at a time. What can't be read goes to
+    `failed`."""
     program = None if asked.unjudged else program_of(asked.program)
     memory = asked.memory << 20 if asked.memory else half_of_memory()
-    setting = dict(work='catalogue', db=asked.db, program=program, judge=program and version_of(program), anew=asked.anew, most=memory)
+    setting = dict(work='catalogue', db=asked.db, program=program, judge=program and version_of(program), anew=asked.anew,
+                   most=memory)
     held: List[Tuple[Task, Task]] = []
     last = time.monotonic()
     with Pool(asked.jobs or processors(), setting, Room(memory), AHEAD) as pool:

@@ -39,7 +39,8 @@ def version() -> str:
         return 'of no number: there is no file VERSION beside its folder'
 
 
-ABOUT = """What a crew asks of a recording, or of the image of a medium: from standard input to standard output, by the public standard alone.
+ABOUT = """What a crew asks of a recording, or of the image of a medium: from standard input to standard output, by the public \
+standard alone.
 
     ch10 summary < INPUT          what each channel has: packets, entries, bytes, counts, times, rate, losses
     ch10 csv < INPUT              the entries as CSV, by count, then channel, then place
@@ -51,7 +52,8 @@ ABOUT = """What a crew asks of a recording, or of the image of a medium: from st
     ch10 sqlite --out FILE < INPUT    the entries as a database of SQLite
     ch10 tmats < SCRIPT           a setup text for the channels of a script of r10
 
-It knows of this recorder's own no rule and one form, that of a loss report, and reads recordings of others too: packets of a kind that is
+It knows of this recorder's own no rule and one form, that of a loss report, and reads recordings of others too: packets of a kind \
+that is
 not read are passed over and counted as opaque. What stands before the first fault is answered, and then the status is 1.
 """
 
@@ -78,7 +80,8 @@ def channel_number(word: str) -> int:
     return number(word)
 
 
-TIMES = """A and B are civil times, as '2024-02-29 12:34:56.78', with none to seven places behind the second; 12:34:56 is of the day of the recording's
+TIMES = """A and B are civil times, as '2024-02-29 12:34:56.78', with none to seven places behind the second; 12:34:56 is of the \
+day of the recording's
 first time; '060 12:34:56' is a day of the year, where the recording has no date; 1000 is a count. Both ends are taken in."""
 
 
@@ -94,20 +97,26 @@ def parser_of() -> 'Parser':
                                    formatter_class=argparse.RawDescriptionHelpFormatter)
         made.set_defaults(run=run)
         made.add_argument('--file', type=number, metavar='N', help='a file of an image, by its number from 0 on'
-                          + (' (without it: each)' if name in ('summary', 'sqlite') else '' if name == 'file' else ' (without it: 0)'))
+                          + (' (without it: each)' if name in ('summary', 'sqlite') else '' if name == 'file'
+                             else ' (without it: 0)'))
         return made
 
     def with_channels(made: argparse.ArgumentParser) -> None:
-        made.add_argument('--channel', type=channel_number, metavar='C', action='append', help='this channel alone; may be given again for another')
+        made.add_argument('--channel', type=channel_number, metavar='C', action='append',
+                          help='this channel alone; may be given again for another')
 
     def with_forms(made: argparse.ArgumentParser) -> None:
-        made.add_argument('--kind', choices=sorted(KIND_BY_NAME), metavar='K', help='the entries of this kind alone, with its columns: ' + ', '.join(sorted(KIND_BY_NAME)))
+        made.add_argument('--kind', choices=sorted(KIND_BY_NAME), metavar='K',
+                          help='the entries of this kind alone, with its columns: ' + ', '.join(sorted(KIND_BY_NAME)))
         made.add_argument('--raw', action='store_true', help='the values as they stand in the packets, as r10 play prints them')
-        made.add_argument('--turned-labels', action='store_true', help='labels of ARINC 429 whose first bit on the bus is the lowest of the word')
-        made.add_argument('--jobs', type=number, metavar='J', help='so many processes (without it: as many as there are processors, to eight)')
+        made.add_argument('--turned-labels', action='store_true',
+                          help='labels of ARINC 429 whose first bit on the bus is the lowest of the word')
+        made.add_argument('--jobs', type=number, metavar='J',
+                          help='so many processes (without it: as many as there are processors, to eight)')
 
     def going_on(made: argparse.ArgumentParser) -> argparse.ArgumentParser:
-        made.add_argument('--keep-going', action='store_true', help='go on after damage; each stretch that is passed over is a line, and the status 1')
+        made.add_argument('--keep-going', action='store_true',
+                          help='go on after damage; each stretch that is passed over is a line, and the status 1')
         return made
 
     def with_times(made: argparse.ArgumentParser) -> None:
@@ -116,7 +125,8 @@ def parser_of() -> 'Parser':
 
     made = command('summary', summary, 'Says what each channel of a recording, or of each file of an image, has.', SUMMARY_MORE)
     made.add_argument('--json', action='store_true', help='a JSON object for each line of the table, with whole times')
-    for name, run, about, more in (('csv', as_csv, 'Writes the entries as CSV.', CSV_MORE), ('json', as_json, 'Writes the entries as JSON lines.', JSON_MORE),
+    for name, run, about, more in (('csv', as_csv, 'Writes the entries as CSV.', CSV_MORE),
+                                   ('json', as_json, 'Writes the entries as JSON lines.', JSON_MORE),
                                    ('svg', as_svg, 'Draws rates and losses over time, as SVG.', SVG_MORE)):
         made = going_on(command(name, run, about, more + TIMES))
         with_channels(made)
@@ -124,13 +134,17 @@ def parser_of() -> 'Parser':
         if name != 'svg':
             with_forms(made)
     made = going_on(command('setup', setup, 'Writes the setup text, byte for byte; of several setup packets one after the other.'))
-    made.add_argument('--tree', action='store_true', help='the attributes of chapter 9 as a tree, and which channels of the recording they do not name or name otherwise')
-    made = command('tmats', as_tmats, 'Writes a setup text of chapter 9 for the channels of a script.', 'As in: ch10 tmats --hex < SCRIPT, which is what setup = "..." takes.')
+    made.add_argument('--tree', action='store_true',
+                      help='the attributes of chapter 9 as a tree, and which channels of the recording they do not name or name '
+                           'otherwise')
+    made = command('tmats', as_tmats, 'Writes a setup text of chapter 9 for the channels of a script.',
+                   'As in: ch10 tmats --hex < SCRIPT, which is what setup = "..." takes.')
     made.add_argument('--hex', action='store_true', help='as hex digits')
     made = going_on(command('sqlite', as_sqlite, 'Writes the entries into a new database of SQLite.', SQLITE_MORE))
     made.add_argument('--out', metavar='FILE', help='where the database is to be; there must be none')
     with_channels(made)
-    made.add_argument('--turned-labels', action='store_true', help='labels of ARINC 429 whose first bit on the bus is the lowest of the word')
+    made.add_argument('--turned-labels', action='store_true',
+                      help='labels of ARINC 429 whose first bit on the bus is the lowest of the word')
     with_times(going_on(command('range', as_range, 'Writes the packets of a range of time as a recording.', RANGE_MORE + TIMES)))
     made = command('file', as_file, 'Writes one file of an image, byte for byte.', 'As in: ch10 file FLT1 < medium.img | r10 check')
     made.add_argument('name', nargs='?', metavar='NAME', help='its name, as r10 files prints it')
@@ -143,24 +157,32 @@ SUMMARY_MORE = """Of each channel and type of data:
   entries          '-' where the type has none, or none that is read
   entries/s        entries but one, over the time from the first to the last
   losses           packets that are flagged for an overflow: of the program's lines, those with a gap
-  lost             how many messages were lost there, by the loss reports before them; + where of a loss it isn't told how many: at least one
+  lost             how many messages were lost there, by the loss reports before them; + where of a loss it isn't told how many: \
+at least one
   jumps            packets whose sequence number does not follow that of the channel's packet before
   opaque           packets that are not read: a secondary header, stamps of another clock, a type or a form of it that is not known
   first, last      the lowest and highest count of its entries, or else of its packets' headers
   first time ..    the same as civil times, by the last time in the recording that isn't later; '-' where there is none"""
-CSV_MORE = """The first line names the columns. time has seven places behind the second; lost is how many messages were lost before an
-entry, 1+ where the recording does not tell how many; value is the message in hex digits, or the civil time of a time; what a type does not have is empty.
+CSV_MORE = """The first line names the columns. time has seven places behind the second; lost is how many messages were lost \
+before an
+entry, 1+ where the recording does not tell how many; value is the message in hex digits, or the civil time of a time; what a type \
+does not have is empty.
 """
-JSON_MORE = """Each line is an object with the keys channel, count, time, lost and type, and those of the type as in a script; a message's data error
+JSON_MORE = """Each line is an object with the keys channel, count, time, lost and type, and those of the type as in a script; a \
+message's data error
 is data_error. lost is how many messages were lost before it, "1+" where the recording does not tell how many.
 """
-SVG_MORE = """A strip for each channel: bars of entries a second (of packets, in grey, where no entry is read), with the highest beside it, and below
+SVG_MORE = """A strip for each channel: bars of entries a second (of packets, in grey, where no entry is read), with the highest \
+beside it, and below
 them in red where messages were lost.
 """
-SQLITE_MORE = """A table for each kind: uart, message, bus1553, arinc, discrete, time and event, with the columns of csv --kind and the file's number before them (0 of
-a recording); lost is NULL where the recording does not tell how many. Beside them: files, channels, losses, damage, clocks, clock_jumps and setup.
+SQLITE_MORE = """A table for each kind: uart, message, bus1553, arinc, discrete, time and event, with the columns of csv --kind \
+and the file's number before them (0 of
+a recording); lost is NULL where the recording does not tell how many. Beside them: files, channels, losses, damage, clocks, \
+clock_jumps and setup.
 """
-RANGE_MORE = """Packets stand as they are, each one whole that has an entry in the range (or, where it is not read, its own count), and the loss report before it; before them
+RANGE_MORE = """Packets stand as they are, each one whole that has an entry in the range (or, where it is not read, its own \
+count), and the loss report before it; before them
 stand the setup and the last time before the range. The index is left out, for it would name other places.
 """
 
@@ -183,8 +205,8 @@ def words_of(words: List[str]) -> Namespace:
 def answer(words: List[str], source: Callable[[], Any], to: Callable[[], BinaryIO]) -> Tuple[int, Optional[str]]:
     """Does what the words of a call ask for, from what source() gives to the stream that to() gives.
 
-    The exit status, and the line that is said of it, or None: 1 of an input that is judged bad, 2 of a wrong call, 3 where a read or
-    a write failed. A reader that has gone is no line.
+    The exit status, and the line that is said of it, or None: 1 of an input that is judged bad, 2 of a wrong call, 3 where a read
+    or a write failed. A reader that has gone is no line.
     """
     try:
         out = Output(to())

@@ -48,8 +48,8 @@ def as_tree(survey: Survey, out: Output) -> None:
 
 
 def as_range(asked: Namespace, data: Data, out: Output) -> None:
-    """Each packet with an entry in the range, as it stands, behind the loss report that stands before it; with the setup, and the time that holds where
-    the range begins."""
+    """Each packet with an entry in the range, as it stands, behind the loss report that stands before it; with the setup, and the
+    time that holds where the range begins."""
     _, begin, end = one_part(data, asked.file)
     survey = Survey(data, begin, end, asked.keep_going)
     if not survey.lows:

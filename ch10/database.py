@@ -1,4 +1,5 @@
-"""The entries of a recording, or of each file of an image, as a database of SQLite: a table for each kind, and tables of files, channels, losses and damage."""
+"""The entries of a recording, or of each file of an image, as a database of SQLite: a table for each kind, and tables of files,
+channels, losses and damage."""
 from __future__ import annotations
 
 from argparse import Namespace
@@ -20,14 +21,18 @@ from .survey import Survey, name_of
 FRONT = (('file', WHOLE), ('channel', WHOLE), ('name', TEXT), ('count', WHOLE), ('time', TEXT), ('lost', WHOLE))
 TABLES = {kind: 'bus1553' if kind == BUS else body.name for kind, body in BODIES.items() if kind in KINDS}
 OTHERS = (
-    ('files', (('file', WHOLE), ('name', TEXT), ('closed', WHOLE), ('bytes', WHOLE), ('packets', WHOLE), ('first', WHOLE), ('last', WHOLE), ('first_time', TEXT),
+    ('files', (('file', WHOLE), ('name', TEXT), ('closed', WHOLE), ('bytes', WHOLE), ('packets', WHOLE), ('first', WHOLE),
+               ('last', WHOLE), ('first_time', TEXT),
                ('last_time', TEXT), ('fault', TEXT), ('unread', WHOLE))),
-    ('channels', (('file', WHOLE), ('channel', WHOLE), ('name', TEXT), ('type', TEXT), ('packets', WHOLE), ('entries', WHOLE), ('bytes', WHOLE), ('first', WHOLE),
-                  ('last', WHOLE), ('first_time', TEXT), ('last_time', TEXT), ('rate', REAL), ('losses', WHOLE), ('lost', WHOLE), ('untold', WHOLE), ('jumps', WHOLE),
+    ('channels', (('file', WHOLE), ('channel', WHOLE), ('name', TEXT), ('type', TEXT), ('packets', WHOLE), ('entries', WHOLE),
+                  ('bytes', WHOLE), ('first', WHOLE),
+                  ('last', WHOLE), ('first_time', TEXT), ('last_time', TEXT), ('rate', REAL), ('losses', WHOLE), ('lost', WHOLE),
+                  ('untold', WHOLE), ('jumps', WHOLE),
                   ('opaque', WHOLE), ('bad', WHOLE))),
     ('losses', (('file', WHOLE), ('channel', WHOLE), ('type', TEXT), ('count', WHOLE), ('time', TEXT), ('lost', WHOLE))),
     ('damage', (('file', WHOLE), ('offset', WHOLE), ('length', WHOLE), ('why', TEXT), ('channel', WHOLE), ('type', TEXT))),
-    ('clocks', (('file', WHOLE), ('channel', WHOLE), ('packets', WHOLE), ('no_time', WHOLE), ('steps_back', WHOLE), ('seconds_without', WHOLE), ('drift_ppm', REAL))),
+    ('clocks', (('file', WHOLE), ('channel', WHOLE), ('packets', WHOLE), ('no_time', WHOLE), ('steps_back', WHOLE),
+                ('seconds_without', WHOLE), ('drift_ppm', REAL))),
     ('clock_jumps', (('file', WHOLE), ('channel', WHOLE), ('offset', WHOLE), ('count', WHOLE), ('seconds', REAL))),
     ('setup', (('file', WHOLE), ('attribute', TEXT), ('value', TEXT))),
 )
@@ -53,7 +58,8 @@ class Database:
             raise Wrong('%r is there already: give --out another name' % path[:60])
         self.path, self.part = path, path + '.part'
         if os.path.exists(self.part):
-            raise Wrong('%r is there already, as a call that was ended leaves it: remove it, or give --out another name' % self.part[:60])
+            raise Wrong('%r is there already, as a call that was ended leaves it: remove it, or give --out another name'
+                        % self.part[:60])
         self.base = sqlite3.connect(self.part, isolation_level=None)
         for line in ('PRAGMA journal_mode = OFF', 'PRAGMA synchronous = OFF', 'BEGIN', *schema()):
             self.base.execute(line)
@@ -127,12 +133,16 @@ def add(asked: Namespace, data: Data, begin: int, end: int, base: Database, numb
     def civil(count: Optional[int]) -> Optional[str]:
         return clock.text(count) if clock and count is not None else None
 
-    base.add('files', [(number, file and shown(file.name), file and int(file.closed), end - begin, len(survey.lows), *span, civil(span[0]), civil(span[1]),
+    base.add('files', [(number, file and shown(file.name), file and int(file.closed), end - begin, len(survey.lows), *span,
+                        civil(span[0]), civil(span[1]),
                         survey.fault and str(survey.fault), end - begin - survey.size)])
     base.add('channels', [(number, row.channel, survey.names.channel(row.channel) or None, name_of(row.kind), row.packets,
-                           row.entries if row.has_entries() else None, row.bytes, row.first(), row.last(), civil(row.first()), civil(row.last()), row.rate(),
-                           row.losses, row.lost and min(row.lost, MOST_NUMBER), row.untold, row.jumps, row.opaque, row.bad) for row in survey.rows])
-    base.add('damage', [(number, one.offset, one.length, one.why, one.channel, None if one.kind is None else name_of(one.kind)) for one in survey.damage])
+                           row.entries if row.has_entries() else None, row.bytes, row.first(), row.last(), civil(row.first()),
+                           civil(row.last()), row.rate(),
+                           row.losses, row.lost and min(row.lost, MOST_NUMBER), row.untold, row.jumps, row.opaque,
+                           row.bad) for row in survey.rows])
+    base.add('damage', [(number, one.offset, one.length, one.why, one.channel, None if one.kind is None else name_of(one.kind))
+                        for one in survey.damage])
     for line in survey.times:
         add_clock(base, number, line, span)
     base.add('setup', [(number, name, value) for name, value in survey.names.attributes.items()])
@@ -148,7 +158,8 @@ def add(asked: Namespace, data: Data, begin: int, end: int, base: Database, numb
 
 def add_clock(base: Database, number: int, line: TimeLine, span: Tuple[int, int]) -> None:
     drift = line.drift()
-    base.add('clocks', [(number, line.channel, line.packets, line.packets - len(line.told), line.steps_back(), line.without(*span), drift and drift[0])])
+    base.add('clocks', [(number, line.channel, line.packets, line.packets - len(line.told), line.steps_back(), line.without(*span),
+                         drift and drift[0])])
     base.add('clock_jumps', [(number, line.channel, jump.offset, jump.count, jump.by / 10 ** 7) for jump in line.jumps()])
 
 

@@ -1,4 +1,5 @@
-"""The entries of a recording as rows of tables, one table for each kind, and the same rows as PostgreSQL's COPY takes them in binary."""
+"""The entries of a recording as rows of tables, one table for each kind, and the same rows as PostgreSQL's COPY takes them in
+binary."""
 from __future__ import annotations
 
 import struct
@@ -20,7 +21,8 @@ FIXED = {'BIGINT': ('q', 8), 'INTEGER': ('i', 4), 'SMALLINT': ('h', 2), 'BOOLEAN
          '{text}3': ('3s', 3)}
 
 
-# ---- reading; each row is the count and the table's own columns, some of which stand together in a tuple that is made once for each value
+# ---- reading; each row is the count and the table's own columns, some of which stand together in a tuple that is made once
+# for each value
 
 class Kept(dict):
     """Values by a key, each made once; begun anew where there are very many."""
@@ -62,7 +64,8 @@ def bus_rows(packet: Packet, states: Dict[int, int]) -> List[Tuple]:
             command = words[0] << 8 | words[1]
             second, first_status, second_status = PLACES[command, len(words) >> 1, status & RT_TO_RT]
             add((stamp & COUNT_BITS, COMMANDS[command], NO_SECOND if second is None else SECONDS[word_at(words, second)],
-                 NO_STATUS if first_status is None else STATUSES[word_at(words, first_status), word_at(words, second_status)], BLOCKS[gap << 16 | status], words))
+                 NO_STATUS if first_status is None else STATUSES[word_at(words, first_status), word_at(words, second_status)],
+                 BLOCKS[gap << 16 | status], words))
         else:
             add((stamp & COUNT_BITS, NO_COMMAND, NO_SECOND, NO_STATUS, BLOCKS[gap << 16 | status], b''))
     return rows
@@ -107,8 +110,10 @@ MESSAGE_ERRORS = (None, 'format error', 'data error', 'data error+format error')
 def text_rows(packet: Packet, states: Dict[int, int]) -> List[Tuple]:
     """Of UART and of message channels."""
     if packet.kind == UART:
-        return [(count, head >> 16 & 0x3FFF, 'parity error' if head >> 31 else None, bytes(data)) for count, head, data in stamped(packet.body, None)]
-    return [(count, head >> 16 & 0x3FFF, MESSAGE_ERRORS[head >> 30], bytes(data)) for count, head, data in stamped(packet.body, packet.word & 0xFFFF)]
+        return [(count, head >> 16 & 0x3FFF, 'parity error' if head >> 31 else None, bytes(data))
+                for count, head, data in stamped(packet.body, None)]
+    return [(count, head >> 16 & 0x3FFF, MESSAGE_ERRORS[head >> 30], bytes(data))
+            for count, head, data in stamped(packet.body, packet.word & 0xFFFF)]
 
 
 def discrete_rows(packet: Packet, states: Dict[int, int]) -> List[Tuple]:
@@ -126,7 +131,8 @@ def other_rows(packet: Packet, states: Dict[int, int]) -> List[Tuple]:
 
 
 class Table(NamedTuple):
-    """A kind of entries: its table's name and own columns, what reads a packet into rows of them, and how many columns stand together at the end of a row."""
+    """A kind of entries: its table's name and own columns, what reads a packet into rows of them, and how many columns stand
+    together at the end of a row."""
 
     name: str
     columns: Sequence[Tuple[str, str]]
@@ -138,7 +144,8 @@ class Table(NamedTuple):
         return [name for name, _ in COMMON] + [name for name, _ in self.columns]
 
 
-READERS = {BUS: (bus_rows, (5, 2, 2, 5, 1)), ARINC: (arinc_rows, (1,)), UART: (text_rows, (1, 1)), MESSAGE: (text_rows, (1, 1)), DISCRETE: (discrete_rows,),
+READERS = {BUS: (bus_rows, (5, 2, 2, 5, 1)), ARINC: (arinc_rows, (1,)), UART: (text_rows, (1, 1)), MESSAGE: (text_rows, (1, 1)),
+           DISCRETE: (discrete_rows,),
            TIME: (other_rows, (1,)), EVENT: (other_rows,)}
 TABLES = {kind: Table(*ENTRIES[kind], *read) for kind, read in READERS.items()}
 
@@ -169,7 +176,8 @@ NULL = LENGTH.pack(-1)
 
 
 class Packer:
-    """Makes rows of one table into bytes: the columns of one length by one struct for many rows, what may be NULL or vary in length put after them."""
+    """Makes rows of one table into bytes: the columns of one length by one struct for many rows, what may be NULL or vary in length
+    put after them."""
 
     MOST = 256  # rows of one struct
 
@@ -248,7 +256,8 @@ def counted(value: Any) -> bytes:
 
 
 def moments(counts: Sequence[int], clock: Optional[Clock]) -> Sequence[Optional[int]]:
-    """The civil times of some counts as PostgreSQL counts them, in microseconds from 2000 on; None where there is no date, or none that the calendar has."""
+    """The civil times of some counts as PostgreSQL counts them, in microseconds from 2000 on; None where there is no date, or none
+    that the calendar has."""
     if clock is None or not clock.dated:
         return (None,) * len(counts)
     low, high = min(counts), max(counts)
@@ -274,7 +283,8 @@ class Reader:
     def __init__(self, number: int, wanted: Any, report: Optional[Tuple[int, int]], states: Dict[int, int]) -> None:
         self.number, self.wanted, self.report, self.states = number, wanted, report, states
 
-    def columns(self, packets: Iterable[Packet], times: Callable[[Sequence[int]], Sequence[Any]]) -> Iterator[Tuple[int, List[Sequence[Any]]]]:
+    def columns(self, packets: Iterable[Packet],
+                times: Callable[[Sequence[int]], Sequence[Any]]) -> Iterator[Tuple[int, List[Sequence[Any]]]]:
         """The data type and the columns of each packet that has rows."""
         following = None
         for packet in packets:
@@ -286,7 +296,8 @@ class Reader:
                     own = list(zip(*found))
                     size = len(found)
                     first = lost and min(lost, MOST_NUMBER)
-                    yield packet.kind, [(self.number,) * size, own[0], times(own[0]), [first] + [0] * (size - 1), (packet.channel,) * size] + own[1:]
+                    yield packet.kind, [(self.number,) * size, own[0], times(own[0]), [first] + [0] * (size - 1),
+                                        (packet.channel,) * size] + own[1:]
             elif packet.kind == DISCRETE and packet.word is not None:
                 discrete_rows(packet, self.states)
             self.report = loss_of(packet)

@@ -18,9 +18,11 @@ from .times import Clock, civil, time
 from .tmats import Names
 
 PART = 1 << 20
-RECORDING_COLUMNS = ('sha256', 'kind', 'size', 'verdict', 'opaque', 'fault_offset', 'fault', 'judge', 'first_time', 'last_time', 'first_count', 'last_count',
+RECORDING_COLUMNS = ('sha256', 'kind', 'size', 'verdict', 'opaque', 'fault_offset', 'fault', 'judge', 'first_time', 'last_time',
+                     'first_count', 'last_count',
                      'packets', 'entries', 'losses', 'lost', 'untold', 'jumps', 'damaged', 'damaged_bytes', 'added')
-CHANNEL_COLUMNS = ('channel', 'data_type', 'type', 'name', 'packets', 'entries', 'bytes', 'first_count', 'last_count', 'first_time', 'last_time', 'rate',
+CHANNEL_COLUMNS = ('channel', 'data_type', 'type', 'name', 'packets', 'entries', 'bytes', 'first_count', 'last_count', 'first_time',
+                   'last_time', 'rate',
                    'losses', 'lost', 'untold', 'jumps', 'opaque', 'bad')
 SUMS = ('losses', 'lost', 'untold', 'jumps')
 MOST_CODE = 200
@@ -40,7 +42,8 @@ def program_of(given: Optional[str]) -> str:
     for folder in os.environ.get('PATH', '').split(os.pathsep):
         if os.access(os.path.join(folder, 'r10'), os.X_OK):
             return os.path.join(folder, 'r10')
-    raise Wrong('the verdict needs the program r10: scripts/build.sh makes the proved one, --program names another, --unjudged does without')
+    raise Wrong('the verdict needs the program r10: scripts/build.sh makes the proved one, --program names another, --unjudged '
+                'does without')
 
 
 def version_of(program: str) -> str:
@@ -57,7 +60,8 @@ def version_of(program: str) -> str:
 
 def said_of(program: str, command: str, data: memoryview) -> Tuple[int, str]:
     """The status and the line of a command of the program that reads these bytes."""
-    with subprocess.Popen([program, command], stdin=subprocess.PIPE, stdout=subprocess.PIPE, stderr=subprocess.PIPE, bufsize=0) as made:
+    with subprocess.Popen([program, command], stdin=subprocess.PIPE, stdout=subprocess.PIPE, stderr=subprocess.PIPE,
+                          bufsize=0) as made:
         try:
             for at in range(0, len(data), PART):
                 part = data[at:at + PART]
@@ -71,7 +75,8 @@ def said_of(program: str, command: str, data: memoryview) -> Tuple[int, str]:
 
 
 def verdict_of(program: Optional[str], data: memoryview) -> Dict[str, Any]:
-    """The verdict on a recording and its place. It is `unjudged` where no program is given, or where it ended without one, as for want of memory."""
+    """The verdict on a recording and its place. It is `unjudged` where no program is given, or where it ended without one, as for
+    want of memory."""
     found: Dict[str, Any] = dict(verdict='unjudged', opaque=None, fault_offset=None, fault=None)
     if program is None:
         return found
@@ -135,8 +140,9 @@ def text_of(ticks: int, dated: bool) -> Optional[str]:
 class StrictSurvey:
     """What `Survey` finds of a recording that the program calls strict, in a tenth of its time.
 
-    The rules of a strict file stand for what is not looked at: its sums are right, no sequence number is missing, and the counts of a channel rise from its first
-    packet's counter to the last entry of its last packet. So packets are counted by their headers and words, and one packet of each channel is read.
+    The rules of a strict file stand for what is not looked at: its sums are right, no sequence number is missing, and the counts of
+    a channel rise from its first packet's counter to the last entry of its last packet. So packets are counted by their headers and
+    words, and one packet of each channel is read.
     """
 
     def __init__(self, data: Any, begin: int, end: int) -> None:
@@ -211,8 +217,9 @@ def entries_in(data: Any, at: int, size: int, kind: int, word: int) -> int:
 
 
 def attributes_of(names: Names) -> List[Tuple[str, str]]:
-    """The attributes of the setup text that are of the whole: of the general group all, of others those without a number of their own, for channels have rows.
-    A code that is longer than any of chapter 9 is left out, and a NUL, which not every database takes, is a question mark."""
+    """The attributes of the setup text that are of the whole: of the general group all, of others those without a number of their
+    own, for channels have rows. A code that is longer than any of chapter 9 is left out, and a NUL, which not every database takes,
+    is a question mark."""
     found: Dict[str, str] = {}
     for code, value in names.attributes.items():
         if len(code) <= MOST_CODE and (code.startswith('G\\') or not re.search(r'-[0-9]+$', code)):
@@ -228,7 +235,8 @@ def damage_of(survey: Any) -> List[Tuple[int, int, str]]:
 # ---- all of it
 
 def facts_of(data: Any, begin: int, end: int, program: Optional[str], survey: Optional[Survey] = None) -> Dict[str, Any]:
-    """What the catalogue keeps of one recording within some bytes, but for its sum and its place; by the pass that was made, where one was."""
+    """What the catalogue keeps of one recording within some bytes, but for its sum and its place; by the pass that was made, where
+    one was."""
     with memoryview(data)[begin:end] as view:
         found = verdict_of(program, view)
     survey = survey or (StrictSurvey if found['verdict'] == 'strict' else Survey)(data, begin, end)
@@ -236,11 +244,14 @@ def facts_of(data: Any, begin: int, end: int, program: Optional[str], survey: Op
     rows = []
     for row in survey.rows:
         low, high = row.first(), row.last()
-        rows.append((row.channel, row.kind, name_of(row.kind), survey.names.channel(row.channel) or None, row.packets, row.entries if row.has_entries() else None, row.bytes,
-                     low, high) + (ends.of(low, high) if ends else (None, None)) + (row.rate(), row.losses, most(row.lost), row.untold, row.jumps, row.opaque, row.bad))
+        rows.append((row.channel, row.kind, name_of(row.kind), survey.names.channel(row.channel) or None, row.packets,
+                     row.entries if row.has_entries() else None, row.bytes,
+                     low, high) + (ends.of(low, high) if ends else (None, None)) + (row.rate(), row.losses, most(row.lost),
+                                                                                    row.untold, row.jumps, row.opaque, row.bad))
     span = survey.span()
     first, last = ends.of(*span) if ends and span else (None, None)
-    found.update(kind='recording', size=end - begin, first_time=first, last_time=last, first_count=span and span[0], last_count=span and span[1],
+    found.update(kind='recording', size=end - begin, first_time=first, last_time=last, first_count=span and span[0],
+                 last_count=span and span[1],
                  packets=sum(row.packets for row in survey.rows), entries=sum(row.entries for row in survey.rows),
                  channels=rows, damage=damage_of(survey), attributes=attributes_of(survey.names))
     for name in SUMS:
@@ -257,7 +268,8 @@ def most(number: int) -> int:
 def nothing_in(size: int) -> Dict[str, Any]:
     """What is kept of an input that no pass went over."""
     found: Dict[str, Any] = dict.fromkeys(('first_time', 'last_time', 'first_count', 'last_count'))
-    found.update(dict.fromkeys(('packets', 'entries', 'damaged', 'damaged_bytes') + SUMS, 0), kind='image', size=size, channels=[], damage=[], attributes=[])
+    found.update(dict.fromkeys(('packets', 'entries', 'damaged', 'damaged_bytes') + SUMS, 0), kind='image', size=size, channels=[],
+                 damage=[], attributes=[])
     return found
 
 

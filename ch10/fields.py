@@ -1,7 +1,7 @@
 """The columns of entries, the same in CSV, JSON lines and SQLite, and what stands in them.
 
-COLUMNS are those of all kinds together, KINDS those of each kind, in the same order, behind the ones that every entry has: FRONT. TYPES says what each column
-is: a text, a whole number, a number, or a truth.
+COLUMNS are those of all kinds together, KINDS those of each kind, in the same order, behind the ones that every entry has: FRONT.
+TYPES says what each column is: a text, a whole number, a number, or a truth.
 """
 from __future__ import annotations
 
@@ -16,12 +16,14 @@ from .tmats import Names
 
 FRONT = ('channel', 'name', 'count', 'time', 'lost', 'type')
 COLUMNS = FRONT + (
-    'value', 'text', 'sub', 'bus', 'bus_name', 'errors', 'rt', 'tr', 'sa', 'wc', 'mode', 'rt2', 'sa2', 'status1', 'status2', 'flags', 'gap1', 'gap2',
+    'value', 'text', 'sub', 'bus', 'bus_name', 'errors', 'rt', 'tr', 'sa', 'wc', 'mode', 'rt2', 'sa2', 'status1', 'status2',
+    'flags', 'gap1', 'gap2',
     'label', 'sdi', 'data', 'ssm', 'parity', 'high', 'bits', 'changed', 'number', 'occurrence')
 KINDS = {
     UART: ('value', 'text', 'sub', 'errors'),
     MESSAGE: ('value', 'text', 'sub', 'errors'),
-    BUS: ('value', 'bus', 'bus_name', 'errors', 'rt', 'tr', 'sa', 'wc', 'mode', 'rt2', 'sa2', 'status1', 'status2', 'flags', 'gap1', 'gap2'),
+    BUS: ('value', 'bus', 'bus_name', 'errors', 'rt', 'tr', 'sa', 'wc', 'mode', 'rt2', 'sa2', 'status1', 'status2', 'flags',
+          'gap1', 'gap2'),
     ARINC: ('value', 'bus', 'bus_name', 'errors', 'label', 'sdi', 'data', 'ssm', 'parity', 'high'),
     DISCRETE: ('value', 'bits', 'changed'),
     TIME: ('value',),
@@ -29,7 +31,8 @@ KINDS = {
 }
 WHOLE, REAL, TRUTH, TEXT = 'INTEGER', 'REAL', 'BOOLEAN', 'TEXT'
 TYPES = {name: TEXT for name in COLUMNS}
-TYPES.update({name: WHOLE for name in ('channel', 'count', 'sub', 'rt', 'sa', 'wc', 'mode', 'rt2', 'sa2', 'sdi', 'data', 'ssm', 'parity', 'number', 'occurrence')})
+TYPES.update({name: WHOLE for name in ('channel', 'count', 'sub', 'rt', 'sa', 'wc', 'mode', 'rt2', 'sa2', 'sdi', 'data', 'ssm',
+                                       'parity', 'number', 'occurrence')})
 TYPES.update(gap1=REAL, gap2=REAL, high=TRUTH)
 
 
@@ -45,14 +48,15 @@ MESSAGE_ERRORS = ('', 'format error', 'data error', 'data error+format error')
 class Reader:
     """Reads entries with what they mean.
 
-    Names are those of the setup text; labels of ARINC 429 are read in the other order where that is asked for. The states of discretes before each packet of
-    them, by the packet's number, tell what changed.
+    Names are those of the setup text; labels of ARINC 429 are read in the other order where that is asked for. The states of
+    discretes before each packet of them, by the packet's number, tell what changed.
     """
 
     def __init__(self, names: Names, turned: bool = False) -> None:
         self.names, self.turned = names, turned
         self.buses: Dict[Tuple[int, Optional[int]], str] = {}
-        self.readers = {UART: self.uart, MESSAGE: self.message, BUS: self.bus, ARINC: self.arinc, DISCRETE: self.discrete, TIME: self.time, EVENT: self.event}
+        self.readers = {UART: self.uart, MESSAGE: self.message, BUS: self.bus, ARINC: self.arinc, DISCRETE: self.discrete,
+                        TIME: self.time, EVENT: self.event}
 
     def bus_name(self, channel: int, number: Optional[int]) -> str:
         found = self.buses.get((channel, number))
@@ -81,14 +85,16 @@ class Reader:
         for count, status, gap, words in bus_messages(packet):
             found = message_1553(status, words)
             first, second = found[9], found[10]
-            yield count, (''.join(map('{:04x}'.format, found[12])), found[0], name, *found[1:9], first if first is None else '%04x' % first,
+            yield count, (''.join(map('{:04x}'.format, found[12])), found[0], name, *found[1:9],
+                          first if first is None else '%04x' % first,
                           second if second is None else '%04x' % second, found[11], (gap & 0xFF) / 10, (gap >> 8) / 10)
 
     def arinc(self, packet: Packet, _: Optional[int]) -> Rows:
         count = packet.counter
         for head, word in struct.iter_unpack('<II', whole(packet.body, 8, packet.word & 0xFFFF)):
             count += head & 0xFFFFF
-            yield count, ('%08x' % word, head >> 24, self.bus_name(packet.channel, head >> 24), errors_429(head, word), *word_429(word, self.turned),
+            yield count, ('%08x' % word, head >> 24, self.bus_name(packet.channel, head >> 24), errors_429(head, word),
+                          *word_429(word, self.turned),
                           head >> 21 & 1)
 
     @staticmethod

@@ -60,10 +60,12 @@ class Question:
                 self.like(places, 'p.path', asked.place)
             self.recording.append(('r.id IN (SELECT p.recording FROM place p WHERE %s)' % joined(places), values_of(places)))
         for code, value in asked.attribute or ():
-            self.recording.append(('r.id IN (SELECT a.recording FROM attribute a WHERE a.code = ? AND substr(a.value, 1, 100) = ? AND a.value = ?)',
-                                   [code, value[:100], value]))
+            self.recording.append(
+                ('r.id IN (SELECT a.recording FROM attribute a WHERE a.code = ? AND substr(a.value, 1, 100) = ? AND a.value = ?)',
+                 [code, value[:100], value]))
         if self.channel:
-            self.recording.append(('r.id IN (SELECT c.recording FROM channel c WHERE %s)' % joined(self.channel), values_of(self.channel)))
+            self.recording.append(('r.id IN (SELECT c.recording FROM channel c WHERE %s)' % joined(self.channel),
+                                   values_of(self.channel)))
 
     @staticmethod
     def one_of(conditions: List, column: str, words: Sequence[Any]) -> None:
@@ -114,13 +116,16 @@ def found(store: Store, question: Question, limit: Optional[int]) -> List[Dict[s
         values_of(question.recording))
     made = [dict(zip(RECORDING, row), places=[]) for row in rows]
     places = {facts['id']: facts['places'] for facts in made}
-    for number, path, file_number, volume, name, closed, size, seen in of_recordings(store, 'place', PLACE_COLUMNS, 'path, file_number', list(places)):
-        places[number].append({'path': path, 'file_number': file_number, 'volume': volume, 'file_name': name, 'closed': closed if closed is None else bool(closed),
+    for number, path, file_number, volume, name, closed, size, seen in of_recordings(store, 'place', PLACE_COLUMNS,
+                                                                                     'path, file_number', list(places)):
+        places[number].append({'path': path, 'file_number': file_number, 'volume': volume, 'file_name': name,
+                               'closed': closed if closed is None else bool(closed),
                                'listed_size': size, 'seen': seen})
     return made
 
 
-def of_recordings(store: Store, table_name: str, columns: Sequence[str], order: str, ids: Sequence[int], more: str = '', values: Sequence[Any] = ()) -> Iterable[Tuple]:
+def of_recordings(store: Store, table_name: str, columns: Sequence[str], order: str, ids: Sequence[int], more: str = '',
+                  values: Sequence[Any] = ()) -> Iterable[Tuple]:
     """The rows of a table that belong to some recordings, with the recording's id before them."""
     for at in range(0, len(ids), TOGETHER):
         some = list(ids[at:at + TOGETHER])
@@ -143,7 +148,8 @@ def aligned(rows: Sequence[Sequence[Any]], left: Sequence[str]) -> List[str]:
     for cells in zip(*rows):
         texts = list(map(str, cells))
         width = max(map(len, texts))
-        columns.append([text.ljust(width) for text in texts] if texts[0] in left or texts[0].endswith('time') else [text.rjust(width) for text in texts])
+        columns.append([text.ljust(width) for text in texts] if texts[0] in left or texts[0].endswith('time')
+                       else [text.rjust(width) for text in texts])
     return [' '.join(row).rstrip() for row in zip(*columns)]
 
 
@@ -172,7 +178,8 @@ def place_text(facts: Dict[str, Any]) -> str:
     if not facts['places']:
         return '-'
     place = facts['places'][0]
-    text = place['path'] if place['file_number'] < 0 else '%s file %d %s' % (place['path'], place['file_number'], place['file_name'])
+    text = place['path'] if place['file_number'] < 0 else '%s file %d %s' % (place['path'], place['file_number'],
+                                                                             place['file_name'])
     more = len(facts['places']) - 1
     return printable(text) + (' and %d more' % more if more else '')
 
@@ -203,17 +210,21 @@ def find(asked: Any, data: None, out: Output) -> None:
 def recording_table(made: Sequence[Dict[str, Any]]) -> List[str]:
     rows: List[Tuple] = [('sum', 'bytes', 'verdict', 'first time', 'last time', 'entries', 'losses', 'lost', 'damaged', 'place')]
     for facts in made:
-        rows.append((facts['sha256'][:12], facts['size'], verdict_text(facts), cut(facts['first_time']), cut(facts['last_time']), facts['entries'],
+        rows.append((facts['sha256'][:12], facts['size'], verdict_text(facts), cut(facts['first_time']), cut(facts['last_time']),
+                     facts['entries'],
                      facts['losses'], lost_text(facts), facts['damaged'], place_text(facts)))
     return aligned(rows, ('sum', 'verdict', 'place'))
 
 
-CHANNEL_HEADS = ('channel', 'type', 'name', 'first time', 'last time', 'packets', 'entries', 'bytes', 'entries/s', 'losses', 'lost', 'jumps', 'opaque', 'bad')
+CHANNEL_HEADS = ('channel', 'type', 'name', 'first time', 'last time', 'packets', 'entries', 'bytes', 'entries/s', 'losses', 'lost',
+                 'jumps', 'opaque', 'bad')
 
 
 def channel_cells(row: Dict[str, Any]) -> Tuple:
-    return (row['channel'], row['type'], printable(row['name'] or '-'), cut(row['first_time']), cut(row['last_time']), row['packets'],
-            '-' if row['entries'] is None else row['entries'], row['bytes'], '-' if row['rate'] is None else '%.1f' % row['rate'], row['losses'],
+    return (row['channel'], row['type'], printable(row['name'] or '-'), cut(row['first_time']), cut(row['last_time']),
+            row['packets'],
+            '-' if row['entries'] is None else row['entries'], row['bytes'], '-' if row['rate'] is None else '%.1f' % row['rate'],
+            row['losses'],
             lost_text(row), row['jumps'], row['opaque'], row['bad'])
 
 
@@ -231,7 +242,8 @@ def one(store: Store, front: str) -> Dict[str, Any]:
     if not re.fullmatch('[0-9a-f]{4,64}', front):
         raise Wrong('%r is no sum: 4 to 64 hex digits of its front' % front[:70])
     made = [dict(zip(RECORDING, row)) for row in store.rows(
-        'SELECT %s FROM recording r WHERE r.sha256 BETWEEN ? AND ? ORDER BY r.sha256 LIMIT 2' % ', '.join('r.' + name for name in RECORDING), (front, front + 'g'))]
+        'SELECT %s FROM recording r WHERE r.sha256 BETWEEN ? AND ? ORDER BY r.sha256 LIMIT 2'
+        % ', '.join('r.' + name for name in RECORDING), (front, front + 'g'))]
     if len(made) != 1:
         raise Fault('%s recording has a sum that begins with %s' % ('no' if not made else 'more than one', front))
     return made[0]
@@ -244,7 +256,8 @@ def show(asked: Any, data: None, out: Output) -> None:
         facts = one(store, asked.sum.lower())
         number = facts.pop('id')
         parts = {}
-        for name, columns, order in (('place', PLACE_COLUMNS, 'path, file_number'), ('channel', CHANNEL_COLUMNS, 'channel, data_type'),
+        for name, columns, order in (('place', PLACE_COLUMNS, 'path, file_number'),
+                                     ('channel', CHANNEL_COLUMNS, 'channel, data_type'),
                                      ('damage', DAMAGE_COLUMNS, 'byte_offset'), ('attribute', ('code', 'value'), 'code')):
             parts[name] = [dict(zip(columns, row[1:])) for row in of_recordings(store, name, columns, order, [number])]
     finally:
@@ -262,7 +275,8 @@ def show(asked: Any, data: None, out: Output) -> None:
 
 
 def shown_one(facts: Dict[str, Any], parts: Dict[str, List[Dict[str, Any]]]) -> List[str]:
-    lines = ['%s %s: %d bytes in %d packets, %s' % (facts['kind'], facts['sha256'], facts['size'], facts['packets'], verdict_text(facts))]
+    lines = ['%s %s: %d bytes in %d packets, %s' % (facts['kind'], facts['sha256'], facts['size'], facts['packets'],
+                                                    verdict_text(facts))]
     lines.append('judged by %s; added %s UTC' % (facts['judge'] or 'no program', facts['added']))
     if facts['first_time']:
         lines.append('from %s to %s' % (facts['first_time'], facts['last_time']))
@@ -275,9 +289,9 @@ def shown_one(facts: Dict[str, Any], parts: Dict[str, List[Dict[str, Any]]]) -> 
     if parts['channel']:
         lines += [''] + aligned([CHANNEL_HEADS] + [channel_cells(row) for row in parts['channel']], ('type', 'name'))
     if parts['damage']:
-        rows: List[Tuple] = [('damaged from byte', 'bytes', 'why')] + [tuple(row[name] for name in DAMAGE_COLUMNS) for row in parts['damage']]
+        rows: List[Tuple] = [('damaged from byte', 'bytes', 'why')] + [tuple(row[name] for name in DAMAGE_COLUMNS)
+                                                                       for row in parts['damage']]
         lines += [''] + aligned(rows, ('why',))
     if parts['attribute']:
         lines += [''] + ['%s:%s' % (printable(row['code']), printable(row['value'])) for row in parts['attribute']]
     return lines
-

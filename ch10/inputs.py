@@ -29,7 +29,8 @@ def given() -> Data:
 
 
 def is_recording(data: Data) -> bool:
-    """Whether an input is a recording: where it begins as one, or where it is no image, and has packets that follow one another after a damaged front."""
+    """Whether an input is a recording: where it begins as one, or where it is no image, and has packets that follow one another
+    after a damaged front."""
     if data[:2] == PATTERN:
         return True
     return data[512:520] != b'FORTYtwo' and Resync(data, 0, min(len(data), MOST_FRONT)).first() is not None

@@ -22,7 +22,8 @@ from .vector import Vector
 
 # ---- as in the packets: the values of `r10 play`
 
-RAW = ('channel', 'count', 'time', 'lost', 'type', 'value', 'sub', 'parity', 'format', 'data_error', 'bus', 'high', 'status', 'gap', 'number', 'occurrence')
+RAW = ('channel', 'count', 'time', 'lost', 'type', 'value', 'sub', 'parity', 'format', 'data_error', 'bus', 'high', 'status', 'gap',
+       'number', 'occurrence')
 VALUES = ('bytes', 'words', 'data', 'states', 'civil')
 TRUTHS = ('parity', 'format', 'high', 'data_error')
 NUMBERS = ('sub', 'bus', 'number', 'occurrence')
@@ -126,7 +127,8 @@ class Csv(RawCsv):
         self.shapes = {}
         for each, columns in KINDS.items():
             if kind in (None, each):
-                self.shapes[each] = ',%s,%s' % (BODIES[each].name, ','.join('%s' if column in columns else '' for column in self.columns[len(FRONT):]))
+                self.shapes[each] = ',%s,%s' % (BODIES[each].name,
+                                                ','.join('%s' if column in columns else '' for column in self.columns[len(FRONT):]))
 
     def title(self) -> Optional[str]:
         return ','.join(self.columns)
@@ -139,7 +141,8 @@ class Csv(RawCsv):
         if form is None:
             return
         for count, values in self.reader.entries(packet, before):
-            yield count, form % tuple(['' if value is None else csv_text(value) if value.__class__ is str else value for value in values])
+            yield count, form % tuple(['' if value is None else csv_text(value) if value.__class__ is str else value
+                                       for value in values])
 
     def cell(self, _kind: int, _place: int, value: Any) -> str:
         return '' if value is None else csv_text(value) if value.__class__ is str else str(value)

@@ -20,7 +20,8 @@ from .workers import Pool, Task, processors
 
 PART = 1 << 22  # bytes of a recording that a worker reads at a time
 TOGETHER = 1 << 26  # bytes of recordings that a transaction takes together
-MOST_DAYS = 1000  # tables of days that a transaction reaches into: a server has room for 6,400 locks, if nobody changed that, and each takes some
+# tables of days that a transaction reaches into: a server has room for 6,400 locks, if nobody changed that, and each takes some
+MOST_DAYS = 1000
 CHANGED = 'its entries are not those of the catalogue: was the file changed meanwhile?'
 SPREAD = 'its entries lie on too many days: they would take more than %d tables' % MOST_DAYS
 
@@ -28,7 +29,8 @@ Days = FrozenSet[Tuple[str, str]]
 
 
 class Wanted(NamedTuple):
-    """A recording to load: where its bytes are, its id and sum, of each wanted channel and type how many entries it has, and its first and last civil time.
+    """A recording to load: where its bytes are, its id and sum, of each wanted channel and type how many entries it has, and its
+    first and last civil time.
 
     Where the engine keeps days apart, `days` has the tables and the days that its entries go to.
     """
@@ -52,7 +54,8 @@ class NotLoaded(Exception):
 # ---- where a recording is cut, and what has to be known at each cut
 
 class Layout:
-    """The cuts of a recording, at packets: of each where it stands, the loss report right before it, and the last states of each channel of discretes."""
+    """The cuts of a recording, at packets: of each where it stands, the loss report right before it, and the last states of each
+    channel of discretes."""
 
     def __init__(self, data: Any, begin: int, end: int, passed: Dict[int, int]) -> None:
         self.cuts: List[Tuple[int, Optional[Tuple[int, int]], Dict[int, int]]] = []
@@ -65,7 +68,8 @@ class Layout:
                 self.cuts.append((last, report, dict(states)))
             report = loss_of(packet)
             if packet.kind == TIME and packet.word is not None:
-                lines.setdefault(packet.channel, TimeLine(packet.channel)).add(packet.counter, time(packet.body, packet.word), packet.offset)
+                lines.setdefault(packet.channel, TimeLine(packet.channel)).add(packet.counter, time(packet.body, packet.word),
+                                                                               packet.offset)
             elif packet.kind == DISCRETE and packet.word is not None and len(packet.body) > 4:
                 states[packet.channel] = int.from_bytes(packet.body[-4:], 'little')
         told = [line for line in lines.values() if line.told]
@@ -136,20 +140,24 @@ def wanted_of(store: Store, task: Task, sum_: str, chosen: Optional[Sequence[int
         raise StoreError(TAKEN_OUT)
     number, first, last = found[0]
     there = set(store.rows('SELECT channel, data_type FROM loaded WHERE recording = ?', (number,)))
-    rows = store.rows('SELECT channel, data_type, entries FROM channel WHERE recording = ? AND entries > 0 ORDER BY channel, data_type', (number,))
+    rows = store.rows(
+        'SELECT channel, data_type, entries FROM channel WHERE recording = ? AND entries > 0 ORDER BY channel, data_type',
+        (number,))
     return Wanted(task, number, sum_, {(channel, kind): entries for channel, kind, entries in rows
-                                 if kind in TABLES and (channel, kind) not in there and (not chosen or channel in chosen)}, (first, last))
+                                 if kind in TABLES and (channel, kind) not in there and (not chosen or channel in chosen)},
+                  (first, last))
 
 
 def claimed(store: Store, some: Sequence[Wanted]) -> List[Wanted]:
-    """Inside a transaction: takes note of what is loaded now, and leaves out what another program has loaded meanwhile. In an order that all programs keep, so that
-    none waits for another that waits for it."""
+    """Inside a transaction: takes note of what is loaded now, and leaves out what another program has loaded meanwhile. In an order
+    that all programs keep, so that none waits for another that waits for it."""
     moment = now()
     rows = sorted((one.number, channel, kind, entries, moment) for one in some for (channel, kind), entries in one.entries.items())
     new: Set[Tuple] = set()
     for at in range(0, len(rows), 500):
         new |= store.insert_new('loaded', ('recording', 'channel', 'data_type', 'entries', 'loaded'), rows[at:at + 500], 3)
-    return [one._replace(entries={key: entries for key, entries in one.entries.items() if (one.number, *key) in new}) for one in some]
+    return [one._replace(entries={key: entries for key, entries in one.entries.items() if (one.number, *key) in new})
+            for one in some]
 
 
 def damage_in(store: Store, number: int) -> Dict[int, int]:
@@ -161,7 +169,8 @@ def day_text(day: int) -> str:
 
 
 def with_days(store: Store, some: Sequence[Wanted], pool: Pool) -> Iterator[Tuple[Wanted, Optional[str]]]:
-    """Each recording with its days, or with why it cannot be loaded. One that lies within two days has both; another is read for them, for its clock was set."""
+    """Each recording with its days, or with why it cannot be loaded. One that lies within two days has both; another is read for
+    them, for its clock was set."""
     asked: List[Wanted] = []
     for one in some:
         first, last = (time and len(time) == 27 and datetime.date.fromisoformat(time[:10]).toordinal() for time in one.times)
@@ -203,7 +212,8 @@ def together(some: Sequence[Wanted]) -> Iterator[List[Wanted]]:
 # ---- into the database
 
 def load_all(store: Store, some: Sequence[Wanted], pool: Optional[Pool], failed: List[Tuple[str, str]]) -> Tuple[Set[int], int]:
-    """Loads some recordings, and answers the ids of those that were loaded, and how many entries. What cannot be read is left out, and goes to `failed`."""
+    """Loads some recordings, and answers the ids of those that were loaded, and how many entries. What cannot be read is left out,
+    and goes to `failed`."""
     if pool is None:
         return load_those(store, some, pool, failed)
     loaded, total, able = set(), 0, []
@@ -253,14 +263,16 @@ def copied(store: Any, some: Sequence[Wanted], pool: Pool) -> Dict[int, int]:
             if 'error' in found:
                 raise NotLoaded(task['number'], found['error'])
             for (kind, number), part in zip(found['kinds'], found['parts']):
-                store.copy('COPY %s (%s) FROM STDIN (FORMAT binary)' % (TABLES[kind].name, ', '.join(TABLES[kind].names)), (FRONT, part, END))
+                store.copy('COPY %s (%s) FROM STDIN (FORMAT binary)' % (TABLES[kind].name, ', '.join(TABLES[kind].names)),
+                           (FRONT, part, END))
                 counted[task['number']] = counted.get(task['number'], 0) + number
     return counted
 
 
 def task_of(one: Wanted, passed: Dict[int, int]) -> Task:
     task = one.task
-    return dict(path=task['path'], begin=task['begin'], end=task['end'], number=one.number, sum=one.sum, wanted=sorted(one.entries), passed=sorted(passed.items()))
+    return dict(path=task['path'], begin=task['begin'], end=task['end'], number=one.number, sum=one.sum, wanted=sorted(one.entries),
+                passed=sorted(passed.items()))
 
 
 def parts_of(store: Store, some: Sequence[Wanted]) -> Iterator[Task]:
@@ -295,7 +307,8 @@ def inserted(store: Store, some: Sequence[Wanted]) -> Dict[int, int]:
         data, layout = layout_of(one, passed)
         clock = layout.clock
         reader = Reader(one.number, set(one.entries), None, {})
-        found = reader.columns(packets(data, begin, end, False, passed), clock.texts if clock and clock.dated else lambda counts: (None,) * len(counts))
+        found = reader.columns(packets(data, begin, end, False, passed),
+                               clock.texts if clock and clock.dated else lambda counts: (None,) * len(counts))
         try:
             for kind, columns in found:
                 store.insert(TABLES[kind].name, TABLES[kind].names, zip(*flat(columns)))

@@ -5,7 +5,8 @@ import struct
 from collections import namedtuple
 from typing import Dict, Iterator, List, NamedTuple, Optional, Set, Tuple
 
-from .standard import EVENT, INDEX, KNOWN, LOSS, MESSAGE, REPORT, SETUP, SPAN, SUMS, SYNC, TIME, UART, WIDTHS, Data, Fault, Key, Whose, find, let_go, little
+from .standard import (EVENT, INDEX, KNOWN, LOSS, MESSAGE, REPORT, SETUP, SPAN, SUMS, SYNC, TIME, UART, WIDTHS, Data, Fault, Key,
+                       Whose, find, let_go, little)
 
 HEADER = struct.Struct('<HHIIBBBBIHH')
 HEADER_WORDS = struct.Struct('<11H')
@@ -14,19 +15,23 @@ PATTERN = b'\x25\xeb'
 MOST = 524288  # bytes of a packet but one of setup
 
 Packet = namedtuple('Packet', 'offset channel kind length sequence flags counter body word')
-Packet.__doc__ = """A packet: its offset, channel, type, length, sequence number, flags and counter, and its body with the word at its
+Packet.__doc__ = """A packet: its offset, channel, type, length, sequence number, flags and counter, and its body with the word at \
+its
 front. The word is None where the packet is opaque: then the body is all that stands after the header."""
 
 Stretch = namedtuple('Stretch', 'offset length why channel kind')
-Stretch.__doc__ = """Bytes that were passed over: from which offset on, how many, and why. Channel and type are those of the packet that begins there where its
+Stretch.__doc__ = """Bytes that were passed over: from which offset on, how many, and why. Channel and type are those of the \
+packet that begins there where its
 header is right, else None."""
 
 
 def packet_at(data: Data, at: int, begin: int, end: int, judged: bool = True, opaque: bool = False, summed: bool = False) -> Packet:
-    """The packet that begins at a place, or its fault. Its offset counts from the first place; a fault has its length where its header is right.
+    """The packet that begins at a place, or its fault. Its offset counts from the first place; a fault has its length where its
+    header is right.
 
-    Where it is not judged, which is for bytes that were read before, no checksum is looked at. The data checksum of an opaque packet is looked at only where
-    that is asked for, and not after a secondary header. Of a packet that was summed already its data checksum is known to be right.
+    Where it is not judged, which is for bytes that were read before, no checksum is looked at. The data checksum of an opaque
+    packet is looked at only where that is asked for, and not after a secondary header. Of a packet that was summed already its data
+    checksum is known to be right.
     """
     here = at - begin
     if end - at < 24:
@@ -59,8 +64,10 @@ def packet_at(data: Data, at: int, begin: int, end: int, judged: bool = True, op
     return Packet(here, channel, kind, length, sequence, flags, low | high << 32, body, word)
 
 
-def packets(data: Data, begin: int = 0, end: Optional[int] = None, judged: bool = True, passed: Optional[Dict[int, int]] = None) -> Iterator[Packet]:
-    """Each packet from one place of some bytes to another; what is passed over has its length by its offset. The first fault ends them."""
+def packets(data: Data, begin: int = 0, end: Optional[int] = None, judged: bool = True,
+            passed: Optional[Dict[int, int]] = None) -> Iterator[Packet]:
+    """Each packet from one place of some bytes to another; what is passed over has its length by its offset. The first fault ends
+    them."""
     at, end, gone = begin, len(data) if end is None else end, begin
     while at < end:
         if at - gone >= SPAN:
@@ -119,7 +126,8 @@ NEAR = 8  # packets of its channel that may be missing before one that is near
 
 
 def sum_of(data: Data, at: int) -> Optional[bool]:
-    """Whether the data checksum of the packet with a right header at a place is right. None where it has none, or is not looked at."""
+    """Whether the data checksum of the packet with a right header at a place is right. None where it has none, or is not looked
+    at."""
     _, _, length, size, _, _, flags, _, _, _, _ = HEADER.unpack_from(data, at)
     if not flags & 3 or flags & 0x80:
         return None
@@ -150,9 +158,10 @@ class Placed(NamedTuple):
 class Resync:
     """Where the next packet begins after a fault.
 
-    It is a sync pattern whose header is right, and which is no copy of a packet within another's body. Packets that follow one another are a row. A row is of
-    this recording where it leads to the last byte, or is long, or where its sequence numbers go on from those of packets that are known to be of it. A row
-    within the packet at fault, as far as that one's length is known, has to lead over its end.
+    It is a sync pattern whose header is right, and which is no copy of a packet within another's body. Packets that follow one
+    another are a row. A row is of this recording where it leads to the last byte, or is long, or where its sequence numbers go on
+    from those of packets that are known to be of it. A row within the packet at fault, as far as that one's length is known, has to
+    lead over its end.
     """
 
     def __init__(self, data: Data, begin: int, end: int) -> None:
@@ -209,15 +218,16 @@ class Resync:
         return next((place for place in range(first, first + AROUND + 1, 4) if self.is_next(at, place)), None)
 
     def is_like(self, at: int) -> bool:
-        """Whether the bytes at a place are a header, but for some that were changed: its sync pattern is right, or its checksum, of a right one."""
+        """Whether the bytes at a place are a header, but for some that were changed: its sync pattern is right, or its checksum, of
+        a right one."""
         if self.end - at < 24:
             return False
         words = HEADER_WORDS.unpack_from(self.data, at)
         return words[0] == SYNC or (SYNC + sum(words[1:])) & 0xFFFF == little(self.data, at + 22, 2) and any(words[1:])
 
     def is_next(self, at: int, place: int) -> bool:
-        """Whether a packet begins at a place that one at fault leads to: its header and data checksum are right, none before it leads over that place, and what
-        comes after it, and after those that follow it, is like a header."""
+        """Whether a packet begins at a place that one at fault leads to: its header and data checksum are right, none before it
+        leads over that place, and what comes after it, and after those that follow it, is like a header."""
         if place >= self.end or self.is_led_over(at, place):
             return False
         run, head = 0, head_at(self.data, place, self.end)
@@ -246,7 +256,8 @@ class Resync:
         return None
 
     def goes_on(self, place: int, passed: int, is_next: bool = False) -> bool:
-        """Whether a row from a place on, after so many bytes that were passed over, is of this recording, as it shows and the packets before it do.
+        """Whether a row from a place on, after so many bytes that were passed over, is of this recording, as it shows and the
+        packets before it do.
 
         Less of it is enough where it is next by the length of a right header.
         """
@@ -271,9 +282,11 @@ class Resync:
         return against == 0 and (exact >= 2 or exact + near >= 2 and run >= 3 or is_next and (exact > 0 or run >= 3))
 
     def first_row(self, at: int, anchor: int, limit: int) -> int:
-        """The first packet of the first row after a fault that is of this recording, as rows that are known to be of it show; or else the anchor.
+        """The first packet of the first row after a fault that is of this recording, as rows that are known to be of it show; or
+        else the anchor.
 
-        The packet at fault may reach to the limit. What is within it, or within another one that may be at fault, is a row by itself.
+        The packet at fault may reach to the limit. What is within it, or within another one that may be at fault, is a row by
+        itself.
         """
         rows = self.rows(at, anchor, limit)
         known: Dict[Tuple[int, int], List[Placed]] = {key: [Placed(at, Head(*key, 0, self.last[key[0]]))] for key in self.seen}
@@ -289,7 +302,8 @@ class Resync:
                 return found
 
     def enough(self, row: List[Placed]) -> int:
-        """How much a row has to agree with packets that are known. A packet by itself needs more, unless its data checksum shows that it is one.
+        """How much a row has to agree with packets that are known. A packet by itself needs more, unless its data checksum shows
+        that it is one.
 
         What begins after the row as a header does, with some bytes changed, is no rest of a packet that the row is a copy in.
         """
@@ -299,8 +313,8 @@ class Resync:
         return 2 if len(row) > 1 or sum_of(self.data, row[0].place) else 3
 
     def rows(self, at: int, anchor: int, limit: int) -> List[List[Placed]]:
-        """The rows between a fault and the anchor, and some after that; but not those within a packet whose end or whose data checksum is right. A packet whose
-        data checksum is wrong ends a row."""
+        """The rows between a fault and the anchor, and some after that; but not those within a packet whose end or whose data
+        checksum is right. A packet whose data checksum is wrong ends a row."""
         data, end, number, most, broken = self.data, self.end, 0, MOST_ROWS, -1
         rows: List[List[Placed]] = []
         place = find(data, PATTERN, at + 1, end)
@@ -327,8 +341,8 @@ class Resync:
 
     @staticmethod
     def kinship(row: List[Placed], known: Dict[Tuple[int, int], List[Placed]]) -> int:
-        """How much a row agrees with packets that are known, by the sequence numbers of each channel and type: two for each side where they follow one another, one
-        where they are near, and less by two where they are neither."""
+        """How much a row agrees with packets that are known, by the sequence numbers of each channel and type: two for each side
+        where they follow one another, one where they are near, and less by two where they are neither."""
         points = 0
         ends: Dict[Key, Tuple[Placed, Placed]] = {}
         for one in row:
@@ -343,7 +357,8 @@ class Resync:
         return points
 
     def within(self, at: int, length: int) -> Optional[int]:
-        """Where, within a packet at whose end no header stands, another begins from which a row leads over its end. None where there is none."""
+        """Where, within a packet at whose end no header stands, another begins from which a row leads over its end. None where
+        there is none."""
         data, end, behind = self.data, self.end, at + length
         if behind == end or head_at(data, behind, end):
             return None
@@ -372,7 +387,8 @@ UNTOLD = -1
 
 
 def lost_before(packet: Packet, report: Optional[Tuple[int, int]]) -> int:
-    """How many messages were lost before a packet's first entry, after this report or none. UNTOLD where none says how many: at least one."""
+    """How many messages were lost before a packet's first entry, after this report or none. UNTOLD where none says how many: at
+    least one."""
     if not packet.flags & 0x10:
         return 0
     return report[1] if report and report[0] == packet.channel else UNTOLD

@@ -22,7 +22,8 @@ def processors() -> int:
 
 
 def in_order(made: Callable, parts: List, out: Output, jobs: int) -> None:
-    """Writes the pieces that made(part) gives of each part, in their order: by so many processes, or by this one where that is one, or where none can be made.
+    """Writes the pieces that made(part) gives of each part, in their order: by so many processes, or by this one where that is one,
+    or where none can be made.
 
     Each process makes every so many-th part and waits until the one before is written, so that no more than a part of each is held.
     """

@@ -85,7 +85,8 @@ class Picture:
 
     def text(self, survey: Survey, size: int) -> str:
         height = self.bottom + 36
-        parts = ['<svg xmlns="http://www.w3.org/2000/svg" width="%d" height="%d" viewBox="0 0 %d %d" font-family="sans-serif" font-size="12">'
+        parts = ['<svg xmlns="http://www.w3.org/2000/svg" width="%d" height="%d" viewBox="0 0 %d %d" font-family="sans-serif" '
+                 'font-size="12">'
                  % (WIDTH, height, WIDTH, height),
                  '<title>%s</title>' % escape('Rates and losses of ' + self.title),
                  '<rect width="100%" height="100%" fill="white"/>',
@@ -115,19 +116,22 @@ class Picture:
         for place, number in enumerate(much):
             if number:
                 tall = max(STRIP * number / most, 1)
-                path.append('M%.2f %.2fV%.2fH%.2fV%.2fz' % (LEFT + wide * place, base, base - tall, LEFT + wide * (place + 1), base))
+                path.append('M%.2f %.2fV%.2fH%.2fV%.2fz' % (LEFT + wide * place, base, base - tall,
+                                                            LEFT + wide * (place + 1), base))
         if path:
             parts.append('<path fill="%s" d="%s"/>' % (GREY if key in self.by_packets else BLUE, ''.join(path)))
         parts.append('<path stroke="#444" stroke-width="1" d="M%d %.1fH%d"/>' % (LEFT, base, LEFT + SPACE))
         for place, number in enumerate(lost):
             if number:
                 middle, half = LEFT + wide * (place + 0.5), max(wide, 3) / 2
-                parts.append('<rect x="%.2f" y="%d" width="%.2f" height="%d" fill="%s"/>' % (middle - half, base + 2, 2 * half, MARKS, RED))
+                parts.append('<rect x="%.2f" y="%d" width="%.2f" height="%d" fill="%s"/>' % (
+                    middle - half, base + 2, 2 * half, MARKS, RED))
         if most:
             parts.append(words(LEFT + SPACE + 8, top + 12, self.rate_of(key, most), fill='#444'))
         losses, messages, untold = self.sums[key]
         if losses:
-            parts.append(words(LEFT + SPACE + 8, base + 10, '%s%s lost' % ('{:,}'.format(messages), '+' if untold else ''), fill=RED))
+            parts.append(words(LEFT + SPACE + 8, base + 10,
+                               '%s%s lost' % ('{:,}'.format(messages), '+' if untold else ''), fill=RED))
         return parts
 
     def rate_of(self, key: Key, most: int) -> str:
@@ -163,7 +167,8 @@ class Picture:
                 left, TOP - 6, wide, self.bottom - TOP + 6, SHADE, escape(stretch_text(stretch))))
         if parts:
             parts.append(words(LEFT, 62, 'shaded: %d stretch%s passed over, %s bytes' % (
-                len(parts), '' if len(parts) == 1 else 'es', '{:,}'.format(sum(stretch.length for stretch in survey.damage))), fill=DARK))
+                len(parts), '' if len(parts) == 1 else 'es',
+                '{:,}'.format(sum(stretch.length for stretch in survey.damage))), fill=DARK))
         return parts
 
     def jumps(self, survey: Survey) -> List[str]:
@@ -173,7 +178,8 @@ class Picture:
             if self.low <= jump.count <= self.high:
                 x = self.place(jump.count)
                 side, anchor = (x + 3, 'start') if x < WIDTH - RIGHT - 90 else (x - 3, 'end')
-                parts.append('<path stroke="%s" stroke-width="1.5" stroke-dasharray="5 3" d="M%.2f %dV%d"/>' % (DARK, x, TOP - 18, self.bottom))
+                parts.append('<path stroke="%s" stroke-width="1.5" stroke-dasharray="5 3" d="M%.2f %dV%d"/>'
+                             % (DARK, x, TOP - 18, self.bottom))
                 parts.append(words(side, TOP - 10, 'time %+.7g s' % (jump.by / SECOND), anchor=anchor, fill=DARK, size=11))
         return parts
 
@@ -191,7 +197,8 @@ def shortened(name: str) -> str:
 
 
 def words(x: float, y: float, text: str, anchor: str = 'start', fill: str = 'black', size: int = 12, weight: str = 'normal') -> str:
-    return '<text x="%.1f" y="%.1f" text-anchor="%s" fill="%s" font-size="%d" font-weight="%s">%s</text>' % (x, y, anchor, fill, size, weight, escape(text))
+    return '<text x="%.1f" y="%.1f" text-anchor="%s" fill="%s" font-size="%d" font-weight="%s">%s</text>' % (
+        x, y, anchor, fill, size, weight, escape(text))
 
 
 def time_text(count: int, low: int, step: int, clock: Optional[Clock]) -> str:
@@ -229,7 +236,8 @@ def as_svg(asked: Namespace, data: Data, out: Output) -> None:
 
 
 def marks(data: Data, begin: int, survey: Survey, sources: Dict[Key, Row], by_packets: Set[Key]) -> Iterator[Mark]:
-    """Of each packet that is drawn its channel and type, its counts, the count of a loss and how many messages were lost, or None twice."""
+    """Of each packet that is drawn its channel and type, its counts, the count of a loss and how many messages were lost, or None
+    twice."""
     report, behind = None, 0
     for packet in packets(data, begin, begin + survey.size, False, survey.passed):
         key = packet.channel, packet.kind
@@ -245,7 +253,8 @@ def marks(data: Data, begin: int, survey: Survey, sources: Dict[Key, Row], by_pa
         report = loss_of(packet)
 
 
-def ends_in(data: Data, begin: int, survey: Survey, sources: Dict[Key, Row], by_packets: Set[Key], within: Range) -> Optional[Tuple[int, int]]:
+def ends_in(data: Data, begin: int, survey: Survey, sources: Dict[Key, Row], by_packets: Set[Key],
+            within: Range) -> Optional[Tuple[int, int]]:
     """The lowest and the highest count that is drawn of a range, or None."""
     found = [count for _, some, _, _ in marks(data, begin, survey, sources, by_packets) for count in some if within.has(count)]
     return (min(found), max(found)) if found else None

@@ -1,4 +1,5 @@
-"""The words of the commands that go over many recordings: catalogue, load and report. They name files, and read no standard input."""
+"""The words of the commands that go over many recordings: catalogue, load and report. They name files, and read no standard
+input."""
 from __future__ import annotations
 
 import argparse
@@ -11,14 +12,20 @@ from .times import civil, ticks_of
 
 VERDICTS = ('strict', 'lenient', 'faulty', 'unjudged')
 
-DATABASE = """The database is a file of SQLite (--db range.sqlite) or a server of PostgreSQL (--db postgresql://user@host/range, or 'host=.. dbname=..'); without
+DATABASE = """The database is a file of SQLite (--db range.sqlite) or a server of PostgreSQL (--db postgresql://user@host/range, \
+or 'host=.. dbname=..'); without
 --db it is that of CH10_DB in the environment, else ch10.sqlite in this folder. A server needs the package python3-psycopg2."""
-ADD_MORE = """Of each recording, or each file of an image, it keeps sum, size, places, verdict, times, channels, damaged stretches and setup attributes. A recording
-is known by its sum: given again, or at another place, it is no second one. What a run that was stopped had not kept yet, the next one adds.
-Of a folder it takes what ends in .ch10, .c10 or .img, or begins as a recording or an image does. It enters the folders below it, but by no symbolic link.
+ADD_MORE = """Of each recording, or each file of an image, it keeps sum, size, places, verdict, times, channels, damaged stretches \
+and setup attributes. A recording
+is known by its sum: given again, or at another place, it is no second one. What a run that was stopped had not kept yet, the next \
+one adds.
+Of a folder it takes what ends in .ch10, .c10 or .img, or begins as a recording or an image does. It enters the folders below it, \
+but by no symbolic link.
 """
-FIND_MORE = """All conditions have to hold; of one that is given several times, any. Those of a channel hold for one and the same channel, and with them the times are
-that channel's. PATTERN may have * and ?, and looks at no case. A and B are times as '2024-02-29 12:34:56.78', 2024-02-29 (the whole day), or '060 12:34:56'
+FIND_MORE = """All conditions have to hold; of one that is given several times, any. Those of a channel hold for one and the same \
+channel, and with them the times are
+that channel's. PATTERN may have * and ?, and looks at no case. A and B are times as '2024-02-29 12:34:56.78', 2024-02-29 (the \
+whole day), or '060 12:34:56'
 for recordings whose times have no date; both ends are taken in.
 """
 
@@ -33,7 +40,8 @@ class Moment:
                 clock += ':00'
             ticks = ticks_of('%s %s' % (day, clock or '00:00:00'))
         except ValueError:
-            raise argparse.ArgumentTypeError("%r is no time such as '2024-02-29 12:34:56.78', 2024-02-29, '060 12:34:56.78' or 060" % word[:60])
+            raise argparse.ArgumentTypeError("%r is no time such as '2024-02-29 12:34:56.78', 2024-02-29, '060 12:34:56.78' or 060"
+                                             % word[:60])
         self.dated = '-' in day
         self.first = '%s.%07d' % (civil(ticks, self.dated), ticks % 10 ** 7)
         self.last = self.first if clock else '%s 23:59:59.9999999' % self.first.split(' ')[0]
@@ -46,13 +54,17 @@ def run_of(module: str, name: str) -> Callable[..., None]:
     return run
 
 
-LOAD_MORE = """What is not in the catalogue is added first. The entries of a channel of a recording are loaded once: given again they are no second ones, and what a run that
-was stopped had not loaded whole it had not loaded at all. The tables: entry_1553, entry_arinc, entry_uart, entry_message, entry_discrete, entry_time, entry_event.
+LOAD_MORE = """What is not in the catalogue is added first. The entries of a channel of a recording are loaded once: given again \
+they are no second ones, and what a run that
+was stopped had not loaded whole it had not loaded at all. The tables: entry_1553, entry_arinc, entry_uart, entry_message, \
+entry_discrete, entry_time, entry_event.
 """
 
 
-REPORT_MORE = """As in: ch10 report flight/*.ch10 > report.html. It has an overview, a time line of the files, and of each recording its verdict, a picture of rates and losses,
-channels, damaged stretches, clocks, what its buses carried, and its setup. Where the program r10 is not there, it says that nothing was judged. The status is 1 where a
+REPORT_MORE = """As in: ch10 report flight/*.ch10 > report.html. It has an overview, a time line of the files, and of each \
+recording its verdict, a picture of rates and losses,
+channels, damaged stretches, clocks, what its buses carried, and its setup. Where the program r10 is not there, it says that \
+nothing was judged. The status is 1 where a
 recording is faulty or damaged.
 """
 
@@ -94,19 +106,24 @@ def add_words(commands: Any, Parser: Any, channel_number: Callable[[str], int]) 
 
     def judging(made: Any) -> None:
         made.add_argument('--jobs', type=positive, metavar='N', help='so many at a time (without it: one for each processor)')
-        made.add_argument('--memory', type=positive, metavar='MIB', help='memory for what the program holds while it judges (without it: half of what is free); '
+        made.add_argument('--memory', type=positive, metavar='MIB',
+                          help='memory for what the program holds while it judges (without it: half of what is free); '
                           'what is larger is not judged')
-        made.add_argument('--program', metavar='PATH', help='the program r10 (without it: R10 in the environment, the proved build, or r10 on the PATH)')
+        made.add_argument('--program', metavar='PATH',
+                          help='the program r10 (without it: R10 in the environment, the proved build, or r10 on the PATH)')
         made.add_argument('--unjudged', action='store_true', help='without a verdict, which a later add gives')
 
-    top = commands.add_parser('catalogue', prog='ch10 catalogue', allow_abbrev=False, description='A catalogue of recordings, and questions to it.',
+    top = commands.add_parser('catalogue', prog='ch10 catalogue', allow_abbrev=False,
+                              description='A catalogue of recordings, and questions to it.',
                               epilog=DATABASE, formatter_class=argparse.RawDescriptionHelpFormatter)
     inner = top.add_subparsers(metavar='add|find|show', dest='inner', required=True, parser_class=Parser)
 
-    made = command(inner, 'catalogue add', run_of('catalogue', 'add'), 'Adds recordings, or the files of images, to the catalogue.', ADD_MORE + DATABASE)
+    made = command(inner, 'catalogue add', run_of('catalogue', 'add'), 'Adds recordings, or the files of images, to the catalogue.',
+                   ADD_MORE + DATABASE)
     made.add_argument('inputs', nargs='+', metavar='INPUT', help='a recording, an image, or a folder')
     with_database(made)
-    made.add_argument('--place', type=text, metavar='BASE', help='where they are said to lie: BASE/NAME, as s3://bucket/flights, in place of the path')
+    made.add_argument('--place', type=text, metavar='BASE',
+                      help='where they are said to lie: BASE/NAME, as s3://bucket/flights, in place of the path')
     judging(made)
     made.add_argument('--anew', action='store_true', help='judges and counts what is there already once more')
 
@@ -116,7 +133,8 @@ def add_words(commands: Any, Parser: Any, channel_number: Callable[[str], int]) 
     made.add_argument('--to', dest='last', type=Moment, metavar='B', help='that have something up to this time')
     made.add_argument('--channel', type=channel_number, action='append', metavar='C', help='with this channel')
     made.add_argument('--name', type=text, metavar='PATTERN', help='with a channel of this name')
-    made.add_argument('--type', type=text, action='append', metavar='T', help='with a channel of this type, as 1553, arinc or video-40')
+    made.add_argument('--type', type=text, action='append', metavar='T',
+                      help='with a channel of this type, as 1553, arinc or video-40')
     made.add_argument('--losses', type=positive, metavar='N', help='with a channel of N losses or more')
     made.add_argument('--jumps', type=positive, metavar='N', help='with a channel of N jumps or more')
     made.add_argument('--verdict', action='append', choices=VERDICTS, metavar='V', help='with this verdict: ' + ', '.join(VERDICTS))
@@ -132,16 +150,20 @@ def add_words(commands: Any, Parser: Any, channel_number: Callable[[str], int]) 
     made = command(inner, 'catalogue show', run_of('find', 'show'), 'Shows all that is kept of one recording.', DATABASE)
     made.add_argument('sum', metavar='SUM', help='its sum, or 4 hex digits of its front or more')
     with_database(made)
-    made.add_argument('--json', action='store_true', help='JSON lines: one each for the recording, its places, channels, damaged stretches and attributes')
+    made.add_argument('--json', action='store_true',
+                      help='JSON lines: one each for the recording, its places, channels, damaged stretches and attributes')
 
-    made = command(commands, 'load', run_of('load', 'load'), 'Puts the entries of recordings into tables of a database, one for each kind.', LOAD_MORE + DATABASE)
+    made = command(commands, 'load', run_of('load', 'load'),
+                   'Puts the entries of recordings into tables of a database, one for each kind.', LOAD_MORE + DATABASE)
     made.add_argument('inputs', nargs='+', metavar='INPUT', help='a recording, an image, or a folder')
     with_database(made)
-    made.add_argument('--channel', type=channel_number, metavar='C', action='append', help='this channel alone; may be given again for another')
+    made.add_argument('--channel', type=channel_number, metavar='C', action='append',
+                      help='this channel alone; may be given again for another')
     made.add_argument('--place', type=text, metavar='BASE', help='where they are said to lie: BASE/NAME, in place of the path')
     judging(made)
 
-    made = command(commands, 'report', run_of('report', 'report'), 'Writes one page about recordings: HTML with all that it needs in it.', REPORT_MORE)
+    made = command(commands, 'report', run_of('report', 'report'),
+                   'Writes one page about recordings: HTML with all that it needs in it.', REPORT_MORE)
     made.add_argument('inputs', nargs='+', metavar='INPUT', help='a recording, an image, or a folder')
     made.add_argument('--program', metavar='PATH', help='the program r10, for the verdicts')
     made.add_argument('--unjudged', action='store_true', help='without verdicts')

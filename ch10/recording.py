@@ -4,15 +4,18 @@
 
     .name, .closed           of a file of an image; None and None of a recording by itself
     .begin, .end             where it stands in the data, the place after its last byte too
-    .survey()                a `ch10.survey.Survey`, which goes on after damage: .rows (one for each channel and data type), .damage, .fault, .clock, .times, .names,
+    .survey()                a `ch10.survey.Survey`, which goes on after damage: .rows (one for each channel and data type),
+                             .damage, .fault, .clock, .times, .names,
                              .setup, .span()
-    .packets()               each `ch10.packets.Packet` that was not passed over: offset, channel, kind (the data type), length, sequence, flags, counter, body, word
+    .packets()               each `ch10.packets.Packet` that was not passed over: offset, channel, kind (the data type), length,
+                             sequence, flags, counter, body, word
     .bytes_of(packet)        the packet as it stands, header and checksum included
     .entries_of(packet)      the entries of one packet, as `Entry`
     .entries(channels)       all entries by count, then channel, then place, as `Entry`
 
-An `Entry` has count, channel, kind (the data type), lost (messages lost right before it; -1 where it is not told how many) and value: a named
-tuple by its kind, as `ch10.bodies.BODIES[kind].record`. `ch10.fields.Reader(survey.names).entries(packet)` gives the columns of csv instead. What is wrong with an input is a `ch10.standard.Fault`.
+An `Entry` has count, channel, kind (the data type), lost (messages lost right before it; -1 where it is not told how many) and
+value: a named tuple by its kind, as `ch10.bodies.BODIES[kind].record`. `ch10.fields.Reader(survey.names).entries(packet)` gives the
+columns of csv instead. What is wrong with an input is a `ch10.standard.Fault`.
 """
 from __future__ import annotations
 

@@ -1,4 +1,5 @@
-"""`ch10 report`: one page about some recordings, to look at in a browser or on paper. It takes nothing from elsewhere: no script, no picture, no font."""
+"""`ch10 report`: one page about some recordings, to look at in a browser or on paper. It takes nothing from elsewhere: no script,
+no picture, no font."""
 from __future__ import annotations
 
 import os
@@ -24,8 +25,10 @@ from .tmats import tree
 
 STYLE = """
 :root { color-scheme: light; --line: #c3c8cf; --ink: #1b1f24; --soft: #4a5159; --link: #0b4f9c; }
-body { margin: 0 auto; max-width: 72rem; padding: 1rem 1.5rem 3rem; font: 16px/1.45 system-ui, sans-serif; color: var(--ink); background: #fff; }
-h1 { font-size: 1.7rem; margin: 0.5rem 0; } h2 { font-size: 1.35rem; margin: 2.2rem 0 0.6rem; border-bottom: 2px solid var(--line); }
+body { margin: 0 auto; max-width: 72rem; padding: 1rem 1.5rem 3rem; font: 16px/1.45 system-ui, sans-serif; color: var(--ink); \
+background: #fff; }
+h1 { font-size: 1.7rem; margin: 0.5rem 0; } h2 { font-size: 1.35rem; margin: 2.2rem 0 0.6rem; border-bottom: 2px solid \
+var(--line); }
 h3 { font-size: 1.08rem; margin: 1.4rem 0 0.4rem; }
 p { margin: 0.4rem 0; max-width: 50rem; } a { color: var(--link); }
 .skip { position: absolute; left: -60rem; } .skip:focus { left: 1rem; top: 0.5rem; background: #fff; padding: 0.3rem 0.6rem; }
@@ -39,10 +42,13 @@ thead th { border-bottom: 2px solid var(--soft); } th[scope=row] { font-weight: 
 .scroll { overflow-x: auto; } pre { font: 0.84rem/1.35 ui-monospace, monospace; white-space: pre-wrap; overflow-wrap: anywhere; }
 svg { max-width: 100%; height: auto; } figure { margin: 0.6rem 0; }
 .verdict { font-weight: 700; padding: 0.05rem 0.45rem; border: 2px solid; border-radius: 0.3rem; white-space: nowrap; }
-.strict { color: #14532d; } .lenient { color: #1e40af; } .faulty { color: #9b1c1c; border-style: double; border-width: 4px; } .unjudged { color: #4a5159; border-style: dashed; }
+.strict { color: #14532d; } .lenient { color: #1e40af; } .faulty { color: #9b1c1c; border-style: double; border-width: 4px; } \
+.unjudged { color: #4a5159; border-style: dashed; }
 @media print {
-  body { max-width: none; padding: 0; font-size: 10.5pt; } nav, .skip { display: none; } a { color: inherit; text-decoration: none; }
-  .scroll { overflow: visible; } table { font-size: 8pt; } tr, figure { break-inside: avoid; } h2, h3, caption { break-after: avoid; }
+  body { max-width: none; padding: 0; font-size: 10.5pt; } nav, .skip { display: none; } a { color: inherit; text-decoration: \
+none; }
+  .scroll { overflow: visible; } table { font-size: 8pt; } tr, figure { break-inside: avoid; } h2, h3, caption { break-after: \
+avoid; }
   section.recording { break-before: page; } thead { display: table-header-group; } .wrap { min-width: 8rem; }
   pre { columns: 3; font-size: 7pt; }
 }
@@ -72,8 +78,10 @@ def table(caption: str, heads: Sequence[str], rows: Iterable[Sequence[Any]], lef
         name, text = value if isinstance(value, tuple) else (plain, escape('-' if value is None else str(value)))
         kind = ' class="%s"' % name if name else ''
         return '<th scope="row"%s>%s</th>' % (kind, text) if place == 0 else '<td%s>%s</td>' % (kind, text)
-    made = ['<div class="scroll" tabindex="0" role="region" aria-label="%s"><table><caption>%s</caption><thead><tr>' % (escape(caption, True), escape(caption))]
-    made.append(''.join('<th scope="col"%s>%s</th>' % (' class="left"' if head in left else '', escape(head)) for head in heads) + '</tr></thead><tbody>')
+    made = ['<div class="scroll" tabindex="0" role="region" aria-label="%s"><table><caption>%s</caption><thead><tr>'
+            % (escape(caption, True), escape(caption))]
+    made.append(''.join('<th scope="col"%s>%s</th>' % (' class="left"' if head in left else '', escape(head)) for head in heads)
+                + '</tr></thead><tbody>')
     made += ['<tr>%s</tr>' % ''.join(cell(place, value) for place, value in enumerate(row)) for row in rows]
     return made + ['</tbody></table></div>']
 
@@ -92,8 +100,10 @@ def size_text(size: int) -> str:
 
 # ---- what the buses carried
 
-def buses_of(data: Any, begin: int, end: int, survey: Survey) -> Tuple[Dict[Tuple, Counter], Dict[Tuple, Counter], Dict[Tuple, Counter]]:
-    """Of 1553 channels the messages by RT, direction and subaddress, and the errors by RT and direction; of ARINC 429 channels the words by label."""
+def buses_of(data: Any, begin: int, end: int,
+             survey: Survey) -> Tuple[Dict[Tuple, Counter], Dict[Tuple, Counter], Dict[Tuple, Counter]]:
+    """Of 1553 channels the messages by RT, direction and subaddress, and the errors by RT and direction; of ARINC 429 channels the
+    words by label."""
     commands: Dict[int, Counter] = {}
     labels: Dict[Tuple, Counter] = {}
     for packet in packets(data, begin, begin + survey.size, False, survey.passed):
@@ -128,25 +138,30 @@ def bus_keys(packet: Any) -> List[Tuple[Optional[int], int]]:
 
 
 def counted_text(counted: Counter, names: Any) -> str:
-    return ', '.join('%s: %s' % (names(key), '{:,}'.format(number)) for key, number in sorted(counted.items(), key=lambda pair: (pair[0] is None, pair[0])))
+    return ', '.join('%s: %s' % (names(key), '{:,}'.format(number))
+                     for key, number in sorted(counted.items(), key=lambda pair: (pair[0] is None, pair[0])))
 
 
 def bus_parts(data: Any, begin: int, end: int, survey: Survey) -> List[str]:
     messages, errors, labels = buses_of(data, begin, end, survey)
     made: List[str] = []
     if messages:
-        rows = [(channel, survey.names.channel(channel) or '-', 'none' if rt < 0 else rt, {'T': 'transmits', 'R': 'receives', None: '-'}[direction],
+        rows = [(channel, survey.names.channel(channel) or '-', 'none' if rt < 0 else rt,
+                 {'T': 'transmits', 'R': 'receives', None: '-'}[direction],
                  size_text(sum(counted.values())), counted_text(errors.get((channel, rt, direction), Counter()), str) or '-',
                  ('wrap', escape(counted_text(counted, lambda sa: 'SA %s' % ('-' if sa is None else sa)))))
-                for (channel, rt, direction), counted in sorted(messages.items(), key=lambda pair: (pair[0][0], pair[0][1], pair[0][2] or ''))]
+                for (channel, rt, direction), counted in sorted(messages.items(),
+                                                                key=lambda pair: (pair[0][0], pair[0][1], pair[0][2] or ''))]
         made += ['<h3>MIL-STD-1553 by terminal and subaddress</h3>'] + table(
-            'Messages of each remote terminal, by its direction and subaddress', ('channel', 'name', 'RT', 'direction', 'messages', 'errors', 'by subaddress'), rows,
+            'Messages of each remote terminal, by its direction and subaddress',
+            ('channel', 'name', 'RT', 'direction', 'messages', 'errors', 'by subaddress'), rows,
             ('name', 'direction', 'errors', 'by subaddress'))
     if labels:
         rows = [(channel, survey.names.channel(channel) or '-', bus, size_text(sum(counted.values())),
                  ('wrap', escape(counted_text(counted, lambda label: word_429(label)[0]))))
                 for (channel, bus), counted in sorted(labels.items())]
-        made += ['<h3>ARINC 429 by label</h3>'] + table('Words of each bus, by label in octal', ('channel', 'name', 'bus', 'words', 'by label'), rows,
+        made += ['<h3>ARINC 429 by label</h3>'] + table('Words of each bus, by label in octal',
+                                                        ('channel', 'name', 'bus', 'words', 'by label'), rows,
                                                        ('name', 'by label'))
     return made
 
@@ -181,26 +196,31 @@ def channel_part(survey: Survey) -> List[str]:
     for row in survey.rows:
         rate = row.rate()
         rows.append((row.channel, name_of(row.kind), survey.names.channel(row.channel) or '-', size_text(row.packets),
-                     size_text(row.entries) if row.has_entries() else None, size_text(row.bytes), None if rate is None else '{:,.1f}'.format(rate),
+                     size_text(row.entries) if row.has_entries() else None, size_text(row.bytes),
+                     None if rate is None else '{:,.1f}'.format(rate),
                      size_text(row.losses), lost_text({'lost': row.lost, 'untold': row.untold}), row.jumps, row.opaque, row.bad))
     return ['<h3>Channels</h3>'] + table('What each channel and data type has', (
-        'channel', 'type', 'name', 'packets', 'entries', 'bytes', 'entries/s', 'losses', 'messages lost', 'jumps', 'opaque', 'damaged packets'), rows, ('type', 'name'))
+        'channel', 'type', 'name', 'packets', 'entries', 'bytes', 'entries/s', 'losses', 'messages lost', 'jumps', 'opaque',
+        'damaged packets'), rows, ('type', 'name'))
 
 
 def damage_part(survey: Survey) -> List[str]:
     if not survey.damage:
         return []
-    rows = [(size_text(one.offset), size_text(one.length), ('left', escape(one.why)), ('left', '-' if one.channel is None else '%d, %s' % (
-        one.channel, escape(name_of(one.kind))))) for one in survey.damage[:MOST_STRETCHES]]
+    rows = [(size_text(one.offset), size_text(one.length), ('left', escape(one.why)),
+             ('left', '-' if one.channel is None else '%d, %s' % (
+                 one.channel, escape(name_of(one.kind))))) for one in survey.damage[:MOST_STRETCHES]]
     more = len(survey.damage) - len(rows)
-    return ['<h3>Damaged stretches</h3>'] + table('Bytes that were passed over%s' % (', the first %d of %d' % (len(rows), len(survey.damage)) if more else ''),
+    return ['<h3>Damaged stretches</h3>'] + table('Bytes that were passed over%s'
+                                                  % (', the first %d of %d' % (len(rows), len(survey.damage)) if more else ''),
                                                  ('from byte', 'bytes', 'why', 'channel'), rows, ('why', 'channel'))
 
 
 def clock_part(survey: Survey) -> List[str]:
     if not survey.times or not survey.span():
         return []
-    return ['<h3>Clocks</h3><ul>'] + ['<li>%s</li>' % escape(line.strip()) for times in survey.times for line in clock_lines(times, survey)] + ['</ul>']
+    return ['<h3>Clocks</h3><ul>'] + ['<li>%s</li>' % escape(line.strip()) for times in survey.times
+                                      for line in clock_lines(times, survey)] + ['</ul>']
 
 
 def setup_part(survey: Survey) -> List[str]:
@@ -216,19 +236,24 @@ def setup_part(survey: Survey) -> List[str]:
     made = ['<h3>Setup</h3>']
     if others:
         made.append('<ul>%s</ul>' % ''.join('<li>%s</li>' % escape(line) for line in others))
-    return made + ['<pre tabindex="0" aria-label="Setup attributes as a tree">%s</pre>' % escape('\n'.join(tree(survey.names.attributes)))]
+    return made + ['<pre tabindex="0" aria-label="Setup attributes as a tree">%s</pre>'
+                   % escape('\n'.join(tree(survey.names.attributes)))]
 
 
 def facts_part(task: Dict[str, Any], facts: Dict[str, Any]) -> List[str]:
-    means = MEANS[facts['verdict']] + (' Packets of a kind that is not read: %d.' % facts['opaque'] if facts['verdict'] == 'lenient' else '')
+    means = MEANS[facts['verdict']] + (' Packets of a kind that is not read: %d.' % facts['opaque']
+                                       if facts['verdict'] == 'lenient' else '')
     lines = ['%s %s' % (verdict_html(facts), escape(means))]
     if facts['first_time']:
         lines.append('From %s to %s.' % (escape(facts['first_time']), escape(facts['last_time'])))
     lines.append('%s bytes in %s packets, %s entries; %s, %s messages lost; %s.' % (
-        size_text(facts['size']), size_text(facts['packets']), size_text(facts['entries']), said(facts['losses'], 'loss', 'es'), lost_text(facts),
-        '%s, %s bytes in all' % (said(facts['damaged'], 'damaged stretch', 'es'), size_text(facts['damaged_bytes'])) if facts['damaged'] else 'nothing is damaged'))
+        size_text(facts['size']), size_text(facts['packets']), size_text(facts['entries']), said(facts['losses'], 'loss', 'es'),
+        lost_text(facts),
+        '%s, %s bytes in all' % (said(facts['damaged'], 'damaged stretch', 'es'), size_text(facts['damaged_bytes']))
+        if facts['damaged'] else 'nothing is damaged'))
     if task['number'] >= 0:
-        lines.append('File %d of volume %s, %s.' % (task['number'], escape(task['volume']), 'closed' if task['closed'] else 'not closed'))
+        lines.append('File %d of volume %s, %s.' % (task['number'], escape(task['volume']),
+                                                    'closed' if task['closed'] else 'not closed'))
     return ['<p>%s</p>' % line for line in lines]
 
 
@@ -242,7 +267,8 @@ def part_of(task: Dict[str, Any], data: Any, program: Optional[str]) -> Part:
     survey = Survey(data, begin, end)
     facts = facts_of(data, begin, end, program, survey)
     made = facts_part(task, facts) + pictures_of(data, begin, end, survey, title(task).rpartition('/')[2]) + channel_part(survey)
-    return Part(task, facts, made + damage_part(survey) + clock_part(survey) + bus_parts(data, begin, end, survey) + setup_part(survey))
+    return Part(task, facts, made + damage_part(survey) + clock_part(survey) + bus_parts(data, begin, end, survey)
+                + setup_part(survey))
 
 
 # ---- the page
@@ -263,23 +289,29 @@ def page(parts: Sequence[Part]) -> List[str]:
     head = 'Report on %s' % ('1 recording' if len(parts) == 1 else '%d recordings' % len(parts))
     made = ['<!DOCTYPE html>', '<html lang="en">', '<head>', '<meta charset="utf-8">',
             '<meta http-equiv="Content-Security-Policy" content="default-src \'none\'; style-src \'unsafe-inline\'">',
-            '<meta name="viewport" content="width=device-width, initial-scale=1">', '<title>%s</title>' % head, '<style>%s</style>' % STYLE, '</head>', '<body>',
+            '<meta name="viewport" content="width=device-width, initial-scale=1">', '<title>%s</title>' % head,
+            '<style>%s</style>' % STYLE, '</head>', '<body>',
             '<a class="skip" href="#recordings">To the recordings</a>', '<header><h1>%s</h1>' % head,
             '<p>Written by ch10 report from the recordings alone%s. Times are civil times of the recordings.</p></header>' % (
                 ', which lie in %s' % escape(folder) if folder else ''),
             '<nav aria-label="Contents"><ul><li><a href="#overview">Overview</a></li><li><a href="#timeline">Time line</a></li>']
     made += ['<li><a href="#r%d">%s</a></li>' % (number, escape(one)) for number, one in enumerate(titles)]
-    made += ['</ul></nav>', '<main id="main">', '<section id="overview" aria-labelledby="overview-head"><h2 id="overview-head">Overview</h2>']
-    rows = [(('left', '<a href="#r%d">%s</a>' % (number, escape(titles[number]))), ('left', verdict_html(part.facts)), size_text(part.facts['size']),
-             ('time', time_text(part.facts, 'first_time')), ('time', time_text(part.facts, 'last_time')), size_text(part.facts['entries']), size_text(part.facts['losses']),
+    made += ['</ul></nav>', '<main id="main">',
+             '<section id="overview" aria-labelledby="overview-head"><h2 id="overview-head">Overview</h2>']
+    rows = [(('left', '<a href="#r%d">%s</a>' % (number, escape(titles[number]))), ('left', verdict_html(part.facts)),
+             size_text(part.facts['size']),
+             ('time', time_text(part.facts, 'first_time')), ('time', time_text(part.facts, 'last_time')),
+             size_text(part.facts['entries']), size_text(part.facts['losses']),
              lost_text(part.facts), part.facts['damaged']) for number, part in enumerate(parts)]
     made += table('The recordings: verdicts, times, losses, messages lost, damaged stretches', (
-        'recording', 'verdict', 'bytes', 'first time', 'last time', 'entries', 'losses', 'lost', 'damaged'), rows, ('recording', 'verdict'))
+        'recording', 'verdict', 'bytes', 'first time', 'last time', 'entries', 'losses', 'lost', 'damaged'), rows,
+                  ('recording', 'verdict'))
     made += ['</section>', '<section id="timeline" aria-labelledby="timeline-head"><h2 id="timeline-head">Time line</h2>']
     made += timeline([(one, part.facts) for one, part in zip(titles, parts)])
     made += ['</section>', '<div id="recordings">']
     for number, part in enumerate(parts):
-        made += ['<section class="recording" id="r%d" aria-labelledby="r%d-head"><h2 id="r%d-head">%s</h2>' % (number, number, number, escape(titles[number]))]
+        made += ['<section class="recording" id="r%d" aria-labelledby="r%d-head"><h2 id="r%d-head">%s</h2>'
+                 % (number, number, number, escape(titles[number]))]
         made += part.html + ['</section>']
     return made + ['</div>', '</main>', '</body>', '</html>']
 
@@ -299,7 +331,8 @@ def report(asked: Any, data: None, out: Output) -> None:
     unread(failed)
     bad = [part for part in parts if part.facts['verdict'] == 'faulty' or part.facts['damaged']]
     if bad:
-        raise Fault('%d of %d recordings at fault, first %s: %s' % (len(bad), len(parts), title(bad[0].task), verdict_text(bad[0].facts)))
+        raise Fault('%d of %d recordings at fault, first %s: %s' % (len(bad), len(parts), title(bad[0].task),
+                                                                    verdict_text(bad[0].facts)))
 
 
 def parts_of_input(one: Input, program: Optional[str], failed: List[Tuple[str, str]]) -> List[Part]:

@@ -8,8 +8,10 @@ from typing import Dict, Iterator, List, Tuple
 from .inputs import Output
 from .standard import Data, Fault
 
-# Of each kind of channel its channel data type, the attribute of its format with the format that r10 writes, and the group that describes what it carries.
-KINDS = {'uart': ('UARTIN', 'UTF', 0, 'S'), '1553': ('1553IN', 'BTF', 1, 'B'), 'arinc': ('429IN', 'ABTF', 0, 'B'), 'discrete': ('DISIN', 'DTF', 1, ''),
+# Of each kind of channel its channel data type, the attribute of its format with the format that r10 writes, and the group that
+# describes what it carries.
+KINDS = {'uart': ('UARTIN', 'UTF', 0, 'S'), '1553': ('1553IN', 'BTF', 1, 'B'), 'arinc': ('429IN', 'ABTF', 0, 'B'),
+         'discrete': ('DISIN', 'DTF', 1, ''),
          'message': ('MSGIN', 'MTF', 0, 'S')}
 LINE = re.compile(r'\s*(?:"(\w+)"|(\w+))\s*=\s*(?:"([^"]*)"|([0-9][0-9_]{0,30})|([^#]*?))\s*(?:#.*)?$')
 
@@ -25,7 +27,8 @@ def tables_of(text: str) -> Tuple[Dict[str, object], Dict[str, List[dict]]]:
     except (ValueError, RecursionError) as fault:
         raise Fault('no script: %s' % str(fault).split('\n')[0])
     top = {key: value for key, value in whole.items() if not isinstance(value, list)}
-    return top, {key: [table for table in value if isinstance(table, dict)] for key, value in whole.items() if isinstance(value, list)}
+    return top, {key: [table for table in value if isinstance(table, dict)] for key, value in whole.items()
+                 if isinstance(value, list)}
 
 
 def by_lines(text: str) -> Tuple[Dict[str, object], Dict[str, List[dict]]]:

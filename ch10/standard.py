@@ -1,4 +1,5 @@
-"""What the other modules share: what a fault is, numbers in bytes, and the names of the types of data that IRIG 106-17, chapter 11, has."""
+"""What the other modules share: what a fault is, numbers in bytes, and the names of the types of data that IRIG 106-17, chapter 11,
+has."""
 from __future__ import annotations
 
 import mmap
@@ -13,7 +14,8 @@ class Fault(Exception):
     """What the standard does not allow, and where: at which offset, and of a packet whose header is right its
     length, and its channel, type, sequence number and counter."""
 
-    def __init__(self, what: str, offset: Optional[int] = None, length: Optional[int] = None, whose: Optional[Whose] = None) -> None:
+    def __init__(self, what: str, offset: Optional[int] = None, length: Optional[int] = None,
+                 whose: Optional[Whose] = None) -> None:
         Exception.__init__(self, what)
         self.what, self.offset, self.length, self.whose = what, offset, length, whose
 
@@ -41,7 +43,8 @@ class Wrong(Exception):
 
 
 def let_go(data: Data, begin: int, end: int) -> None:
-    """Gives back the memory that some bytes of a mapped file take. They are read again where they are asked for again. From Python 3.8 on."""
+    """Gives back the memory that some bytes of a mapped file take. They are read again where they are asked for again. From Python
+    3.8 on."""
     begin = -(-begin // mmap.PAGESIZE) * mmap.PAGESIZE
     if begin < end and isinstance(data, mmap.mmap) and hasattr(data, 'madvise'):
         data.madvise(mmap.MADV_DONTNEED, begin, end - begin)
@@ -51,7 +54,8 @@ SPAN = 16 << 20  # bytes after which that is done
 
 
 def find(data: Data, what: bytes, begin: int, end: int) -> int:
-    """The first place of some bytes from one place on and before another, or -1: as data.find, and memory is given back on the way."""
+    """The first place of some bytes from one place on and before another, or -1: as data.find, and memory is given back on the
+    way."""
     while begin < end:
         last = min(begin + SPAN, end)
         place = data.find(what, begin, min(last + len(what) - 1, end))

@@ -4,8 +4,9 @@
     postgresql://user@host/name, postgres://..   a server, by the distribution's psycopg2 or psycopg
     host=/run/postgresql dbname=range            the same in the form of libpq
 
-A `Store` has the calls that the commands need: `rows` for a query, `insert` for many rows, `transaction` around what belongs together. Statements
-are written once, with `?` for each value; what differs between the engines stands in `store_sqlite` and `store_postgres`.
+A `Store` has the calls that the commands need: `rows` for a query, `insert` for many rows, `transaction` around what belongs
+together. Statements are written once, with `?` for each value; what differs between the engines stands in `store_sqlite` and
+`store_postgres`.
 """
 from __future__ import annotations
 
@@ -81,7 +82,8 @@ class Store:
         return re.sub(r'\{(\w+)\}\d?', lambda found: self.words[found[1]], text)
 
 
-LIBPQ = r'\s*(host|hostaddr|dbname|service|user|port|password|passfile|options|sslmode|connect_timeout|application_name|target_session_attrs)\s*='
+LIBPQ = (r'\s*(host|hostaddr|dbname|service|user|port|password|passfile|options|sslmode|connect_timeout|application_name|'
+         r'target_session_attrs)\s*=')
 
 
 def is_postgresql(dsn: str) -> bool:
@@ -133,7 +135,8 @@ def migrate(store: Store, dsn: str, make: bool) -> None:
     """Brings the tables to the form that this version has, each step in a transaction of its own, by one program at a time."""
     done = applied(store)
     if done and done[-1] > MIGRATIONS[-1].number:
-        raise Wrong('the database %s has tables of a newer version (step %d, this one knows %d)' % (shown_dsn(dsn), done[-1], MIGRATIONS[-1].number))
+        raise Wrong('the database %s has tables of a newer version (step %d, this one knows %d)' % (
+            shown_dsn(dsn), done[-1], MIGRATIONS[-1].number))
     if len(done) == len(MIGRATIONS):
         return
     if not make:

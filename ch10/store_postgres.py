@@ -34,7 +34,8 @@ def driver() -> Any:
 class Postgres(Store):
     engine = 'postgresql'
     for_update = ' FOR NO KEY UPDATE'  # others may still refer to the row
-    words = {'identity': 'BIGINT GENERATED ALWAYS AS IDENTITY PRIMARY KEY', 'text': 'TEXT COLLATE "C"', 'bytes': 'BYTEA', 'time': 'TIMESTAMP(6)'}
+    words = {'identity': 'BIGINT GENERATED ALWAYS AS IDENTITY PRIMARY KEY', 'text': 'TEXT COLLATE "C"', 'bytes': 'BYTEA',
+             'time': 'TIMESTAMP(6)'}
 
     def __init__(self, dsn: str) -> None:
         self.driver = driver()
@@ -80,8 +81,9 @@ class Postgres(Store):
             raise StoreError('the database: %s' % one_line(error))
 
     def make_days(self, wanted: Iterable[Tuple[str, str]]) -> None:
-        """A partition for each table and day, as entry_1553_20240229. It is made by itself and then attached, which waits for no reader and no writer of other days;
-        each table's in transactions of their own, so that two programs never wait for each other."""
+        """A partition for each table and day, as entry_1553_20240229. It is made by itself and then attached, which waits for no
+        reader and no writer of other days; each table's in transactions of their own, so that two programs never wait for each
+        other."""
         by_table: Dict[str, List[str]] = {}
         for table, day in sorted(wanted):
             by_table.setdefault(table, []).append(day)
@@ -97,7 +99,8 @@ class Postgres(Store):
     def without(self, table: str, days: Sequence[str]) -> List[str]:
         """Those of some days that a table has no partition for."""
         there = {name for name, in self.rows(
-            'SELECT c.relname::text FROM pg_inherits i JOIN pg_class c ON c.oid = i.inhrelid WHERE i.inhparent = to_regclass(?)', (table,))}
+            'SELECT c.relname::text FROM pg_inherits i JOIN pg_class c ON c.oid = i.inhrelid WHERE i.inhparent = to_regclass(?)',
+            (table,))}
         return [day for day in days if partition_of(table, day) not in there]
 
     def settle(self) -> None:
@@ -131,7 +134,8 @@ def day_made(table: str, day: str) -> str:
     """The statements that make the partition of a day."""
     name, following = partition_of(table, day), datetime.date.fromisoformat(day).toordinal() + 1
     end = "'%s'" % datetime.date.fromordinal(following) if following <= LAST_DAY else 'MAXVALUE'
-    return "CREATE TABLE %s (LIKE %s INCLUDING ALL);\nALTER TABLE %s ATTACH PARTITION %s FOR VALUES FROM ('%s') TO (%s)" % (name, table, table, name, day, end)
+    return "CREATE TABLE %s (LIKE %s INCLUDING ALL);\nALTER TABLE %s ATTACH PARTITION %s FOR VALUES FROM ('%s') TO (%s)" % (
+        name, table, table, name, day, end)
 
 
 def one_line(error: BaseException) -> str:

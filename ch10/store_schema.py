@@ -127,15 +127,21 @@ LOADED = """CREATE TABLE loaded (
 )"""
 
 # What every table of entries has before its own columns. {text}3 is a text of three letters.
-COMMON = (('recording', 'BIGINT NOT NULL'), ('count', 'BIGINT NOT NULL'), ('time', '{time}'), ('lost', 'BIGINT'), ('channel', 'INTEGER NOT NULL'))
+COMMON = (('recording', 'BIGINT NOT NULL'), ('count', 'BIGINT NOT NULL'), ('time', '{time}'), ('lost', 'BIGINT'),
+          ('channel', 'INTEGER NOT NULL'))
 
-# By data type the table and its own columns, with the names of `ch10 csv` where they are the same; those that may be NULL or vary in length at the end.
+# By data type the table and its own columns, with the names of `ch10 csv` where they are the same; those that may be NULL or vary
+# in length at the end.
 ENTRIES = {
-    0x19: ('entry_1553', (('rt', 'SMALLINT'), ('tr', '{text}'), ('sa', 'SMALLINT'), ('wc', 'SMALLINT'), ('mode', 'SMALLINT'), ('rt2', 'SMALLINT'), ('sa2', 'SMALLINT'),
-                          ('status1', 'INTEGER'), ('status2', 'INTEGER'), ('bus', '{text}'), ('errors', '{text}'), ('block_status', 'INTEGER'), ('gap1', 'REAL'),
+    0x19: ('entry_1553', (('rt', 'SMALLINT'), ('tr', '{text}'), ('sa', 'SMALLINT'), ('wc', 'SMALLINT'), ('mode', 'SMALLINT'),
+                          ('rt2', 'SMALLINT'), ('sa2', 'SMALLINT'),
+                          ('status1', 'INTEGER'), ('status2', 'INTEGER'), ('bus', '{text}'), ('errors', '{text}'),
+                          ('block_status', 'INTEGER'), ('gap1', 'REAL'),
                           ('gap2', 'REAL'), ('words', '{bytes}'))),
-    0x38: ('entry_arinc', (('word', 'BIGINT'), ('data', 'INTEGER'), ('bus', 'SMALLINT'), ('sdi', 'SMALLINT'), ('ssm', 'SMALLINT'), ('parity', 'SMALLINT'),
-                           ('high', 'BOOLEAN'), ('label', '{text}3'), ('errors', '{text}'))),
+    0x38: ('entry_arinc',
+           (('word', 'BIGINT'), ('data', 'INTEGER'), ('bus', 'SMALLINT'), ('sdi', 'SMALLINT'), ('ssm', 'SMALLINT'),
+            ('parity', 'SMALLINT'),
+            ('high', 'BOOLEAN'), ('label', '{text}3'), ('errors', '{text}'))),
     0x50: ('entry_uart', (('sub', 'SMALLINT'), ('errors', '{text}'), ('value', '{bytes}'))),
     0x30: ('entry_message', (('sub', 'SMALLINT'), ('errors', '{text}'), ('value', '{bytes}'))),
     0x29: ('entry_discrete', (('states', 'BIGINT'), ('changed', 'BIGINT'))),
@@ -145,7 +151,8 @@ ENTRIES = {
 
 
 def entry_tables(partitioned: bool) -> List[str]:
-    """The statements that make the tables of entries; in PostgreSQL with a partition for entries without a date, beside those of days."""
+    """The statements that make the tables of entries; in PostgreSQL with a partition for entries without a date, beside those of
+    days."""
     made = []
     for name, columns in ENTRIES.values():
         made.append('CREATE TABLE %s (%s)%s' % (

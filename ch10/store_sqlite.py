@@ -14,7 +14,8 @@ FAULTS = (sqlite3.Error, OverflowError, UnicodeError)  # what sqlite3 raises of 
 
 
 class Sqlite(Store):
-    """While something is added it has a log beside it, so that questions need not wait. Who closes it last leaves one file, which can be read where nothing can be written."""
+    """While something is added it has a log beside it, so that questions need not wait. Who closes it last leaves one file, which
+    can be read where nothing can be written."""
 
     engine = 'sqlite'
     words = {'identity': 'INTEGER PRIMARY KEY AUTOINCREMENT', 'text': 'TEXT', 'bytes': 'BLOB', 'time': 'TEXT'}
@@ -30,7 +31,8 @@ class Sqlite(Store):
                 self.base.execute('PRAGMA synchronous = NORMAL')
                 self.base.execute('PRAGMA foreign_keys = ON')
             else:
-                self.base = sqlite3.connect('file://%s?mode=ro' % quote(os.fsencode(os.path.abspath(path))), timeout=WAIT, isolation_level=None, uri=True)
+                self.base = sqlite3.connect('file://%s?mode=ro' % quote(os.fsencode(os.path.abspath(path))), timeout=WAIT,
+                                            isolation_level=None, uri=True)
             self.tables()
         except FAULTS as error:
             raise StoreError('the database %r: %s' % (path[:200], error))
@@ -43,7 +45,8 @@ class Sqlite(Store):
 
     def insert(self, table: str, columns: Sequence[str], rows: Iterable[Sequence[Any]]) -> None:
         try:
-            self.base.executemany('INSERT INTO %s (%s) VALUES (%s)' % (table, ', '.join(columns), ', '.join('?' * len(columns))), rows)
+            self.base.executemany('INSERT INTO %s (%s) VALUES (%s)' % (table, ', '.join(columns), ', '.join('?' * len(columns))),
+                                  rows)
         except FAULTS as error:
             raise StoreError('the database: %s' % error)
 

@@ -13,7 +13,8 @@ from .times import Clock, Time, time
 from .tmats import Names
 
 REPORT_ROW = 0x100  # in place of its data type, 0x00, which others have for something else
-FAMILIES = {0x00: 'computer', 0x08: 'pcm', 0x10: 'time', 0x18: '1553', 0x20: 'analog', 0x28: 'discrete', 0x30: 'message', 0x38: 'arinc',
+FAMILIES = {0x00: 'computer', 0x08: 'pcm', 0x10: 'time', 0x18: '1553', 0x20: 'analog', 0x28: 'discrete', 0x30: 'message',
+            0x38: 'arinc',
             0x40: 'video', 0x48: 'image', 0x50: 'uart', 0x58: '1394', 0x60: 'parallel', 0x68: 'ethernet', 0x70: 'tspi', 0x78: 'can'}
 
 
@@ -29,7 +30,8 @@ def name_of(kind: int) -> str:
 class Row:
     """What the packets of one channel and one type have together."""
 
-    __slots__ = ('channel', 'kind', 'packets', 'entries', 'bytes', 'losses', 'lost', 'untold', 'jumps', 'opaque', 'bad', 'low', 'high', 'begin', 'end')
+    __slots__ = ('channel', 'kind', 'packets', 'entries', 'bytes', 'losses', 'lost', 'untold', 'jumps', 'opaque', 'bad', 'low',
+                 'high', 'begin', 'end')
 
     def __init__(self, channel: int, kind: int, counter: int) -> None:
         self.channel, self.kind = channel, kind
@@ -92,7 +94,8 @@ class Survey:
     .size      how many bytes were gone over: all, or those before the fault that ended it
     .clock     the `Clock` of its times, or None; .times, a `TimeLine` of each channel with times
     .setup     the first setup text as bytes, or None; .names, what it says of channels: `ch10.tmats.Names`
-    .lows      of each packet that was read the lowest count of its entries; .highs the highest; .places where it begins, after the recording's first byte
+    .lows      of each packet that was read the lowest count of its entries; .highs the highest; .places where it begins, after the
+               recording's first byte
     """
 
     def __init__(self, data: Data, begin: int, end: int, goes_on: bool = True) -> None:
@@ -126,7 +129,8 @@ class Survey:
                 said = time(packet.body, packet.word) if packet.kind == TIME and packet.word is not None else None
                 inner = resync.within(at, packet.length) if packet.flags & 0x83 not in (1, 2, 3) else None
                 if inner is not None:
-                    raise Fault('another packet within it', at - begin, inner - at, (packet.channel, packet.kind, packet.sequence, packet.counter))
+                    raise Fault('another packet within it', at - begin, inner - at,
+                                (packet.channel, packet.kind, packet.sequence, packet.counter))
             except Fault as fault:
                 if fault.offset != at - begin or fault.whose is None:  # of what stands in a packet
                     fault = self.placed(fault, data, at, begin, end)
@@ -200,7 +204,8 @@ class Survey:
             channel, kind, sequence, counter = fault.whose
             self.row_of(channel, kind, counter).bad += 1
             before[channel] = sequence + 1 & 0xFF
-        if self.damage and channel is None and self.damage[-1].channel is None and self.damage[-1].offset + self.damage[-1].length == offset:
+        if (self.damage and channel is None and self.damage[-1].channel is None
+                and self.damage[-1].offset + self.damage[-1].length == offset):
             self.damage[-1] = self.damage[-1]._replace(length=self.damage[-1].length + length)
             self.passed[self.damage[-1].offset] = self.damage[-1].length
             return
@@ -216,10 +221,12 @@ class Survey:
 
     def drawn(self, channels: Optional[List[int]] = None) -> List[Row]:
         """The rows of all packets but those of setup, index and loss reports."""
-        return [row for row in self.rows if row.packets and row.kind not in (SETUP, INDEX, REPORT_ROW) and (channels is None or row.channel in channels)]
+        return [row for row in self.rows if row.packets and row.kind not in (SETUP, INDEX, REPORT_ROW)
+                and (channels is None or row.channel in channels)]
 
     def span(self) -> Optional[Tuple[int, int]]:
-        """The lowest and the highest count, or None where there is no packet. Those of setup, index and reports matter where there are no others."""
+        """The lowest and the highest count, or None where there is no packet. Those of setup, index and reports matter where there
+        are no others."""
         return ends_of(self.drawn() or self.rows)
 
     def ends_early(self) -> bool:

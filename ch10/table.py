@@ -42,7 +42,8 @@ def summary(asked: Namespace, data: Data, out: Output) -> None:
         raise first
 
 
-def summary_of(asked: Namespace, data: Data, out: Output, begin: int, end: int, number: Optional[int], file: Optional[File]) -> None:
+def summary_of(asked: Namespace, data: Data, out: Output, begin: int, end: int, number: Optional[int],
+               file: Optional[File]) -> None:
     """What one recording has. Raises its first fault, if it has one, when all is said."""
     survey = Survey(data, begin, end)
     if asked.json:
@@ -76,14 +77,16 @@ def titles(survey: Survey, size: int, number: Optional[int], file: Optional[File
     else:
         head = 'file %d %s: %s, %s' % (number, shown(file.name), what, 'closed' if file.closed else 'not closed')
     if survey.damage:
-        head += '; %s of %s passed over' % (said(len(survey.damage), 'stretch', 'es'), said(sum(stretch.length for stretch in survey.damage), 'byte'))
+        head += '; %s of %s passed over' % (said(len(survey.damage), 'stretch', 'es'),
+                                            said(sum(stretch.length for stretch in survey.damage), 'byte'))
     lines, span = [head], survey.span()
     if span and survey.clock:
         lines.append('from %s to %s, %s seconds' % (
             survey.clock.text(span[0]) or '-', survey.clock.text(span[1]) or '-', seconds_of(span[1] - span[0])))
     elif span:
         lines.append('%s seconds, without a civil time' % seconds_of(span[1] - span[0]))
-    return lines + [line for times in survey.times for line in clock_lines(times, survey)] + [stretch_text(stretch) for stretch in survey.damage]
+    lines += [line for times in survey.times for line in clock_lines(times, survey)]
+    return lines + [stretch_text(stretch) for stretch in survey.damage]
 
 
 def seconds_of(ticks: int) -> str:
@@ -98,12 +101,14 @@ def clock_lines(times: TimeLine, survey: Survey) -> Iterator[str]:
     untold = times.packets - len(times.told)
     anew = '; the counter began anew %s' % said(times.wraps(), 'time') if times.wraps() else ''
     yield 'time on channel %d: %s%s, %s, %s back, %s without one; drift %s%s' % (
-        times.channel, said(times.packets, 'packet'), ', %s no time' % untold if untold else '', said(len(jumps), 'jump'), said(back, 'step'),
+        times.channel, said(times.packets, 'packet'), ', %s no time' % untold if untold else '', said(len(jumps), 'jump'),
+        said(back, 'step'),
         said(times.without(low, high), 'second'), text, anew)
     dated = bool(times.told) and times.told[0][1].dated
     for jump in jumps:
         yield 'time jump on channel %d: offset %d, count %d: %s s, from %s to %s' % (
-            times.channel, jump.offset, jump.count, signed_seconds(jump.by), civil_text(jump.before, dated), civil_text(jump.after, dated))
+            times.channel, jump.offset, jump.count, signed_seconds(jump.by), civil_text(jump.before, dated),
+            civil_text(jump.after, dated))
 
 
 def signed_seconds(ticks: int) -> str:
@@ -119,18 +124,21 @@ def tables(survey: Survey) -> List[str]:
     """What each channel has, and when."""
     if not survey.rows:
         return []
-    much: List[tuple] = [('channel', 'name', 'type', 'packets', 'entries', 'bytes', 'entries/s', 'losses', 'lost', 'jumps', 'opaque', 'bad')]
+    much: List[tuple] = [('channel', 'name', 'type', 'packets', 'entries', 'bytes', 'entries/s', 'losses', 'lost', 'jumps',
+                          'opaque', 'bad')]
     when: List[tuple] = [('channel', 'name', 'type', 'first', 'last', 'first time', 'last time')]
     names = survey.names
     for row in survey.rows:
         rate = row.rate()
         front = row.channel, names.channel(row.channel) if row.kind != REPORT_ROW else '', name_of(row.kind)
         much.append(front + (row.packets, row.entries if row.has_entries() else '-', row.bytes,
-                     '-' if rate is None else rate_text(rate), row.losses, at_least(row.lost, row.untold), row.jumps, row.opaque, row.bad))
+                     '-' if rate is None else rate_text(rate), row.losses, at_least(row.lost, row.untold), row.jumps,
+                             row.opaque, row.bad))
         if row.packets:
             ends = row.first(), row.last()
             when.append(front + ends + tuple(survey.clock and survey.clock.text(end, 2) or '-' for end in ends))
-    sums = [sum(getattr(row, name) for row in survey.rows) for name in ('packets', 'entries', 'bytes', 'losses', 'lost', 'untold', 'jumps', 'opaque')]
+    sums = [sum(getattr(row, name) for row in survey.rows)
+            for name in ('packets', 'entries', 'bytes', 'losses', 'lost', 'untold', 'jumps', 'opaque')]
     much.append(('all', '', '', *sums[:3], '', sums[3], at_least(*sums[4:6]), *sums[6:], len(survey.damage)))
     return [''] + table(much) + [''] + table(when)
 
@@ -152,7 +160,8 @@ def table(rows: List[tuple]) -> List[str]:
     texts = [[str(cell) for cell in row] for row in rows]
     widths = [max(map(len, column)) for column in zip(*texts)]
     left = [head in ('name', 'type') or head.endswith('time') for head in texts[0]]
-    return [' '.join(cell.ljust(width) if is_left else cell.rjust(width) for cell, width, is_left in zip(row, widths, left)).rstrip()
+    return [' '.join(cell.ljust(width) if is_left else cell.rjust(width)
+                     for cell, width, is_left in zip(row, widths, left)).rstrip()
             for row in texts]
 
 
@@ -170,9 +179,11 @@ def fields(survey: Survey) -> Iterator[dict]:
 def of_row(row: Row, survey: Survey) -> dict:
     has, clock = row.packets > 0, survey.clock
     return {
-        'channel': row.channel, 'channel_name': survey.names.channel(row.channel) or None, 'type': name_of(row.kind), 'packets': row.packets, 'entries': row.entries if row.has_entries() else None,
+        'channel': row.channel, 'channel_name': survey.names.channel(row.channel) or None, 'type': name_of(row.kind),
+        'packets': row.packets, 'entries': row.entries if row.has_entries() else None,
         'bytes': row.bytes, 'first': row.first() if has else None, 'last': row.last() if has else None,
-        'first_time': clock and has and clock.text(row.first()) or None, 'last_time': clock and has and clock.text(row.last()) or None, 'rate': row.rate(),
+        'first_time': clock and has and clock.text(row.first()) or None,
+        'last_time': clock and has and clock.text(row.last()) or None, 'rate': row.rate(),
         'losses': row.losses, 'lost': row.lost, 'untold': row.untold, 'jumps': row.jumps, 'opaque': row.opaque, 'bad': row.bad}
 
 
@@ -180,7 +191,9 @@ def of_clock(times: TimeLine, span: Tuple[int, int]) -> dict:
     drift = times.drift()
     dated = bool(times.told) and times.told[0][1].dated
     return {
-        'channel': times.channel, 'packets': times.packets, 'no_time': times.packets - len(times.told), 'steps_back': times.steps_back(), 'wraps': times.wraps(),
+        'channel': times.channel, 'packets': times.packets, 'no_time': times.packets - len(times.told),
+        'steps_back': times.steps_back(), 'wraps': times.wraps(),
         'seconds_without': times.without(*span), 'drift_ppm': drift and drift[0], 'drift_known_to': drift and drift[1],
-        'jumps': [{'offset': jump.offset, 'count': jump.count, 'from': civil_text(jump.before, dated), 'to': civil_text(jump.after, dated),
+        'jumps': [{'offset': jump.offset, 'count': jump.count, 'from': civil_text(jump.before, dated),
+                   'to': civil_text(jump.after, dated),
                    'seconds': jump.by / 10 ** 7} for jump in times.jumps()]}

@@ -33,14 +33,16 @@ def drawn(some: Sequence[Tuple[str, Dict[str, Any], int, int]], dated: bool) -> 
     low, high = min(one[2] for one in some), max(one[3] for one in some)
     span = max(high - low, 1)
     height = TOP + ROW * len(some) + 30
-    said = 'Time line of %d recording%s from %s to %s' % (len(some), '' if len(some) == 1 else 's', text_of(low, dated)[:-5], text_of(high, dated)[:-5])
-    made = ['<figure><svg xmlns="http://www.w3.org/2000/svg" role="img" aria-label="%s" width="%d" height="%d" viewBox="0 0 %d %d" font-family="sans-serif" '
+    said = 'Time line of %d recording%s from %s to %s' % (len(some), '' if len(some) == 1 else 's', text_of(low, dated)[:-5],
+                                                          text_of(high, dated)[:-5])
+    made = ['<figure><svg xmlns="http://www.w3.org/2000/svg" role="img" aria-label="%s" width="%d" height="%d" viewBox="0 0 %d %d" '
+            'font-family="sans-serif" '
             'font-size="12">' % (escape(said, True), WIDTH, height, WIDTH, height)]
     step = least_step(max(span // 5, 1))
     for mark in range(low + -low % step, high + 1, step):
         x = LEFT + SPACE * (mark - low) / span
-        made.append('<path stroke="#c3c8cf" d="M%.1f %dV%d"/><text x="%.1f" y="%d" text-anchor="middle" fill="#4a5159">%s</text>' % (
-            x, TOP - 8, height - 24, x, height - 8, mark_text(mark, step, dated)))
+        made.append('<path stroke="#c3c8cf" d="M%.1f %dV%d"/><text x="%.1f" y="%d" text-anchor="middle" fill="#4a5159">%s</text>'
+                    % (x, TOP - 8, height - 24, x, height - 8, mark_text(mark, step, dated)))
     for place, (name, facts, first, last) in enumerate(some):
         y, x = TOP + ROW * place, LEFT + SPACE * (first - low) / span
         wide = max(SPACE * (last - first) / span, 3)
@@ -51,7 +53,8 @@ def drawn(some: Sequence[Tuple[str, Dict[str, Any], int, int]], dated: bool) -> 
             x, y + 2, wide, COLOURS[facts['verdict']], escape(name), facts['first_time'], facts['last_time'], facts['verdict']))
         if facts['verdict'] == 'faulty' or facts['damaged']:
             made.append(word(x, wide, y + 12, 'faulty' if facts['verdict'] == 'faulty' else 'damaged'))
-    return made + ['</svg><figcaption>%s. A bar is a recording; its times stand in the overview.</figcaption></figure>' % escape(said)]
+    return made + ['</svg><figcaption>%s. A bar is a recording; its times stand in the overview.</figcaption></figure>'
+                   % escape(said)]
 
 
 def word(x: float, wide: float, y: int, text: str) -> str:

@@ -15,7 +15,8 @@ if TYPE_CHECKING:
 
 
 Time = namedtuple('Time', 'said dated ticks')
-Time.__doc__ = """A civil time: as a text, whether it has a date, and in units of 100 ns from the year 1 on, or, without a date, from the
+Time.__doc__ = """A civil time: as a text, whether it has a date, and in units of 100 ns from the year 1 on, or, without a date, \
+from the
 day before the year's first on. The units are None where the digits are no time."""
 
 DAY = 24 * 3600 * 10 ** 7

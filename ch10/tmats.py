@@ -10,7 +10,8 @@ from .standard import ARINC, BUS, DISCRETE, MESSAGE, TIME, UART
 MOST_NAME = 40
 
 # The channel data types of the recorder attributes, and the families of data types of packets that they are.
-FAMILY = {'TIMEIN': 0x10, 'PCMIN': 0x08, '1553IN': 0x18, 'ANAIN': 0x20, 'DISIN': 0x28, 'MSGIN': 0x30, '429IN': 0x38, 'VIDIN': 0x40, 'IMGIN': 0x48, 'UARTIN': 0x50,
+FAMILY = {'TIMEIN': 0x10, 'PCMIN': 0x08, '1553IN': 0x18, 'ANAIN': 0x20, 'DISIN': 0x28, 'MSGIN': 0x30, '429IN': 0x38, 'VIDIN': 0x40,
+          'IMGIN': 0x48, 'UARTIN': 0x50,
           '1394IN': 0x58, 'PARIN': 0x60, 'ETHIN': 0x68, 'TSPIN': 0x70, 'CANIN': 0x78}
 TYPES = {TIME: 'TIMEIN', BUS: '1553IN', DISCRETE: 'DISIN', MESSAGE: 'MSGIN', ARINC: '429IN', UART: 'UARTIN'}
 
@@ -41,7 +42,8 @@ class Names:
             track = re.match(r'(R-[0-9]+)\\TK1-([0-9]+)$', name)
             if track and value.isascii() and value.isdigit() and len(value) <= 5:
                 group, number = track.groups()
-                name_of, kind, link_of = (printable(self.attributes.get('%s\\%s-%s' % (group, key, number), '')) for key in ('DSI', 'CDT', 'CDLN'))
+                name_of, kind, link_of = (printable(self.attributes.get('%s\\%s-%s' % (group, key, number), ''))
+                                          for key in ('DSI', 'CDT', 'CDLN'))
                 self.channels.setdefault(int(value), (name_of, kind, link_of))
             link = re.match(r'(B-[0-9]+)\\DLN$', name)
             if link:
@@ -67,8 +69,8 @@ class Names:
         return buses.get(number, '')
 
     def disagreements(self, kinds: Dict[int, set]) -> List[str]:
-        """Of the channels of a recording, with the data types of their packets: which are not named, and which are named with another type; and which
-        channels of the text have no packet."""
+        """Of the channels of a recording, with the data types of their packets: which are not named, and which are named with
+        another type; and which channels of the text have no packet."""
         said = []
         for channel in sorted(kinds):
             if channel not in self.channels:
@@ -77,7 +79,8 @@ class Names:
                 named = self.channels[channel][1].upper()
                 others = sorted(kind for kind in kinds[channel] if named in FAMILY and FAMILY[named] != kind & 0xF8)
                 if others:
-                    said.append('channel %d is named %s, and has packets of type %s' % (channel, named, ', '.join('%02x' % kind for kind in others)))
+                    said.append('channel %d is named %s, and has packets of type %s'
+                                % (channel, named, ', '.join('%02x' % kind for kind in others)))
         return said + ['channel %d is named, and has no packet' % channel for channel in sorted(set(self.channels) - set(kinds))]
 
 
@@ -107,7 +110,8 @@ def tree(found: Dict[str, str]) -> List[str]:
     return lines
 
 
-GROUPS = {'G': 'general information', 'T': 'transmission', 'R': 'recorder', 'M': 'multiplex and modulation', 'P': 'PCM format', 'D': 'PCM measurements', 'B': 'bus data',
+GROUPS = {'G': 'general information', 'T': 'transmission', 'R': 'recorder', 'M': 'multiplex and modulation', 'P': 'PCM format',
+          'D': 'PCM measurements', 'B': 'bus data',
           'S': 'message data', 'A': 'PAM', 'C': 'data conversion', 'H': 'airborne hardware', 'V': 'vendor'}
 
 

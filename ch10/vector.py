@@ -1,8 +1,8 @@
 """Lines of entries made by numpy where it is installed: the same bytes as `ch10.lines` makes without it, many entries at a time.
 
-A line is a row of pieces. The lines of some entries are given their places in one array of bytes first; then each piece of all of them
-is written, from left to right, but for the fronts of lines, which are written last. So a piece may be written with some bytes too many.
-What is rare is left to the plain way: types with few entries, and bodies of very long messages.
+A line is a row of pieces. The lines of some entries are given their places in one array of bytes first; then each piece of all of
+them is written, from left to right, but for the fronts of lines, which are written last. So a piece may be written with some bytes
+too many. What is rare is left to the plain way: types with few entries, and bodies of very long messages.
 """
 from __future__ import annotations
 
@@ -76,7 +76,8 @@ class Sheet:
 
 
 class Piece:
-    """What stands at one place of each line: the bytes of a source from some place on, as many as its length there or the same of each."""
+    """What stands at one place of each line: the bytes of a source from some place on, as many as its length there or the same of
+    each."""
 
     def __init__(self, source: Array, starts: Optional[Array], wide: int, lengths: Optional[Array] = None) -> None:
         self.source, self.starts, self.wide, self.lengths = source, starts, wide, lengths
@@ -225,7 +226,8 @@ def padded(octets: Array, more: int) -> Array:
 # ---- entries
 
 class Block:
-    """Entries of one kind, from some packets: of each its count, its channel by its number in the forms, its place in the order, and what was lost before it.
+    """Entries of one kind, from some packets: of each its count, its channel by its number in the forms, its place in the order,
+    and what was lost before it.
 
     Further columns are those of its kind.
     """
@@ -272,7 +274,8 @@ class Vector:
     def __init__(self, form: Meant, ordered: Ordered) -> None:
         self.form, self.ordered = form, ordered
         self.joints = {kind: [part.encode() for part in shape.split('%s')] for kind, shape in form.shapes.items()}
-        self.kinds = {UART: (self.texts, self.text_pieces), MESSAGE: (self.texts, self.text_pieces), BUS: (self.messages, self.message_pieces),
+        self.kinds = {UART: (self.texts, self.text_pieces), MESSAGE: (self.texts, self.text_pieces),
+                      BUS: (self.messages, self.message_pieces),
                       ARINC: (self.words, self.word_pieces), DISCRETE: (self.states, self.state_pieces)}
         self.tables: Dict[tuple, Table] = {}
         self.decimals = Decimals()
@@ -353,7 +356,8 @@ class Vector:
             at = begin
             for piece in fronts_of:
                 at = piece.place(at, None)
-            rows.append((fronts_of, [piece for piece in pieces if piece.wide], numpy.searchsorted(begin, numpy.arange(0, size + NEAR, NEAR)).tolist()))
+            rows.append((fronts_of, [piece for piece in pieces if piece.wide],
+                         numpy.searchsorted(begin, numpy.arange(0, size + NEAR, NEAR)).tolist()))
         for step in range(-(-size // NEAR)):
             for which in (1, 0):
                 for row in rows:
@@ -377,7 +381,8 @@ class Vector:
                     counts.append(count)
                     channels.append(packet.channel)
                     order.append((number << 32) + place)
-                    lines.append((form.line(front, count, clock.text(count) if clock else None, lost, tail) + '\n').encode('utf-8', 'replace'))
+                    lines.append((form.line(front, count, clock.text(count) if clock else None, lost, tail)
+                                  + '\n').encode('utf-8', 'replace'))
                 lost = 0
         return tuple(numpy.array(some, numpy.int64) for some in (counts, channels, order)) + (lines,)
 
@@ -390,7 +395,8 @@ class Vector:
             if lost not in self.codes:
                 self.codes[lost] = len(self.losses)
                 self.losses.append(lost)
-        found = Block(packets, number, [self.numbers[packet.channel] for _, packet, _ in packets], [self.codes[lost] for _, _, lost in packets])
+        found = Block(packets, number, [self.numbers[packet.channel] for _, packet, _ in packets],
+                      [self.codes[lost] for _, _, lost in packets])
         found.number = numpy.array([packet.channel for _, packet, _ in packets], numpy.int64)[found.of]
         return found
 
@@ -405,7 +411,8 @@ class Vector:
         if first == last:
             told = block.count + self.ahead[first]
         else:
-            told = block.count + self.ahead[first + numpy.maximum(numpy.searchsorted(self.starts[first:last + 1], block.count, 'right') - 1, 0)]
+            told = block.count + self.ahead[first + numpy.maximum(numpy.searchsorted(self.starts[first:last + 1], block.count,
+                                                                                     'right') - 1, 0)]
         block.columns['second'] = told // SECOND
         block.columns['part'] = told - block.columns['second'] * SECOND
         return int(told.min()) >= DAY and int(told.max()) < (LAST_DAY[clock.dated] + 1) * DAY
@@ -447,7 +454,8 @@ class Vector:
         """What was lost before an entry, and what stands between that and the kind's first column."""
         before, between, behind = self.form.around(self.ordered.survey.clock is not None)
         between = between if self.ordered.survey.clock else before + between
-        return self.table(('lost', kind), lambda key: between + self.form.lost_text(self.losses[key]).encode() + behind + self.joints[kind][0] + quote).pieces(block.lost)
+        return self.table(('lost', kind), lambda key: between + self.form.lost_text(self.losses[key]).encode() + behind
+                          + self.joints[kind][0] + quote).pieces(block.lost)
 
     def cells(self, kind: int, first: int, values: tuple) -> bytes:
         """The cells of some columns of a kind, with what stands between them."""
@@ -521,7 +529,8 @@ class Vector:
 
         return [self.lost(kind, block, quote), Piece(digits, 2 * (columns['place'] + 12), 2 * int(sizes.max()), 2 * sizes),
                 self.table(('text', kind), lambda key: quote + joints[1] + (wrap if key else quote)).pieces(wraps),
-                Piece(letters, columns['start'], int(lengths.max()), lengths), self.table(('last', kind), last).pieces(columns['head'] >> 16 | wraps << 16)]
+                Piece(letters, columns['start'], int(lengths.max()), lengths),
+                self.table(('last', kind), last).pieces(columns['head'] >> 16 | wraps << 16)]
 
     # ---- MIL-STD-1553
 
@@ -552,8 +561,10 @@ class Vector:
             return numpy.where(place >= 0, words[at + numpy.maximum(place, 0)], 1 << 16).astype(numpy.int64)
 
         self.sources[kind] = numpy.frombuffer(hexlify(words.byteswap()), numpy.uint8)
-        block.columns.update(start=4 * (at + first), many=many, then=4 * (at + hole + 1), rest=rest, number=number, status=status, gap=gap,
-                             command=command, other=word(second) if len(between) else numpy.full(len(number), 1 << 16), one=word(one),
+        block.columns.update(start=4 * (at + first), many=many, then=4 * (at + hole + 1), rest=rest, number=number,
+                             status=status, gap=gap,
+                             command=command, other=word(second) if len(between) else numpy.full(len(number), 1 << 16),
+                             one=word(one),
                              two=word(two) if len(between) else numpy.full(len(number), 1 << 16))
         return block, []
 
@@ -603,7 +614,8 @@ class Vector:
             self.table(('block', kind), block_of).pieces(block.channel << 11 | status >> 3 & 0x7FF),
             self.table(('terminal', kind), terminal).pieces(numpy.where(has, command >> 5, 2048)),
             self.table(('size', kind), size).pieces(numpy.where(has, command & 31 | is_mode.astype(numpy.int64) << 5, 64)),
-            self.table(('other', kind), other).pieces(numpy.where(other_word < 1 << 16, other_word >> 6 & 0x3E0 | other_word >> 5 & 31, 1024)),
+            self.table(('other', kind),
+                       other).pieces(numpy.where(other_word < 1 << 16, other_word >> 6 & 0x3E0 | other_word >> 5 & 31, 1024)),
             self.status_table(kind, 11).pieces(one), self.status_table(kind, 12).pieces(two),
             self.table(('flags', kind), lambda key: joints[13] + self.cells(kind, 13, (named(key, FLAGS_1553),))).pieces(
                 ((one & 0xFFFF) * (one < 1 << 16) | (two & 0xFFFF) * (two < 1 << 16)) & 0x7FF),
@@ -612,7 +624,8 @@ class Vector:
     def status_table(self, kind: int, place: int) -> Table:
         """The texts of status words: four hex digits, and no cell where there is none, which is 1 << 16."""
         if ('status', kind, place) not in self.tables:
-            front, end, none = self.joints[kind][place] + self.form.quote, self.form.quote, self.joints[kind][place] + self.cells(kind, place, (None,))
+            front, end, none = self.joints[kind][place] + self.form.quote, self.form.quote, self.joints[kind][place] + self.cells(
+                kind, place, (None,))
             wide = max(len(front) + 4 + len(end), len(none))
             rows = numpy.zeros(((1 << 16) + 1, wide), numpy.uint8)
             rows[:, :len(front)] = numpy.frombuffer(front, numpy.uint8)
@@ -629,7 +642,8 @@ class Vector:
 
     def words(self, kind: int, packets: List[tuple]) -> Tuple[Block, List[tuple]]:
         number = numpy.array([packet.word & 0xFFFF for _, packet, _ in packets], numpy.int64)
-        pairs = numpy.frombuffer(b''.join([packet.body[4:4 + 8 * (packet.word & 0xFFFF)] for _, packet, _ in packets]), '<u4').reshape(-1, 2)
+        pairs = numpy.frombuffer(b''.join([packet.body[4:4 + 8 * (packet.word & 0xFFFF)] for _, packet, _ in packets]),
+                                 '<u4').reshape(-1, 2)
         block = self.block(packets, number)
         if not len(pairs):
             block.count = numpy.zeros(0, numpy.int64)
@@ -650,17 +664,20 @@ class Vector:
 
         def bus(key: int) -> bytes:
             number = key >> 3 & 0xFF
-            errors = '+'.join(name for bit, name in ((2, 'format error'), (1, 'parity error'), (0, 'even parity')) if key >> bit & 1)
+            errors = '+'.join(name for bit, name in ((2, 'format error'), (1, 'parity error'), (0, 'even parity'))
+                              if key >> bit & 1)
             return quote + joints[1] + self.cells(kind, 1, (number, reader.bus_name(self.channels[key >> 11], number), errors))
 
         def label(key: int) -> bytes:
-            return joints[4] + self.cells(kind, 4, ('%03o' % (TURNED[key & 0xFF] if reader.turned else key & 0xFF), key >> 8)) + joints[6]
+            return joints[4] + self.cells(kind, 4, ('%03o' % (TURNED[key & 0xFF] if reader.turned else key & 0xFF),
+                                                    key >> 8)) + joints[6]
 
         def end(key: int) -> bytes:
             return joints[7] + self.cells(kind, 7, (key >> 1 & 3, key >> 3, key & 1)) + joints[10] + b'\n'
 
         return [
-            self.lost(kind, block, quote), hexes(words), self.table(('bus', kind), bus).pieces(block.channel << 11 | (heads >> 22) << 1 | even),
+            self.lost(kind, block, quote), hexes(words),
+            self.table(('bus', kind), bus).pieces(block.channel << 11 | (heads >> 22) << 1 | even),
             self.table(('label', kind), label).pieces(words & 0x3FF), self.data_table().pieces(words >> 10 & 0x7FFFF),
             self.table(('end', kind), end).pieces((words >> 29) << 1 | heads >> 21 & 1)]
 
@@ -693,7 +710,8 @@ class Vector:
             if much:
                 known = self.ordered.states.get(of[0])
                 before[first[place]] = states[first[place]] if known is None else known
-        block.columns.update(states=states, before=before, bits=numpy.array([packet.word >> 3 & 31 or 32 for _, packet, _ in packets], numpy.int64)[block.of])
+        block.columns.update(states=states, before=before,
+                             bits=numpy.array([packet.word >> 3 & 31 or 32 for _, packet, _ in packets], numpy.int64)[block.of])
         return block, []
 
     def state_pieces(self, kind: int, block: Block) -> List[Piece]:
@@ -741,7 +759,8 @@ def ranked(counts: Array, channels: Array, order: Array) -> Array:
 
 
 # Of each byte: 8 where it does not print, 4 where it is written as two, 1 for a quote, 2 for a comma.
-CLASSES = bytes(8 if not (0x20 <= value < 0x7F or value in (9, 10, 13)) else 4 if value in (9, 10, 13, 0x5C) else 1 if value == 0x22 else 2 if value == 0x2C else 0
+CLASSES = bytes(8 if not (0x20 <= value < 0x7F or value in (9, 10, 13)) else 4 if value in (9, 10, 13, 0x5C) else 1 if value == 0x22
+                else 2 if value == 0x2C else 0
                 for value in range(256))
 CSV_ESCAPES = {0x09: '\\t', 0x0D: '\\r', 0x0A: '\\n', 0x5C: '\\\\', 0x22: '""'}
 JSON_ESCAPES = {0x09: '\\\\t', 0x0D: '\\\\r', 0x0A: '\\\\n', 0x5C: '\\\\\\\\', 0x22: '\\"'}

@@ -28,7 +28,8 @@ def is_ready(size: int) -> bool:
     return True
 
 
-# Of the types whose entries have their lengths in them: the bytes before an entry's own, where its length stands, and whether entries begin at even places.
+# Of the types whose entries have their lengths in them: the bytes before an entry's own, where its length stands, and whether
+# entries begin at even places.
 SHAPES: Dict[int, Tuple[int, int, bool]] = {UART: (12, 8, True), MESSAGE: (12, 8, True), BUS: (14, 12, False)}
 NUMBERS = {UART: None, MESSAGE: 0xFFFF, BUS: 0xFFFFFF}
 
@@ -39,9 +40,10 @@ def number_in(kind: int, word: int) -> Optional[int]:
     return None if mask is None else word & mask
 
 
-def walk(octets: Array, starts: Sequence[int], ends: Sequence[int], numbers: Sequence[Optional[int]], kind: int) -> Tuple[Array, Array, Array]:
-    """The places of the entries of some packets, whose bodies stand in these bytes between starts and ends, a packet's after those of the one before; how many each
-    packet has; and which packets' entries do not fit their bodies."""
+def walk(octets: Array, starts: Sequence[int], ends: Sequence[int], numbers: Sequence[Optional[int]],
+         kind: int) -> Tuple[Array, Array, Array]:
+    """The places of the entries of some packets, whose bodies stand in these bytes between starts and ends, a packet's after those
+    of the one before; how many each packet has; and which packets' entries do not fit their bodies."""
     head, of_size, is_even = SHAPES[kind]
     at, end = numpy.array(starts, numpy.int64), numpy.array(ends, numpy.int64)
     most = None if numbers and numbers[0] is None else numpy.array(numbers, numpy.int64)
@@ -69,7 +71,8 @@ def walk(octets: Array, starts: Sequence[int], ends: Sequence[int], numbers: Seq
             live, here, last = live[more], here[more], last[more]
             left = None if left is None else left[more]
     number[live], at[live] = step, here
-    rest = [(int(place), *one_by_one(octets, int(at[place]), int(end[place]), None if most is None else int(most[place]) - step, kind)) for place in live]
+    rest = [(int(place), *one_by_one(octets, int(at[place]), int(end[place]), None if most is None else int(most[place]) - step,
+                                     kind)) for place in live]
     for place, found, is_bad in rest:
         number[place] += len(found)
         bad[place] |= is_bad
@@ -187,4 +190,3 @@ class Ahead(Alone):
             if number and at + 28 + 8 * number <= behind:
                 gaps = numpy.frombuffer(octets, '<u4', 2 * number, at + 28 - begin)[::2] & 0xFFFFF
                 self.known[at] = number, counter + int(gaps[0]), counter + int(gaps.sum(dtype=numpy.int64))
-

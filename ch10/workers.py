@@ -1,6 +1,8 @@
-"""Work in several processes at a time: each is a Python of its own that takes a task as a line of JSON and answers with one, and with bytes after it.
+"""Work in several processes at a time: each is a Python of its own that takes a task as a line of JSON and answers with one, and
+with bytes after it.
 
-A worker ends when its standard input does. So none is left when the program that started them is killed, and nothing of theirs has to be undone.
+A worker ends when its standard input does. So none is left when the program that started them is killed, and nothing of theirs has
+to be undone.
 """
 from __future__ import annotations
 
@@ -19,7 +21,8 @@ from .store import StoreError
 
 Task = Dict[str, Any]
 TOP = os.path.dirname(os.path.dirname(os.path.abspath(__file__)))
-START = 'import sys; sys.path[0] = sys.argv[1]; from ch10.workers import main; main()'  # whatever stands in the folder that the call is made in
+# whatever stands in the folder that the call is made in
+START = 'import sys; sys.path[0] = sys.argv[1]; from ch10.workers import main; main()'
 
 
 def processors() -> int:
@@ -96,8 +99,8 @@ class Worker:
 
 
 class Pool:
-    """So many workers, each started when there is a task for it; with one, this process does the work by itself. Of what is done so much for each may wait to be
-    taken: it is held in memory."""
+    """So many workers, each started when there is a task for it; with one, this process does the work by itself. Of what is done so
+    much for each may wait to be taken: it is held in memory."""
 
     def __init__(self, number: int, setting: Task, room: Optional[Room] = None, ahead: int = 2) -> None:
         self.number, self.room, self.over, self.most = number, room, threading.Event(), ahead * number
@@ -121,7 +124,8 @@ class Pool:
             thread.join(1)
 
     def serve(self, worker: Worker) -> None:
-        """What a worker's thread does. A process that it starts gets no Ctrl-C, also while it begins: the one that started it ends it."""
+        """What a worker's thread does. A process that it starts gets no Ctrl-C, also while it begins: the one that started it ends
+        it."""
         signal.pthread_sigmask(signal.SIG_BLOCK, (signal.SIGINT,))
         for task, ready in iter(self.waiting.get, None):
             if self.over.is_set():
@@ -136,8 +140,8 @@ class Pool:
                     self.room.give(held)
 
     def done(self, tasks: Iterable[Task]) -> Iterator[Tuple[Task, Task]]:
-        """Each task with what came of it, as they get done. No more tasks are taken than there are worked on and waited for. What comes of the tasks of a call
-        that is given up reaches no other one."""
+        """Each task with what came of it, as they get done. No more tasks are taken than there are worked on and waited for. What
+        comes of the tasks of a call that is given up reaches no other one."""
         if self.alone:
             for task in tasks:
                 yield task, answer_of(self.alone, task)
@@ -198,4 +202,3 @@ def main() -> None:
         except BrokenPipeError:
             break
     os._exit(0)
-

@@ -4,11 +4,12 @@
     scripts/advance_cases.py cases          # what stands in crates/r10_rows/stdin as `== advanced-over-257-messages`
     scripts/advance_cases.py answers        # the same of crates/r10_rows/stdout
     scripts/advance_cases.py kept           # fails where one of these files has another in its place
-    scripts/advance_cases.py run PROGRAM    # the same advances over each of the three channels too, and every entry is read: says what differs
+    scripts/advance_cases.py run PROGRAM    # the same advances over each of the three channels too, and every entry is read: says
+                                              what differs
 
-The file has a time, at count 1000, and a message on channel 6 at each count from 1000 to 1256; nothing is on channel 7. Each count from 999 to 1258 is
-the first of a range, and the last of another: 520 advances of a cursor. How many entries come, and which, is what a scan over that list leaves. Nothing is
-taken from the recorder.
+The file has a time, at count 1000, and a message on channel 6 at each count from 1000 to 1256; nothing is on channel 7. Each count
+from 999 to 1258 is the first of a range, and the last of another: 520 advances of a cursor. How many entries come, and which, is
+what a scan over that list leaves. Nothing is taken from the recorder.
 """
 import subprocess
 import sys
@@ -30,7 +31,8 @@ step = [
 """
 MOST = 2 ** 48 - 1
 COUNTS = range(999, 1259)
-WHOLE = [(1000, 1, 'entry 1 1000 0 time 2024-02-29 12:34:56.78')] + [(1000 + at, 6, 'entry 6 %d 0 uart 0 0 78' % (1000 + at)) for at in range(257)]
+WHOLE = [(1000, 1, 'entry 1 1000 0 time 2024-02-29 12:34:56.78')] + [(1000 + at, 6, 'entry 6 %d 0 uart 0 0 78' % (1000 + at))
+                                                                     for at in range(257)]
 
 Step = tuple[str, str]
 
@@ -90,7 +92,8 @@ def answer_text(name: str, steps: list[Step]) -> str:
 
 
 def run(program: str) -> int:
-    """Runs the program over cursors on all three channels and on each by itself, which read all, and answers how many lines differ."""
+    """Runs the program over cursors on all three channels and on each by itself, which read all, and answers how many lines
+    differ."""
     bad = advances = entries = 0
     for channels in ([1, 6, 7], [1], [6], [7]):
         steps = [*recorded(), *over(channels, MOST)]

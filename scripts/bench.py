@@ -5,9 +5,10 @@
     scripts/bench.py [MESSAGES] --instructions     instructions a message too, by valgrind, of smaller runs
     scripts/bench.py [MESSAGES] --memory           the memory that a replay takes too, by bench/count_malloc.c
 
-MESSAGES is 1,000,000 where no number is given. The proved program is crates/r10_bench/out/r10_bench, or that of --proved. The plain one is built by cargo
-where it is not there or older than its source, without a registry; --plain names another. Both measure the processor time of their thread. A ratio is how fast the proved program
-is, of the plain one: at 0.50 it takes twice as long. Status 1 where the file of one, its index or its replay has another size than that of the other.
+MESSAGES is 1,000,000 where no number is given. The proved program is crates/r10_bench/out/r10_bench, or that of --proved. The plain
+one is built by cargo where it is not there or older than its source, without a registry; --plain names another. Both measure the
+processor time of their thread. A ratio is how fast the proved program is, of the plain one: at 0.50 it takes twice as long. Status
+1 where the file of one, its index or its replay has another size than that of the other.
 """
 import argparse
 import os
@@ -31,8 +32,10 @@ KINDS = {
     'discrete states': 'discrete',
 }
 FILES = (
-    ('UART messages', 1024, 4, 3), ('UART messages', 1024, 4, 2), ('UART messages', 1024, 256, 3), ('UART messages', 1024, 256, 2), ('UART messages', 64, 4, 3),
-    ('UART messages', 8, 4, 3), ('message channel messages', 64, 4, 3), ('MIL-STD-1553 messages', 4, 4, 3), ('MIL-STD-1553 messages', 64, 4, 3), ('ARINC 429 words', 4, 4, 3),
+    ('UART messages', 1024, 4, 3), ('UART messages', 1024, 4, 2), ('UART messages', 1024, 256, 3), ('UART messages', 1024, 256, 2),
+    ('UART messages', 64, 4, 3),
+    ('UART messages', 8, 4, 3), ('message channel messages', 64, 4, 3), ('MIL-STD-1553 messages', 4, 4, 3),
+    ('MIL-STD-1553 messages', 64, 4, 3), ('ARINC 429 words', 4, 4, 3),
     ('discrete states', 4, 4, 3),
 )
 MEASURES = [
@@ -47,7 +50,8 @@ MEASURES = [
     ('find-2000', 'find, packets of a channel 0.8 ms apart', 'ns'),
     ('close', 'index of a file of packets of one message each', 'bytes/s'),
 ] + [('judge-%s-%d-%d-%d' % (KINDS[kind], channels, flags, size),
-      'judging %s of %s bytes, %d channels, checksums of %d bits' % (kind, format(size, ','), channels, {2: 16, 3: 32}[flags]), 'bytes/s') for kind, size, channels, flags in FILES]
+      'judging %s of %s bytes, %d channels, checksums of %d bits' % (kind, format(size, ','), channels, {2: 16, 3: 32}[flags]),
+      'bytes/s') for kind, size, channels, flags in FILES]
 
 # What both must agree on.
 SAME = (('recorder-file', 'bytes of the file'), ('replay-entries', 'entries of the replay'), ('close-index', 'bytes of the index'))
@@ -57,11 +61,13 @@ LINES = (
     (r'plain copy +\d+ ms +(\d+) messages/s', ('copy',)),
     (r'lane and builder +\d+ ms +(\d+) messages/s', ('channel',)),
     (r'recorder: .* a file of (\d+) bytes, \d+ us +(\d+) messages/s', ('recorder-file', 'recorder')),
-    (r'replay: (\d+) entries in 1 instalments, .* us +(\d+) entries/s; the file is checked in (\d+) us', ('replay-entries', 'replay', 'check-time')),
+    (r'replay: (\d+) entries in 1 instalments, .* us +(\d+) entries/s; the file is checked in (\d+) us',
+     ('replay-entries', 'replay', 'check-time')),
     (r'replay: .* us +(\d+) entries/s; the file is checked in \d+ us', ('replay-behind',)),
     (r'find: \d+ packets .*, (\d+) counts apart, recorded at (\d+) packets/s: (\d+) ns each', ('step', 'packets', 'find')),
     (r'close: .*: (\d+) bytes of index in \d+ us +(\d+) bytes/s', ('close-index', 'close')),
-    (r'judging \d+ bytes, +(\d+) channels, checksum (\d), (.+) of +(\d+) bytes: +\d+ ms +(\d+) bytes/s', ('channels', 'flags', 'kind', 'size', 'judge')),
+    (r'judging \d+ bytes, +(\d+) channels, checksum (\d), (.+) of +(\d+) bytes: +\d+ ms +(\d+) bytes/s',
+     ('channels', 'flags', 'kind', 'size', 'judge')),
 )
 
 
@@ -81,7 +87,8 @@ def proved_figures(text):
                     step = here['step']
                     here = {'packets-%d' % step: here['packets'], 'find-%d' % step: here['find']}
                 elif 'judge' in here:
-                    here = {'judge-%s-%d-%d-%d' % (KINDS[here['kind']], here['channels'], here['flags'], here['size']): here['judge']}
+                    here = {'judge-%s-%d-%d-%d' % (KINDS[here['kind']], here['channels'], here['flags'],
+                                                   here['size']): here['judge']}
                 # Of a small number both replays have one instalment: the first one that is printed is that of the closed file.
                 if 'replay' in found and 'replay' in here:
                     here = {'replay-behind': here['replay']}
@@ -154,7 +161,8 @@ def differing(proved, plain):
 def first_line(words):
     """The first line that a program prints, or a dash where there is none."""
     try:
-        return subprocess.run(words, cwd=TOP, stdout=subprocess.PIPE, stderr=subprocess.DEVNULL, text=True).stdout.partition('\n')[0] or '-'
+        return subprocess.run(words, cwd=TOP, stdout=subprocess.PIPE, stderr=subprocess.DEVNULL,
+                              text=True).stdout.partition('\n')[0] or '-'
     except OSError:
         return '-'
 
@@ -165,17 +173,20 @@ def print_machine(words, before):
     model = next((line.partition(':')[2].strip() for line in lines if line.startswith('model name')), 'unknown')
     load = 'load %.1f before, %.1f behind' % (before, os.getloadavg()[0])
     commit = first_line(['git', 'rev-parse', '--short', 'HEAD'])
-    print('%s, %d processors, %s; %s; commit %s; %s.' % (model, os.cpu_count(), load, time.strftime('%d %B %Y, %H:%M UTC', time.gmtime()), commit,
+    print('%s, %d processors, %s; %s; commit %s; %s.' % (model, os.cpu_count(), load,
+                                                         time.strftime('%d %B %Y, %H:%M UTC', time.gmtime()), commit,
                                                   first_line(['rustc', '--version'])))
     print('%s messages; the middle one of %d runs of each program, in turn; processor time of the thread.\n' % (
         format(words.messages, ','), words.runs))
 
 
 def spans(program, words, folder):
-    """The instructions between two readings of the clock, by what is printed: a list for each part of the program that reads the clock before it prints."""
+    """The instructions between two readings of the clock, by what is printed: a list for each part of the program that reads the
+    clock before it prints."""
     log = pathlib.Path(folder) / 'callgrind'
     marks = ['--dump-before=%s' % name for name in ('clock_gettime*', 'write', '__write', 'writev')]
-    output(['valgrind', '--tool=callgrind', '--combine-dumps=yes', '--callgrind-out-file=%s' % log] + marks + [program] + words, stderr=subprocess.DEVNULL)
+    output(['valgrind', '--tool=callgrind', '--combine-dumps=yes', '--callgrind-out-file=%s' % log] + marks + [program] + words,
+           stderr=subprocess.DEVNULL)
     found, here, mark = [], None, ''
     with log.open(encoding='utf-8', errors='replace') as lines:
         for line in lines:
@@ -211,8 +222,10 @@ def print_instructions(words):
 
 
 def most_asked(program, number, parts, shim, line):
-    """How many bytes a program asks for at most, beyond those that it has, until it prints a line that begins so; and the text that it prints."""
-    ended = subprocess.run([str(program), str(number)] + parts, stdout=subprocess.PIPE, stderr=subprocess.PIPE, env={**os.environ, 'LD_PRELOAD': str(shim)})
+    """How many bytes a program asks for at most, beyond those that it has, until it prints a line that begins so; and the text that
+    it prints."""
+    ended = subprocess.run([str(program), str(number)] + parts, stdout=subprocess.PIPE, stderr=subprocess.PIPE,
+                           env={**os.environ, 'LD_PRELOAD': str(shim)})
     if ended.returncode:
         sys.exit('bench: %s: status %d' % (program, ended.returncode))
     text = ended.stdout.decode()
@@ -228,12 +241,14 @@ def print_memory(words):
     """The memory that the replay of a closed file takes, by its entries."""
     with tempfile.TemporaryDirectory() as folder:
         shim = pathlib.Path(folder) / 'count_malloc.so'
-        subprocess.run([os.environ.get('CC', 'cc'), '-O2', '-shared', '-fPIC', '-o', shim, TOP / 'bench' / 'count_malloc.c'], check=True)
+        subprocess.run([os.environ.get('CC', 'cc'), '-O2', '-shared', '-fPIC', '-o', shim, TOP / 'bench' / 'count_malloc.c'],
+                       check=True)
         ours, text = most_asked(words.proved, words.messages, [], shim, 'replay: ')
         theirs, other = most_asked(words.plain, words.messages, ['replay'], shim, 'check ')
         entries = proved_figures(text)['replay-entries'], plain_figures(other)['replay-entries']
     bytes_each = ['-' if most is None else '%.0f' % (most / number) for most, number in zip((ours, theirs), entries)]
-    print('\nA replay of %s entries in one instalment asks for at most %s bytes an entry (proved) and %s (plain), beyond what the recorder and its medium had.' % (
+    print('\nA replay of %s entries in one instalment asks for at most %s bytes an entry (proved) and %s (plain), beyond what the '
+          'recorder and its medium had.' % (
         format(entries[0], ','), *bytes_each))
 
 

@@ -1,11 +1,12 @@
 #!/usr/bin/env python3
 """Proves crates of this repository side by side. scripts/build.sh calls this, and scripts/ffi.sh for the library.
 
-    scripts/build.py [LANES] [--crate NAME]     proves the crates that NAME stands on, and NAME (r10_cli, the program, where none is named)
+    scripts/build.py [LANES] [--crate NAME]     proves the crates that NAME stands on, and NAME (r10_cli, the program, where none is
+                                                named)
 
-The tool locks each crate below the one that it proves, so one checkout proves one crate at a time. Here each lane has a copy of the sources, and
-a library that one lane has proved is handed to the others by links: the crate that has most above it goes first. Lanes lie in the folder of
-git (or in that which R10_LANES names), since the gate refuses sources that no crate has anywhere else.
+The tool locks each crate below the one that it proves, so one checkout proves one crate at a time. Here each lane has a copy of the
+sources, and a library that one lane has proved is handed to the others by links: the crate that has most above it goes first. Lanes
+lie in the folder of git (or in that which R10_LANES names), since the gate refuses sources that no crate has anywhere else.
 
 LANES is how many crates side by side: as many as there are processors, and as the free memory has room for, where it is not said.
 What is proved is handed over at once, so that a call that was stopped goes on where it was. Of two calls at once the second waits.
@@ -143,7 +144,8 @@ class Build:
     def size(self, name: str) -> int:
         """How long a proof is reckoned to take, by the sizes of its files."""
         folder = TOP / 'crates' / name
-        return 20_000 + sum(it.stat().st_size for part in ('src', 'specs', 'proofs') for it in (folder / part).rglob('*') if it.is_file())
+        return 20_000 + sum(it.stat().st_size for part in ('src', 'specs', 'proofs') for it in (folder / part).rglob('*')
+                            if it.is_file())
 
     def above(self, name: str) -> int:
         """The longest chain that begins with this crate."""
@@ -183,12 +185,14 @@ class Build:
     def is_stamped(self, library: pathlib.Path, name: str) -> bool:
         """Whether this library is of the sources as they stand."""
         with contextlib.suppress(OSError):
-            return (library / (name + '.rlib')).is_dir() and (library / 'stamp').read_text(encoding='utf-8') == self.crates.of[name].stamp()
+            return ((library / (name + '.rlib')).is_dir()
+                    and (library / 'stamp').read_text(encoding='utf-8') == self.crates.of[name].stamp())
         return False
 
     def is_same(self, one: pathlib.Path, other: pathlib.Path, name: str) -> bool:
         """Whether two libraries are the same one: what stands above was proved over that and no other."""
-        return self.rtlib.sum_of(str(one / (name + '.rlib') / 'format')) == self.rtlib.sum_of(str(other / (name + '.rlib') / 'format'))
+        return self.rtlib.sum_of(str(one / (name + '.rlib') / 'format')) == self.rtlib.sum_of(
+            str(other / (name + '.rlib') / 'format'))
 
     def take_over(self) -> set[str]:
         """The libraries that are proved already, here or by an earlier call that was stopped."""
@@ -199,7 +203,8 @@ class Build:
             own, kept = TOP / 'crates' / name / 'out' / 'rlib', self.store(name)
             if self.is_stamped(kept, name):
                 done.add(name)
-            elif self.is_stamped(own, name) and all(self.is_same(self.store(it), TOP / 'crates' / it / 'out' / 'rlib', it) for it in self.below(name)):
+            elif self.is_stamped(own, name) and all(self.is_same(self.store(it), TOP / 'crates' / it / 'out' / 'rlib', it)
+                                                    for it in self.below(name)):
                 hand(own, kept)
                 done.add(name)
         return done
@@ -267,13 +272,16 @@ class Build:
         else:
             hand(folder / 'out' / 'rlib', self.store(name))
         done.add(name)
-        print('%5d s  %s took %d s (%d of %d proved, %d more at work)' % (time.time() - self.since, name, time.time() - since, len(done), len(self.named), len(self.running)), flush=True)
+        print('%5d s  %s took %d s (%d of %d proved, %d more at work)' % (time.time() - self.since, name, time.time() - since,
+                                                                          len(done), len(self.named),
+                                                                          len(self.running)), flush=True)
 
     def run(self) -> None:
         """Proves all."""
         done = self.take_over()
         lanes = min(self.lanes, len(self.named) - len(done))
-        print('(%s: crates in all %d, proved already %d; side by side %d)' % (self.name, len(self.named), len(done), lanes), flush=True)
+        print('(%s: crates in all %d, proved already %d; side by side %d)' % (self.name, len(self.named), len(done), lanes),
+              flush=True)
         for number in range(lanes):
             self.copy_sources(self.lane(number))
         while len(done) < len(self.named):

@@ -1,5 +1,6 @@
 #!/usr/bin/env python3
-"""What a crew asks of a recording, or of the image of a medium: from standard input to standard output, by the public standard alone.
+"""What a crew asks of a recording, or of the image of a medium: from standard input to standard output, by the public standard
+alone.
 
 It is a start of the package `ch10` beside this folder, which says at `scripts/ch10.py --help` what there is.
 """

@@ -3,9 +3,10 @@
 
     scripts/ch10_damage.py [COUNT [SEED]]    # so many damaged recordings, else 10,000, from seed 1
 
-A recording of every kind, each packet with a data checksum, or one of another recorder with a copy of a recording within it, has bits turned, bytes
-changed, cut out, put in or laid over by zeros. Packets and stretches that were passed over have to fill the recording, each entry has to be one of a
-packet that was there, in its order and once, and each packet that nothing touched has to be read, unless it is alone: nothing shows that it is one.
+A recording of every kind, each packet with a data checksum, or one of another recorder with a copy of a recording within it, has
+bits turned, bytes changed, cut out, put in or laid over by zeros. Packets and stretches that were passed over have to fill the
+recording, each entry has to be one of a packet that was there, in its order and once, and each packet that nothing touched has to
+be read, unless it is alone: nothing shows that it is one.
 """
 import collections
 import io
@@ -64,18 +65,22 @@ def each_twentieth(seed: int) -> List[str]:
         status, said, line = run(words + ['--keep-going'], damaged)
         lines = [one for one in said.splitlines() if not one.startswith(b'{"bad"')]
         agree((status, lines), (1, run(words, good)[1].splitlines()), words[0])
-        agree([tuple(int(word.split(' ')[-1]) for word in one.split(': ')[1].split(', ')) for one in line.split('\n')], stretches, 'lines of ' + words[0])
+        agree([tuple(int(word.split(' ')[-1]) for word in one.split(': ')[1].split(', ')) for one in line.split('\n')], stretches,
+              'lines of ' + words[0])
     bad = [json.loads(one)['bad'] for one in said.splitlines() if one.startswith(b'{"bad"')]
     agree([(one['offset'], one['length']) for one in bad], stretches, 'stretches of json')
     rows = [[json.loads(one) for one in run(['summary', '--json'], data)[1].splitlines()] for data in (damaged, good)]
     keys = 'channel', 'type', 'packets', 'entries', 'bytes', 'first', 'last', 'losses', 'lost', 'opaque'
     said, wanted = ([tuple(row[key] for key in keys) for row in some if row.get('packets')] for some in rows)
     agree(said, wanted, 'rows')
-    agree([(row['bad']['offset'], row['bad']['length']) for row in rows[0] if set(row) == {'bad'}], stretches, 'stretches of the summary')
+    agree([(row['bad']['offset'], row['bad']['length']) for row in rows[0] if set(row) == {'bad'}], stretches,
+          'stretches of the summary')
     pictures = [tree.fromstring(run(words, data)[1]) for words, data in ((['svg', '--keep-going'], damaged), (['svg'], good))]
-    said, wanted = ([element.get('d') for element in picture.iter('{http://www.w3.org/2000/svg}path') if element.get('fill')] for picture in pictures)
+    said, wanted = ([element.get('d') for element in picture.iter('{http://www.w3.org/2000/svg}path') if element.get('fill')]
+                    for picture in pictures)
     agree(said, wanted, 'bars')
-    agree(len([element for element in pictures[0].iter('{http://www.w3.org/2000/svg}rect') if element.get('fill-opacity')]), len(hit), 'shades')
+    agree(len([element for element in pictures[0].iter('{http://www.w3.org/2000/svg}rect') if element.get('fill-opacity')]),
+          len(hit), 'shades')
     agree(run(['range', '--keep-going'], damaged)[1], run(['range'], good)[1], 'range')
     status, said, _ = run(['svg'], damaged)
     agree((status, b'ends at byte %d of %d' % (offsets[0], len(damaged)) in said), (1, offsets[0] > 0), 'where the picture ends')
@@ -98,7 +103,8 @@ def touched(draw: random.Random, parts: List[bytes]) -> Tuple[bytes, List[int]]:
             pieces[at] = part[:begin] + part[begin + draw.choice((1, 2, 4, 16, 512, 4096)):], -1
         elif which == 4:
             begin = draw.randrange(len(part) + 1)
-            put = draw.choice((bytes(draw.randrange(600)), draw.randbytes(draw.randrange(600)) if hasattr(draw, 'randbytes') else b'x' * draw.randrange(600),
+            put = draw.choice((bytes(draw.randrange(600)), draw.randbytes(draw.randrange(600)) if hasattr(draw, 'randbytes')
+                               else b'x' * draw.randrange(600),
                                b'\x25\xeb' * draw.randrange(40)))
             if begin in (0, len(part)):
                 pieces.insert(at + (begin > 0), (put, -1))
@@ -121,15 +127,16 @@ def is_summed(part: bytes) -> bool:
     """Whether a packet's data checksum is right, or there is none: then a change of its body is not seen."""
     width = ch10_recordings.WIDTHS[part[14] & 3]
     end = len(part) - width
-    return width == 0 or sum(int.from_bytes(part[at:at + width], 'little') for at in range(24, end, width)) % 256 ** width == int.from_bytes(part[end:], 'little')
+    return width == 0 or sum(int.from_bytes(part[at:at + width], 'little')
+                             for at in range(24, end, width)) % 256 ** width == int.from_bytes(part[end:], 'little')
 
 
 def alone(parts: List[bytes], places: List[int], read: set, within: set) -> set:
     """Of the packets that nothing touched those of which nothing shows that they are of this recording.
 
-    Such a packet stands in a row of fewer than 24 packets that does not lead to the recording's last byte. And of its row none has the sequence number right
-    after, or right before, the next packet that was read of its channel and type; of a row of one packet, not both. What stands within the length of a packet
-    at fault whose header is right is a row by itself, wherever it leads.
+    Such a packet stands in a row of fewer than 24 packets that does not lead to the recording's last byte. And of its row none has
+    the sequence number right after, or right before, the next packet that was read of its channel and type; of a row of one packet,
+    not both. What stands within the length of a packet at fault whose header is right is a row by itself, wherever it leads.
     """
     found, row, rows = set(), [], []
     for place in places + [-1]:
@@ -147,10 +154,12 @@ def alone(parts: List[bytes], places: List[int], read: set, within: set) -> set:
 
 
 def kin(parts: List[bytes], place: int, read: set) -> Tuple[bool, bool]:
-    """Whether the packet that was read of the same channel and type before this one has the number right before its own; and the one after it."""
+    """Whether the packet that was read of the same channel and type before this one has the number right before its own; and the
+    one after it."""
     same = [one for one in read if parts[one][2:4] == parts[place][2:4] and parts[one][15] == parts[place][15]]
     before, after = max((one for one in same if one < place), default=None), min((one for one in same if one > place), default=None)
-    return (before is not None and parts[place][13] == parts[before][13] + 1 & 0xFF, after is not None and parts[after][13] == parts[place][13] + 1 & 0xFF)
+    return (before is not None and parts[place][13] == parts[before][13] + 1 & 0xFF,
+            after is not None and parts[after][13] == parts[place][13] + 1 & 0xFF)
 
 
 def nested(draw: random.Random) -> List[bytes]:
@@ -173,7 +182,12 @@ def one_damaged(seed: int, which: int) -> Tuple[Dict[str, int], List[str]]:
     """What came of one damaged recording, and what is wrong of it."""
     draw, wrong, counts = random.Random('%d %d' % (seed, which)), [], collections.Counter()
     is_nested = draw.random() < 0.3
-    parts = nested(draw) if is_nested else ch10_recordings.flight(draw, draw.choice((3, 10, 60)), draw.choice((0, 0, 250))) if draw.random() < 0.8 else ch10_recordings.foreign()
+    if is_nested:
+        parts = nested(draw)
+    elif draw.random() < 0.8:
+        parts = ch10_recordings.flight(draw, draw.choice((3, 10, 60)), draw.choice((0, 0, 250)))
+    else:
+        parts = ch10_recordings.foreign()
     data, untouched = touched(draw, parts)
     if not data:
         return counts, wrong
@@ -200,8 +214,10 @@ def one_damaged(seed: int, which: int) -> Tuple[Dict[str, int], List[str]]:
             wrong.append('a packet out of its order or doubled')
     read = {places[part] for part in found if part in places}
     missed = set(untouched) - read - {-1}
-    ends = [(stretch.offset, stretch.offset + int.from_bytes(data[stretch.offset + 4:stretch.offset + 8], 'little')) for stretch in survey.damage if stretch.channel is not None]
-    within = {place for place in missed if any(begin < data.find(parts[place]) and data.find(parts[place]) + len(parts[place]) <= end for begin, end in ends)}
+    ends = [(stretch.offset, stretch.offset + int.from_bytes(data[stretch.offset + 4:stretch.offset + 8], 'little'))
+            for stretch in survey.damage if stretch.channel is not None]
+    within = {place for place in missed
+              if any(begin < data.find(parts[place]) and data.find(parts[place]) + len(parts[place]) <= end for begin, end in ends)}
     unread = sorted(missed - alone(parts, untouched, read, within))
     if unread:
         wrong.append('untouched packets that were not read: %s' % unread[:20])
@@ -234,12 +250,14 @@ def main(words: List[str]) -> int:
     count, seed = (list(map(int, words)) + [10000, 1][len(words):])[:2]
     begun, counts, wrong = time.time(), collections.Counter(), []
     with ProcessPoolExecutor(PROCESSES) as pool:
-        for came, bad in pool.map(some_damaged, [seed] * (count // 50 + 1), [range(at, min(at + 50, count)) for at in range(0, count + 1, 50)]):
+        for came, bad in pool.map(some_damaged, [seed] * (count // 50 + 1),
+                                  [range(at, min(at + 50, count)) for at in range(0, count + 1, 50)]):
             counts.update(came)
             wrong += bad
     for line in wrong[:40]:
         print(line)
-    print('%s; %d not as wanted, %.0f s' % (', '.join('%d %s' % (counts[name], name) for name in counts), len(wrong), time.time() - begun))
+    print('%s; %d not as wanted, %.0f s' % (', '.join('%d %s' % (counts[name], name) for name in counts), len(wrong),
+                                            time.time() - begun))
     return int(bool(wrong))
 
 

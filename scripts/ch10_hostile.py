@@ -23,23 +23,28 @@ FILTER = str(TOP / 'scripts' / 'ch10.py')
 # ---- recordings
 
 def damaged_front() -> Tuple[object, object]:
-    """A recording whose first bytes are wrong is one all the same: with --keep-going all but its first packet is read. What is none is refused."""
+    """A recording whose first bytes are wrong is one all the same: with --keep-going all but its first packet is read. What is none
+    is refused."""
     parts = flight(random.Random('front'), 30)
     rest, found = b''.join(parts[1:]), []
     for at in (0, 1, 2, 4, 8, 22):
         data = bytearray(b''.join(parts))
         data[at] ^= 0x10
         status, said, line = run(['csv', '--keep-going'], bytes(data))
-        found.append((status, [row.split(',')[2] for row in said.splitlines()] == [row.split(',')[2] for row in run(['csv'], rest)[1].splitlines()], line.count('\n'),
+        found.append((status, [row.split(',')[2] for row in said.splitlines()]
+                      == [row.split(',')[2] for row in run(['csv'], rest)[1].splitlines()], line.count('\n'),
                       run(['csv'], bytes(data))[::2]))
     none = [run(['summary'], data)[::2] for data in (b'%PDF-1.4' + bytes(2000), b'\x25\xeb' * 30)]
-    return (found, none), ([(1, True, 0, (1, '%s at offset 0' % ('no sync pattern' if at < 2 else 'a wrong header checksum'))) for at in (0, 1, 2, 4, 8, 22)], [
-        (1, 'neither a recording (no sync pattern at offset 0) nor an image of a medium (no directory block at offset 512)'),
-        (1, 'a wrong header checksum at offset 0')])
+    return (found, none), ([(1, True, 0, (1, '%s at offset 0' % ('no sync pattern' if at < 2 else 'a wrong header checksum')))
+                            for at in (0, 1, 2, 4, 8, 22)], [
+                                (1, 'neither a recording (no sync pattern at offset 0) nor an image of a medium (no directory '
+                                    'block at offset 512)'),
+                                (1, 'a wrong header checksum at offset 0')])
 
 
 def within_another() -> Tuple[object, object]:
-    """A packet without a data checksum that lost some of its bytes does not swallow the one after it; and one that has a copy of a packet in it is read."""
+    """A packet without a data checksum that lost some of its bytes does not swallow the one after it; and one that has a copy of a
+    packet in it is read."""
     make = Maker()
     make.put(0, 0x01, 0, number(0x0C, 4) + b'G\\106:17;', 3)
     for place in range(6):
@@ -70,7 +75,8 @@ def counter_anew() -> Tuple[object, object]:
     line = next(line for line in said.splitlines() if line.startswith('time on channel 1'))
     times = [row.split(',')[3][11:19] for row in run(['csv'], b''.join(make.parts))[1].splitlines()[1:]]
     return (status, line, times[0], times[-1]), (
-        0, 'time on channel 1: 30 packets, 0 jumps, 0 steps back, 0 seconds without one; drift +0.0 parts per million, known to 344.8; the counter began anew 1 time',
+        0, 'time on channel 1: 30 packets, 0 jumps, 0 steps back, 0 seconds without one; drift +0.0 parts per million, known to '
+           '344.8; the counter began anew 1 time',
         '12:35:06', '12:35:05')
 
 
@@ -78,8 +84,10 @@ def wrong_scripts() -> Tuple[object, object]:
     """A script whose values are of another type, or have what a setup text cannot have, is refused in a line."""
     good = 'volume = "VOL"\ntime = 1\n[[channel]]\nid = 5\nkind = "arinc"\n[[step]]\ndo = "offer"\nchannel = 5\nbus = 3\n'
     found = []
-    for old, new in (('5\nkind = "arinc"', '5\nkind = ["arinc"]'), ('5\nkind = "arinc"', 'true\nkind = "arinc"'), ('time = 1', 'time = true'), ('"VOL"', '"VOL;G\\\\X:1"'),
-                     ('"VOL"', '3'), ('"VOL"', '"VOL\\nX"'), ('[[channel]]', '[channel]'), ('time = 1', 'time = ' + '9' * 5000), ('time = 1', 'time = ' + '[' * 5000)):
+    for old, new in (('5\nkind = "arinc"', '5\nkind = ["arinc"]'), ('5\nkind = "arinc"', 'true\nkind = "arinc"'),
+                     ('time = 1', 'time = true'), ('"VOL"', '"VOL;G\\\\X:1"'),
+                     ('"VOL"', '3'), ('"VOL"', '"VOL\\nX"'), ('[[channel]]', '[channel]'), ('time = 1', 'time = ' + '9' * 5000),
+                     ('time = 1', 'time = ' + '[' * 5000)):
         status, said, line = run(['tmats'], good.replace(old, new).encode())
         found.append((status, said, line.count('\n'), len(line) > 0))
     odd = [run(['tmats'], good.replace('bus = 3', new).encode())[0] for new in ('bus = []', 'bus = "b"', 'bus = 1.5')]
@@ -120,9 +128,12 @@ def inputs_of_the_shell() -> Tuple[object, object]:
         path = pathlib.Path(folder, 'flight.ch10')
         path.write_bytes(b''.join(make.parts))
         pathlib.Path(folder, 'empty').touch()
-        for call in ('"%s" csv < empty', '"%s" summary < /dev/null', '"%s" csv <&-', '"%s" csv < flight.ch10 >&-', '"%s" csv --jobs 3 < flight.ch10 | head -c 20',
-                     '"%s" json --jobs 99999 < flight.ch10 | tail -n 1 | cut -c 1-20', 'cat flight.ch10 | "%s" csv --jobs 2 | tail -n 1 | cut -c 1-4',
-                     '"%s" sqlite --out . < flight.ch10', '"%s" sqlite --out none/flight.db < flight.ch10', '"%s" csv --jobs 3 < flight.ch10 > /dev/full'):
+        for call in ('"%s" csv < empty', '"%s" summary < /dev/null', '"%s" csv <&-', '"%s" csv < flight.ch10 >&-',
+                     '"%s" csv --jobs 3 < flight.ch10 | head -c 20',
+                     '"%s" json --jobs 99999 < flight.ch10 | tail -n 1 | cut -c 1-20',
+                     'cat flight.ch10 | "%s" csv --jobs 2 | tail -n 1 | cut -c 1-4',
+                     '"%s" sqlite --out . < flight.ch10', '"%s" sqlite --out none/flight.db < flight.ch10',
+                     '"%s" csv --jobs 3 < flight.ch10 > /dev/full'):
             done = subprocess.run(['bash', '-c', 'set -o pipefail; ' + call % FILTER], cwd=folder, capture_output=True, timeout=60)
             found.append((done.returncode, done.stdout.decode(), done.stderr.decode()))
         reader, writer = os.pipe()
@@ -134,9 +145,11 @@ def inputs_of_the_shell() -> Tuple[object, object]:
         packets = done.communicate()[0].count(b'"packets": 40')
     return (found, packets), ([
         (1, '', 'ch10: an empty input\n'), (1, '', 'ch10: an empty input\n'),
-        (3, '', 'ch10: a read or a write failed: standard input is closed\n'), (3, '', 'ch10: a read or a write failed: standard output is closed\n'),
+        (3, '', 'ch10: a read or a write failed: standard input is closed\n'),
+        (3, '', 'ch10: a read or a write failed: standard output is closed\n'),
         (3, 'channel,name,count,t', ''), (0, '{"channel": 5, "name\n', ''), (0, '5,,3\n', ''),
-        (2, '', "ch10: '.' is there already: give --out another name\n"), (3, '', 'ch10: a read or a write failed: unable to open database file\n'),
+        (2, '', "ch10: '.' is there already: give --out another name\n"),
+        (3, '', 'ch10: a read or a write failed: unable to open database file\n'),
         (3, '', 'ch10: a read or a write failed: No space left on device\n')], 1)
 
 
@@ -155,7 +168,8 @@ def memory() -> Tuple[object, object]:
                 to.write(make.parts.pop()[:28])
                 to.seek(size, os.SEEK_CUR)  # which leaves a hole
             to.truncate(to.tell())
-        ask = 'import resource, subprocess, sys; subprocess.run(sys.argv[2:], stdin=open(sys.argv[1]), stdout=subprocess.DEVNULL); print(resource.getrusage(resource.RUSAGE_CHILDREN).ru_maxrss)'
+        ask = ('import resource, subprocess, sys; subprocess.run(sys.argv[2:], stdin=open(sys.argv[1]), '
+               'stdout=subprocess.DEVNULL); print(resource.getrusage(resource.RUSAGE_CHILDREN).ru_maxrss)')
         for words in (['summary'], ['svg'], ['csv'], ['range', '--from', '319']):
             done = subprocess.run([sys.executable, '-c', ask, str(path), sys.executable, FILTER] + words, stdout=subprocess.PIPE)
             most = max(most, int(done.stdout.split()[-1]))
@@ -175,7 +189,8 @@ def without_types(path: pathlib.Path) -> Iterator[str]:
     for node in ast.walk(ast.parse(path.read_text(encoding='utf-8'))):
         if isinstance(node, (ast.FunctionDef, ast.AsyncFunctionDef)):
             every = node.args.args + node.args.kwonlyargs + [one for one in (node.args.vararg, node.args.kwarg) if one]
-            bare = [one.arg for place, one in enumerate(every) if one.annotation is None and not (place == 0 and one.arg in ('self', 'cls'))]
+            bare = [one.arg for place, one in enumerate(every) if one.annotation is None
+                    and not (place == 0 and one.arg in ('self', 'cls'))]
             if bare or node.returns is None:
                 yield '%s:%d %s' % (path.name, node.lineno, node.name)
 
@@ -199,4 +214,5 @@ def syntax() -> Tuple[object, object]:
     return (found, len(said), start.index('version_info < (3, 7)') < start.index('from ch10')), ([], 1, True)
 
 
-TRIALS: List[Callable] = [damaged_front, within_another, once_wrong, counter_anew, wrong_scripts, more_lost_than_a_column_takes, inputs_of_the_shell, memory, version, signatures, syntax]
+TRIALS: List[Callable] = [damaged_front, within_another, once_wrong, counter_anew, wrong_scripts, more_lost_than_a_column_takes,
+                          inputs_of_the_shell, memory, version, signatures, syntax]

@@ -1,4 +1,5 @@
-"""What stands in recordings that are made here, stated by the standards, and what the filters say of it. scripts/ch10_trials.py check runs it."""
+"""What stands in recordings that are made here, stated by the standards, and what the filters say of it. scripts/ch10_trials.py
+check runs it."""
 import contextlib
 import csv
 import datetime
@@ -41,7 +42,8 @@ def opened(setup: bytes = SETUP_TEXT) -> Maker:
 BUS_MESSAGES = (  # block status, gap times, words, and the columns that are not empty but gaps
     (0, 80, [0x2862, 0x1111, 0x2222, 0x2800], 'value=11112222 bus=A rt=5 tr=R sa=3 wc=2 status1=2800'),
     (0x2000, 95, [0x2C61, 0x2808, 0xABCD], 'value=abcd bus=B rt=5 tr=T sa=3 wc=1 status1=2808 flags=busy'),
-    (0x0800, 70 << 8 | 60, [0x0841, 0x4C81, 0x4800, 0x5A5A, 0x0C00], 'value=5a5a bus=A rt=1 tr=R sa=2 wc=1 rt2=9 sa2=4 status1=4800 status2=0c00 flags=message error'),
+    (0x0800, 70 << 8 | 60, [0x0841, 0x4C81, 0x4800, 0x5A5A, 0x0C00],
+     'value=5a5a bus=A rt=1 tr=R sa=2 wc=1 rt2=9 sa2=4 status1=4800 status2=0c00 flags=message error'),
     (0, 50, [0x3FE2, 0x3801], 'bus=A rt=7 tr=T sa=31 mode=2 status1=3801 flags=terminal flag'),
     (0, 50, [0x3811, 0x0042, 0x3800], 'value=0042 bus=A rt=7 tr=R sa=0 mode=17 status1=3800'),
     (0, 50, [0x3C12, 0x3800, 0x3C11], 'value=3c11 bus=A rt=7 tr=T sa=0 mode=18 status1=3800'),
@@ -57,8 +59,10 @@ def bus_1553() -> Tuple[object, object]:
     make.put(7, 0x19, 2000, number(len(BUS_MESSAGES), 4) + b''.join(bus_message(2000, *message[:3]) for message in BUS_MESSAGES), 2)
     wanted = []
     for _, gap, _, said in BUS_MESSAGES:
-        wanted.append(dict(columns_of(said), name='NAV BUS', bus_name='NAVIGATION', gap1='%.1f' % ((gap & 255) / 10), gap2='%.1f' % ((gap >> 8) / 10)))
-    rows = [{name: cell for name, cell in row.items() if cell and name not in ('channel', 'count', 'time', 'lost', 'type')} for row in rows_of(['csv', '--kind', '1553'], b''.join(make.parts))]
+        wanted.append(dict(columns_of(said), name='NAV BUS', bus_name='NAVIGATION', gap1='%.1f' % ((gap & 255) / 10),
+                           gap2='%.1f' % ((gap >> 8) / 10)))
+    rows = [{name: cell for name, cell in row.items() if cell and name not in ('channel', 'count', 'time', 'lost', 'type')}
+            for row in rows_of(['csv', '--kind', '1553'], b''.join(make.parts))]
     return rows, wanted
 
 
@@ -83,10 +87,13 @@ def bus_429() -> Tuple[object, object]:
     make.put(8, 0x38, 2000, number(3, 4) + body, 1)
     common = {'channel': 8, 'name': 'AIR DATA', 'lost': 0, 'type': 'arinc', 'label': '203', 'sdi': 1, 'data': 0x12345, 'ssm': 3}
     wanted = [dict(common, count=2000, value='%08x' % odd, bus=1, bus_name='ADC LEFT', errors='', parity=odd >> 31, high=False),
-              dict(common, count=2010, value='%08x' % (odd ^ 1 << 31), bus=2, bus_name='ADC RIGHT', errors='even parity', parity=1 - (odd >> 31), high=False),
-              dict(common, count=2015, value='%08x' % odd, bus=9, bus_name='', errors='format error+parity error', parity=odd >> 31, high=True)]
+              dict(common, count=2010, value='%08x' % (odd ^ 1 << 31), bus=2, bus_name='ADC RIGHT', errors='even parity',
+                   parity=1 - (odd >> 31), high=False),
+              dict(common, count=2015, value='%08x' % odd, bus=9, bus_name='', errors='format error+parity error',
+                   parity=odd >> 31, high=True)]
     rows = [json.loads(line) for line in run(['json', '--kind', 'arinc'], b''.join(make.parts))[1].splitlines()]
-    turned = [json.loads(line)['label'] for line in run(['json', '--kind', 'arinc', '--turned-labels'], b''.join(make.parts))[1].splitlines()]
+    turned = [json.loads(line)['label']
+              for line in run(['json', '--kind', 'arinc', '--turned-labels'], b''.join(make.parts))[1].splitlines()]
     for row in rows:
         row.pop('time')
     return (rows, turned), (wanted, ['301'] * 3)
@@ -94,18 +101,24 @@ def bus_429() -> Tuple[object, object]:
 
 def text_and_bits() -> Tuple[object, object]:
     make = opened()
-    make.put(5, 0x50, 2000, number(1 << 31, 4) + letters(2000, b'$GPGGA,"a"\\\r\n') + letters(2001, b'\x00\x01') + letters(2002, b'', 1 << 31 | 5 << 16))
+    make.put(5, 0x50, 2000, number(1 << 31, 4) + letters(2000, b'$GPGGA,"a"\\\r\n') + letters(2001, b'\x00\x01')
+             + letters(2002, b'', 1 << 31 | 5 << 16))
     make.put(6, 0x30, 2010, number(2, 4) + letters(2010, b'ok', 1 << 31 | 1 << 30) + letters(2011, b'\xe9', 1 << 30))
-    make.put(9, 0x29, 2020, number(5 << 3, 4) + b''.join(number(2020 + place, 8) + number(states, 4) for place, states in enumerate((0x11, 0x11, 0x06))))
+    make.put(9, 0x29, 2020,
+             number(5 << 3, 4)
+             + b''.join(number(2020 + place, 8) + number(states, 4) for place, states in enumerate((0x11, 0x11, 0x06))))
     make.put(9, 0x29, 2030, number(5 << 3, 4) + number(2030, 8) + number(0x16, 4))
     said = run(['csv'], b''.join(make.parts))[1].splitlines()
     places = {name: place for place, name in enumerate(said[0].split(','))}
     rows = list(csv.reader(said))[1:]
-    found = [(row[places['value']], row[places['text']], row[places['sub']], row[places['errors']], row[places['bits']], row[places['changed']]) for row in rows[1:]]
+    found = [(row[places['value']], row[places['text']], row[places['sub']], row[places['errors']], row[places['bits']],
+              row[places['changed']]) for row in rows[1:]]
     return (len(said), found), (11, [
         (b'$GPGGA,"a"\\\r\n'.hex(), '$GPGGA,"a"\\\\\\r\\n', '0', '', '', ''), ('0001', '', '0', '', '', ''),
-        ('', '', '5', 'parity error', '', ''), ('6f6b', 'ok', '0', 'data error+format error', '', ''), ('e9', '', '0', 'format error', '', ''),
-        ('00000011', '', '', '', '10001', ''), ('00000011', '', '', '', '10001', ''), ('00000006', '', '', '', '00110', '-0 +1 +2 -4'), ('00000016', '', '', '', '10110', '+4')])
+        ('', '', '5', 'parity error', '', ''), ('6f6b', 'ok', '0', 'data error+format error', '', ''),
+        ('e9', '', '0', 'format error', '', ''),
+        ('00000011', '', '', '', '10001', ''), ('00000011', '', '', '', '10001', ''),
+        ('00000006', '', '', '', '00110', '-0 +1 +2 -4'), ('00000016', '', '', '', '10110', '+4')])
 
 
 # ---- times
@@ -125,7 +138,8 @@ def clocks() -> Tuple[object, object]:
     found = [json.loads(line) for line in run(['summary', '--json'], b''.join(make.parts))[1].splitlines()]
     clock = next(row['clock'] for row in found if 'clock' in row)
     text = run(['summary'], b''.join(make.parts))[1]
-    return (clock['seconds_without'], clock['steps_back'], [(jump['count'], round(jump['seconds'])) for jump in clock['jumps']], 800 < clock['drift_ppm'] < 1100,
+    return (clock['seconds_without'], clock['steps_back'], [(jump['count'], round(jump['seconds'])) for jump in clock['jumps']],
+            800 < clock['drift_ppm'] < 1100,
             text.count('time jump on channel 1')), (3, 1, [(100 * SECOND, 3600), (150 * SECOND, -10)], True, 2)
 
 
@@ -133,12 +147,15 @@ def slow_rate() -> Tuple[object, object]:
     """A channel with an entry a second is said to have one a second, in the table and in the picture."""
     make = opened()
     for second in range(30):
-        make.put(5, 0x50, 1000 + second * SECOND, number(1 << 31, 4) + letters(1000 + second * SECOND, b'A'), flags=0x10 if second == 20 else 0)
+        make.put(5, 0x50, 1000 + second * SECOND, number(1 << 31, 4) + letters(1000 + second * SECOND, b'A'),
+                 flags=0x10 if second == 20 else 0)
     data = b''.join(make.parts)
     texts = [element.text for element in tree.fromstring(run(['svg'], data)[1]).iter('{http://www.w3.org/2000/svg}text')]
     axis = [text for text in texts if text.startswith('12:3')]
-    return ([text for text in texts if text.endswith('/s')], [text for text in texts if text.endswith('+ lost')], len(axis), all(len(text) == 8 for text in axis),
-            [line.split()[-6] for line in run(['summary'], data)[1].splitlines() if ' uart ' in line][0]), (['mean 1/s'], ['1+ lost'], len(axis), True, '1')
+    return ([text for text in texts if text.endswith('/s')], [text for text in texts if text.endswith('+ lost')], len(axis),
+            all(len(text) == 8 for text in axis),
+            [line.split()[-6] for line in run(['summary'], data)[1].splitlines() if ' uart ' in line][0]), (
+                ['mean 1/s'], ['1+ lost'], len(axis), True, '1')
 
 
 # ---- recordings of others
@@ -147,11 +164,14 @@ def others() -> Tuple[object, object]:
     """Another recorder's recording: what is read, what is opaque, with names, and its entries' times by the day of the year."""
     data = b''.join(foreign())
     status, said, line = run(['summary', '--json'], data)
-    rows = {(row['channel'], row['type']): (row['packets'], row['opaque'], row['bad'], row['jumps']) for row in map(json.loads, said.splitlines()) if 'packets' in row}
+    rows = {(row['channel'], row['type']): (row['packets'], row['opaque'], row['bad'], row['jumps'])
+            for row in map(json.loads, said.splitlines()) if 'packets' in row}
     entries = [json.loads(text) for text in run(['json', '--channel', '5'], data)[1].splitlines()]
     return (status, line, rows, len(entries), entries[0]['time'], entries[0]['text'], run(['setup'], data)[1].encode()), (
-        0, '', {(0, 'setup'): (1, 0, 0, 0), (1, 'time'): (10, 0, 0, 0), (5, 'uart'): (40, 0, 0, 0), (20, 'pcm-09'): (40, 40, 0, 0), (21, 'video-40'): (40, 40, 0, 0),
-                (22, 'ethernet-68'): (40, 40, 0, 0), (23, 'analog-21'): (40, 40, 0, 0), (24, 'uart'): (40, 40, 0, 0)}, 40, '060 12:34:10.0000000', 'plain', SETUP_TEXT)
+        0, '', {(0, 'setup'): (1, 0, 0, 0), (1, 'time'): (10, 0, 0, 0), (5, 'uart'): (40, 0, 0, 0), (20, 'pcm-09'): (40, 40, 0, 0),
+                (21, 'video-40'): (40, 40, 0, 0),
+                (22, 'ethernet-68'): (40, 40, 0, 0), (23, 'analog-21'): (40, 40, 0, 0), (24, 'uart'): (40, 40, 0, 0)}, 40,
+        '060 12:34:10.0000000', 'plain', SETUP_TEXT)
 
 
 # ---- setup texts
@@ -165,7 +185,8 @@ def setup_tree() -> Tuple[object, object]:
     lines = said.splitlines()
     return (status, lines[:3], lines[lines.index('') + 1:]), (
         0, ['G  general information', '  PN: FLIGHT', '  106: 17'],
-        ['channel 5 is named 1553IN, and has packets of type 50', 'channel 7 is not named', 'channel 6 is named, and has no packet', 'channel 8 is named, and has no packet',
+        ['channel 5 is named 1553IN, and has packets of type 50', 'channel 7 is not named', 'channel 6 is named, and has no packet',
+         'channel 8 is named, and has no packet',
          'channel 9 is named, and has no packet', 'channel 70 is named, and has no packet'])
 
 
@@ -203,9 +224,11 @@ def text_for_script() -> Tuple[object, object]:
     data = b''.join(make.parts)
     rows = [(row['name'], row['bus_name']) for row in rows_of(['csv'], data)]
     by_hand = script.by_lines(SCRIPT.decode())
-    return (text.decode() == run(['tmats'], SCRIPT)[1], run(['setup', '--tree'], data)[1].splitlines()[-1], rows, by_hand[0]['time'], by_hand[1]['step'][0]), (
-        True, 'each channel of the recording is named, with its type', [('TIME', ''), ('UART-5', ''), ('1553-7', '1553-7'), ('ARINC-8', 'ARINC-8-3'), ('ARINC-8', '')], 1,
-        {'do': 'offer', 'channel': 8, 'bus': 3})
+    return (text.decode() == run(['tmats'], SCRIPT)[1], run(['setup', '--tree'], data)[1].splitlines()[-1], rows,
+            by_hand[0]['time'], by_hand[1]['step'][0]), (
+                True, 'each channel of the recording is named, with its type',
+                [('TIME', ''), ('UART-5', ''), ('1553-7', '1553-7'), ('ARINC-8', 'ARINC-8-3'), ('ARINC-8', '')], 1,
+                {'do': 'offer', 'channel': 8, 'bus': 3})
 
 
 # ---- the ways that have to agree
@@ -236,27 +259,37 @@ def database() -> Tuple[object, object]:
 
 
 def of_ways() -> Maker:
-    """A recording with what the ways may take otherwise: entries without bytes and very long ones, words that are not there, states that are told anew."""
+    """A recording with what the ways may take otherwise: entries without bytes and very long ones, words that are not there, states
+    that are told anew."""
     draw, make, count = random.Random('of ways'), Maker(), 10 ** 12
     make.put(0, 0x01, count, number(0x0C, 4) + SETUP_TEXT.replace(b'GPS LINE', b'GPS, "LINE"'))
-    make.put(5, 0x50, count, number(1 << 31, 4) + letters(count, b'', 3 << 16) + letters(count, b'a,b') + letters(count + 1, bytes(70)) + letters(count + 2, b'x' * 64))
-    make.put(5, 0x50, count, number(1 << 31, 4) + letters(count, b'$GPGGA,1\\2\t"q"\r\n', 1 << 31 | 9 << 16) + letters(count, b'"\\') + letters(count + 3, b'y' * 600))
+    make.put(5, 0x50, count, number(1 << 31, 4) + letters(count, b'', 3 << 16) + letters(count, b'a,b')
+             + letters(count + 1, bytes(70)) + letters(count + 2, b'x' * 64))
+    make.put(5, 0x50, count, number(1 << 31, 4) + letters(count, b'$GPGGA,1\\2\t"q"\r\n', 1 << 31 | 9 << 16)
+             + letters(count, b'"\\') + letters(count + 3, b'y' * 600))
     make.put(6, 0x30, count, number(2, 4) + letters(count, b'plain', 3 << 30) + letters(count, b'"'), flags=0x10)
     make.put(6, 0x30, 10, number(3, 4) + letters(9, b'1', 1 << 30) + letters(10, b'\r\n', 2 << 30) + letters(99, b'\x7f'))
-    make.put(7, 0x19, count, number(3, 4) + bus_message(count, 0xFFFF, 0xFFFF, []) + bus_message(count, 0x800, 0, [0x0841, 0x4C81]) + bus_message(count, 0, 0, [1] * 50))
+    make.put(7, 0x19, count, number(3, 4) + bus_message(count, 0xFFFF, 0xFFFF, []) + bus_message(count, 0x800, 0, [0x0841, 0x4C81])
+             + bus_message(count, 0, 0, [1] * 50))
     make.put(7, 0x19, count, number(0, 4))
-    some = [bus_message(count + place, draw.choice((0, 0x800, 0x2838)), draw.randrange(1 << 16), [draw.choice((0x0841, 0x0C42, 0xF841, 0x083F, draw.randrange(1 << 16)))
-                                                                                                   for _ in range(draw.randrange(12))]) for place in range(400)]
+    some = [bus_message(count + place, draw.choice((0, 0x800, 0x2838)), draw.randrange(1 << 16),
+                        [draw.choice((0x0841, 0x0C42, 0xF841, 0x083F, draw.randrange(1 << 16)))
+                          for _ in range(draw.randrange(12))]) for place in range(400)]
     make.put(7, 0x19, count, number(400, 4) + b''.join(some))
     odd = number(count, 8) + number(0x2000, 2) + number(80, 2) + number(3, 2) + b'\x41\x08\x07'  # which has half a word
     make.put(17, 0x19, count, number(3, 4) + odd + bus_message(count, 0, 0, [0x0841, 7]) + odd)
     make.put(8, 0x38, count, number(0, 4))
-    make.put(8, 0x38, count, number(4, 4) + b''.join(number(head, 4) + number(word, 4) for head, word in ((0, 0), ((1 << 32) - 1, (1 << 32) - 1), (1 << 24, 1023 << 10), (5, 9))))
-    make.put(9, 0x29, count, number(31 << 3, 4) + b''.join(number(count + place, 8) + number(draw.choice((0, (1 << 32) - 1, 1 << 31, 5)), 4) for place in range(9)))
+    make.put(8, 0x38, count,
+             number(4, 4) + b''.join(number(head, 4) + number(word, 4)
+                                     for head, word in ((0, 0), ((1 << 32) - 1, (1 << 32) - 1), (1 << 24, 1023 << 10), (5, 9))))
+    make.put(9, 0x29, count,
+             number(31 << 3, 4)
+             + b''.join(number(count + place, 8) + number(draw.choice((0, (1 << 32) - 1, 1 << 31, 5)), 4) for place in range(9)))
     make.put(9, 0x29, count, number(0, 4) + number(count, 8) + number(7, 4))
     make.put(9, 0x29, count, number(3 << 3, 4))
     make.put(9, 0x29, count, number(3 << 3, 4) + number(count, 8) + number(0xFFFFFFF0, 4))
-    make.put(65535, 0x50, count, number(1 << 31, 4) + b''.join(letters(count + place % 7, b'%d' % place) for place in range(300)), flags=0x10)
+    make.put(65535, 0x50, count, number(1 << 31, 4) + b''.join(letters(count + place % 7, b'%d' % place) for place in range(300)),
+             flags=0x10)
     return make
 
 
@@ -268,11 +301,13 @@ def damaged(parts: List[bytes]) -> List[bytes]:
 def by_ways() -> Tuple[object, object]:
     """By one process and by three, and by numpy where it is installed: the same bytes, and the same summary."""
     extra = of_ways().parts
-    recordings = [flight(random.Random('ways'), 300) + extra, extra, 2 * flight(random.Random('twice'), 60), damaged(flight(random.Random('damaged'), 100))]
+    recordings = [flight(random.Random('ways'), 300) + extra, extra, 2 * flight(random.Random('twice'), 60),
+                  damaged(flight(random.Random('damaged'), 100))]
     wrong = []
     for which, parts in enumerate(recordings):
         data = b''.join(parts)
-        for words in (['csv'], ['json'], ['csv', '--kind', 'uart'], ['json', '--channel', '7'], ['csv', '--kind', 'arinc', '--turned-labels'], ['json', '--kind', '1553'],
+        for words in (['csv'], ['json'], ['csv', '--kind', 'uart'], ['json', '--channel', '7'],
+                      ['csv', '--kind', 'arinc', '--turned-labels'], ['json', '--kind', '1553'],
                       ['csv', '--raw'], ['csv', '--keep-going'], ['summary', '--json']):
             wanted = None
             for least, each, together, few, ahead, jobs in WAYS:
@@ -284,9 +319,12 @@ def by_ways() -> Tuple[object, object]:
     return (len(wanted[1]) > 0, wrong), (True, [])
 
 
-# From which size on numpy is used, bytes of a part, entries of a page, packets that are walked together, bytes looked ahead, and processes.
-WAYS = ((1 << 40, 1 << 20, 40000, 24, 8 << 20, '1'), (1 << 40, 12000, 40000, 24, 8 << 20, '1'), (1 << 40, 12000, 40000, 24, 8 << 20, '3'),
-        (0, 1 << 20, 40000, 24, 8 << 20, '1'), (0, 12000, 100, 2, 5000, '1'), (0, 12000, 7, 1000, 100, '3'), (0, 1 << 20, 33, 1, 8 << 20, '2'))
+# From which size on numpy is used, bytes of a part, entries of a page, packets that are walked together, bytes looked ahead, and
+# processes.
+WAYS = ((1 << 40, 1 << 20, 40000, 24, 8 << 20, '1'), (1 << 40, 12000, 40000, 24, 8 << 20, '1'),
+        (1 << 40, 12000, 40000, 24, 8 << 20, '3'),
+        (0, 1 << 20, 40000, 24, 8 << 20, '1'), (0, 12000, 100, 2, 5000, '1'), (0, 12000, 7, 1000, 100, '3'),
+        (0, 1 << 20, 33, 1, 8 << 20, '2'))
 
 
 @contextlib.contextmanager
@@ -300,4 +338,5 @@ def ways(least: int, each: int, together: int, few: int, ahead: int) -> Iterator
         walk.LEAST, lines.EACH, vector.EACH, vector.TOGETHER, walk.FEW, walk.AHEAD = kept
 
 
-TRIALS: List[Callable] = [bus_1553, bus_429, text_and_bits, clocks, slow_rate, others, setup_tree, text_for_script, database, by_ways]
+TRIALS: List[Callable] = [bus_1553, bus_429, text_and_bits, clocks, slow_rate, others, setup_tree, text_for_script,
+                          database, by_ways]

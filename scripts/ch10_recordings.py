@@ -1,4 +1,5 @@
-"""Recordings that are made here by the public standard, for the trials of the filters: flights of this and other recorders, and what damages them."""
+"""Recordings that are made here by the public standard, for the trials of the filters: flights of this and other recorders, and
+what damages them."""
 import datetime
 import random
 from typing import List, Tuple
@@ -9,8 +10,10 @@ WIDTHS = (0, 1, 2, 4)
 SECOND = 10 ** 7
 
 
-def summed(channel: int, sequence: int, kind: int, counter: int, body: bytes, check: int = 0, flags: int = 0, second: bytes = b'', filler: int = 0) -> bytes:
-    """A packet with a data checksum of this kind (0 to 3), after a secondary header, with so many bytes of filler more than it takes."""
+def summed(channel: int, sequence: int, kind: int, counter: int, body: bytes, check: int = 0, flags: int = 0, second: bytes = b'',
+           filler: int = 0) -> bytes:
+    """A packet with a data checksum of this kind (0 to 3), after a secondary header, with so many bytes of filler more than it
+    takes."""
     width = WIDTHS[check]
     rest = body + bytes(-(len(body) + width) % 4 + filler)
     front = b'\x25\xeb' + number(channel, 2) + number(24 + len(second) + len(rest) + width, 4) + number(len(body), 4)
@@ -35,7 +38,8 @@ def day_body(day: int, clock: Tuple[int, int, int]) -> bytes:
 
 
 def bus_message(count: int, status: int, gap: int, words: List[int]) -> bytes:
-    return number(count, 8) + number(status, 2) + number(gap, 2) + number(2 * len(words), 2) + b''.join(number(word, 2) for word in words)
+    return number(count, 8) + number(status, 2) + number(gap, 2) + number(2 * len(words),
+                                                                          2) + b''.join(number(word, 2) for word in words)
 
 
 class Maker:
@@ -52,9 +56,11 @@ class Maker:
 SETUP_TEXT = (b'G\\PN:FLIGHT;G\\106:17;G\\DSI\\N:1;G\\DSI-1:REC;G\\DST-1:STO;R-1\\ID:REC;R-1\\N:6;'
               b'R-1\\TK1-1:1;R-1\\DSI-1:CLOCK;R-1\\CDT-1:TIMEIN;R-1\\TK1-2:5;R-1\\DSI-2:GPS LINE;R-1\\CDT-2:UARTIN;'
               b'R-1\\TK1-3:6;R-1\\DSI-3:CREW;R-1\\CDT-3:MSGIN;R-1\\TK1-4:7;R-1\\DSI-4:NAV BUS;R-1\\CDT-4:1553IN;R-1\\CDLN-4:NAV;'
-              b'R-1\\TK1-5:8;R-1\\DSI-5:AIR DATA;R-1\\CDT-5:429IN;R-1\\CDLN-5:AIR;R-1\\TK1-6:9;R-1\\DSI-6:SWITCHES;R-1\\CDT-6:DISIN;'
+              b'R-1\\TK1-5:8;R-1\\DSI-5:AIR DATA;R-1\\CDT-5:429IN;R-1\\CDLN-5:AIR;R-1\\TK1-6:9;R-1\\DSI-6:SWITCHES;'
+              b'R-1\\CDT-6:DISIN;'
               b'B-1\\DLN:NAV;B-1\\NBS\\N:1;B-1\\BID-1:0;B-1\\BNA-1:NAVIGATION;B-1\\BT-1:1553;'
-              b'B-2\\DLN:AIR;B-2\\NBS\\N:2;B-2\\BID-1:1;B-2\\BNA-1:ADC LEFT;B-2\\BT-1:A429;B-2\\BID-2:2;B-2\\BNA-2:ADC RIGHT;B-2\\BT-2:A429;')
+              b'B-2\\DLN:AIR;B-2\\NBS\\N:2;B-2\\BID-1:1;B-2\\BNA-1:ADC LEFT;B-2\\BT-1:A429;B-2\\BID-2:2;B-2\\BNA-2:ADC RIGHT;'
+              b'B-2\\BT-2:A429;')
 
 
 def flight(draw: random.Random, packets: int = 500, first: int = 0) -> List[bytes]:
@@ -77,11 +83,13 @@ def flight(draw: random.Random, packets: int = 500, first: int = 0) -> List[byte
             make.put(7, 0x19, some[0], number(len(some), 4) + b''.join(any_bus_message(draw, at) for at in some), check)
         elif channel == 8:
             body = number(len(some), 4) + b''.join(
-                number(draw.choice((1, 2)) << 24 | draw.choice((0, 0, 0, 1 << 22)) | (draw.randrange(1000) if place else 0), 4) + number(draw.randrange(1 << 32), 4)
+                number(draw.choice((1, 2)) << 24 | draw.choice((0, 0, 0, 1 << 22)) | (draw.randrange(1000) if place else 0), 4)
+                + number(draw.randrange(1 << 32), 4)
                 for place in range(len(some)))
             make.put(8, 0x38, some[0], body, check)
         elif channel == 9:
-            make.put(9, 0x29, some[0], number(8 << 3, 4) + b''.join(number(at, 8) + number(draw.randrange(256), 4) for at in some), check)
+            make.put(9, 0x29, some[0], number(8 << 3, 4) + b''.join(number(at, 8) + number(draw.randrange(256), 4) for at in some),
+                     check)
         else:
             make.put(2, 0x02, some[0], number(1, 4) + number(some[0], 8) + number(1 << 28 | draw.randrange(1 << 12), 4), check)
         count += SECOND // 20
@@ -101,7 +109,8 @@ def any_bus_message(draw: random.Random, count: int) -> bytes:
         return bus_message(count, bus, 90, [send, rt << 11] + data)
     if which == 2:
         other = (rt + 1) % 31
-        return bus_message(count, bus | 0x800, 70 << 8 | 80, [receive, other << 11 | 1 << 10 | sa << 5 | size & 31, other << 11] + data + [rt << 11])
+        return bus_message(count, bus | 0x800, 70 << 8 | 80,
+                           [receive, other << 11 | 1 << 10 | sa << 5 | size & 31, other << 11] + data + [rt << 11])
     if which == 3:
         return bus_message(count, bus, 60, [rt << 11 | 1 << 10 | 31 << 5 | 2, rt << 11])
     if which == 4:

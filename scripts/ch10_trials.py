@@ -1,15 +1,17 @@
 #!/usr/bin/env python3
 """Compares scripts/ch10.py with r10, and with what is stated of recordings that are made here.
 
-    scripts/ch10_trials.py check                           # without r10, in seconds: recordings of every kind, of other recorders, and at fault
+    scripts/ch10_trials.py check                           # without r10, in seconds: recordings of every kind, of other recorders,
+                                                             and at fault
     scripts/ch10_trials.py examples PROGRAM                # what PROGRAM records of each script of examples/
     scripts/ch10_trials.py random PROGRAM [COUNT [SEED]]   # what it records of so many random scripts: else 200, from seed 1
-    scripts/ch10_trials.py using PROGRAM                   # the lines of docs/USING.md that begin with `$`, and what stands below each
+    scripts/ch10_trials.py using PROGRAM                   # the lines of docs/USING.md that begin with `$`, and what stands below
+                                                             each
     scripts/ch10_trials.py large MEBIBYTES > RECORDING     # a recording of about that size, for measures
 
-Of each file that `r10 files` lists, the entries of csv and json have to be those of `r10 play`, whole, of a channel and in a range; the
-summary's numbers have to be those of these lines and of the listing; the file has to be strict by `r10 check`, and to have the setup
-text that the script gave; a range of civil times, what those lines say is in it; and a picture, a strip for each channel.
+Of each file that `r10 files` lists, the entries of csv and json have to be those of `r10 play`, whole, of a channel and in a range;
+the summary's numbers have to be those of these lines and of the listing; the file has to be strict by `r10 check`, and to have the
+setup text that the script gave; a range of civil times, what those lines say is in it; and a picture, a strip for each channel.
 """
 import csv
 import datetime
@@ -111,8 +113,10 @@ class Stated:
 
 # ---- what a filter's output says, as r10's lines
 
-KEYS = {'uart': ('parity', 'sub', 'bytes'), '1553': ('status', 'gap', 'words'), 'arinc': ('bus', 'format', 'parity', 'high', 'data'),
-        'discrete': ('states',), 'message': ('data_error', 'format', 'sub', 'bytes'), 'time': ('civil',), 'event': ('number', 'occurrence')}
+KEYS = {'uart': ('parity', 'sub', 'bytes'), '1553': ('status', 'gap', 'words'),
+        'arinc': ('bus', 'format', 'parity', 'high', 'data'),
+        'discrete': ('states',), 'message': ('data_error', 'format', 'sub', 'bytes'), 'time': ('civil',),
+        'event': ('number', 'occurrence')}
 VALUES = ('bytes', 'words', 'data', 'states', 'civil')
 
 
@@ -168,10 +172,11 @@ def times_of(lines):
 # ---- one image
 
 def compare(image, other, setups, draw, starts=None):
-    """Compares each filter with what the other side says of an image. Answers how many files, entries, files that are not closed and
-    losses there were."""
+    """Compares each filter with what the other side says of an image. Answers how many files, entries, files that are not closed
+    and losses there were."""
     listing = other.files(image)
-    agree(ran(['summary'], image).decode().splitlines()[0].split(', ')[1], '%d file%s' % (len(listing), '' if len(listing) == 1 else 's'), 'summary')
+    agree(ran(['summary'], image).decode().splitlines()[0].split(', ')[1],
+          '%d file%s' % (len(listing), '' if len(listing) == 1 else 's'), 'summary')
     total = losses = 0
     for place, line in enumerate(listing):
         _, shown, name, size, blocks, closed = line.split(' ')
@@ -212,7 +217,8 @@ def losses_in(lines):
 
 
 def lost_in(lines):
-    """How many messages were lost, as a number, and of how many losses it isn't told; a loss of an untold number is one at least."""
+    """How many messages were lost, as a number, and of how many losses it isn't told; a loss of an untold number is one at
+    least."""
     gaps = [line.split(' ')[3] for line in lines]
     return sum(1 if gap == '1+' else int(gap) for gap in gaps), gaps.count('1+')
 
@@ -243,7 +249,8 @@ def compare_table(said, lines, size):
     words = [line.split() for line in said.splitlines()]
     total = next(line for line in words if line[:1] == ['all'])
     lost, untold = lost_in(lines)
-    agree(total[2:4] + total[4:], [str(len(lines)), str(size), str(losses_in(lines)), '%d%s' % (lost, '+' if untold else ''), '0', '0', '0'], 'table')
+    agree(total[2:4] + total[4:],
+          [str(len(lines)), str(size), str(losses_in(lines)), '%d%s' % (lost, '+' if untold else ''), '0', '0', '0'], 'table')
 
 
 def compare_ranges(image, data, other, of, lines, times, draw):
@@ -254,8 +261,10 @@ def compare_ranges(image, data, other, of, lines, times, draw):
     by_count = ['--from', str(first), '--to', str(last)]
     for more in ([], ['--channel', channel]):
         wanted = other.play(image, of + more + by_count)
-        agree([line for line, _ in csv_lines(ran(['csv', '--raw'] + of + more + by_count, image))], wanted, 'csv %s' % (more + by_count))
-        agree([line for line, _ in json_lines(ran(['json', '--raw'] + of + more + by_count, image))], wanted, 'json %s' % (more + by_count))
+        agree([line for line, _ in csv_lines(ran(['csv', '--raw'] + of + more + by_count, image))], wanted,
+              'csv %s' % (more + by_count))
+        agree([line for line, _ in json_lines(ran(['json', '--raw'] + of + more + by_count, image))], wanted,
+              'json %s' % (more + by_count))
     compare_cut(data, by_count, [line for line, count in zip(lines, counts) if first <= count <= last], other)
     early, late = sorted(draw.choice(times) + draw.choice((-1, 0, 0, 1, -10 ** 6, 10 ** 6)) for _ in range(2))
     by_time = ['--from', text_of(early), '--to', text_of(late).replace(' ', draw.choice(' T'))]
@@ -266,8 +275,8 @@ def compare_ranges(image, data, other, of, lines, times, draw):
 
 
 def compare_cut(data, within, wanted, other):
-    """A range as a recording: no recorder's fault, the same entries in the range, and no packet without one but setup, one time, and a loss report right
-    before a packet that has a loss."""
+    """A range as a recording: no recorder's fault, the same entries in the range, and no packet without one but setup, one time,
+    and a loss report right before a packet that has a loss."""
     cut = ran(['range'] + within, data)
     verdict = other.verdict(cut)
     if verdict not in ('strict', 'lenient 0'):
@@ -278,9 +287,11 @@ def compare_cut(data, within, wanted, other):
     agree([part for part in kept if part not in rest], [], 'the packets of a range, in their order')
     agree([sum(part[15] == kind for part in kept) for kind in (1, 3)], [1, 0], 'setup and index packets of a range')
     reports = [(part, behind) for part, behind in zip(kept, kept[1:] + [bytes(24)]) if part[15] == 0]
-    agree([part[32:34] == behind[2:4] and behind[14] & 0x10 for part, behind in reports], [0x10] * len(reports), 'reports of a range')
+    agree([part[32:34] == behind[2:4] and behind[14] & 0x10 for part, behind in reports], [0x10] * len(reports),
+          'reports of a range')
     reports = [part for part, _ in reports]
-    without = sum(not {bare(line) for line in csv_of(part)} & set(map(bare, wanted)) for part in kept if part[15] != 1 and part not in reports)
+    without = sum(not {bare(line) for line in csv_of(part)} & set(map(bare, wanted)) for part in kept if part[15] != 1
+                  and part not in reports)
     if without > 1:
         raise Bad('range %s has %d packets without an entry in it' % (within, without))
 
@@ -311,7 +322,8 @@ def compare_picture(said, lines, drawn=None):
     texts = [element.text for element in picture.iter('{http://www.w3.org/2000/svg}text')]
     channels = sorted({int(line.split(' ')[1]) for line in lines})
     agree([int(text.split(' ')[1]) for text in texts if text.startswith('channel ')], channels, 'strips')
-    agree(sum(int(text.split(' ')[0].rstrip('+').replace(',', '')) for text in texts if text.endswith(' lost') and text[:1].isdigit()),
+    agree(sum(int(text.split(' ')[0].rstrip('+').replace(',', '')) for text in texts if text.endswith(' lost')
+              and text[:1].isdigit()),
           lost_in(drawn)[0], 'losses of a picture')
     bars = [element for element in picture.iter('{http://www.w3.org/2000/svg}path') if element.get('fill')]
     agree(len(bars), len({line.split(' ')[1] for line in drawn}), 'strips with bars')
@@ -321,15 +333,18 @@ def compare_picture(said, lines, drawn=None):
 
 def script_of(draw):
     """A script that records all five kinds into some files, with its setup texts by the files' names, and its reserved blocks."""
-    kinds = ['uart', '1553', 'arinc', 'discrete', 'message'] + [draw.choice(('uart', '1553', 'arinc', 'discrete', 'message')) for _ in range(draw.randrange(3))]
+    kinds = ['uart', '1553', 'arinc', 'discrete', 'message'] + [draw.choice(('uart', '1553', 'arinc', 'discrete', 'message'))
+                                                                for _ in range(draw.randrange(3))]
     draw.shuffle(kinds)
     numbers = draw.sample(range(1, draw.choice((12, 65536))), len(kinds) + 2)
     reserved = draw.randint(1, 3)
-    lines = ['blocks = %d' % draw.choice((300, 1000)), 'directory = %d' % reserved, 'volume = "VOL"', 'nodes = 100', 'time = %d' % numbers[-1],
+    lines = ['blocks = %d' % draw.choice((300, 1000)), 'directory = %d' % reserved, 'volume = "VOL"', 'nodes = 100',
+             'time = %d' % numbers[-1],
              'event = %d' % numbers[-2]]
     channels = list(zip(numbers, kinds))
     for channel, kind in channels:
-        lines += ['[[channel]]', 'id = %d' % channel, 'kind = "%s"' % kind, 'capacity = %d' % draw.randint(1, 6), 'check = %d' % draw.choice((0, 8, 16, 32)),
+        lines += ['[[channel]]', 'id = %d' % channel, 'kind = "%s"' % kind, 'capacity = %d' % draw.randint(1, 6),
+                  'check = %d' % draw.choice((0, 8, 16, 32)),
                   'bytes = %d' % draw.choice((128, 256, 524288)), 'number = %d' % draw.choice((1, 2, 5, 65535))]
         lines += ['bits = %d' % draw.randint(1, 31)] if kind == 'discrete' else []
     clock = Clock(draw)
@@ -377,7 +392,8 @@ def step_of(draw, clock, channels):
     if which < 0.02:
         return 'do = "lose"\nchannel = %d\ncount = %d' % (channel, draw.choice((0, 1, 40, 1 << 40)))
     if which < 0.76:
-        return '\n'.join(['do = "offer"', 'channel = %d' % channel, 'count = %d' % clock.go_on(draw.choice((2, 2, 500, 90000, 1500000)))] + message_of(draw, kind))
+        return '\n'.join(['do = "offer"', 'channel = %d' % channel,
+                          'count = %d' % clock.go_on(draw.choice((2, 2, 500, 90000, 1500000)))] + message_of(draw, kind))
     if which < 0.88:
         return 'do = "pump"\nchannel = %d\nk = %d' % (channel, draw.randint(1, 5))
     if which < 0.92:
@@ -391,13 +407,18 @@ def truth(draw):
 
 def message_of(draw, kind):
     if kind == 'uart':
-        return ['parity = ' + truth(draw), 'sub = %d' % draw.choice((0, 5, 16383)), 'bytes = "%s"' % draw.randbytes(draw.randrange(40)).hex()]
+        return ['parity = ' + truth(draw), 'sub = %d' % draw.choice((0, 5, 16383)),
+                'bytes = "%s"' % draw.randbytes(draw.randrange(40)).hex()]
     if kind == 'message':
-        return ['data = ' + truth(draw), 'format = ' + truth(draw), 'sub = %d' % draw.choice((0, 16383)), 'bytes = "%s"' % draw.randbytes(draw.randrange(40)).hex()]
+        return ['data = ' + truth(draw), 'format = ' + truth(draw), 'sub = %d' % draw.choice((0, 16383)),
+                'bytes = "%s"' % draw.randbytes(draw.randrange(40)).hex()]
     if kind == '1553':
-        return ['status = %d' % (draw.randrange(1 << 16) & 0x3E38), 'gap = %d' % draw.randrange(1 << 16), 'words = "%s"' % draw.randbytes(2 * draw.randrange(37)).hex()]
+        return ['status = %d' % (draw.randrange(1 << 16) & 0x3E38), 'gap = %d' % draw.randrange(1 << 16),
+                'words = "%s"' % draw.randbytes(2 * draw.randrange(37)).hex()]
     if kind == 'arinc':
-        return ['bus = %d' % draw.randrange(256)] + ['%s = %s' % (key, truth(draw)) for key in ('format', 'parity', 'high')] + ['data = %d' % draw.randrange(1 << 32)]
+        return ['bus = %d' % draw.randrange(256)] + ['%s = %s' % (key, truth(draw))
+                                                     for key in ('format', 'parity',
+                                                                 'high')] + ['data = %d' % draw.randrange(1 << 32)]
     return ['states = %d' % draw.randrange(1 << draw.randint(0, 4))]
 
 
@@ -423,7 +444,8 @@ def random_trials(program, count, seed):
             if len(done) % 20 == 0:
                 print('(%d of %d)' % (len(done), count), file=sys.stderr, flush=True)
     sums = tuple(sum(row[k] for row in done) for k in range(4))
-    print('%d recordings from seed %d: %d files, %d entries, %d files not closed, %d losses; %d do not agree' % ((count, seed) + sums + (len(bad),)))
+    print('%d recordings from seed %d: %d files, %d entries, %d files not closed, %d losses; %d do not agree'
+          % ((count, seed) + sums + (len(bad),)))
     return len(bad) > 0
 
 
@@ -457,7 +479,8 @@ def by_shell(program, image, other):
         medium.flush()
         for line in other.files(image):
             name = line.split(' ')[2]
-            said = subprocess.run('"%s" file %s < "%s" | "%s" check' % (FILTER, name, medium.name, program), shell=True, capture_output=True)
+            said = subprocess.run('"%s" file %s < "%s" | "%s" check' % (FILTER, name, medium.name, program), shell=True,
+                                  capture_output=True)
             agree((said.stdout, said.stderr), (b'strict\n', b''), 'file | r10 check')
             of = line.split(' ')[1]
             for call in ('"%s" csv --raw --file %s < "%s"', 'cat "%s" | "%s" csv --raw --file %s'):
@@ -490,7 +513,8 @@ def using_trials(program):
         for name in ('scripts', 'examples', 'ch10'):
             pathlib.Path(folder, name).symlink_to(TOP / name)
         pathlib.Path(folder, 'r10').symlink_to(pathlib.Path(program).resolve())
-        how = {'cwd': folder, 'env': dict(os.environ, PATH=folder + ':' + os.environ['PATH']), 'shell': True, 'capture_output': True}
+        how = {'cwd': folder, 'env': dict(os.environ, PATH=folder + ':' + os.environ['PATH']), 'shell': True,
+               'capture_output': True}
         subprocess.run('r10 sim --image < examples/first.toml > medium.img', **how)
         for call, wanted in shown_calls((TOP / 'docs' / 'USING.md').read_text()):
             if 'FILE' in call.split(' '):
@@ -542,19 +566,25 @@ def day_of_year(channel, sequence, counter, words):
 
 
 def others_recordings():
-    """Recordings of other recorders, and of each what the summary says of its rows: channel, type, packets, entries, jumps, opaque; and its entries' times."""
+    """Recordings of other recorders, and of each what the summary says of its rows: channel, type, packets, entries, jumps, opaque;
+    and its entries' times."""
     opening = [packet(0, 7, 0x01, 5, number(0x0C | 1 << 9, 4) + b'<xml/>'), day_of_year(1, 0, 1000, (0x5678, 0x1234, 0x0060))]
-    yield (b''.join(opening + [packet(5, 0, 0x50, 2000, number(1 << 31, 4) + letters(2000, b'A')), packet(9, 3, 0x40, 2500, bytes(40))]),
+    yield (b''.join(opening + [packet(5, 0, 0x50, 2000, number(1 << 31, 4) + letters(2000, b'A')),
+                               packet(9, 3, 0x40, 2500, bytes(40))]),
            [(0, 'setup', 1, None, 0, 0), (1, 'time', 1, 1, 0, 0), (5, 'uart', 1, 1, 0, 0), (9, 'video-40', 1, None, 0, 1)],
            ['060 12:34:56.7800000', '060 12:34:56.7801000'])
     yield (b''.join(opening + [packet(5, 0, 0x50, 2000, number(1 << 31, 4) + letters(2000, b'A'), flags=0x80, filler=bytes(14)),
                                packet(5, 1, 0x50, 2000, number(1 << 31, 4) + letters(2000, b'A'), flags=0x40),
-                               packet(5, 2, 0x50, 2000, number(0, 4) + letters(2000, b'A')), packet(5, 4, 0x50, 2010, number(1 << 31, 4) + letters(2010, b'A')),
-                               packet(6, 0, 0x30, 2000, number(1 << 16 | 9, 4) + letters(2000, b'A')), packet(0, 8, 0x03, 1000, number(1 << 30 | 1, 4) + bytes(24)),
+                               packet(5, 2, 0x50, 2000, number(0, 4) + letters(2000, b'A')),
+                               packet(5, 4, 0x50, 2010, number(1 << 31, 4) + letters(2010, b'A')),
+                               packet(6, 0, 0x30, 2000, number(1 << 16 | 9, 4) + letters(2000, b'A')),
+                               packet(0, 8, 0x03, 1000, number(1 << 30 | 1, 4) + bytes(24)),
                                packet(7, 0, 0xF3, 1, b'', flags=2)]),
-           [(0, 'setup', 1, None, 0, 0), (0, 'index', 1, None, 0, 1), (1, 'time', 1, 1, 0, 0), (5, 'uart', 4, 1, 1, 3), (6, 'message', 1, 0, 0, 1),
+           [(0, 'setup', 1, None, 0, 0), (0, 'index', 1, None, 0, 1), (1, 'time', 1, 1, 0, 0), (5, 'uart', 4, 1, 1, 3),
+            (6, 'message', 1, 0, 0, 1),
             (7, 'type-f3', 1, None, 0, 1)], ['060 12:34:56.7800000', '060 12:34:56.7801010'])
-    yield (b''.join(check_cases.packet(5, 0, 0x50, 2000, number(1 << 31, 4) + letters(2000, b'A') + letters(1000, b'')) for _ in range(1)),
+    yield (b''.join(check_cases.packet(5, 0, 0x50, 2000, number(1 << 31, 4) + letters(2000, b'A') + letters(1000, b''))
+                    for _ in range(1)),
            [(5, 'uart', 1, 2, 0, 0)], [None, None])
 
 
@@ -617,12 +647,14 @@ def calls():
     yield ['setup'], FIRST[:250], 1, cut
     yield ['range'], FIRST[:250], 1, cut
     yield ['csv'], b'', 1, 'an empty input'
-    yield ['csv'], bytes(1024), 1, 'neither a recording (no sync pattern at offset 0) nor an image of a medium (no directory block at offset 512)'
+    yield ['csv'], bytes(
+        1024), 1, 'neither a recording (no sync pattern at offset 0) nor an image of a medium (no directory block at offset 512)'
     yield ['setup'], FIRST[68:124], 1, 'the recording has no setup packet'
     yield ['csv', '--from', '12:00:00'], FIRST[68:124], 1, 'the recording has no time: --from and --to take its counts'
     yield ['csv', '--from', '060 12:00:00'], FIRST, 1, "the recording's times have a date"
     yield ['csv', '--from', '12:34:56.78', '--to', '2024-02-29'], FIRST, 2, (
-        "argument --to: '2024-02-29' is neither a count nor a time such as '2024-02-29 12:34:56.78', '060 12:34:56.78' or 12:34:56; see ch10 csv --help")
+        "argument --to: '2024-02-29' is neither a count nor a time such as '2024-02-29 12:34:56.78', '060 12:34:56.78' or 12:34:56;"
+        " see ch10 csv --help")
     yield ['file', 'FLT2'], image, 1, 'no file has the name FLT2'
     yield ['file', 'FLT1'], FIRST, 1, 'the input is a recording and no image: it has no files'
     yield ['file'], image, 2, 'file takes a NAME, or --file N; see ch10 file --help'
@@ -640,7 +672,8 @@ def compare_shell():
     with tempfile.NamedTemporaryFile() as medium:
         medium.write(play_cases.alone(FIRST))
         medium.flush()
-        for call, wanted in (('"%s" summary < %s | head -n 3 | tail -n 1', (b'file 0 FLT1: 272 bytes in 5 packets, closed\n', b'', 0)),
+        for call, wanted in (('"%s" summary < %s | head -n 3 | tail -n 1',
+                              (b'file 0 FLT1: 272 bytes in 5 packets, closed\n', b'', 0)),
                              ('"%s" file FLT1 < %s | tail -c 4', (b'\0\0\0\0', b'', 0)),
                              ('"%s" csv < %s > /dev/full', (b'', b'ch10: a read or a write failed: No space left on device\n', 3))):
             said = subprocess.run(call % (FILTER, medium.name), shell=True, capture_output=True)
@@ -680,12 +713,15 @@ def large(size, to):
         for channel, kind in ((5, 0x50), (6, 0x30)):
             some = sorted(draw.randrange(count, count + step) for _ in range(100))
             front = number(1 << 31, 4) if kind == 0x50 else number(len(some), 4)
-            put(channel, kind, some[0], front + b''.join(letters(at, draw.randbytes(draw.randrange(8, 40))) for at in some), 16, flags)
+            put(channel, kind, some[0], front + b''.join(letters(at, draw.randbytes(draw.randrange(8, 40))) for at in some), 16,
+                flags)
         some = sorted(draw.randrange(count, count + step) for _ in range(150))
         put(7, 0x19, some[0], number(len(some), 4) + b''.join(
             play_cases.bus(at, 0, 0, struct.unpack('<16H', draw.randbytes(32))) for at in some), 32)
-        put(8, 0x38, count, number(200, 4) + b''.join(number(1 << 24 | (4900 if place else 0), 4) + draw.randbytes(4) for place in range(200)), 8)
-        put(9, 0x29, count, number(8 << 3, 4) + b''.join(number(count + 50000 * place, 8) + number(draw.randrange(256), 4) for place in range(20)))
+        put(8, 0x38, count,
+            number(200, 4) + b''.join(number(1 << 24 | (4900 if place else 0), 4) + draw.randbytes(4) for place in range(200)), 8)
+        put(9, 0x29, count,
+            number(8 << 3, 4) + b''.join(number(count + 50000 * place, 8) + number(draw.randrange(256), 4) for place in range(20)))
         count += step
 
 

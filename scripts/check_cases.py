@@ -6,9 +6,9 @@
     scripts/check_cases.py kept           # fails where one of these files has others in their place
     scripts/check_cases.py run PROGRAM    # runs PROGRAM check over each file of these rows, and says what does not answer as wanted
 
-The wanted answers are stated here beside the files, as docs/FORMAT.md gives them; scripts/judge_recording.py, which is written from the
-same rules, has to agree with each. Of the thousand files at the end, which are random bytes and the first recording with one byte
-changed, that script alone says the answer. Nothing is taken from the recorder.
+The wanted answers are stated here beside the files, as docs/FORMAT.md gives them; scripts/judge_recording.py, which is written from
+the same rules, has to agree with each. Of the thousand files at the end, which are random bytes and the first recording with one
+byte changed, that script alone says the answer. Nothing is taken from the recorder.
 """
 import hashlib
 import pathlib
@@ -50,7 +50,8 @@ def recording():
 
 
 def index_of(parts, counter, sequence, each=None, entries=100):
-    """Node packets for these packets, of a hundred entries or so many, in groups of `each` with a root behind each; or in one group."""
+    """Node packets for these packets, of a hundred entries or so many, in groups of `each` with a root behind each; or in one
+    group."""
     places = places_of(parts)
     some = [places[first:first + entries] for first in range(0, len(places), entries)]
     each, end, before, index = each or len(some), size(parts), None, []
@@ -82,7 +83,8 @@ def root_of(nodes, end, counter, sequence, own=None, before=None):
 
 def root_naming(places, counter, sequence):
     """A root with entries of these offsets."""
-    return packet(0, sequence, INDEX, counter, number(len(places), 4) + b''.join(number(counter, 8) + number(at, 8) for at in places))
+    return packet(0, sequence, INDEX, counter,
+                  number(len(places), 4) + b''.join(number(counter, 8) + number(at, 8) for at in places))
 
 
 def letters(count, text, head=0):
@@ -128,8 +130,10 @@ def verdicts():
     yield 'check-report-with-a-secondary-header', b''.join(OPENING + [report(1, 5, 1, flags=0x80)]), 'lenient 1'
     yield 'check-report-of-21-bytes', b''.join(OPENING + [packet(0, 1, LOSS, 1000, loss(5, 1) + bytes(1))]), 'lenient 1'
     yield 'check-report-of-another-word', b''.join(OPENING + [packet(0, 1, LOSS, 1000, b'\x01' + loss(5, 1)[1:])]), 'lenient 1'
-    yield 'check-report-whose-checksum-is-wrong', b''.join(OPENING + [report(1, 5, 1, flags=1, filler=bytes(3) + b'\x01')]), 'faulty 68 DataSum'
-    yield 'check-report-whose-checksum-is-right', b''.join(OPENING + [report(1, 5, 1, flags=1, filler=checked(loss(5, 1)))]), 'lenient 0'
+    yield 'check-report-whose-checksum-is-wrong', b''.join(
+        OPENING + [report(1, 5, 1, flags=1, filler=bytes(3) + b'\x01')]), 'faulty 68 DataSum'
+    yield 'check-report-whose-checksum-is-right', b''.join(
+        OPENING + [report(1, 5, 1, flags=1, filler=checked(loss(5, 1)))]), 'lenient 0'
     yield 'check-three-nodes', b''.join(MANY + MANY_INDEX), 'strict'
     yield 'check-two-roots', b''.join(LONG + CHAIN), 'strict'
     yield 'check-two-roots-without-the-last-group', b''.join(LONG + CHAIN[:2]), 'lenient 0'
@@ -271,7 +275,8 @@ def broken():
     yield 'root-whose-nodes-stand-one-later', FAR + FAR_BY_TWO[:2], [one_late(FAR_BY_TWO[2], 36)], True, 8
     yield 'later-node-that-names-one-later', LONG + CHAIN[:2], [one_late(CHAIN[2], 40)], True, 8
     yield 'larger-second-group', FAR + by_one(3), by_one(4)[3:], True, 8
-    yield 'smaller-second-group', FAR + FAR_BY_TWO[:4], [root_of(FAR_BY_TWO[3:4], size(FAR + FAR_BY_TWO[:3]), 1399, 5, before=size(FAR + FAR_BY_TWO[:2]))], True, 8
+    yield 'smaller-second-group', FAR + FAR_BY_TWO[:4], [root_of(FAR_BY_TWO[3:4], size(FAR + FAR_BY_TWO[:3]), 1399, 5,
+                                                                 before=size(FAR + FAR_BY_TWO[:2]))], True, 8
     yield 'root-behind-a-root', LONG + CHAIN[:2], [root_of(CHAIN[:1], size(LONG), 1099, 3)], True, 8
     yield 'time-behind-a-root', LONG + CHAIN[:2], [packet(1, 100, TIME, 1100, CIVIL)], True, 8
     yield 'time-behind-a-chain', LONG + CHAIN, [packet(1, 100, TIME, 1100, CIVIL)], True, 8
@@ -284,7 +289,8 @@ def broken():
     yield 'third-root-that-names-the-first', FAR + FAR_BY_TWO[:7], [
         root_naming([size(FAR + FAR_BY_TWO[:6]), size(FAR + FAR_BY_TWO[:2])], 1399, 8)], True, 8
     yield 'root-without-nodes', ONE, [root_of([], size(ONE), 1000, 1)], True, 8
-    yield 'root-of-one-node-of-two', LONG + LONG_INDEX[:2], [root_of(LONG_INDEX[1:2], size(LONG + LONG_INDEX[:1]), 1099, 3)], True, 8
+    yield 'root-of-one-node-of-two', LONG + LONG_INDEX[:2], [root_of(LONG_INDEX[1:2], size(LONG + LONG_INDEX[:1]), 1099,
+                                                                     3)], True, 8
     yield 'node-of-99-packets', LONG, [node_of(places_of(LONG)[:99], 1099, 1)], True, 8
     yield 'node-of-101-packets', LONG, [node_of(places_of(LONG), 1099, 1)], True, 8
     yield 'last-node-without-the-last-packet', MANY + MANY_INDEX[:2], [node_of(places_of(MANY)[200:-1], 1000, 3)], True, 8
@@ -297,7 +303,8 @@ def broken():
     yield 'flag-before-number-of-events', TWO, [event(1, 1002, 0, flags=0x10)], False, 5
     yield 'version-before-sequence', ONE, [uart(0, 1002, version=7)], False, 1
     yield 'report-behind-its-packet', lost()[:4], [report(1, 5, 1)], False, 11
-    yield 'report-with-a-checksum', ONE, [report(1, 5, 1, flags=1, filler=checked(loss(5, 1))), uart(1, 1004, b'D', flags=0x10)], False, 3
+    yield 'report-with-a-checksum', ONE, [report(1, 5, 1, flags=1, filler=checked(loss(5, 1))),
+                                          uart(1, 1004, b'D', flags=0x10)], False, 3
     yield 'report-on-its-channel', ONE, [report(1, 5, 1, on=5), uart(2, 1004, b'D', flags=0x10)], False, 5
     yield 'flagged-report', ONE, [report(1, 5, 1, flags=0x10), uart(1, 1004, b'D', flags=0x10)], False, 5
     yield 'report-of-the-sequence-of-its-channel', ONE, [report(0, 5, 1), uart(1, 1004, b'D', flags=0x10)], False, 6
@@ -465,7 +472,8 @@ def compare_kept(rows: list[tuple], case_text: Callable[..., str], answer_text: 
     return bad
 
 
-def print_rows(words: list[str], rows: Iterable[tuple], case_text: Callable[..., str], answer_text: Callable[..., str], usage: str) -> int:
+def print_rows(words: list[str], rows: Iterable[tuple], case_text: Callable[..., str], answer_text: Callable[..., str],
+               usage: str) -> int:
     """Prints the cases of rows, or their answers; or compares both with the files of crates/r10_rows."""
     if words not in (['cases'], ['answers'], ['kept']):
         sys.exit(usage)

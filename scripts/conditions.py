@@ -2,12 +2,13 @@
 """Writes docs/CALLERS.md: what each public function asks of its caller, and how the caller knows that it holds.
 
     scripts/conditions.py                  writes docs/CALLERS.md, from docs/callers.txt
-    scripts/conditions.py --check          fails if docs/CALLERS.md is not what would be written, or if docs/callers.txt does not agree with the sources
+    scripts/conditions.py --check          fails if docs/CALLERS.md is not what would be written, or if docs/callers.txt does not
+                                           agree with the sources
     scripts/conditions.py --list CRATE..   the conditions of these crates as they stand in the sources; without a crate, of all
     scripts/conditions.py --functions      how many public functions each crate has, and how many of them have a condition
 
-A function is public if another crate can call it: it is `pub` in a public module or brought out by `pub use`, a `pub` function
-of such a type, or one of such a trait. What a trait's function asks stands at the trait, and its impls are not listed; nor are crates
+A function is public if another crate can call it: it is `pub` in a public module or brought out by `pub use`, a `pub` function of
+such a type, or one of such a trait. What a trait's function asks stands at the trait, and its impls are not listed; nor are crates
 of tests.
 """
 import re
@@ -23,19 +24,26 @@ GRANTED = {
     'times': 'of two times the first is not the later one',
     'limits': 'a medium is formatted with numbers of blocks that settings may have',
     'medium': 'a medium has as many blocks as the settings say',
-    'lanes': 'there is one lane for each channel, in the order of the settings and with its settings; and nobody else took from them',
+    'lanes': 'there is one lane for each channel, in the order of the settings and with its settings; and nobody else took from '
+             'them',
     'sample': 'what a builder is given passes the check of its channel, and its count is not before the last',
-    'rings': 'who makes the two ends of a lane pairs them, and its channel with them; who makes a gauge or a cabinet, or splits a pass, looks with that pass there alone',
-    'written': 'the medium reads as the calls of this value last wrote it, and nobody else wrote since. `read_chain` shows that of a directory, and `check_medium` '
-               'whether files are strict. No call shows that an open file is the one that a value in memory represents; a recorder owns its medium, and so keeps this itself',
-    'handle': 'an open gave the handle, and no close took it. A program in another language keeps this, and nothing tests it: the header says so',
+    'rings': 'who makes the two ends of a lane pairs them, and its channel with them; who makes a gauge or a cabinet, or splits a '
+             'pass, looks with that pass there alone',
+    'written': 'the medium reads as the calls of this value last wrote it, and nobody else wrote since. `read_chain` shows that of '
+               'a directory, and `check_medium` '
+               'whether files are strict. No call shows that an open file is the one that a value in memory represents; a recorder '
+               'owns its medium, and so keeps this itself',
+    'handle': 'an open gave the handle, and no close took it. A program in another language keeps this, and nothing tests it: the '
+              'header says so',
 }
 INTRO = '''# What a caller must know
 
-Made by `scripts/conditions.py` from `docs/callers.txt`, and compared with the sources. It lists each condition (`requires`) of a public function, and how its
+Made by `scripts/conditions.py` from `docs/callers.txt`, and compared with the sources. It lists each condition (`requires`) of a \
+public function, and how its
 caller knows that the condition holds.
 
-No condition: the calls of `Recorder` (but `new`), of a lock's value and of a world, `run`, `Settings::of`, an offer, the commands, and whatever judges or reads
+No condition: the calls of `Recorder` (but `new`), of a lock's value and of a world, `run`, `Settings::of`, an offer, the \
+commands, and whatever judges or reads
 bytes from outside (`check_file`, `check_medium`, `read_chain`, `r10_cursor::Reader`, `Packet::read`, each `decode`).
 
 A caller knows by one or more of these:
@@ -44,7 +52,8 @@ A caller knows by one or more of these:
 - **test**: these public calls show it, or answer Ok only if it holds.
 - **granted**: it keeps one of the few conditions that need no test:
 '''
-FUNCTION = re.compile(r'^(?P<indent> *)(?P<public>pub(?P<within>\([a-z ]+\))? )?(?:const )?(?:unsafe )?(?:extern "C" )?fn (?P<name>\w+)', re.M)
+FUNCTION = re.compile(
+    r'^(?P<indent> *)(?P<public>pub(?P<within>\([a-z ]+\))? )?(?:const )?(?:unsafe )?(?:extern "C" )?fn (?P<name>\w+)', re.M)
 HEAD = re.compile(r'^(?:pub )?(?:unsafe )?(?P<kind>impl|trait)\b(?P<rest>[^{;]*)\{', re.M)
 
 
@@ -111,7 +120,8 @@ def functions(crate):
             _, _, kind, name, public = block
             if not (name in names or is_out):
                 continue
-            if (kind == 'type' and found['public'] and not found['within']) or (kind == 'trait' and public and len(found['indent']) == 4):
+            if (kind == 'type' and found['public'] and not found['within']) or (kind == 'trait' and public
+                                                                                and len(found['indent']) == 4):
                 yield '%s::%s' % (name, found['name']), conditions_of(text, found.start())
 
 
@@ -125,7 +135,8 @@ def page(lines: list[tuple[str, str, str]]) -> str:
         here = [it for it in lines if it[0].startswith(crate + '::')]
         if here:
             text += '\n## %s\n\n| Function | It asks | Its caller knows by |\n|---|---|---|\n' % crate
-            text += ''.join('| `%s` | %s | %s |\n' % (name.removeprefix(crate + '::'), asked, answer) for name, asked, answer in here)
+            text += ''.join('| `%s` | %s | %s |\n' % (name.removeprefix(crate + '::'), asked, answer)
+                            for name, asked, answer in here)
     return text
 
 
@@ -136,7 +147,8 @@ def wrong_parts(function, answer, public):
         word, _, rest = it.partition(' ')
         names = re.findall(r'`([\w:]+)`', rest)
         words = re.findall(r'\*\*(\w+)\*\*', rest)
-        if word not in ('number', 'granted', 'test') or (word == 'number') != (not rest) or (word == 'granted') != bool(words) or (word == 'test') != bool(names):
+        if (word not in ('number', 'granted', 'test') or (word == 'number') != (not rest)
+                or (word == 'granted') != bool(words) or (word == 'test') != bool(names)):
             yield '%s: no such answer: %s' % (function, it)
         for name in names:
             if not {name, '%s::%s' % (crate, name)} & public:

@@ -2,7 +2,8 @@
 # Makes a Debian package of r10, by what scripts/install.sh installs, and tries it.
 #
 #     scripts/deb.sh FOLDER            # makes FOLDER/r10_VERSION_ARCHITECTURE.deb, and prints its name
-#     scripts/deb.sh try PACKAGE       # unpacks it into a root of its own, which has a C library and nothing else, and runs r10 there
+#     scripts/deb.sh try PACKAGE       # unpacks it into a root of its own, which has a C library and nothing else, and runs r10
+#                                        there
 #
 # `try` wants root, for chroot, or leave to make a namespace (unshare); without either a line says NOT TRIED.
 set -eu
@@ -62,7 +63,8 @@ CONTROL
 # A root with the C library and the words of a Debian system that dpkg asks for.
 make_root() {
     local root=$1 file
-    mkdir -p "$root/var/lib/dpkg/info" "$root/var/lib/dpkg/updates" "$root/var/lib/dpkg/triggers" "$root/var/log" "$root/tmp" "$root/etc"
+    mkdir -p "$root/var/lib/dpkg/info" "$root/var/lib/dpkg/updates" "$root/var/lib/dpkg/triggers" "$root/var/log" "$root/tmp" \
+        "$root/etc"
     cat >"$root/var/lib/dpkg/status" <<STATUS
 Package: libc6
 Status: install ok installed
@@ -91,11 +93,14 @@ try_package() {
     make_root "$root" "$made/unpacked/usr/bin/r10" "$made/unpacked"/usr/lib/libr10.so.*.*
     "${into[@]}" dpkg --root="$root" --force-script-chrootless --force-not-root --log=/dev/null -i "$1" >"$made/dpkg" 2>&1 ||
         { cat "$made/dpkg" >&2; give_up 1 "dpkg does not install it"; }
-    "${into[@]}" chroot "$root" /usr/bin/r10 <"$top/examples/first.toml" | cmp - "$top/examples/first.expected" || give_up 1 "r10 in that root prints another thing"
-    "${into[@]}" chroot "$root" /usr/bin/r10 --version | grep -qx "r10 $(cat "$top/VERSION")" || give_up 1 "r10 in that root has another version"
+    "${into[@]}" chroot "$root" /usr/bin/r10 <"$top/examples/first.toml" | cmp - "$top/examples/first.expected" ||
+        give_up 1 "r10 in that root prints another thing"
+    "${into[@]}" chroot "$root" /usr/bin/r10 --version | grep -qx "r10 $(cat "$top/VERSION")" ||
+        give_up 1 "r10 in that root has another version"
     dpkg --root="$root" --verify r10 || give_up 1 "files are not as the package has them"
     listed=$(dpkg --root="$root" -L r10 | wc -l)
-    "${into[@]}" dpkg --root="$root" --force-script-chrootless --force-not-root --log=/dev/null -r r10 >"$made/dpkg" 2>&1 || give_up 1 "dpkg does not remove it"
+    "${into[@]}" dpkg --root="$root" --force-script-chrootless --force-not-root --log=/dev/null -r r10 >"$made/dpkg" 2>&1 ||
+        give_up 1 "dpkg does not remove it"
     [ -z "$(find "$root/usr" -name '*r10*' 2>/dev/null)" ] || give_up 1 "after it was removed files are left"
     echo "deb: $(basename "$1") is installed in a root of its own, runs there, and is removed ($listed names)"
 }

@@ -2,7 +2,8 @@
  *
  *     LD_PRELOAD=./disk_log.so DISK_LOG=FILE DISK_LOG_OF=MEDIUM PROGRAM
  *
- * A line of FILE is `write OFFSET LENGTH`, or `sync`. Maps of MEDIUM that other programs would see (MAP_SHARED) and may be written are the line `shared`. Other files are not looked at. */
+ * A line of FILE is `write OFFSET LENGTH`, or `sync`. Maps of MEDIUM that other programs would see (MAP_SHARED) and may be written
+ * are the line `shared`. Other files are not looked at. */
 #define _GNU_SOURCE
 #include <dlfcn.h>
 #include <fcntl.h>
@@ -87,4 +88,4 @@ void *mmap(void *at, size_t length, int access, int how, int file, off_t offset)
     return NEXT(void *(*)(void *, size_t, int, int, int, off_t), "mmap")(at, length, access, how, file, offset);
 }
 
-void *mmap64(void *at, size_t length, int access, int how, int file, off_t offset) { return mmap(at, length, access, how, file, offset); }
+void *mmap64(void *at, size_t size, int access, int how, int fd, off_t from) { return mmap(at, size, access, how, fd, from); }

@@ -1,16 +1,19 @@
 #!/usr/bin/env python3
-"""Runs a program that records on a file, writes down what it writes there and when it syncs, and looks whether a loss of power could hurt.
+"""Runs a program that records on a file, writes down what it writes there and when it syncs, and looks whether a loss of power
+could hurt.
 
     scripts/disk_log.py DIRECTORY MEDIUM PROGRAM WORDS..
 
 DIRECTORY is how many blocks the settings reserve for the directory, and MEDIUM the file that PROGRAM records on. It asks that
 
-- whatever is written to the directory comes after a sync of all that was written to files, so that it never lists what the disk does not have;
+- whatever is written to the directory comes after a sync of all that was written to files, so that it never lists what the disk
+does not have;
 - what is written to files after the directory changed comes after a sync too;
 - the last thing is a sync, so that what the program acknowledged is on the disk;
 - there is no map through which the system would write blocks before their turn.
 
-It prints how many writes, bytes and syncs there were. Status 1 where something of it does not hold, and the program's own where it fails.
+It prints how many writes, bytes and syncs there were. Status 1 where something of it does not hold, and the program's own where it
+fails.
 """
 from __future__ import annotations
 
@@ -58,7 +61,8 @@ def main() -> int:
         library, log = pathlib.Path(room, 'disk_log.so'), pathlib.Path(room, 'log')
         subprocess.run(['cc', '-std=c11', '-O2', '-shared', '-fPIC', '-o', library, HERE / 'disk_log.c', '-ldl'], check=True)
         log.touch()
-        ran = subprocess.run(words[2:], env={**os.environ, 'LD_PRELOAD': str(library), 'DISK_LOG': str(log), 'DISK_LOG_OF': words[1]}, stdout=subprocess.DEVNULL, check=False)
+        ran = subprocess.run(words[2:], env={**os.environ, 'LD_PRELOAD': str(library), 'DISK_LOG': str(log),
+                                             'DISK_LOG_OF': words[1]}, stdout=subprocess.DEVNULL, check=False)
         if ran.returncode:
             print(f'disk_log: the program ended with status {ran.returncode}', file=sys.stderr)
             return ran.returncode if ran.returncode > 0 else 1

@@ -1,22 +1,29 @@
 #!/usr/bin/env bash
 # The recorder as a library for programs in C, C++ and Rust: ffi/r10.h says what it is.
 #
-#     scripts/ffi.sh build             # makes crates/r10_ffi/out/libr10_ffi.a, proved, where it is not there or a source has changed
+#     scripts/ffi.sh build             # makes crates/r10_ffi/out/libr10_ffi.a, proved, where it is not there or a source has
+#                                        changed
 #     scripts/ffi.sh build --shared    # and of it, beside it, libr10.a and libr10.so, which show the names of r10.h and no others
-#     scripts/ffi.sh install PREFIX [DESTDIR]   # puts headers, the kept library (static and shared) and r10.pc below DESTDIR/PREFIX: scripts/install.sh calls it
-#     scripts/ffi.sh examples FOLDER   # compiles ffi/example.c and ffi/example.rs over it, into FOLDER/example_c and FOLDER/example_rs
-#     scripts/ffi.sh random CALLS [SEED]   # random calls under the address sanitizer, a tenth of them under valgrind, and scripts of 1,000 beside `r10 sim`
-#     scripts/ffi.sh check             # runs both, ffi/calls.c, which calls each function, also as C++, ffi/flight.c, ffi/disk.c and ffi/commits.c, and compares what they print with ffi/*.expected
+#     scripts/ffi.sh install PREFIX [DESTDIR]   # puts headers, the kept library (static and shared) and r10.pc below
+#                                                 DESTDIR/PREFIX: scripts/install.sh calls it
+#     scripts/ffi.sh examples FOLDER   # compiles ffi/example.c and ffi/example.rs over it, into FOLDER/example_c and
+#                                        FOLDER/example_rs
+#     scripts/ffi.sh random CALLS [SEED]   # random calls under the address sanitizer, a tenth of them under valgrind, and scripts
+#                                            of 1,000 beside `r10 sim`
+#     scripts/ffi.sh check             # runs both, ffi/calls.c, which calls each function, also as C++, ffi/flight.c, ffi/disk.c
+#                                        and ffi/commits.c, and compares what they print with ffi/*.expected
 #     scripts/ffi.sh kept              # prints where the library is: the proved one if it is there, else one that is not proved
 #     scripts/ffi.sh proved            # prints where the proved library is; status 1 if it is not there, or a source has changed
-#     scripts/ffi.sh behind-ci         # `rt ci`; after it `check` over its libraries, an installation of what was proved, the service, and sessions: the gate
+#     scripts/ffi.sh behind-ci         # `rt ci`; after it `check` over its libraries, an installation of what was proved, the
+#                                        service, and sessions: the gate
 #
-# With --quick as the word after it, `build`, `examples` and `check` take a library that is not proved: it is made once, in one to three minutes, and kept
-# (scripts/quick_build.py). `build` prints where the library is.
+# With --quick as the word after it, `build`, `examples` and `check` take a library that is not proved: it is made once, in one to
+# three minutes, and kept (scripts/quick_build.py). `build` prints where the library is.
 #
-# Without `rt ci` before it, scripts/build.py proves what is not proved, side by side. It wants a C compiler, `cc`; for the program in
-# C++ `g++`, and for the Rust crates `cargo`, which needs no network. If one of the last two is not there, a line says what was not tried. `check` fails
-# without `cc`; `behind-ci` says so in a line, and goes on. With R10_FFI_LIBRARY=FILE another static library is taken, and none is made: for trials.
+# Without `rt ci` before it, scripts/build.py proves what is not proved, side by side. It wants a C compiler, `cc`; for the program
+# in C++ `g++`, and for the Rust crates `cargo`, which needs no network. If one of the last two is not there, a line says what was
+# not tried. `check` fails without `cc`; `behind-ci` says so in a line, and goes on. With R10_FFI_LIBRARY=FILE another static
+# library is taken, and none is made: for trials.
 set -u
 
 top=$(cd "$(dirname "$(readlink -f "${BASH_SOURCE[0]}")")/.." && pwd)
@@ -100,11 +107,14 @@ share() {
     ld -r -o "$room/all.o" --whole-archive "$library" --no-whole-archive "${below[@]}" &&
         objcopy --keep-global-symbols="$names" "$room/all.o" "$room/r10.o" &&
         rm -f "$1/libr10.a" && ar rcs "$1/libr10.a" "$room/r10.o" &&
-        cc -shared -Wl,-soname,"libr10.so.$major" -Wl,--no-undefined -Wl,-Bsymbolic -Wl,-z,now -o "$1/libr10.so.$version" "$room/r10.o" &&
-        ln -sf "libr10.so.$version" "$1/libr10.so.$major" && ln -sf "libr10.so.$major" "$1/libr10.so" || give_up "libr10.a and libr10.so were not made"
+        cc -shared -Wl,-soname,"libr10.so.$major" -Wl,--no-undefined -Wl,-Bsymbolic -Wl,-z,now -o "$1/libr10.so.$version" \
+        "$room/r10.o" &&
+        ln -sf "libr10.so.$version" "$1/libr10.so.$major" && ln -sf "libr10.so.$major" "$1/libr10.so" ||
+        give_up "libr10.a and libr10.so were not made"
     nm -D --defined-only "$1/libr10.so" | awk '{ print $3 }' | sort >"$room/shown"
     nm -g --defined-only "$1/libr10.a" | awk 'NF == 3 { print $3 }' | sort >"$room/shown_static"
-    sort "$names" | diff - "$room/shown" >&2 && sort "$names" | diff - "$room/shown_static" >&2 || give_up "the libraries do not show the names of ffi/r10.h and no others"
+    sort "$names" | diff - "$room/shown" >&2 && sort "$names" | diff - "$room/shown_static" >&2 ||
+        give_up "the libraries do not show the names of ffi/r10.h and no others"
 }
 
 # Headers, libraries and r10.pc, for a prefix, in the folder that stands for it.
@@ -117,12 +127,14 @@ install_for() {
 
 # A program in C over the library; what follows are words for the compiler.
 c_example() {
-    cc -std=c11 -Wall -Wextra -Werror -O2 -I"$top/ffi" -o "$2" "$top/ffi/$1" "$library" "${below[@]}" || give_up "ffi/$1 does not compile"
+    cc -std=c11 -Wall -Wextra -Werror -O2 -I"$top/ffi" -o "$2" "$top/ffi/$1" "$library" "${below[@]}" ||
+        give_up "ffi/$1 does not compile"
 }
 
 # The program in Rust over the crates of ffi/rust, without a network, over the libraries in a folder.
 rust_example() {
-    R10_LIB_DIR=$2 R10_STATIC=1 CARGO_TARGET_DIR=$room/rust cargo build --offline --quiet --release --manifest-path "$top/ffi/rust/Cargo.toml" --example example &&
+    R10_LIB_DIR=$2 R10_STATIC=1 CARGO_TARGET_DIR=$room/rust cargo build --offline --quiet --release --manifest-path \
+        "$top/ffi/rust/Cargo.toml" --example example &&
         cp "$room/rust/release/examples/example" "$1" || give_up "ffi/example.rs does not compile"
 }
 
@@ -134,7 +146,8 @@ has() {
     return 1
 }
 
-# Scripts of random calls, and what `r10 sim` says of the same, but for the texts behind a refusal's number. The program is that of R10_PROGRAM, or the proved one.
+# Scripts of random calls, and what `r10 sim` says of the same, but for the texts behind a refusal's number. The program is that of
+# R10_PROGRAM, or the proved one.
 beside_sim() {
     local program=${R10_PROGRAM:-$top/crates/r10_cli/out/r10_cli} seed
     [ -x "$program" ] || {
@@ -143,17 +156,20 @@ beside_sim() {
     }
     for ((seed = $1; seed < $1 + $2; seed++)); do
         "$room/random" "$seed" 1000 "$room/script" "$room/replies" >/dev/null || give_up "random $seed: status $?"
-        "$program" sim <"$room/script" | sed 's/^\([0-9]* refused [0-9]*\) .*/\1/' | diff "$room/replies" - >&2 || give_up "random $seed: r10 sim says something else"
+        "$program" sim <"$room/script" | sed 's/^\([0-9]* refused [0-9]*\) .*/\1/' | diff "$room/replies" - >&2 ||
+            give_up "random $seed: r10 sim says something else"
     done
     echo "ffi: $2 scripts of 1,000 random calls come to the same in r10 sim"
 }
 
 random() {
     c_example random.c "$room/random"
-    cc -std=c11 -g -O1 -fsanitize=address,undefined -fno-sanitize-recover=all -I"$top/ffi" -o "$room/random_asan" "$top/ffi/random.c" "$library" "${below[@]}" || give_up "ffi/random.c does not compile"
+    cc -std=c11 -g -O1 -fsanitize=address,undefined -fno-sanitize-recover=all -I"$top/ffi" -o "$room/random_asan" \
+        "$top/ffi/random.c" "$library" "${below[@]}" || give_up "ffi/random.c does not compile"
     "$room/random_asan" "$2" "$1" || give_up "random, with the address sanitizer: status $?"
     if command -v valgrind >/dev/null; then
-        valgrind -q --error-exitcode=99 --leak-check=full "$room/random" "$2" $(($1 / 10)) || give_up "random, under valgrind: status $?"
+        valgrind -q --error-exitcode=99 --leak-check=full "$room/random" "$2" $(($1 / 10)) ||
+            give_up "random, under valgrind: status $?"
     else
         echo "ffi: NOT TRIED: there is no valgrind"
     fi
@@ -191,7 +207,8 @@ check() {
         c_example disk.c "$room/disk"
         "$room/disk" "$room/disk.medium" >"$room/disk.out" || give_up "disk: status $?"
         compare disk.expected "$room/disk.out"
-        "$top/scripts/disk_log.py" 2 "$room/logged" "$room/example_c" "$room/logged" 0 1000 100 || give_up "example_c does not sync what it writes in the right places"
+        "$top/scripts/disk_log.py" 2 "$room/logged" "$room/example_c" "$room/logged" 0 1000 100 ||
+            give_up "example_c does not sync what it writes in the right places"
         c_example commits.c "$room/commits"
         "$room/commits" >"$room/commits.out" || give_up "commits: status $?"
         compare commits.expected "$room/commits.out"
@@ -204,17 +221,20 @@ check() {
             # as C++, over the shared library, found by pkg-config where that is there
             local words="-I$room/installed/include -L$room/installed/lib -lr10"
             if command -v pkg-config >/dev/null; then
-                words=$(PKG_CONFIG_PATH=$room/installed/lib/pkgconfig pkg-config --cflags --libs r10) || give_up "pkg-config does not find r10"
+                words=$(PKG_CONFIG_PATH=$room/installed/lib/pkgconfig pkg-config --cflags --libs r10) ||
+                    give_up "pkg-config does not find r10"
             fi
             # shellcheck disable=SC2086
-            g++ -std=c++17 -Wall -Wextra -Werror -O2 -x c++ "$top/ffi/calls.c" -o "$room/calls_cc" $words || give_up "ffi/calls.c does not compile as C++"
+            g++ -std=c++17 -Wall -Wextra -Werror -O2 -x c++ "$top/ffi/calls.c" -o "$room/calls_cc" $words ||
+                give_up "ffi/calls.c does not compile as C++"
             LD_LIBRARY_PATH=$room/installed/lib "$room/calls_cc" >"$room/calls_cc.out" || give_up "calls, as C++: status $?"
             compare calls.expected "$room/calls_cc.out"
             echo "ffi: as C++ over libr10.so they print the same"
         fi
         if has cargo example.rs; then
             rust_example "$room/example_rs" "$room/installed/lib"
-            R10_LIB_DIR=$room/installed/lib R10_STATIC=1 CARGO_TARGET_DIR=$room/rust cargo test --offline --quiet --release --manifest-path "$top/ffi/rust/Cargo.toml" --tests \
+            R10_LIB_DIR=$room/installed/lib R10_STATIC=1 CARGO_TARGET_DIR=$room/rust cargo test --offline --quiet --release \
+                --manifest-path "$top/ffi/rust/Cargo.toml" --tests \
                 >"$room/rust.out" 2>&1 || {
                 tail -n 40 "$room/rust.out" >&2
                 give_up "a test of ffi/rust failed"
@@ -222,8 +242,10 @@ check() {
             "$room/example_rs" 1000 100 >"$room/rs.out" || give_up "example_rs: status $?"
             compare example_rs.expected "$room/rs.out"
             "$room/example_rs" 1000 100 "$room/medium_rs" >"$room/rs.out" || give_up "example_rs over a file: status $?"
-            { grep -v '^the disk' "$top/ffi/example_rs.expected" | diff - "$room/rs.out"; } >&2 || give_up "what was printed over a file is not ffi/example_rs.expected"
-            "$top/scripts/disk_log.py" 2 "$room/logged_rs" "$room/example_rs" 1000 100 "$room/logged_rs" || give_up "example_rs does not sync what it writes in the right places"
+            { grep -v '^the disk' "$top/ffi/example_rs.expected" | diff - "$room/rs.out"; } >&2 ||
+                give_up "what was printed over a file is not ffi/example_rs.expected"
+            "$top/scripts/disk_log.py" 2 "$room/logged_rs" "$room/example_rs" 1000 100 "$room/logged_rs" ||
+                give_up "example_rs does not sync what it writes in the right places"
             "$top/scripts/judge_image.py" check <"$room/medium_rs" >"$room/verdicts_rs.out"
             [ "$(cat "$room/verdicts_rs.out")" = "FLT1 strict" ] || give_up "what example_rs leaves is not strict"
             echo "ffi: the program in Rust prints what it is to"
@@ -241,7 +263,8 @@ but_the_last() {
     printf '%s\n' "$last" >"$1"
 }
 
-# The program that `rt ci` proved makes what README shows of the example of a flight. It and the library are installed and packaged, and tried where they were put.
+# The program that `rt ci` proved makes what README shows of the example of a flight. It and the library are installed and packaged,
+# and tried where they were put.
 installed() {
     local program=$top/crates/r10_cli/out/r10_cli
     if ! [ -x "$program" ] || ! is_proved; then
@@ -258,8 +281,8 @@ installed() {
     echo "ffi: installation and package of what was proved: $(grep -c '^ok: ' "$room/install.out") checks pass"
 }
 
-# The run's last line and status are those of `rt ci`. A program that does not print what it is to is one more that failed, and so are
-# sessions of the program that do not end, or whose accounts do not add up.
+# The run's last line and status are those of `rt ci`. A program that does not print what it is to is one more that failed, and so
+# are sessions of the program that do not end, or whose accounts do not add up.
 behind_ci() {
     local status last
     (cd "$top" && exec rt ci) | but_the_last "$room/last"
@@ -335,7 +358,7 @@ behind-ci)
     behind_ci
     ;;
 *)
-    sed -n '2,16s/^# \{0,1\}//p' "${BASH_SOURCE[0]}" >&2
+    sed -n '2,22s/^# \{0,1\}//p' "${BASH_SOURCE[0]}" >&2
     exit 2
     ;;
 esac

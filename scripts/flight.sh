@@ -2,7 +2,8 @@
 # The example of a flight, examples/flight.toml, and what the documents show of it.
 #
 #     scripts/flight.sh make [PROGRAM]     draws docs/flight.svg, and prints the summary that README.md shows
-#     scripts/flight.sh check [PROGRAM]    sees that the setup is examples/flight.tmt, and that replies, summary and picture are what the files have
+#     scripts/flight.sh check [PROGRAM]    sees that the setup is examples/flight.tmt, and that replies, summary and picture are
+#                                          what the files have
 #
 # Without PROGRAM it takes the build that ./r10 would; where there is none, `check` looks at the setup alone, and says so.
 set -eu
@@ -18,14 +19,15 @@ give_up() {
 
 what=${1:-}
 [ "$what" = make ] || [ "$what" = check ] || {
-    sed -n '2,7s/^# \{0,1\}//p' "${BASH_SOURCE[0]}" >&2
+    sed -n '2,8s/^# \{0,1\}//p' "${BASH_SOURCE[0]}" >&2
     exit 2
 }
 made=$(mktemp -d)
 trap 'rm -rf "$made"' EXIT
 
 hex=$(python3 -c 'import sys; print(open(sys.argv[1], "rb").read().hex())' "$text")
-[ "$(grep -c 'setup = "' "$script")" = "$(grep -c "setup = \"$hex\"" "$script")" ] || give_up "a setup of examples/flight.toml is not examples/flight.tmt"
+[ "$(grep -c 'setup = "' "$script")" = "$(grep -c "setup = \"$hex\"" "$script")" ] ||
+    give_up "a setup of examples/flight.toml is not examples/flight.tmt"
 
 if ! program=${2:-$("$top/scripts/quick_build.py" --current)}; then
     echo "flight: NOT TRIED: replies, summary and picture (no build of the program is kept)"
@@ -43,7 +45,8 @@ if [ "$what" = make ]; then
     exit
 fi
 "$program" <"$script" | cmp - "$top/examples/flight.expected" || give_up "the replies are not examples/flight.expected"
-"$top/scripts/ch10.py" setup --file 1 <"$made/flight.img" | cmp - "$text" || give_up "the setup that is recorded is not examples/flight.tmt"
+"$top/scripts/ch10.py" setup --file 1 <"$made/flight.img" | cmp - "$text" ||
+    give_up "the setup that is recorded is not examples/flight.tmt"
 cmp "$made/flight.svg" "$top/docs/flight.svg" || give_up "docs/flight.svg is another picture: scripts/flight.sh make"
 python3 - "$made/shown" "$top/README.md" <<'PY' || give_up "README.md shows another summary: scripts/flight.sh make prints this one"
 import sys

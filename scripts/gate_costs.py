@@ -1,13 +1,18 @@
 #!/usr/bin/env python3
-"""Runs a gate over the checkout in this folder, and prints what each crate took of it, in minutes of a processor, as docs/GATE.md has it.
+"""Runs a gate over the checkout in this folder, and prints what each crate took of it, in minutes of a processor, as docs/GATE.md
+has it.
 
-    scripts/gate_costs.py [--least MINUTES] [WORD..]     the words are those of `rt ci`: --anew, or names of crates; none for the whole gate
-    scripts/gate_costs.py --paths [FILE]                 runs nothing: counts the paths of crates.txt, or of a file like it, along which the tool sums up what a crate is made from
+    scripts/gate_costs.py [--least MINUTES] [WORD..]     the words are those of `rt ci`: --anew, or names of crates; none for the
+                                                         whole gate
+    scripts/gate_costs.py --paths [FILE]                 runs nothing: counts the paths of crates.txt, or of a file like it, along
+                                                         which the tool sums up what a crate is made from
 
-Each prover's processor time is read from the system twice a second while it runs. What is proved already is not proved again, and costs nothing here: for the whole, --anew, on
-a machine that does nothing else. A crate below MINUTES (1 where none is told) stands in one line with the others. Status 1 where the gate fails.
+Each prover's processor time is read from the system twice a second while it runs. What is proved already is not proved again, and
+costs nothing here: for the whole, --anew, on a machine that does nothing else. A crate below MINUTES (1 where none is told) stands
+in one line with the others. Status 1 where the gate fails.
 
-A crate's paths are one, for itself, and those of each crate that it lists. A library is a crate with a `src/lib.rt` that is no static library.
+A crate's paths are one, for itself, and those of each crate that it lists. A library is a crate with a `src/lib.rt` that is no
+static library.
 """
 import argparse
 import os
@@ -57,7 +62,8 @@ def is_below(pid, top, parents):
 
 def watched(words, said):
     """Runs the gate, and answers its status, what each prover took by crate and part, and what the whole took."""
-    gate, kinds, times = subprocess.Popen(['rt', 'ci', *words], cwd=TOP, stdin=subprocess.DEVNULL, stdout=said, stderr=subprocess.STDOUT), {}, {}
+    gate, kinds, times = subprocess.Popen(['rt', 'ci', *words], cwd=TOP, stdin=subprocess.DEVNULL, stdout=said,
+                                          stderr=subprocess.STDOUT), {}, {}
     while gate.poll() is None:
         found = parents_and_times()
         parents = {pid: parent for (pid, _), (parent, _) in found.items()}
@@ -102,7 +108,8 @@ def print_paths(file: pathlib.Path) -> None:
     counts = paths_of(crates)
     programs = {it for it in crates if (file.parent / 'crates' / it / 'src' / 'main.rt').is_file()}
     libraries = sum(number for crate, number in counts.items() if crate not in programs and not crates[crate][0])
-    print(f'{len(crates)} crates, {sum(len(below) for _, below in crates.values())} edges; paths: {libraries:,} of libraries, {sum(counts.values()):,} of all crates')
+    print(f'{len(crates)} crates, {sum(len(below) for _, below in crates.values())} edges; paths: {libraries:,} of libraries, '
+          f'{sum(counts.values()):,} of all crates')
     for crate, number in sorted(counts.items(), key=lambda it: -it[1])[:12]:
         print(f'{number:8,}  {crate}')
 
@@ -131,7 +138,8 @@ def main():
             print('| `%s` | %s |' % (crate, ' | '.join('%.1f' % it if it else '' for it in parts)))
     print('| all others | %.1f | %.1f | %.1f |' % tuple(least))
     print('| all | %.1f | %.1f | %.1f |' % (sums['proof'], sums['tests'], sums['edits']))
-    print('\n%.0f minutes of a processor in all, with what compiles, links and runs; %.0f minutes of time. %s' % (whole, (time.time() - began) / 60, last))
+    print('\n%.0f minutes of a processor in all, with what compiles, links and runs; %.0f minutes of time. %s'
+          % (whole, (time.time() - began) / 60, last))
     sys.exit(1 if status else 0)
 
 

@@ -3,9 +3,10 @@
  *     cc -O2 -shared -fPIC -o hammer.so hammer.c
  *     LD_PRELOAD=./hammer.so HAMMER_YIELD=SEED HAMMER_REFUSE=FROM-TO HAMMER_PAUSE=MICROSECONDS PROGRAM
  *
- * With HAMMER_YIELD each call that sleeps on a number or wakes sleepers (futex) yields up to seven times before it and after it, by chance from SEED
- * and the thread. With HAMMER_REFUSE the FROM-th to the TO-th thread can't be made, counted from 1 in the order in which they are asked for. With
- * HAMMER_PAUSE each yield of the first thread sleeps so long. Where one of these was done, a line on standard error says so once.
+ * With HAMMER_YIELD each call that sleeps on a number or wakes sleepers (futex) yields up to seven times before it and after it, by
+ * chance from SEED and the thread. With HAMMER_REFUSE the FROM-th to the TO-th thread can't be made, counted from 1 in the order in
+ * which they are asked for. With HAMMER_PAUSE each yield of the first thread sleeps so long. Where one of these was done, a line on
+ * standard error says so once.
  */
 #define _GNU_SOURCE
 #include <dlfcn.h>

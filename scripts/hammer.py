@@ -6,25 +6,29 @@
     scripts/hammer.py --idle [--program P]
     scripts/hammer.py --gate [--program P]
 
-The first form makes 40 session scripts from the seed, and runs them in turn until there were N runs: one channel, no feed and 32 readers; the example; and
-others of 1 to 32 channels of all kinds, up to 8 feeds, up to 32 readers, up to 8 orders of every kind, lanes of 1 message on, and media from a few
-blocks on. --taskset gives each run one processor, --yield has each call that sleeps or wakes yield by chance, --only runs one script alone.
+The first form makes 40 session scripts from the seed, and runs them in turn until there were N runs: one channel, no feed and 32
+readers; the example; and others of 1 to 32 channels of all kinds, up to 8 feeds, up to 32 readers, up to 8 orders of every kind,
+lanes of 1 message on, and media from a few blocks on. --taskset gives each run one processor, --yield has each call that sleeps or
+wakes yield by chance, --only runs one script alone.
 
-The second form refuses threads: of a session of 8 feeds and 8 readers, and of the scripts 0 to 11, each thread alone, each and all behind it, and all; and
-then it limits memory (ulimit -v) and, where it may run as another user, the number of threads (ulimit -u).
+The second form refuses threads: of a session of 8 feeds and 8 readers, and of the scripts 0 to 11, each thread alone, each and all
+behind it, and all; and then it limits memory (ulimit -v) and, where it may run as another user, the number of threads (ulimit -u).
 
-The third form has a feed pause for 20 ms behind each of 150 messages, and asks that the session, whose writer then has nothing to do, takes less than a
-hundredth of a processor.
+The third form has a feed pause for 20 ms behind each of 150 messages, and asks that the session, whose writer then has nothing to
+do, takes less than a hundredth of a processor.
 
-The fourth form is what the gate runs: 2,000 runs of the first, 400 of them again with yields and 400 on one processor, the second and the third.
+The fourth form is what the gate runs: 2,000 runs of the first, 400 of them again with yields and 400 on one processor, the second
+and the third.
 
-Of each run it asks that it ends within ten seconds, or a minute more where the machine is so busy that a thread of it waits for a processor. A run all of whose
-threads are asleep then hangs. It asks for status 0 where the audit says yes; that of each feed all messages were accepted or refused, and that the
-accepted ones are the erased, the filed and the rest; that a reader of one channel read as many entries as were filed on it, where the file that it reads is
-the only one; and that the audit says yes, or no where an order erases or dismounts. Under a limit a run may end
-with status 3 and a line on standard error, or not be loaded at all (127), and a reader may have ended early. Status 1 where a run is not so.
+Of each run it asks that it ends within ten seconds, or a minute more where the machine is so busy that a thread of it waits for a
+processor. A run all of whose threads are asleep then hangs. It asks for status 0 where the audit says yes; that of each feed all
+messages were accepted or refused, and that the accepted ones are the erased, the filed and the rest; that a reader of one channel
+read as many entries as were filed on it, where the file that it reads is the only one; and that the audit says yes, or no where an
+order erases or dismounts. Under a limit a run may end with status 3 and a line on standard error, or not be loaded at all (127),
+and a reader may have ended early. Status 1 where a run is not so.
 
-P is the proved program, crates/r10_cli/out/r10_cli, where none is named. Where it is not there, or no C compiler for scripts/hammer.c, a line says what was NOT TRIED.
+P is the proved program, crates/r10_cli/out/r10_cli, where none is named. Where it is not there, or no C compiler for
+scripts/hammer.c, a line says what was NOT TRIED.
 """
 from __future__ import annotations
 
@@ -54,8 +58,8 @@ SETUP = '41424344'
 
 
 class Script(NamedTuple):
-    """A session script, and what is wanted of it: how many messages each feed offers, which readers read as much as is filed on which channel, and whether
-    the audit may say no."""
+    """A session script, and what is wanted of it: how many messages each feed offers, which readers read as much as is filed on
+    which channel, and whether the audit may say no."""
 
     name: str
     text: str
@@ -115,16 +119,19 @@ def top_of(blocks: int) -> str:
 
 def channel(number: int, kind: str, capacity: int, /, **more: int) -> str:
     bits = {'bits': 8} if kind == 'discrete' else {}
-    return table('channel', id=number, kind=kind, capacity=capacity, **{'check': 0, 'bytes': 524288, 'number': 65535, **bits, **more})
+    return table('channel', id=number, kind=kind, capacity=capacity,
+                 **{'check': 0, 'bytes': 524288, 'number': 65535, **bits, **more})
 
 
 def beginning() -> list[str]:
-    return [table('step', do='mount'), table('step', do='tick', count=1000, civil=CIVIL), table('step', do='start', name='FLT1', setup=SETUP)]
+    return [table('step', do='mount'), table('step', do='tick', count=1000, civil=CIVIL),
+            table('step', do='start', name='FLT1', setup=SETUP)]
 
 
 def idle_script(readers: int) -> Script:
     """One channel, no feed, and so many readers."""
-    text = top_of(64) + channel(5, 'uart', 16) + ''.join(beginning()) + readers * table('reader', file=0, channels=[], **{'from': 0, 'to': MOST_COUNT})
+    text = top_of(64) + channel(5, 'uart', 16) + ''.join(beginning()) + readers * table('reader', file=0, channels=[],
+                                                                                        **{'from': 0, 'to': MOST_COUNT})
     return Script(f'no feed, {readers} readers', text, 3, {}, {}, readers, False)
 
 
@@ -249,13 +256,15 @@ class Runner:
             made.communicate()
             raise late
 
-    def run(self, script: Script, more: dict[str, str] | None = None, limit: Callable[[], None] | None = None, or_no_memory: bool = False, where: str = '') -> bool:
+    def run(self, script: Script, more: dict[str, str] | None = None, limit: Callable[[], None] | None = None,
+            or_no_memory: bool = False, where: str = '') -> bool:
         """Runs a script once. Whether all is as it is to be; what is not is printed, and the script kept."""
         started = time.monotonic()
         self.runs += 1
         self.errors = ''
         try:
-            made = subprocess.Popen([str(self.program), 'run'], stdin=subprocess.PIPE, stdout=subprocess.PIPE, stderr=subprocess.PIPE, text=True, env={**os.environ, **(more or {})}, preexec_fn=limit)
+            made = subprocess.Popen([str(self.program), 'run'], stdin=subprocess.PIPE, stdout=subprocess.PIPE,
+                                    stderr=subprocess.PIPE, text=True, env={**os.environ, **(more or {})}, preexec_fn=limit)
             output, self.errors = self.end_of(made, script.text)
         except subprocess.TimeoutExpired as late:
             wrong = f'did not end in {late.timeout:.0f} seconds: {self.asleep}'
@@ -291,7 +300,8 @@ def disturber(folder: pathlib.Path) -> pathlib.Path | None:
     if not shutil.which('cc'):
         return None
     made = folder / 'hammer.so'
-    subprocess.run(['cc', '-O2', '-Wall', '-Wextra', '-Werror', '-shared', '-fPIC', '-o', str(made), str(TOP / 'scripts' / 'hammer.c'), '-ldl'], check=True)
+    subprocess.run(['cc', '-O2', '-Wall', '-Wextra', '-Werror', '-shared', '-fPIC', '-o', str(made),
+                    str(TOP / 'scripts' / 'hammer.c'), '-ldl'], check=True)
     return made
 
 
@@ -338,7 +348,8 @@ def refuse_threads(runner: Runner, given: argparse.Namespace, library: pathlib.P
             print('hammer: NOT TRIED: the program does not take the library that refuses threads')
     before = runner.runs
     for size in range(4_000, 64_001, 2_000):
-        runner.run(scripts[0], limit=lambda: resource.setrlimit(resource.RLIMIT_AS, (size * 1024, size * 1024)), or_no_memory=True, where=f', ulimit -v {size}')
+        runner.run(scripts[0], limit=lambda: resource.setrlimit(resource.RLIMIT_AS, (size * 1024, size * 1024)), or_no_memory=True,
+                   where=f', ulimit -v {size}')
     if os.geteuid() == 0:
 
         def few(number: int) -> None:
@@ -366,7 +377,8 @@ def idle(runner: Runner, library: pathlib.Path) -> None:
         print('hammer: NOT TRIED: the program does not take the library that pauses')
         return
     share = (used[1][0] - used[0][0]) / used[1][1]
-    print(f'hammer: {used[1][0] * 1000:.0f} ms of a processor in {used[1][1]:.2f} s with pauses, {used[0][0] * 1000:.0f} ms without: {share * 100:.2f} of 100')
+    print(f'hammer: {used[1][0] * 1000:.0f} ms of a processor in {used[1][1]:.2f} s with pauses, {used[0][0] * 1000:.0f} ms '
+          f'without: {share * 100:.2f} of 100')
     if share >= 0.01:
         runner.wrong += 1
         print('hammer: an idle session takes a processor')
@@ -404,7 +416,8 @@ def main() -> int:
             idle(runner, library)
         if not (given.gate or given.threads or given.idle):
             hammer(runner, given, library)
-        print(f'hammer: {runner.runs} runs in {time.monotonic() - started:.0f} s, the longest {runner.longest:.2f} s, {runner.late} after more than {SECONDS} s, {runner.wrong} not as they are to be')
+        print(f'hammer: {runner.runs} runs in {time.monotonic() - started:.0f} s, the longest {runner.longest:.2f} s, '
+              f'{runner.late} after more than {SECONDS} s, {runner.wrong} not as they are to be')
     return 1 if runner.wrong else 0
 
 

@@ -5,9 +5,9 @@
 #     scripts/install.sh [PREFIX] [DESTDIR]               # below /usr/local, or below DESTDIR/PREFIX for a package
 #     scripts/install.sh --uninstall [PREFIX] [DESTDIR]   # removes what the list of an installation names, and nothing else
 #
-# It takes the proved builds where they are there and of the sources as they stand (scripts/build.sh, scripts/ffi.sh build), else those without
-# proofs, and says so. What was installed stands in PREFIX/share/r10/installed. Without leave to write, or room, that is one line, and status 3;
-# then nothing is changed.
+# It takes the proved builds where they are there and of the sources as they stand (scripts/build.sh, scripts/ffi.sh build), else
+# those without proofs, and says so. What was installed stands in PREFIX/share/r10/installed. Without leave to write, or room, that
+# is one line, and status 3; then nothing is changed.
 set -eu
 
 top=$(cd "$(dirname "$(readlink -f "${BASH_SOURCE[0]}")")/.." && pwd)
@@ -107,7 +107,8 @@ install -m 644 "$made/installed" "$share/r10/installed"
 if [ -f "$list" ]; then
     comm -23 "$list" "$made/installed" >"$made/gone"
 fi
-mkdir -p "$root$prefix" && cp -a --no-preserve=ownership "$whole$prefix/." "$root$prefix/" || give_up 3 "not all could be written below $root$prefix: call it again, or with --uninstall"
+mkdir -p "$root$prefix" && cp -a --no-preserve=ownership "$whole$prefix/." "$root$prefix/" ||
+    give_up 3 "not all could be written below $root$prefix: call it again, or with --uninstall"
 [ ! -s "$made/gone" ] || remove "$made/gone"
 if [ -z "$root" ] && [ "$(id -u)" = 0 ] && command -v ldconfig >/dev/null; then
     ldconfig

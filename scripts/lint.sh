@@ -3,14 +3,16 @@
 #
 #     scripts/lint.sh
 #
-# Every shell script has to parse, and every Python script to compile; and what begins as a command does has the run bit. Then the Python scripts
-# are looked at by pyflakes (or by ruff, by the same rules), and those of the shell by shellcheck: Debian's packages are pyflakes3 and shellcheck.
-# Sources in C and Rust have the form that clang-format and rustfmt give them, by ffi/.clang-format and the rustfmt.toml of each folder.
+# Every shell script has to parse, and every Python script to compile; and what begins as a command does has the run bit. Then the
+# Python scripts are looked at by pyflakes (or by ruff, by the same rules), and those of the shell by shellcheck: Debian's packages
+# are pyflakes3 and shellcheck. Sources in C and Rust have the form that clang-format and rustfmt give them, by ffi/.clang-format
+# and the rustfmt.toml of each folder. No line of the filters, of the scripts or of the service's tests is longer than 132 columns.
 # Status 1 where one of them finds something.
 set -u
 cd "$(dirname "${BASH_SOURCE[0]}")/.." || exit 1
 
-readonly shells=(r10 .ci/run scripts/*.sh scripts/tests/*.sh) pythons=(scripts/*.py ch10/*.py recorder/tests/*.py) sources=(ffi/*.[ch] scripts/*.c bench/*.c recorder/tests/*.c)
+readonly shells=(r10 .ci/run scripts/*.sh scripts/tests/*.sh) pythons=(scripts/*.py ch10/*.py recorder/tests/*.py) \
+    sources=(ffi/*.[ch] scripts/*.c bench/*.c recorder/tests/*.c)
 bad=0
 
 for script in "${shells[@]}"; do
@@ -18,8 +20,20 @@ for script in "${shells[@]}"; do
 done
 for script in "${pythons[@]}"; do
     python3 -c 'import sys; compile(open(sys.argv[1], encoding="utf-8").read(), sys.argv[1], "exec")' "$script" || bad=1
-    [ "$(head -c 2 "$script")" != '#!' ] || [ -x "$script" ] || { echo "$script: it begins as a command does, and has no run bit"; bad=1; }
+    [ "$(head -c 2 "$script")" != '#!' ] || [ -x "$script" ] ||
+        { echo "$script: it begins as a command does, and has no run bit"; bad=1; }
 done
+
+python3 - ch10/* scripts/* scripts/tests/* recorder/tests/* <<'EOF' || bad=1
+import pathlib, sys
+
+MOST = 132
+long = ["%s:%d: %d columns, more than %d" % (path, number, len(line), MOST)
+        for path in map(pathlib.Path, sys.argv[1:]) if path.is_file()
+        for number, line in enumerate(path.read_text(encoding="utf-8").split("\n"), 1) if len(line) > MOST]
+print("".join(line + "\n" for line in long), end="")
+sys.exit(bool(long))
+EOF
 
 if command -v pyflakes3 >/dev/null; then
     pyflakes3 "${pythons[@]}" || bad=1

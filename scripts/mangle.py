@@ -3,13 +3,15 @@
 
     scripts/mangle.py run [PROGRAM] [--rows ROWS] [--seed SEED] [--count COUNT]   # says what differs, and how many came to what
     scripts/mangle.py case PROGRAM NUMBER [--seed SEED]                           # writes the mangled bytes of one
-    scripts/mangle.py kept                                                    # judges the kept ones, the rows `mangled-..` of crates/r10_rows
+    scripts/mangle.py kept                                                    # judges the kept ones, the rows `mangled-..` of
+    crates/r10_rows
 
-PROGRAM is the program, and ROWS that of crates/r10_rows, by which each recording is also judged under a closed and an unclosed entry, rules
-included; without PROGRAM each call is made through ROWS, of fifty mangled ones in one run of it. The seed is 1 and the count 10,000 where none is given. Half of the mangled are recordings, which `check` judges, and `play`
-on a medium with that file alone; half are images, for `files` and `play`. What is right is said by judge_recording.py and judge_image.py,
-which take nothing from the recorder. What is mangled are the recordings and images of check_cases.py and play_cases.py, and what the program
-records of the examples and of the scripts in crates/r10_rows.
+PROGRAM is the program, and ROWS that of crates/r10_rows, by which each recording is also judged under a closed and an unclosed
+entry, rules included; without PROGRAM each call is made through ROWS, of fifty mangled ones in one run of it. The seed is 1 and the
+count 10,000 where none is given. Half of the mangled are recordings, which `check` judges, and `play` on a medium with that file
+alone; half are images, for `files` and `play`. What is right is said by judge_recording.py and judge_image.py, which take nothing
+from the recorder. What is mangled are the recordings and images of check_cases.py and play_cases.py, and what the program records
+of the examples and of the scripts in crates/r10_rows.
 """
 import argparse
 import collections
@@ -20,7 +22,8 @@ import re
 import subprocess
 import sys
 
-from check_cases import (CHAIN, CLOSED, FAR, FAR_BY_TWO, FIRST, LONG, LONG_INDEX, MANY, MANY_INDEX, ONE, OPAQUE, OPENING, TWO, index_of,
+from check_cases import (CHAIN, CLOSED, FAR, FAR_BY_TWO, FIRST, LONG, LONG_INDEX, MANY, MANY_INDEX, ONE, OPAQUE, OPENING,
+                         TWO, index_of,
                          lost, number, report, told)
 from judge_image import Refused, answer, listed, said_of
 from judge_recording import INDEX, WIDTHS, first_fault, little, verdict
@@ -28,8 +31,10 @@ from play_cases import KINDS, PAIR, alone, big, case_text as image_text, directo
 
 TOP = pathlib.Path(__file__).resolve().parent.parent
 BLOCK = 512
-EDGES = (0, 1, 2, 3, 4, 5, 7, 8, 12, 16, 20, 22, 23, 24, 28, 0x1F, 0x20, 0x40, 0x48, 0x4A, 0x7F, 0x80, 0xFF, 0x100, 0x7FFF, 0x8000, 0xFFFF,
-         0x10000, 0xF4240, 0xF4241, 0x7FFFC, 0x80000, 0x80004, 0x7FFFFFFF, 0x80000000, 0xFFFFFFFC, 0xFFFFFFFF, 1 << 32, (1 << 47) - 1, 1 << 47,
+EDGES = (0, 1, 2, 3, 4, 5, 7, 8, 12, 16, 20, 22, 23, 24, 28, 0x1F, 0x20, 0x40, 0x48, 0x4A, 0x7F, 0x80, 0xFF, 0x100, 0x7FFF,
+         0x8000, 0xFFFF,
+         0x10000, 0xF4240, 0xF4241, 0x7FFFC, 0x80000, 0x80004, 0x7FFFFFFF, 0x80000000, 0xFFFFFFFC, 0xFFFFFFFF, 1 << 32,
+         (1 << 47) - 1, 1 << 47,
          (1 << 48) - 1, 1 << 48, 1 << 55, (1 << 63) - 1, 1 << 63, (1 << 64) - 512, (1 << 64) - 1)
 TYPES = (0x00, 0x01, 0x02, 0x03, 0x11, 0x19, 0x29, 0x30, 0x38, 0x50, 0x68, 0xFF)
 
@@ -179,7 +184,8 @@ def cut(dice, parts, at):
 
 
 def insert(dice, parts, at):
-    parts.insert(at, dice.pick((OPAQUE, report(1, 5, 1), dice.pick(parts_of(KINDS)), dice.data(dice.below(40)), bytes(dice.below(5) * 4))))
+    parts.insert(at, dice.pick((OPAQUE, report(1, 5, 1), dice.pick(parts_of(KINDS)), dice.data(dice.below(40)),
+                                bytes(dice.below(5) * 4))))
 
 
 def renumber(parts):
@@ -214,7 +220,8 @@ def change_index(dice, parts, at):
             dice.pick((change_header, change_body, change_body, flip, drop, double, cut))(dice, parts, at)
 
 
-CHANGES = (change_header, change_header, change_body, change_body, change_data, change_data, change_filler, change_channel, shift, shift,
+CHANGES = (change_header, change_header, change_body, change_body, change_data, change_data, change_filler, change_channel,
+           shift, shift,
            flip, flip, drop, double, swap, cut, insert, change_index)
 
 
@@ -246,13 +253,15 @@ def change_block(dice, image, at):
     """A field of a directory block."""
     place, size = dice.pick(((0, 8), (8, 1), (9, 1), (10, 2), (12, 4), (16, 8), (48, 8), (56, 8), (48, 8), (10, 2)))
     links = (0, 1, 2, 3, len(image) // BLOCK - 1, len(image) // BLOCK, at, at + 1)
-    value = dice.pick(links) if place in (48, 56) and not dice.one_in(3) else edge(dice, big_at(image, at * BLOCK + place, size), size)
+    value = dice.pick(links) if place in (48, 56) and not dice.one_in(3) else edge(dice, big_at(image, at * BLOCK + place, size),
+                                                                                   size)
     return put(image, at * BLOCK + place, big(value % 256 ** size, size))
 
 
 def change_entry(dice, image, at):
     """A field of an entry of a directory block."""
-    place, size = dice.pick(((0, 1), (55, 1), (3, 2), (56, 8), (64, 8), (72, 8), (56, 8), (64, 8), (72, 8), (80, 8), (96, 1), (104, 8), (104, 1)))
+    place, size = dice.pick(((0, 1), (55, 1), (3, 2), (56, 8), (64, 8), (72, 8), (56, 8), (64, 8), (72, 8), (80, 8), (96, 1),
+                             (104, 8), (104, 1)))
     start = at * BLOCK + 64 + 112 * dice.below(4) + place
     old = big_at(image, start, size)
     if place == 104 and size == 8:
@@ -315,7 +324,8 @@ def place_of(image, file):
     return start if start + 112 <= len(image) else None
 
 
-IMAGE_CHANGES = (change_block, change_block, change_entry, change_entry, change_byte, change_blocks, change_length, change_file, change_file)
+IMAGE_CHANGES = (change_block, change_block, change_entry, change_entry, change_byte, change_blocks, change_length, change_file,
+                 change_file)
 
 
 def mangled_image(dice, image):
@@ -354,7 +364,8 @@ def scripts():
             yield script.read_bytes()
     for case in (TOP / 'crates/r10_rows/stdin').read_bytes().split(b'\n== '):
         head, status, *lines = case.split(b'\n')
-        if head.split(b' ')[1:] in ([], [b'sim'], [b'sim', b'--image']) and status.split(b' ')[:1] == [b'0'] and b'hex' not in status:
+        if head.split(b' ')[1:] in ([], [b'sim'],
+                                    [b'sim', b'--image']) and status.split(b' ')[:1] == [b'0'] and b'hex' not in status:
             yield b'\n'.join(lines) + b'\n'
 
 
@@ -365,7 +376,8 @@ def recorded(program, script):
 
 
 def recorded_by_rows(rows, script):
-    """The same, through the program of the rows, which shows so many bytes of an image in hex digits. None of more than 128 blocks."""
+    """The same, through the program of the rows, which shows so many bytes of an image in hex digits. None of more than 128
+    blocks."""
     blocks = int(re.search(rb'^blocks = (\d+)', script, re.M)[1])
     if blocks > 128:
         return None
@@ -379,9 +391,11 @@ class Bases:
     """Recordings and images without a fault."""
 
     def __init__(self, program, rows=None):
-        self.recordings = [FIRST, FIRST[:124], KINDS, b''.join(lost()), b''.join(ONE), b''.join(TWO), b''.join(CLOSED), b''.join(OPENING),
+        self.recordings = [FIRST, FIRST[:124], KINDS, b''.join(lost()), b''.join(ONE), b''.join(TWO), b''.join(CLOSED),
+                           b''.join(OPENING),
                            b''.join(LONG + LONG_INDEX), b''.join(MANY + MANY_INDEX), b''.join(told(70000)), b''.join(told(1)[:5])]
-        self.chains = [b''.join(it) for it in (LONG + CHAIN, MANY + index_of(MANY, 1000, 1, 1), MANY + index_of(MANY, 1000, 1, 2), FAR + FAR_BY_TWO)]
+        self.chains = [b''.join(it) for it in (LONG + CHAIN, MANY + index_of(MANY, 1000, 1, 1), MANY + index_of(MANY, 1000, 1, 2),
+                                               FAR + FAR_BY_TWO)]
         self.images = [alone(FIRST), alone(FIRST[:124], False), alone(KINDS), PAIR, chain_of_five()] + list(map(alone, self.chains))
         for script in scripts():
             image = recorded(program, script) if program else recorded_by_rows(rows, script)
@@ -429,7 +443,8 @@ def wanted_of(words, data):
 
 def text_of(name, words, data, lines, status):
     """The case of a row, and its answer."""
-    return image_text(name, ' '.join(words), data, status, lines), '== %s %s\n%d\n%s' % (name, ' '.join(words), status, ''.join(line + '\n' for line in lines))
+    return image_text(name, ' '.join(words), data, status, lines), '== %s %s\n%d\n%s' % (name, ' '.join(words), status,
+                                                                                         ''.join(line + '\n' for line in lines))
 
 
 def by_itself(program, words, data, lines, status):
@@ -479,7 +494,8 @@ def judge(words, bases, numbers):
     rows = [it for it in asked if words.rows and (it[1][0] == 'judge' or not words.program)]
     asked = calls + rows
     seen = [by_itself(words.program, *it[1:]) for it in calls] + (by_rows(words.rows, rows) if rows else [])
-    wrong = ['%s: %s: wanted %r, %s' % (name, ' '.join(words), lines, came) for (name, words, _, lines, _), came in zip(asked, seen) if came]
+    wrong = ['%s: %s: wanted %r, %s' % (name, ' '.join(words), lines, came)
+             for (name, words, _, lines, _), came in zip(asked, seen) if came]
     return wrong, collections.Counter(word_for(*it[1:2], *it[3:]) for it in asked)
 
 
@@ -492,7 +508,8 @@ def run(words):
         for differing, came in pool.map(lambda group: judge(words, bases, group), groups):
             wrong += differing
             counts.update(came)
-    print('seed %d: %d mangled, of %d recordings and %d images' % (words.seed, words.count, len(bases.recordings), len(bases.images)))
+    print('seed %d: %d mangled, of %d recordings and %d images' % (words.seed, words.count, len(bases.recordings),
+                                                                   len(bases.images)))
     for word, times in sorted(counts.items()):
         print('%6d %s' % (times, word))
     for line in wrong:

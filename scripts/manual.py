@@ -3,8 +3,9 @@
 
     scripts/manual.py PROGRAM FILTERS FOLDER
 
-PROGRAM is a build of r10, FILTERS is scripts/ch10.py, and FOLDER gets man1/, man3/, bash/ and zsh/. The texts are those of `--help`, and of
-ffi/r10.h: nothing is said twice. Where a help text has another form than the one that is read here, that is one line, and status 1.
+PROGRAM is a build of r10, FILTERS is scripts/ch10.py, and FOLDER gets man1/, man3/, bash/ and zsh/. The texts are those of
+`--help`, and of ffi/r10.h: nothing is said twice. Where a help text has another form than the one that is read here, that is one
+line, and status 1.
 """
 from __future__ import annotations
 
@@ -95,9 +96,11 @@ class Help:
             self.more.pop(0)
 
 
-def page(name: str, section: int, version: str, about: str, synopsis: list[str], parts: list[tuple[str, list[str]]], also: list[str]) -> str:
+def page(name: str, section: int, version: str, about: str, synopsis: list[str], parts: list[tuple[str, list[str]]],
+         also: list[str]) -> str:
     """A manual page."""
-    lines = ['.TH %s %d "" "r10 %s" "Flight recorder"' % (name.upper(), section, version), '.SH NAME', '%s \\- %s' % (roff(name), roff(about)), '.SH SYNOPSIS']
+    lines = ['.TH %s %d "" "r10 %s" "Flight recorder"' % (name.upper(), section, version), '.SH NAME',
+             '%s \\- %s' % (roff(name), roff(about)), '.SH SYNOPSIS']
     for line in synopsis:
         lines += [roff(line), '.br']
     for title, text in parts:
@@ -124,11 +127,13 @@ def pages_of_program(program: str, version: str) -> dict[str, str]:
     statuses = ('EXIT STATUS', body(line for text in STATUSES.splitlines() for line in (text, '')))
     also = ['r10-%s(1)' % it for it in commands] + ['ch10(1)', 'r10.h(3)']
     made = {'man1/r10.1': page('r10', 1, version, whole.about[0], [whole.usage], [
-        ('DESCRIPTION', body(whole.about + [''] + whole.more)), ('COMMANDS', listed(whole.commands)), ('OPTIONS', listed(whole.options)), statuses], also)}
+        ('DESCRIPTION', body(whole.about + [''] + whole.more)), ('COMMANDS', listed(whole.commands)),
+        ('OPTIONS', listed(whole.options)), statuses], also)}
     for name in commands:
         one = Help(said([program, name, '--help']))
         made['man1/r10-%s.1' % name] = page('r10-' + name, 1, version, one.about[0], [one.usage], [
-            ('DESCRIPTION', body(one.about + [''] + one.more)), ('OPTIONS', listed(one.options)), statuses], ['r10(1)'] + [it for it in also if name not in it])
+            ('DESCRIPTION', body(one.about + [''] + one.more)), ('OPTIONS', listed(one.options)), statuses],
+                                            ['r10(1)'] + [it for it in also if name not in it])
     return made
 
 
@@ -146,7 +151,8 @@ def page_of_filters(filters: str, version: str) -> tuple[dict[str, str], dict[st
         helps[name] = one = Help(said([sys.executable, filters, name, '--help']))
         parts.append((name.upper(), body([one.usage, ''] + one.more) + listed(one.options)))
     parts.append(('EXIT STATUS', body(['As of r10(1). What is wrong is one line on standard error that begins with "ch10: ".'])))
-    return {'man1/ch10.1': page('ch10', 1, version, 'filters over recordings of IRIG 106 Chapter 10', ['ch10 COMMAND [WORDS] < INPUT > OUTPUT'], parts, ['r10(1)'])}, helps
+    return {'man1/ch10.1': page('ch10', 1, version, 'filters over recordings of IRIG 106 Chapter 10',
+                                ['ch10 COMMAND [WORDS] < INPUT > OUTPUT'], parts, ['r10(1)'])}, helps
 
 
 def page_of_header(header: pathlib.Path, version: str) -> dict[str, str]:
@@ -172,7 +178,8 @@ def page_of_header(header: pathlib.Path, version: str) -> dict[str, str]:
         title = re.sub(r'^/\* -+ | \*/$', '', part.splitlines()[0]).partition('. ')[0]
         part = re.sub(r'\n#ifdef __cplusplus.*', '', part, flags=re.S)
         parts.append((roff(title.upper()), ['.EX'] + [roff(line) for line in part.strip('\n').splitlines()] + ['.EE']))
-    return {'man3/r10.h.3': page('r10.h', 3, version, 'a flight recorder as a library', ['#include <r10.h>', 'cc ... $(pkg-config --cflags --libs r10)'], parts, ['r10(1)'])}
+    return {'man3/r10.h.3': page('r10.h', 3, version, 'a flight recorder as a library',
+                                 ['#include <r10.h>', 'cc ... $(pkg-config --cflags --libs r10)'], parts, ['r10(1)'])}
 
 
 def words_of(one: Help) -> list[str]:
@@ -198,7 +205,8 @@ _%s() {
 }
 complete -o default -F _%s %s
 ''' % (name, name, cases, ' '.join(more), ' '.join([*commands, *more]), name, name)
-    described = ''.join("        '%s:%s'\n" % (it, one.about[0].replace("'", "'\\''") if one.about else it) for it, one in commands.items())
+    described = ''.join("        '%s:%s'\n" % (it, one.about[0].replace("'", "'\\''") if one.about else it)
+                        for it, one in commands.items())
     options = ''
     for it, one in commands.items():
         found = []
@@ -238,7 +246,8 @@ def main(words: list[str]) -> int:
         of_filters, helps = page_of_filters(filters, version)
         made |= of_filters | page_of_header(TOP / 'ffi' / 'r10.h', version)
         commands = [name for name, _ in Help(said([program, '--help'])).commands]
-        made |= completions('r10', {it: Help(said([program, it, '--help'])) for it in commands if it != 'help'}, ['help', '--help', '--version'])
+        made |= completions('r10', {it: Help(said([program, it, '--help'])) for it in commands if it != 'help'},
+                            ['help', '--help', '--version'])
         made |= completions('ch10', helps, ['--help', '--version'])
     except (Wrong, ValueError) as wrong:
         print('manual: %s' % wrong, file=sys.stderr)

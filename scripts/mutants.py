@@ -1,12 +1,15 @@
 #!/usr/bin/env python3
-"""mutants.py [CRATE..] [--count N] [--seed N] [--lanes N] [--work FOLDER] [--list]: makes small changes in the bodies of functions, and tells which ones no contract refuses.
+"""mutants.py [CRATE..] [--count N] [--seed N] [--lanes N] [--work FOLDER] [--list]: makes small changes in the bodies of functions,
+and tells which ones no contract refuses.
 
-The changes are those that tools of mutation make: a comparison turned, a bound one off, a branch that is never or always taken, a call left out, a constant changed,
-two arguments exchanged, a refusal swallowed, a sum turned into a difference. N of them (600) are drawn from a seed, spread over the crates by the lines of their
-bodies; crates of tests, trials and measures have none. Those that do not compile are left out of the figures.
+The changes are those that tools of mutation make: a comparison turned, a bound one off, a branch that is never or always taken, a
+call left out, a constant changed, two arguments exchanged, a refusal swallowed, a sum turned into a difference. N of them (600) are
+drawn from a seed, spread over the crates by the lines of their bodies; crates of tests, trials and measures have none. Those that
+do not compile are left out of the figures.
 
-Prints a line for each, then the table, and how many of a hundred are refused by their own crate. What survives is to be closed by a clause, or explained in
-docs/SLIPS.md. What was tried stands in FOLDER (.slips at the top), so that a run goes on where one was stopped. Status 1 where fewer than 95 of 100 are refused.
+Prints a line for each, then the table, and how many of a hundred are refused by their own crate. What survives is to be closed by a
+clause, or explained in docs/SLIPS.md. What was tried stands in FOLDER (.slips at the top), so that a run goes on where one was
+stopped. Status 1 where fewer than 95 of 100 are refused.
 """
 from __future__ import annotations
 
@@ -24,10 +27,13 @@ from wrong_bodies import BAD, PASSED, TOP, Change, Function  # noqa: E402
 
 WITHOUT = re.compile(r'_tests$|^r10_(rows|trials|bench|session_bench|cli)$')
 # (lines of a body that are no code which runs)
-GHOST = re.compile(r'^\s*(?:prove!|ghost\b|#\[|//|requires\b|ensures\b|invariant\b|measure\b|decreases\b|use )|\bghost\b|\b(?:requires|ensures) \{')
+GHOST = re.compile(
+    r'^\s*(?:prove!|ghost\b|#\[|//|requires\b|ensures\b|invariant\b|measure\b|decreases\b|use )|\bghost\b|\b(?:requires|ensures) '
+    r'\{')
 
 TURNS: list[tuple[str, str, Callable[[re.Match], str]]] = [
-    ('comparison', r' (<=|>=|<|>|==|!=) ', lambda it: {'<': ' <= ', '<=': ' < ', '>': ' >= ', '>=': ' > ', '==': ' != ', '!=': ' == '}[it[1]]),
+    ('comparison', r' (<=|>=|<|>|==|!=) ',
+     lambda it: {'<': ' <= ', '<=': ' < ', '>': ' >= ', '>=': ' > ', '==': ' != ', '!=': ' == '}[it[1]]),
     ('bound', r'\.\.=', lambda it: '..'),
     ('bound', r' \+ 1\b', lambda it: ''),
     ('constant', r'(?<![\w.\'])(\d[\d_]*)(?=(?:u8|u16|u32|u64|usize)?\b)(?!\.\d)', lambda it: str(int(it[1].replace('_', '')) + 1)),

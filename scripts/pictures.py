@@ -2,11 +2,13 @@
 """Draws the two pictures of docs/ARCHITECTURE.md, and that of docs/RECORDER.md, as SVG, with the standard library alone.
 
     scripts/pictures.py            writes docs/pictures/layers.svg, data.svg and recorder.svg
-    scripts/pictures.py --check    draws nothing; fails if a picture is not what would be drawn, or if a text does not agree with crates.txt
+    scripts/pictures.py --check    draws nothing; fails if a picture is not what would be drawn, or if a text does not agree with
+                                   crates.txt
 
-The layers come from crates.txt and from the table of crates in docs/ARCHITECTURE.md (layer, crate, a phrase of at most eight words). The table has to name
-each crate once, and no crate before one that it stands on. An edge that follows from others is left out, and so are those of trials and tests.
-The data's way comes from docs/pictures/data.txt, and that through the service from docs/pictures/recorder.txt.
+The layers come from crates.txt and from the table of crates in docs/ARCHITECTURE.md (layer, crate, a phrase of at most eight
+words). The table has to name each crate once, and no crate before one that it stands on. An edge that follows from others is left
+out, and so are those of trials and tests. The data's way comes from docs/pictures/data.txt, and that through the service from
+docs/pictures/recorder.txt.
 """
 import re
 import sys
@@ -103,7 +105,8 @@ def width_of(name: str) -> float:
 
 
 def with_passes(rows: list[list[str]], links: Edges) -> tuple[list[list[str]], Edges]:
-    """The rows with a place in each row that a line passes through, so that no line runs below a box; each link then leads to the row below."""
+    """The rows with a place in each row that a line passes through, so that no line runs below a box; each link then leads to the
+    row below."""
     orders, joined = [list(names) for names in rows], {name: [] for name in links}
     level = {name: place for place, names in enumerate(rows) for name in names}
     for name, used in links.items():
@@ -120,7 +123,8 @@ def with_passes(rows: list[list[str]], links: Edges) -> tuple[list[list[str]], E
 
 
 def spread(names: list[str], wish: dict[str, float], left: float, right: float) -> dict[str, float]:
-    """Centres of a row's boxes in this order, apart from one another and near their wishes: the middle between the way from the left and that from the right."""
+    """Centres of a row's boxes in this order, apart from one another and near their wishes: the middle between the way from the
+    left and that from the right."""
     from_left: dict[str, float] = {}
     from_right: dict[str, float] = {}
     edge = left
@@ -144,7 +148,8 @@ def spread(names: list[str], wish: dict[str, float], left: float, right: float) 
 
 
 def centres(rows: list[list[str]], links: Edges, left: float, right: float) -> tuple[list[list[str]], dict[str, float]]:
-    """The order of each row and the centre of each box: boxes go towards the middle of what they are linked with, now from below and now from above."""
+    """The order of each row and the centre of each box: boxes go towards the middle of what they are linked with, now from below
+    and now from above."""
     orders = [list(names) for names in rows]
     above: Edges = {name: [] for name in links}
     for name, used in links.items():
@@ -175,7 +180,8 @@ def layers_picture(crates: list[Crate], edges: Edges) -> str:
     left, right, row_height, box = 150.0, 1180.0, 46.0, 24.0
     tested = [crate.name for crate in crates if crate.layer != WITHOUT_EDGES]
     rows = rows_of(crates, edges)
-    orders, links = with_passes([names for _, names in rows], {name: used if name in tested else [] for name, used in reduced(edges).items()})
+    orders, links = with_passes([names for _, names in rows],
+                                {name: used if name in tested else [] for name, used in reduced(edges).items()})
     orders, at = centres(orders, links, left, right)
     height = row_height * len(rows) + 40
     y_of = {name: height - 36 - row_height * (place + 0.5) for place, names in enumerate(orders) for name in names}
@@ -188,7 +194,8 @@ def layers_picture(crates: list[Crate], edges: Edges) -> str:
     for layer in layers:
         places = [place for place, row in enumerate(rows) if row[0] == layer]
         top = height - 36 - row_height * (places[-1] + 1)
-        out.append(f'<rect x="8" y="{top + 2:.0f}" width="1184" height="{row_height * len(places) - 4:.0f}" rx="6" fill="{colour[layer]}" fill-opacity="0.10"/>')
+        out.append(f'<rect x="8" y="{top + 2:.0f}" width="1184" height="{row_height * len(places) - 4:.0f}" rx="6" '
+                   f'fill="{colour[layer]}" fill-opacity="0.10"/>')
         for line, words in enumerate(wrapped(layer, 16)):
             out.append(text_at(20, top + 24 + 16 * line, 13, words, f'font-weight="bold" fill="{colour[layer]}"'))
     for name, used in links.items():
@@ -197,16 +204,20 @@ def layers_picture(crates: list[Crate], edges: Edges) -> str:
             x, y = at[it], y_of[it] - (0 if ">" in it else box / 2)
             to_x, to_y = at[name], y_of[name] + (0 if ">" in name else box / 2)
             bend = (y - to_y) * 0.5
-            out.append(f'<path d="M{x:.0f} {y:.0f} C{x:.0f} {y - bend:.0f} {to_x:.0f} {to_y + bend:.0f} {to_x:.0f} {to_y:.0f}" fill="none" '
+            out.append(f'<path d="M{x:.0f} {y:.0f} C{x:.0f} {y - bend:.0f} {to_x:.0f} {to_y + bend:.0f} {to_x:.0f} {to_y:.0f}" '
+                       f'fill="none" '
                        f'stroke="{colour[layer_of[lower]]}" stroke-width="1.3" stroke-opacity="0.75"/>')
     for name, y in y_of.items():
         if ">" in name:
             continue
         x, wide = at[name], width_of(name)
-        out.append(f'<g><title>{escape(name)}: {escape(phrase[name])}</title><rect x="{x - wide / 2:.0f}" y="{y - box / 2:.0f}" width="{wide:.0f}" height="{box:.0f}" rx="4" '
+        out.append(f'<g><title>{escape(name)}: {escape(phrase[name])}</title><rect x="{x - wide / 2:.0f}" y="{y - box / 2:.0f}" '
+                   f'width="{wide:.0f}" height="{box:.0f}" rx="4" '
                    f'fill="#ffffff" stroke="{colour[layer_of[name]]}" stroke-width="1.4"/>'
                    + text_at(x, y + 4, 12, name.removeprefix("r10_"), 'text-anchor="middle"') + "</g>")
-    out.append(text_at(20, height - 14, 12, "Each name has r10_ before it. A line leads from a crate up to one that stands on it; a line that follows from others is left out.",
+    out.append(text_at(20, height - 14, 12,
+                       "Each name has r10_ before it. A line leads from a crate up to one that stands on it; a line that follows "
+                       "from others is left out.",
                        'fill="#444444"'))
     return "\n".join(out) + "\n</svg>\n"
 
@@ -266,11 +277,13 @@ def data_picture(rows: dict[int, str], boxes: dict[str, Box], arrows: list[tuple
     width, height = left * 2 + step_x * (columns - 1) + wide, top + step_y * (len(rows) - 1) + high + 24
     corner: Places = {name: (left + step_x * (box.column - 1), top + step_y * (box.row - 1)) for name, box in boxes.items()}
     out = [f'<svg xmlns="http://www.w3.org/2000/svg" width="{width}" height="{height}" viewBox="0 0 {width} {height}">',
-           '<defs><marker id="tip" viewBox="0 0 10 10" refX="9" refY="5" markerWidth="7" markerHeight="7" orient="auto"><path d="M0 0 L10 5 L0 10 z" fill="#333333"/></marker></defs>',
+           '<defs><marker id="tip" viewBox="0 0 10 10" refX="9" refY="5" markerWidth="7" markerHeight="7" orient="auto"><path '
+           'd="M0 0 L10 5 L0 10 z" fill="#333333"/></marker></defs>',
            f'<rect width="{width}" height="{height}" fill="#ffffff"/>']
     for row, label in rows.items():
         colour = COLOURS[row % len(COLOURS)]
-        out.append(f'<rect x="6" y="{top + step_y * (row - 1) - 28}" width="{width - 12}" height="{high + 44}" rx="6" fill="{colour}" fill-opacity="0.10"/>')
+        out.append(f'<rect x="6" y="{top + step_y * (row - 1) - 28}" width="{width - 12}" height="{high + 44}" rx="6" '
+                   f'fill="{colour}" fill-opacity="0.10"/>')
         out.append(text_at(14, top + step_y * (row - 1) - 12, 13, label, f'font-weight="bold" fill="{colour}"'))
     for start, end, words in arrows:
         (x, y), (to_x, to_y) = corner[start], corner[end]
@@ -285,13 +298,15 @@ def data_picture(rows: dict[int, str], boxes: dict[str, Box], arrows: list[tuple
             label_x, label_y, anchor = x + wide / 2 + 6, (y + high + to_y) / 2 - 8, "start"
         else:
             middle = (y + high + to_y) / 2 + 14
-            points = f"M{x + wide / 2:.0f} {y + high} L{x + wide / 2:.0f} {middle:.0f} L{to_x + wide / 2:.0f} {middle:.0f} L{to_x + wide / 2:.0f} {to_y}"
+            points = (f"M{x + wide / 2:.0f} {y + high} L{x + wide / 2:.0f} {middle:.0f} "
+                      f"L{to_x + wide / 2:.0f} {middle:.0f} L{to_x + wide / 2:.0f} {to_y}")
             label_x, label_y, anchor = (x + to_x + wide) / 2, middle - 5, "middle"
         out.append(f'<path d="{points}" fill="none" stroke="#333333" stroke-width="1.4" marker-end="url(#tip)"/>')
         out.append(text_at(label_x, label_y, 11, words, f'text-anchor="{anchor}" fill="#333333"'))
     for name, box in boxes.items():
         x, y = corner[name]
-        out.append(f'<rect x="{x}" y="{y}" width="{wide}" height="{high}" rx="5" fill="#ffffff" stroke="{COLOURS[box.row % len(COLOURS)]}" stroke-width="1.6"/>')
+        out.append(f'<rect x="{x}" y="{y}" width="{wide}" height="{high}" rx="5" fill="#ffffff" '
+                   f'stroke="{COLOURS[box.row % len(COLOURS)]}" stroke-width="1.6"/>')
         out.append(text_at(x + wide / 2, y + 19, 13, box.title, 'text-anchor="middle" font-weight="bold"'))
         out.append(text_at(x + wide / 2, y + 37, 10, box.below, 'text-anchor="middle" fill="#444444"'))
     return "\n".join(out) + "\n</svg>\n"

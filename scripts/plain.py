@@ -5,11 +5,13 @@
     scripts/plain.py FILE..          these files alone
     scripts/plain.py --table         a line for each file: sentences, words a sentence, the longest sentence
 
-A finding is a sentence of more than 25 words, a document of 20 words a sentence or more on average, or a word that these documents used
-with a meaning of their own. Code blocks, headings and pages that a script writes are not measured; a cell of a table and an item of a list each
-end a sentence; averages leave out tables. Code in backquotes and a link each count by what a reader sees, code as one word.
+A finding is a sentence of more than 25 words, a document of 20 words a sentence or more on average, or a word that these documents
+used with a meaning of their own. Code blocks, headings and pages that a script writes are not measured; a cell of a table and an
+item of a list each end a sentence; averages leave out tables. Code in backquotes and a link each count by what a reader sees, code
+as one word.
 
-scripts/plain_allowed.txt lists what may stay: a path, a colon, and words that the sentence has. An entry that excuses nothing is a finding too.
+scripts/plain_allowed.txt lists what may stay: a path, a colon, and words that the sentence has. An entry that excuses nothing is a
+finding too.
 """
 import re
 import sys
@@ -150,12 +152,14 @@ def main(words: list[str]) -> int:
         for path in paths:
             found = sentences(path)
             name = path.relative_to(TOP) if path.is_relative_to(TOP) else path
-            print(f"{len(found):5} sentences {average_of(found):5.1f} words {max((it.words for it in found), default=0):4} longest  {name}")
+            print(f"{len(found):5} sentences {average_of(found):5.1f} words {max((it.words for it in found), default=0):4} longest "
+                  f" {name}")
         return 0
     excuses, used = allowed(), set()
     found = [line for path in paths for line in findings(path, excuses, used)]
     if not names:
-        found += [f"scripts/plain_allowed.txt: excuses nothing: {path}: {text}" for path, text in excuses if (path, text) not in used]
+        found += [f"scripts/plain_allowed.txt: excuses nothing: {path}: {text}" for path, text in excuses
+                  if (path, text) not in used]
     print("\n".join(found), end="\n" if found else "")
     return int(bool(found))
 

@@ -4,8 +4,10 @@
     scripts/play_cases.py cases            # what stands in crates/r10_rows/stdin from `== play-first` on, up to `== check-first`
     scripts/play_cases.py answers          # the same of crates/r10_rows/stdout
     scripts/play_cases.py kept             # fails where one of these files has others in their place
-    scripts/play_cases.py compare PROGRAM  # PROGRAM play and scripts/read_chapter10.py --entries print the same of each strict file,
-                                           # and of what PROGRAM sim --image records of each example but those of sessions, which leave no image
+    scripts/play_cases.py compare PROGRAM  # PROGRAM play and scripts/read_chapter10.py --entries print the same of each strict
+                                             file,
+                                           # and of what PROGRAM sim --image records of each example but those of sessions, which
+                                           leave no image
     scripts/play_cases.py image            # the image of a file with every kind of channel
 
 Packets and the directory are built here from IRIG 106-17, chapters 10 and 11, and the wanted lines stand beside them. Nothing is
@@ -16,7 +18,8 @@ import re
 import subprocess
 import sys
 
-from check_cases import CHAIN, FIRST, LONG, OPENING, event, flipped, index_of, letters, lost, number, packet, print_rows, report, told
+from check_cases import (CHAIN, FIRST, LONG, OPENING, event, flipped, index_of, letters, lost, number, packet, print_rows, report,
+                         told)
 from judge_recording import ARINC, TIME, UART, first_fault
 
 READER = pathlib.Path(__file__).with_name('read_chapter10.py')
@@ -125,8 +128,10 @@ def rows():
     yield 'play-behind-a-lost-message', 'play', alone(b''.join(lost())), 0, LOST_LINES
     yield 'play-behind-a-report', 'play', alone(b''.join(told(70000))), 0, TOLD_LINES
     yield 'play-the-packet-behind-a-report-alone', 'play --channel 5 --from 1003', alone(b''.join(told(70000))), 0, TOLD_LINES[3:]
-    yield 'play-behind-a-report-of-the-most', 'play --from 1004', alone(b''.join(told((1 << 64) - 1))), 0, ['entry 5 1004 18446744073709551615 uart 0 0 44']
-    yield 'play-behind-a-report-of-another-channel', 'play', alone(b''.join(lost()[:3] + [report(1, 6, 1), lost()[3]]), False), 1, ['not strict']
+    yield 'play-behind-a-report-of-the-most', 'play --from 1004', alone(b''.join(told((1 << 64) - 1))), 0, [
+        'entry 5 1004 18446744073709551615 uart 0 0 44']
+    yield 'play-behind-a-report-of-another-channel', 'play', alone(b''.join(lost()[:3] + [report(1, 6, 1), lost()[3]]),
+                                                                   False), 1, ['not strict']
     yield 'play-a-file-that-ends-with-a-report', 'play', alone(b''.join(told(1)[:4]), False), 1, ['not strict']
     yield 'play-not-closed', 'play --channel 5', alone(FIRST[:124], False), 0, FIRST_LINES[1:]
     yield 'play-closed-without-index', 'play', alone(FIRST[:124]), 1, ['not strict']
@@ -147,10 +152,14 @@ def rows():
     yield 'play-from-49-bits', 'play --from 281474976710656', first, 1, ['refused 10 CountRange']
     yield 'play-to-49-bits-before-directory', 'play --to 281474976710656', b'', 1, ['refused 10 CountRange']
     yield 'files-first-block-outside', 'files', OUTSIDE, 0, ['file 0 FLT1 272 1 1']
-    yield 'play-channel-too-large', 'play --channel 65536', b'', 2, ["r10: invalid value '65536' for '--channel <N>': 65536 is not in 0..=65535; see r10 play --help"]
-    yield 'play-number-with-zeros', 'play --from 01', b'', 2, ['r10: a number has neither a sign nor zeros before it; see r10 play --help']
-    yield 'play-without-a-value', 'play --file', b'', 2, ["r10: a value is required for '--file <N>' but none was supplied; see r10 play --help"]
-    yield 'play-with-a-name', 'play medium.img', b'', 2, ["r10: unexpected argument 'medium.img' found; an image comes from standard input: r10 play < IMAGE; see r10 play --help"]
+    yield 'play-channel-too-large', 'play --channel 65536', b'', 2, [
+        "r10: invalid value '65536' for '--channel <N>': 65536 is not in 0..=65535; see r10 play --help"]
+    yield 'play-number-with-zeros', 'play --from 01', b'', 2, [
+        'r10: a number has neither a sign nor zeros before it; see r10 play --help']
+    yield 'play-without-a-value', 'play --file', b'', 2, [
+        "r10: a value is required for '--file <N>' but none was supplied; see r10 play --help"]
+    yield 'play-with-a-name', 'play medium.img', b'', 2, [
+        "r10: unexpected argument 'medium.img' found; an image comes from standard input: r10 play < IMAGE; see r10 play --help"]
 
 
 def hex_lines(data):
@@ -183,9 +192,11 @@ def is_session(script: pathlib.Path) -> bool:
 
 
 def compare(program):
-    """Runs both over each strict file, and over what the program records of each example, and answers how many do not print the same."""
+    """Runs both over each strict file, and over what the program records of each example, and answers how many do not print the
+    same."""
     bad = 0
-    for data, closed, lines in ((FIRST, True, FIRST_LINES), (KINDS, True, KIND_LINES), (b''.join(lost()), True, LOST_LINES), (b''.join(told(70000)), True, TOLD_LINES), (FIRST[:124], False, FIRST_LINES)):
+    for data, closed, lines in ((FIRST, True, FIRST_LINES), (KINDS, True, KIND_LINES), (b''.join(lost()), True, LOST_LINES),
+                                (b''.join(told(70000)), True, TOLD_LINES), (FIRST[:124], False, FIRST_LINES)):
         image = alone(data, closed)
         played = subprocess.run([program, 'play'], input=image, capture_output=True)
         read = subprocess.run([sys.executable, READER, '--entries'], input=image, capture_output=True)

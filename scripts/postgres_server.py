@@ -3,7 +3,8 @@
 
     scripts/postgres_server.py COMMAND ..    # runs a command with the server's DSN in CH10_DB, and in place of {} in its words
 
-It takes the distribution's server (postgresql-15 or another) and listens on no port. Root cannot run it, so then another user does: postgres or nobody.
+It takes the distribution's server (postgresql-15 or another) and listens on no port. Root cannot run it, so then another user does:
+postgres or nobody.
 """
 from __future__ import annotations
 
@@ -30,7 +31,8 @@ class NotThere(Exception):
 
 def folder_of_programs() -> str:
     """Where the newest server's programs are."""
-    found = sorted(glob.glob('/usr/lib/postgresql/*/bin/postgres'), key=lambda path: [int(part) for part in path.split('/')[4].split('.') if part.isdigit()])
+    found = sorted(glob.glob('/usr/lib/postgresql/*/bin/postgres'),
+                   key=lambda path: [int(part) for part in path.split('/')[4].split('.') if part.isdigit()])
     if found:
         return os.path.dirname(found[-1])
     here = shutil.which('postgres')
@@ -62,7 +64,8 @@ def turned_to(user: Optional[pwd.struct_passwd]) -> Callable[[], None]:
 
 
 def can_connect(programs: str, folder: str) -> bool:
-    done = subprocess.run([os.path.join(programs, 'pg_isready'), '-q', '-h', folder, '-t', '1'], stdout=subprocess.DEVNULL, stderr=subprocess.DEVNULL)
+    done = subprocess.run([os.path.join(programs, 'pg_isready'), '-q', '-h', folder, '-t', '1'], stdout=subprocess.DEVNULL,
+                          stderr=subprocess.DEVNULL)
     return done.returncode == 0
 
 
@@ -79,19 +82,23 @@ class Server:
         os.chmod(self.folder, 0o755)
         if self.user is not None:
             os.chown(self.folder, self.user.pw_uid, self.user.pw_gid)
-        made = subprocess.run([os.path.join(self.programs, 'initdb'), '-D', os.path.join(self.folder, 'data'), '-U', 'postgres', '-A', 'trust', '-E', 'UTF8',
-                               '--locale=C', '--no-sync'], stdin=subprocess.DEVNULL, stdout=subprocess.PIPE, stderr=subprocess.STDOUT,
+        made = subprocess.run([os.path.join(self.programs, 'initdb'), '-D', os.path.join(self.folder, 'data'), '-U', 'postgres',
+                               '-A', 'trust', '-E', 'UTF8',
+                               '--locale=C', '--no-sync'], stdin=subprocess.DEVNULL, stdout=subprocess.PIPE,
+                              stderr=subprocess.STDOUT,
                               preexec_fn=turned_to(self.user), cwd=self.folder)
         if made.returncode:
             raise NotThere('initdb: ' + made.stdout.decode(errors='replace').strip().splitlines()[-1])
 
     def start(self) -> None:
         """Starts it, and waits until it answers: minutes, where the machine has much else to do."""
-        words = [os.path.join(self.programs, 'postgres'), '-D', os.path.join(self.folder, 'data'), '-k', self.folder, '-c', 'listen_addresses=']
+        words = [os.path.join(self.programs, 'postgres'), '-D', os.path.join(self.folder, 'data'), '-k', self.folder, '-c',
+                 'listen_addresses=']
         for setting in self.settings:
             words += ['-c', setting]
         with open(os.path.join(self.folder, 'log'), 'ab') as log:
-            self.running = subprocess.Popen(words, stdin=subprocess.DEVNULL, stdout=log, stderr=log, preexec_fn=turned_to(self.user), cwd=self.folder)
+            self.running = subprocess.Popen(words, stdin=subprocess.DEVNULL, stdout=log, stderr=log,
+                                            preexec_fn=turned_to(self.user), cwd=self.folder)
         end = time.monotonic() + MOST_START
         while not can_connect(self.programs, self.folder):
             if self.running.poll() is not None or time.monotonic() > end:

@@ -75,7 +75,8 @@ class Stream(io.BytesIO):
 
 
 def child(words: Sequence[str], prepare: Optional[Callable[[], None]] = None, says: bool = False) -> int:
-    """Makes a call in a process of its own, which begins at once, and answers its number. What is wrong may be said on standard error."""
+    """Makes a call in a process of its own, which begins at once, and answers its number. What is wrong may be said on standard
+    error."""
     sys.stdout.flush()
     number = os.fork()
     if number == 0:
@@ -119,15 +120,19 @@ def state(dsn: str) -> Dict[str, int]:
         halves = sum(map(one, HALVES))
         entries = 0
         for kind, (name, _) in ENTRIES.items():
-            there = store.rows('SELECT recording, channel, count(*) FROM %s GROUP BY recording, channel ORDER BY recording, channel' % name)
-            told = store.rows('SELECT recording, channel, entries FROM loaded WHERE data_type = ? ORDER BY recording, channel', (kind,))
+            there = store.rows('SELECT recording, channel, count(*) FROM %s GROUP BY recording, channel ORDER BY recording, channel'
+                               % name)
+            told = store.rows('SELECT recording, channel, entries FROM loaded WHERE data_type = ? ORDER BY recording, channel',
+                              (kind,))
             agree(there, told, 'entries that are there, and those that were noted, of ' + name)
             entries += sum(number for _, _, number in there)
-        return dict(recordings=one('SELECT count(*) FROM recording'), halves=halves, entries=entries, loaded=one('SELECT count(DISTINCT recording) FROM loaded'))
+        return dict(recordings=one('SELECT count(*) FROM recording'), halves=halves, entries=entries,
+                    loaded=one('SELECT count(DISTINCT recording) FROM loaded'))
 
 
 def program(folder: str) -> str:
-    """The program r10: of R10 in the environment, the build that is kept, or else a stand-in in a folder, which judges by the same rules."""
+    """The program r10: of R10 in the environment, the build that is kept, or else a stand-in in a folder, which judges by the same
+    rules."""
     if os.environ.get('R10'):
         return os.environ['R10']
     kept = subprocess.run([str(HERE / 'quick_build.py'), '--current'], stdout=subprocess.PIPE, stderr=subprocess.DEVNULL)

@@ -1,11 +1,13 @@
 #!/usr/bin/env python3
-"""Runs the lines of docs/RANGE.md that begin with `$`, as they stand, one after the other in one folder, and compares what stands below them.
+"""Runs the lines of docs/RANGE.md that begin with `$`, as they stand, one after the other in one folder, and compares what stands
+below them.
 
     scripts/range_documents.py              # each line that does not end as it has to is printed; status 1 if there is one
     scripts/range_documents.py --show       # prints each line with what it writes
 
-A line below which nothing stands only has to end well. The folder has the repository's scripts, and `r10` on the PATH: the program, or a stand-in where no build is
-kept. A server of PostgreSQL and a remote of rclone are made for it. A line whose program is not there is NOT TRIED.
+A line below which nothing stands only has to end well. The folder has the repository's scripts, and `r10` on the PATH: the program,
+or a stand-in where no build is kept. A server of PostgreSQL and a remote of rclone are made for it. A line whose program is not
+there is NOT TRIED.
 """
 from __future__ import annotations
 
@@ -33,7 +35,8 @@ SYSTEM = '/usr/bin/python3'
 
 
 def calls(page: str) -> Iterator[Tuple[str, str]]:
-    """Each line that begins with `$`, and what stands below it; all are set off by four spaces or more, those of a call by as many as it has."""
+    """Each line that begins with `$`, and what stands below it; all are set off by four spaces or more, those of a call by as many
+    as it has."""
     call, space, below = '', 0, []  # type: ignore
     for line in page.splitlines() + ['']:
         depth = len(line) - len(line.lstrip(' '))
@@ -59,7 +62,8 @@ def missing(call: str, has_server: bool) -> str:
 
 def run(call: str, folder: str, more: Dict[str, str]) -> Tuple[int, str, str]:
     environment = {name: value for name, value in os.environ.items() if not name.startswith(('PG', 'CH10', 'RCLONE'))}
-    done = subprocess.run(['bash', '-c', 'set -o pipefail; ' + call], cwd=folder, env=dict(environment, **more), stdin=subprocess.DEVNULL,
+    done = subprocess.run(['bash', '-c', 'set -o pipefail; ' + call], cwd=folder, env=dict(environment, **more),
+                          stdin=subprocess.DEVNULL,
                           stdout=subprocess.PIPE, stderr=subprocess.PIPE, timeout=MOST)
     return done.returncode, done.stdout.decode(errors='replace'), done.stderr.decode(errors='replace')
 
@@ -76,7 +80,8 @@ def main(words: List[str]) -> int:
             os.symlink(HERE.parent / name, os.path.join(folder, name))
         os.mkdir(os.path.join(folder, 'bin'))
         os.symlink(program(folder), os.path.join(folder, 'bin', 'r10'))
-        more = {'PATH': os.path.join(folder, 'bin') + ':' + os.environ['PATH'], 'RCLONE_CONFIG': os.path.join(folder, 'rclone.conf'),
+        more = {'PATH': os.path.join(folder, 'bin') + ':' + os.environ['PATH'],
+                'RCLONE_CONFIG': os.path.join(folder, 'rclone.conf'),
                 'RCLONE_CONFIG_RANGE_TYPE': 'alias', 'RCLONE_CONFIG_RANGE_REMOTE': os.path.join(folder, 'store')}
         try:
             server = held.enter_context(running_server(['fsync=off']))

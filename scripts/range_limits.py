@@ -3,8 +3,9 @@
     with bounded('two calls at a time', dsn):
         ..
 
-A trial may use so many seconds of processors, in this process and all below it, a server's too; and so many seconds may pass. The first bound finds a loop. The
-second finds a wait for something that never comes, and is wide: on a machine with much else to do, a trial that needs few seconds of a processor takes long.
+A trial may use so many seconds of processors, in this process and all below it, a server's too; and so many seconds may pass. The
+first bound finds a loop. The second finds a wait for something that never comes, and is wide: on a machine with much else to do, a
+trial that needs few seconds of a processor takes long.
 """
 from __future__ import annotations
 
@@ -43,7 +44,8 @@ def processes() -> Dict[int, Process]:
                 name, _, rest = (place / 'stat').read_text().rpartition(') ')
                 fields = rest.split(' ')
                 words = (place / 'cmdline').read_bytes().replace(b'\0', b' ').decode(errors='replace').strip()
-                found[int(place.name)] = Process(int(place.name), int(fields[1]), fields[0], sum(map(int, fields[11:15])) / TICK, words or name.partition('(')[2])
+                found[int(place.name)] = Process(int(place.name), int(fields[1]), fields[0], sum(map(int, fields[11:15])) / TICK,
+                                                 words or name.partition('(')[2])
     return found
 
 
@@ -67,7 +69,8 @@ def work_so_far() -> float:
     return time.process_time() + ended.ru_utime + ended.ru_stime + sum(one.work for one in below(os.getpid()))
 
 
-ASKED = ("SELECT pid, state, coalesce(wait_event_type || ' ' || wait_event, '-'), now() - query_start, left(query, 300) FROM pg_stat_activity "
+ASKED = ("SELECT pid, state, coalesce(wait_event_type || ' ' || wait_event, '-'), now() - query_start, left(query, 300) FROM "
+         "pg_stat_activity "
          "WHERE backend_type = 'client backend' AND pid <> pg_backend_pid()",
          'SELECT pid, mode, granted, count(*) FROM pg_locks WHERE pid <> pg_backend_pid() GROUP BY 1, 2, 3 ORDER BY 1, 2')
 
@@ -89,7 +92,8 @@ def said_by_server(dsn: str) -> List[str]:
 
 def report(what: str, work: float, passed: float, dsn: Optional[str]) -> str:
     """What is printed of a trial that is ended."""
-    lines = ['%s: ended after %.0f s, of which processors worked %.1f s; load of the machine %.1f' % (what, passed, work, os.getloadavg()[0])]
+    lines = ['%s: ended after %.0f s, of which processors worked %.1f s; load of the machine %.1f'
+             % (what, passed, work, os.getloadavg()[0])]
     lines += ['  %d %s %.1f s: %.200s' % (one.number, one.state, one.work, one.name) for one in below(os.getpid())]
     return '\n'.join(lines + (said_by_server(dsn) if dsn else []))
 
@@ -105,7 +109,8 @@ def end_all() -> None:
 
 
 @contextlib.contextmanager
-def bounded(what: str, dsn: Optional[str] = None, work: float = WORK, passed: float = PASSED, say: Callable[[str], Any] = lambda line: None) -> Iterator[None]:
+def bounded(what: str, dsn: Optional[str] = None, work: float = WORK, passed: float = PASSED,
+            say: Callable[[str], Any] = lambda line: None) -> Iterator[None]:
     """Does what is inside, within bounds; else it ends all below this process, and raises Hung. Says at the end what it took."""
     start, before, over, found = time.monotonic(), work_so_far(), threading.Event(), []
 
@@ -141,7 +146,7 @@ def bounded(what: str, dsn: Optional[str] = None, work: float = WORK, passed: fl
 
 
 def ends_on_term() -> None:
-    """SIGTERM ends this process as an exception does: what it started is stopped, and its folders are removed. SIGINT does too, also where a shell that started this
-    one in the background has it ignored: what is started here would ignore it too."""
+    """SIGTERM ends this process as an exception does: what it started is stopped, and its folders are removed. SIGINT does too,
+    also where a shell that started this one in the background has it ignored: what is started here would ignore it too."""
     signal.signal(signal.SIGTERM, lambda *_: sys.exit(143))
     signal.signal(signal.SIGINT, signal.default_int_handler)

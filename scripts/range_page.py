@@ -90,7 +90,8 @@ def picture_of(page: str, to: str, height: int = 1600) -> None:
     """The picture that a browser makes of a page."""
     room = tempfile.mkdtemp(prefix='ch10-browser-')
     try:
-        words = [browser(), '--headless', '--no-sandbox', '--disable-gpu', '--hide-scrollbars', '--user-data-dir=' + room, '--screenshot=' + to,
+        words = [browser(), '--headless', '--no-sandbox', '--disable-gpu', '--hide-scrollbars', '--user-data-dir=' + room,
+                 '--screenshot=' + to,
                  '--window-size=1200,%d' % height, 'file://' + page]
         try:
             done = subprocess.run(words, stdout=subprocess.DEVNULL, stderr=subprocess.PIPE, timeout=120)
@@ -117,10 +118,12 @@ def check_report(folder: str, room: str, made: str) -> None:
     check_page(text, names + ['FLT1', 'RANGE TRIAL', 'BadDirectory'])
     agree((folder + '/' in text, ' lie in %s.' % folder in text), (False, True), 'the folder of all, once')
     alone = ch10(['report', '--program', made, os.path.join(folder, 'r007.ch10')], 1)
-    agree(re.findall('fill="(#[0-9a-f]+)" font-weight="bold"[^>]*>(?:faulty|damaged)<', alone), ['#fff'], 'the word in a bar that has no room beside it')
+    agree(re.findall('fill="(#[0-9a-f]+)" font-weight="bold"[^>]*>(?:faulty|damaged)<', alone), ['#fff'],
+          'the word in a bar that has no room beside it')
     wide = os.path.join(room, 'wide.ch10')
     pathlib.Path(wide).write_bytes(recording(1, 1, 5000))
-    strips = [len(re.findall(r'>channel \d+<', figure)) for figure in ch10(['report', '--program', made, wide]).split('<figure>')[2:]]
+    strips = [len(re.findall(r'>channel \d+<', figure))
+              for figure in ch10(['report', '--program', made, wide]).split('<figure>')[2:]]
     agree((max(strips), sum(strips)), (12, 50), 'channels of a picture that fits on a sheet of paper')
     page = os.path.join(room, 'report.html')
     pathlib.Path(page).write_text(text)

@@ -1,11 +1,12 @@
 #!/usr/bin/env python3
-"""Makes a range's worth of recordings from a seed, for the trials of the catalogue: whole ones, some of other recorders, and damaged ones.
+"""Makes a range's worth of recordings from a seed, for the trials of the catalogue: whole ones, some of other recorders, and
+damaged ones.
 
     scripts/range_recordings.py FOLDER [--count N] [--size BYTES] [--seed S] [--jobs J]
 
-Recording K of a seed is the same bytes wherever and whenever it is made. Each has 48 channels of the five kinds beside time and events, names for them in its
-setup text, and lies in a second of its own between 2024 and 2026. In each twentieth something is damaged, each tenth has packets of another recorder, and a
-third lost messages.
+Recording K of a seed is the same bytes wherever and whenever it is made. Each has 48 channels of the five kinds beside time and
+events, names for them in its setup text, and lies in a second of its own between 2024 and 2026. In each twentieth something is
+damaged, each tenth has packets of another recorder, and a third lost messages.
 """
 from __future__ import annotations
 
@@ -34,7 +35,8 @@ def packet(channel: int, sequence: int, data_type: int, counter: int, body: byte
     rest = body + bytes(-len(body) % 4)
     if check:
         rest += struct.pack('<I', sum(struct.unpack('<%dI' % (len(rest) // 4), rest)) & 0xFFFFFFFF)
-    head = HEADER.pack(0xEB25, channel, 24 + len(rest), len(body), 8, sequence & 0xFF, flags | (3 if check else 0), data_type, counter & 0xFFFFFFFF, counter >> 32)
+    head = HEADER.pack(0xEB25, channel, 24 + len(rest), len(body), 8, sequence & 0xFF, flags | (3 if check else 0), data_type,
+                       counter & 0xFFFFFFFF, counter >> 32)
     return head + struct.pack('<H', sum(WORDS.unpack(head)) & 0xFFFF) + rest
 
 
@@ -55,7 +57,8 @@ def bus_entries(draw: random.Random, number: int) -> Tuple[List[Tuple[struct.Str
     """What a bus says in a cycle: commands to some remote terminals, with data and status words."""
     made = []
     for _ in range(number):
-        terminal, subaddress, words, receives = draw.randrange(1, 31), draw.randrange(1, 31), draw.randrange(1, 33), draw.randrange(2)
+        terminal, subaddress, words, receives = draw.randrange(1, 31), draw.randrange(1, 31), draw.randrange(
+            1, 33), draw.randrange(2)
         command = terminal << 11 | (0 if receives else 1 << 10) | subaddress << 5 | words & 31
         data = struct.unpack('<%dH' % words, some_bytes(draw, 2 * words))
         said = (command,) + data + (terminal << 11,) if receives else (command, terminal << 11) + data
@@ -104,10 +107,12 @@ def maker(draw: random.Random, kind: str) -> Callable[[int], bytes]:
 
 def setup_text(number: int, channels: List[Tuple[int, str, str]]) -> bytes:
     """A setup text that names the channels."""
-    lines = ['G\\PN:RANGE TRIAL', 'G\\TA:TAIL %02d' % (number % 24), 'G\\106:17', 'G\\DSI\\N:1', 'G\\DSI-1:RECORDER', 'G\\DST-1:STO', 'R-1\\ID:RECORDER',
+    lines = ['G\\PN:RANGE TRIAL', 'G\\TA:TAIL %02d' % (number % 24), 'G\\106:17', 'G\\DSI\\N:1', 'G\\DSI-1:RECORDER',
+             'G\\DST-1:STO', 'R-1\\ID:RECORDER',
              'R-1\\RID:SN%04d' % (number % 7), 'R-1\\N:%d' % len(channels)]
     for place, (channel, kind, name) in enumerate(channels, 1):
-        lines += ['R-1\\TK1-%d:%d' % (place, channel), 'R-1\\DSI-%d:%s' % (place, name), 'R-1\\CDT-%d:%s' % (place, CODES[kind]), 'R-1\\CHE-%d:T' % place]
+        lines += ['R-1\\TK1-%d:%d' % (place, channel), 'R-1\\DSI-%d:%s' % (place, name), 'R-1\\CDT-%d:%s' % (place, CODES[kind]),
+                  'R-1\\CHE-%d:T' % place]
     return ''.join(line + ';\r\n' for line in lines).encode()
 
 
@@ -117,7 +122,8 @@ def recording(seed: int, number: int, size: int, every: Sequence[str] = KINDS) -
     kinds = list(every)
     draw.shuffle(kinds)
     ids = draw.sample(range(3, 200), len(kinds))
-    channels = [(channel, kind, '%s %s %d' % (draw.choice(SYSTEMS), kind.upper(), place)) for place, (channel, kind) in enumerate(zip(ids, kinds), 1)]
+    channels = [(channel, kind, '%s %s %d' % (draw.choice(SYSTEMS), kind.upper(), place))
+                for place, (channel, kind) in enumerate(zip(ids, kinds), 1)]
     makers = [(channel, DATA_TYPES[kind], kind, maker(draw, kind)) for channel, kind, _ in channels]
     count = draw.randrange(10 ** 9)
     moment = START + datetime.timedelta(seconds=draw.randrange(2 * 365 * 86400))
@@ -187,7 +193,8 @@ def write_all(folder: str, count: int, size: int, seed: int, jobs: int) -> int:
     if jobs == 1:
         return write_some(folder, seed, size, range(count))
     with ProcessPoolExecutor(jobs) as pool:
-        return sum(pool.map(write_some, [folder] * jobs, [seed] * jobs, [size] * jobs, [range(k, count, jobs) for k in range(jobs)]))
+        return sum(pool.map(write_some, [folder] * jobs, [seed] * jobs, [size] * jobs,
+                            [range(k, count, jobs) for k in range(jobs)]))
 
 
 def main() -> int:

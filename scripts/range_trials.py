@@ -1,14 +1,19 @@
 #!/usr/bin/env python3
 """Trials of the catalogue, the load of entries and the report, in SQLite and in PostgreSQL.
 
-    scripts/range_trials.py check [--times]                      # in seconds, for the gate: a small range, both databases, some kills, one page
-    scripts/range_trials.py all [SEED]                           # in minutes: more interrupts and mutants, files that change in each way, 10,000 files
-    scripts/range_trials.py kills COUNT [SEED]                   # so many kills amid add and load in each database, and of the server
-    scripts/range_trials.py figures FOLDER [--program PATH] [--jobs N]   # what adding, finding and loading the recordings of FOLDER takes
+    scripts/range_trials.py check [--times]                      # in seconds, for the gate: a small range, both databases, some
+                                                                   kills, one page
+    scripts/range_trials.py all [SEED]                           # in minutes: more interrupts and mutants, files that change in
+                                                                   each way, 10,000 files
+    scripts/range_trials.py kills COUNT [SEED]                   # so many kills amid add and load in each database, and of the
+                                                                   server
+    scripts/range_trials.py figures FOLDER [--program PATH] [--jobs N]   # what adding, finding and loading the recordings of FOLDER
+    takes
 
-Recordings are those of scripts/range_recordings.py. The server is one of its own (scripts/postgres_server.py); where there is none, or no driver, or no
-browser, a line says what was NOT TRIED. Where no program r10 is there, verdicts are those of scripts/judge_recording.py, which says them by the same rules.
-Each trial is bounded (scripts/range_limits.py): one that loops or waits too long is ended, and what it was at is printed.
+Recordings are those of scripts/range_recordings.py. The server is one of its own (scripts/postgres_server.py); where there is none,
+or no driver, or no browser, a line says what was NOT TRIED. Where no program r10 is there, verdicts are those of
+scripts/judge_recording.py, which says them by the same rules. Each trial is bounded (scripts/range_limits.py): one that loops or
+waits too long is ended, and what it was at is printed.
 """
 from __future__ import annotations
 
@@ -79,10 +84,14 @@ def small_range(folder: str, count: int, size: int = 30000) -> List[str]:
 
 
 QUESTIONS = (
-    [], ['--verdict', 'faulty'], ['--verdict', 'lenient', '--type', '1553'], ['--damaged'], ['--losses', '1'], ['--losses', '1', '--type', 'arinc'],
-    ['--name', 'nav*'], ['--name', '*1553*', '--from', '2025-01-01'], ['--from', '2024-06-01', '--to', '2025-03-01 12:00'], ['--to', '2024-08-11'],
-    ['--channel', '1', '--verdict', 'strict'], ['--type', 'uart', '--type', 'video-40', '--from', '2025-01-01', '--to', '2025-12-31'], ['--volume', 'VOL'],
-    ['--place', '*r00[0]?*'], ['--place', '*R001.CH10'], ['--attribute', 'G\\TA=TAIL 03'], ['--jumps', '1'], ['--limit', '3'], ['--from', '060'])
+    [], ['--verdict', 'faulty'], ['--verdict', 'lenient', '--type', '1553'], ['--damaged'], ['--losses', '1'],
+    ['--losses', '1', '--type', 'arinc'],
+    ['--name', 'nav*'], ['--name', '*1553*', '--from', '2025-01-01'], ['--from', '2024-06-01', '--to', '2025-03-01 12:00'],
+    ['--to', '2024-08-11'],
+    ['--channel', '1', '--verdict', 'strict'],
+    ['--type', 'uart', '--type', 'video-40', '--from', '2025-01-01', '--to', '2025-12-31'], ['--volume', 'VOL'],
+    ['--place', '*r00[0]?*'], ['--place', '*R001.CH10'], ['--attribute', 'G\\TA=TAIL 03'], ['--jumps', '1'], ['--limit', '3'],
+    ['--from', '060'])
 
 
 def answers(dsn: str) -> List[str]:
@@ -94,7 +103,8 @@ def answers(dsn: str) -> List[str]:
             made.append(settled(ch10(['catalogue', 'find', '--db', dsn] + question + more)))
     for line in ch10(['catalogue', 'find', '--db', dsn, '--json']).splitlines()[::3]:
         sum_ = json.loads(line)['sha256']
-        made += [settled(ch10(['catalogue', 'show', '--db', dsn, sum_])), settled(ch10(['catalogue', 'show', '--db', dsn, '--json', sum_[:20]]))]
+        made += [settled(ch10(['catalogue', 'show', '--db', dsn, sum_])),
+                 settled(ch10(['catalogue', 'show', '--db', dsn, '--json', sum_[:20]]))]
     return made
 
 
@@ -104,28 +114,35 @@ def settled(text: str) -> str:
 
 def check_facts(folder: str, dsn: str, made: str) -> None:
     """What the catalogue says of each recording, against the verdict by itself and the summary of the filters."""
-    said = {place['path']: facts for facts in map(json.loads, ch10(['catalogue', 'find', '--db', dsn, '--json', '--channels']).splitlines())
+    said = {place['path']: facts
+            for facts in map(json.loads, ch10(['catalogue', 'find', '--db', dsn, '--json', '--channels']).splitlines())
             for place in facts['places'] if place['file_number'] < 0}
-    agree(sorted(map(os.path.basename, said)), sorted(name for name in os.listdir(folder) if name not in ('pair.img', 'notes.txt')), 'recordings')
+    agree(sorted(map(os.path.basename, said)), sorted(name for name in os.listdir(folder) if name not in ('pair.img', 'notes.txt')),
+          'recordings')
     agree(any(facts['verdict'] == 'strict' and facts['losses'] for facts in said.values()), True, 'a strict recording with losses')
     for path, facts in sorted(said.items()):
         data = pathlib.Path(path).read_bytes()
         if facts['kind'] == 'image':
-            agree((facts['verdict'], facts['fault'], facts['fault_offset']), ('faulty', 'BadDirectory', 512), 'an image without a directory')
+            agree((facts['verdict'], facts['fault'], facts['fault_offset']), ('faulty', 'BadDirectory', 512),
+                  'an image without a directory')
             continue
         done = subprocess.run([made, 'check'], input=data, stdout=subprocess.PIPE)
         agree(find.verdict_text(facts), done.stdout.decode().strip(), 'the verdict on ' + path)
         survey = Survey(data, 0, len(data))
         agree([(one.offset, one.length) for one in survey.damage], damage_of(dsn, facts['sha256']), 'damaged stretches of ' + path)
-        rows = [(row.channel, row.packets, row.entries if row.has_entries() else None, row.bytes, row.first(), row.last(), row.losses, row.lost, row.untold,
+        rows = [(row.channel, row.packets, row.entries if row.has_entries() else None, row.bytes, row.first(), row.last(),
+                 row.losses, row.lost, row.untold,
                  row.jumps, row.opaque, row.bad, survey.names.channel(row.channel) or None) for row in survey.rows]
-        keys = 'channel', 'packets', 'entries', 'bytes', 'first_count', 'last_count', 'losses', 'lost', 'untold', 'jumps', 'opaque', 'bad', 'name'
+        keys = ('channel', 'packets', 'entries', 'bytes', 'first_count', 'last_count', 'losses', 'lost', 'untold', 'jumps',
+                'opaque', 'bad', 'name')
         agree([tuple(row[key] for key in keys) for row in facts['channels']], rows, 'channels of ' + path)
         if survey.rows:
-            agree(facts['channels'][0]['first_time'], survey.clock and survey.clock.text(survey.rows[0].first()), 'first time of ' + path)
+            agree(facts['channels'][0]['first_time'], survey.clock and survey.clock.text(survey.rows[0].first()),
+                  'first time of ' + path)
         if facts['verdict'] == 'strict':
             short = StrictSurvey(data, 0, len(data))
-            agree([[getattr(row, name) for name in Row.__slots__] for row in short.rows], [[getattr(row, name) for name in Row.__slots__] for row in survey.rows],
+            agree([[getattr(row, name) for name in Row.__slots__] for row in short.rows],
+                  [[getattr(row, name) for name in Row.__slots__] for row in survey.rows],
                   'the pass over strict ' + path)
 
 
@@ -176,7 +193,8 @@ def line_of_csv(row: Dict[str, str]) -> Tuple:
     kind = row['type']
     front = (kind, int(row['channel']), int(row['count']), row['time'][:26], row['lost'])
     if kind == '1553':
-        return front + tuple(row[key] for key in ('rt', 'tr', 'sa', 'wc', 'mode', 'rt2', 'sa2', 'status1', 'status2', 'bus', 'errors', 'gap1', 'gap2'))
+        return front + tuple(row[key] for key in ('rt', 'tr', 'sa', 'wc', 'mode', 'rt2', 'sa2', 'status1', 'status2', 'bus',
+                                                  'errors', 'gap1', 'gap2'))
     if kind == 'arinc':
         return front + tuple(row[key] for key in ('value', 'data', 'bus', 'sdi', 'ssm', 'parity', 'high', 'label', 'errors'))
     if kind in ('uart', 'message'):
@@ -196,7 +214,8 @@ def rows_in(dsn: str, path: str) -> Iterator[Tuple]:
             for values in store.rows('SELECT %s FROM %s WHERE recording = ?' % (', '.join(table.names), table.name), (number,)):
                 row = dict(zip(table.names, values))
                 moment = str(row['time']) if '.' in str(row['time']) else str(row['time']) + '.'
-                front = (table.name[6:], row['channel'], row['count'], moment[:26].ljust(26, '0'), '1+' if row['lost'] is None else str(row['lost']))
+                front = (table.name[6:], row['channel'], row['count'], moment[:26].ljust(26, '0'),
+                         '1+' if row['lost'] is None else str(row['lost']))
                 yield front + tuple(text_in(key, value) for key, value in row.items() if key not in LEFT_OUT)
 
 
@@ -219,24 +238,29 @@ def timed(moments: Sequence[Tuple[int, datetime.datetime]], between: int) -> byt
 
 
 def check_days(room: str, dsn: str) -> None:
-    """Only the days that entries lie on have tables, also where a clock was set on the way; where they are too many nothing of the recording is loaded."""
+    """Only the days that entries lie on have tables, also where a clock was set on the way; where they are too many nothing of the
+    recording is loaded."""
     folder = os.path.join(room, 'days')
     os.makedirs(folder)
     day, start = datetime.timedelta(days=1), datetime.datetime(1970, 1, 1)
-    early = packet(5, 0, 0x50, 1, text_body([(2, b'ab')] * 800, 1, 1 << 31)) + packet(1, 0, 0x11, 6 * 10 ** 6, time_body(datetime.datetime(1, 1, 1)))
+    early = packet(5, 0, 0x50, 1, text_body([(2, b'ab')] * 800, 1, 1 << 31)) + packet(1, 0, 0x11, 6 * 10 ** 6,
+                                                                                      time_body(datetime.datetime(1, 1, 1)))
     made = {'set': timed([(10 ** 7, start), (10 ** 8, datetime.datetime(2033, 5, 6, 23, 59, 59))], 800),  # 1.2 s: over midnight
             'early': early,  # 0.6 s before the first day that the calendar has
             'many': timed([(10 ** 7 * number, start + 3 * number * day) for number in range(1001)], 1)}
     for name, data in made.items():
         pathlib.Path(folder, name + '.ch10').write_bytes(data)
     said = ch10(['load', '--db', dsn, '--unjudged', '--jobs', '2', folder], 3)
-    agree([line for line in said.splitlines() if line.startswith('unread')], ['unread %s: %s' % (os.path.join(folder, 'many.ch10'), load.SPREAD)], 'what is not loaded')
+    agree([line for line in said.splitlines() if line.startswith('unread')],
+          ['unread %s: %s' % (os.path.join(folder, 'many.ch10'), load.SPREAD)], 'what is not loaded')
     with contextlib.closing(open_store(dsn, make=False)) as store:
         held = store.rows('SELECT e.tableoid::regclass::text, count(*) FROM entry_uart e JOIN place p ON p.recording = e.recording '
                           'WHERE p.path LIKE ? GROUP BY 1 ORDER BY 1', (folder + '%',))
-        agree(held, [('entry_uart_00010101', 400), ('entry_uart_19700101', 800), ('entry_uart_20330506', 667), ('entry_uart_20330507', 133),
+        agree(held, [('entry_uart_00010101', 400), ('entry_uart_19700101', 800), ('entry_uart_20330506', 667),
+                     ('entry_uart_20330507', 133),
                      ('entry_uart_undated', 400)], 'the entries of days')
-        tables = [name for name, in store.rows("SELECT inhrelid::regclass::text FROM pg_inherits WHERE inhparent = 'entry_uart'::regclass ORDER BY 1")]
+        tables = [name for name, in store.rows(
+            "SELECT inhrelid::regclass::text FROM pg_inherits WHERE inhparent = 'entry_uart'::regclass ORDER BY 1")]
         others = [name for name in tables if not re.search('_(202[4-6]|2100)', name)]  # those are of the small range
         agree(others, [name for name, _ in held], 'tables of days')
 
@@ -300,14 +324,16 @@ def unharmed(before: Dict[str, int], dsn: str, name: str) -> Dict[str, int]:
 
 
 def kill_each(folder: str, dsn: str, step: int, count: int) -> int:
-    """Kills add and load at each step-th of their statements, from an empty database on, until they come to their end; answers how many kills there were."""
+    """Kills add and load at each step-th of their statements, from an empty database on, until they come to their end; answers how
+    many kills there were."""
     kills = 0
     for name in ('add', 'load'):
         before, statement = state(dsn), 1
         while killed_at(kill_words(name, dsn, folder, 1), statement):
             before = unharmed(before, dsn, name)
             kills, statement = kills + 1, statement + step
-        agree(unharmed(before, dsn, name)['recordings' if name == 'add' else 'loaded'] >= count, True, 'what %s has done at its end' % name)
+        agree(unharmed(before, dsn, name)['recordings' if name == 'add' else 'loaded'] >= count, True,
+              'what %s has done at its end' % name)
     return kills
 
 
@@ -333,7 +359,8 @@ def kill_some(folder: str, dsn: str, number: int, draw: random.Random, count: in
 
 
 def kill_server(folder: str, number: int, draw: random.Random, count: int) -> int:
-    """Kills the server, so many times amid add and as many amid load, and starts it again each time: no half, and the next call does the rest."""
+    """Kills the server, so many times amid add and as many amid load, and starts it again each time: no half, and the next call
+    does the rest."""
     amid = 0
     with running_server() as one:
         for name in ('add', 'load'):
@@ -400,7 +427,8 @@ def check(say: Callable[[str], Any]) -> int:
         for dsn in filter(None, (lite, postgres)):
             with trial('add, load and find in %s' % ('SQLite' if dsn == lite else 'PostgreSQL')):
                 lines = ch10(['catalogue', 'add', '--db', dsn, '--program', made, '--jobs', '2', folder]).splitlines()
-                agree(lines[-1], '%d added, 0 judged anew, 0 known before; 3 of them faulty; 1 others in the folders are no recordings' % (count + 4), 'what add says')
+                agree(lines[-1], '%d added, 0 judged anew, 0 known before; 3 of them faulty; 1 others in the folders are no '
+                                 'recordings' % (count + 4), 'what add says')
                 check_again(folder, dsn, made, count)
                 total = check_entries(folder, dsn, made, ['r001.ch10', 'r007.ch10'])
                 found[dsn] = answers(dsn)
@@ -484,14 +512,16 @@ def check_two_at_once(folder: str, dsn: str, name: str, wanted: int) -> None:
     both_made = [child(kill_words(name, dsn, folder, 1)) for _ in range(2)]
     agree([os.waitpid(number, 0)[1] for number in both_made], [0, 0], 'two calls of %s at a time' % name)
     found = state(dsn)
-    agree((found['halves'], found['recordings' if name == 'add' else 'loaded']), (0, wanted), 'what two calls of %s have done' % name)
+    agree((found['halves'], found['recordings' if name == 'add' else 'loaded']), (0, wanted),
+          'what two calls of %s have done' % name)
 
 
 MANY = 150
 
 
 def kills(number: int, seed: int) -> int:
-    """Kills, at each statement with transactions as they are, and at random moments with smaller ones, so that some of the work is kept."""
+    """Kills, at each statement with transactions as they are, and at random moments with smaller ones, so that some of the work is
+    kept."""
     with tempfile.TemporaryDirectory(prefix='ch10-range-') as room, both(room) as (lite, postgres):
         folder, few = os.path.join(room, 'flights'), os.path.join(room, 'few')
         small_range(few, 3, 8000)
@@ -505,17 +535,20 @@ def kills(number: int, seed: int) -> int:
             empty(dsn, 'add')
             with bounded('kills in ' + name, postgres, work=3600, passed=7200):
                 seen = kill_some(folder, dsn, number, random.Random(seed), MANY)
-            print('%s: killed at each of %d statements, and at random moments %d times in add and %d in load, %d of them after something was kept: '
+            print('%s: killed at each of %d statements, and at random moments %d times in add and %d in load, %d of them after '
+                  'something was kept: '
                   'no half, no double' % (name, each[dsn], seen['add'], seen['load'], seen['amid']), flush=True)
     if postgres:
-        with tempfile.TemporaryDirectory(prefix='ch10-range-') as room, bounded('kills of the server', None, work=3600, passed=7200):
+        with tempfile.TemporaryDirectory(prefix='ch10-range-') as room, bounded('kills of the server', None, work=3600,
+                                                                                passed=7200):
             folder = os.path.join(room, 'flights')
             os.makedirs(folder)
             for place in range(MANY):
                 pathlib.Path(folder, 'r%03d.ch10' % place).write_bytes(recording(seed, place, 20000, FEW))
             times = max(number // 10, 1)
             amid = kill_server(folder, times, random.Random(seed), MANY)
-            print('PostgreSQL: the server was killed %d times amid add and %d amid load, %d of them after something was kept: no half, no double' % (
+            print('PostgreSQL: the server was killed %d times amid add and %d amid load, %d of them after something was kept: no '
+                  'half, no double' % (
                 times, times, amid))
     return 0
 
@@ -540,7 +573,8 @@ def figures(folder: str, made: str, jobs: int, loads: int) -> int:
             start, work = spent()
             ch10(['catalogue', 'add', '--db', dsn, '--program', made, '--jobs', str(jobs), folder])
             passed, used = (now - then for now, then in zip(spent(), (start, work)))
-            print('%s: added at %.0f MB/s, %.1f ms of a processor for each MB' % (name, size / 1e6 / passed, used * 1000 / (size / 1e6)))
+            print('%s: added at %.0f MB/s, %.1f ms of a processor for each MB' % (name, size / 1e6 / passed,
+                                                                                  used * 1000 / (size / 1e6)))
             print_finds(name, dsn)
             found[name], sizes[name] = dsn, bytes_of(dsn)
             print('%s: the catalogue has %.2f MB' % (name, sizes[name] / 1e6))
@@ -551,13 +585,15 @@ def figures(folder: str, made: str, jobs: int, loads: int) -> int:
             said = ch10(['load', '--db', dsn, '--program', made, '--jobs', str(jobs)] + some).splitlines()[-1]
             passed, used = (now - then for now, then in zip(spent(), (start, work)))
             entries = int(said.split(' ')[0])
-            print('%s: %d entries loaded at %.0f a second, %.2f microseconds of a processor for each beside the server; %.0f bytes for each' % (
+            print('%s: %d entries loaded at %.0f a second, %.2f microseconds of a processor for each beside the server; %.0f bytes '
+                  'for each' % (
                 name, entries, entries / passed, used * 1e6 / entries, (bytes_of(dsn) - sizes[name]) / max(entries, 1)))
     return 0
 
 
 def same_answers(dsns: Sequence[str]) -> int:
-    """Sees that databases answer alike: each two conditions, the channels of some, and all that is kept of each damaged recording and each tenth of the others."""
+    """Sees that databases answer alike: each two conditions, the channels of some, and all that is kept of each damaged recording
+    and each tenth of the others."""
     asked = [['find', '--json'] + one + other for one, other in itertools.combinations(CONDITIONS, 2)]
     asked += [['find', '--channels'] + question[2:] for question in asked[::5]]
     shown = [json.loads(line) for line in ch10(['catalogue', 'find', '--db', dsns[0], '--json']).splitlines()]
@@ -576,8 +612,10 @@ def bytes_of(dsn: str) -> int:
         return int(store.rows('SELECT pg_database_size(current_database())')[0][0])
 
 
-CONDITIONS = (['--from', '2024-06-01', '--to', '2024-06-30'], ['--channel', '77'], ['--name', 'NAV 1553 12'], ['--type', '1553'], ['--verdict', 'faulty'],
-              ['--losses', '1'], ['--place', '*r01*'], ['--attribute', 'G\\TA=TAIL 07'], ['--name', 'nav*'], ['--verdict', 'strict'], ['--damaged'])
+CONDITIONS = (['--from', '2024-06-01', '--to', '2024-06-30'], ['--channel', '77'], ['--name', 'NAV 1553 12'], ['--type', '1553'],
+              ['--verdict', 'faulty'],
+              ['--losses', '1'], ['--place', '*r01*'], ['--attribute', 'G\\TA=TAIL 07'], ['--name', 'nav*'],
+              ['--verdict', 'strict'], ['--damaged'])
 
 
 def print_finds(name: str, dsn: str) -> None:

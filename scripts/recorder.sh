@@ -2,18 +2,20 @@
 # The recorder as a service, r10d and r10ctl (docs/RECORDER.md): builds it, and tries it.
 #
 #     scripts/recorder.sh build [--quick]   # builds both over the library, and prints the folder that they are in
-#     scripts/recorder.sh check             # what the gate runs: tests of its parts, and recordings through the running service, in under a minute
-#     scripts/recorder.sh long [WORDS..]    # 200 kills, 1,000 power cuts, failures at each operation, a flood: recorder/tests/long.py says more
+#     scripts/recorder.sh check             # what the gate runs: tests of its parts, and recordings through the running service, in
+#                                             under a minute
+#     scripts/recorder.sh long [WORDS..]    # 200 kills, 1,000 power cuts, failures at each operation, a flood:
+#                                             recorder/tests/long.py says more
 #     scripts/recorder.sh soak HOURS        # records for so long, and draws memory and acknowledged messages
 #
-# Crates come from Debian's packages where those are there (apt-get install the librust-*-dev packages of PACKAGES below), so no network is needed;
-# else from the registry, as cargo is set up. With --quick the library is the one without proofs. `check` takes the library that is there, says in a
-# line what it cannot try, and fails of nothing that is only missing.
+# Crates come from Debian's packages where those are there (apt-get install the librust-*-dev packages of PACKAGES below), so no
+# network is needed; else from the registry, as cargo is set up. With --quick the library is the one without proofs. `check` takes
+# the library that is there, says in a line what it cannot try, and fails of nothing that is only missing.
 set -u
 
 top=$(cd "$(dirname "$(readlink -f "${BASH_SOURCE[0]}")")/.." && pwd)
-readonly PACKAGES="librust-clap-dev librust-nix-dev librust-sd-notify-dev librust-serde-dev librust-serde-derive-dev librust-serde-json-dev librust-signal-hook-dev \
-librust-time-dev librust-toml-dev"
+readonly PACKAGES="librust-clap-dev librust-nix-dev librust-sd-notify-dev librust-serde-dev librust-serde-derive-dev \
+librust-serde-json-dev librust-signal-hook-dev librust-time-dev librust-toml-dev"
 readonly REGISTRY=/usr/share/cargo/registry
 
 give_up() {
@@ -41,7 +43,8 @@ fi
 
 # cargo over the library, in a folder of its own.
 build_by() {
-    R10_LIB_DIR=$library R10_STATIC=1 CARGO_TARGET_DIR=$top/out/recorder/target nice -n 5 cargo "${from[@]}" "$@" --manifest-path "$top/recorder/Cargo.toml"
+    R10_LIB_DIR=$library R10_STATIC=1 CARGO_TARGET_DIR=$top/out/recorder/target nice -n 5 cargo "${from[@]}" "$@" --manifest-path \
+        "$top/recorder/Cargo.toml"
 }
 
 # The folder with libr10.a.
@@ -73,7 +76,8 @@ check)
     is_new || not_tried "the cargo that is there is older than 1.$OLDEST: $(cargo --version)"
     # cargo says whether all crates are there, without building one
     [ "${#from[@]}" != 0 ] || from=(--offline)
-    library=/nonexistent build_by metadata --format-version 1 >/dev/null 2>&1 || not_tried "the crates of r10d are not there: apt-get install $PACKAGES"
+    library=/nonexistent build_by metadata --format-version 1 >/dev/null 2>&1 ||
+        not_tried "the crates of r10d are not there: apt-get install $PACKAGES"
     kept=$("$top/scripts/ffi.sh" kept) || give_up "there is no library to build r10d over"
     quick=()
     [[ $kept != */out/builds/* ]] || quick=(--quick)
@@ -89,7 +93,7 @@ long | soak)
     exec "$top/recorder/tests/$1.py" "$top/out/recorder/target/release" "${@:2}"
     ;;
 *)
-    sed -n '2,12s/^# \{0,1\}//p' "${BASH_SOURCE[0]}" >&2
+    sed -n '2,14s/^# \{0,1\}//p' "${BASH_SOURCE[0]}" >&2
     exit 2
     ;;
 esac

@@ -1,13 +1,14 @@
 #!/usr/bin/env bash
-# Refuses each allocation in turn of the runs in crates/r10_trials/stdin that do again what was refused for want of memory, and counts what came.
-# Run by hand:
+# Refuses each allocation in turn of the runs in crates/r10_trials/stdin that do again what was refused for want of memory, and
+# counts what came. Run by hand:
 #
 #     scripts/refuse_each_allocation.sh [NUMBER]
 #
-# A build without proofs refuses the allocation of this number, 3000 if none is given, in each of its runs. A run asks for memory as often as its
-# title says before it begins, and once more behind it: so with many asks one of these is refused, with none one of those behind, and by both it
-# is known which numbers of asks have an allocation of the run refused. A second build tries all of these, each allocation once. It prints a line for
-# each run, and ends with status 1 where one did not come as wanted. Each build takes a minute or two.
+# A build without proofs refuses the allocation of this number, 3000 if none is given, in each of its runs. A run asks for memory as
+# often as its title says before it begins, and once more behind it: so with many asks one of these is refused, with none one of
+# those behind, and by both it is known which numbers of asks have an allocation of the run refused. A second build tries all of
+# these, each allocation once. It prints a line for each run, and ends with status 1 where one did not come as wanted. Each build
+# takes a minute or two.
 set -u
 
 number=${1:-3000}

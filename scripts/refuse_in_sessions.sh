@@ -1,13 +1,14 @@
 #!/usr/bin/env bash
-# Refuses the first allocation of a session of two feeds and a reader, then in another run the second, and so on, until runs meet no refusal, and counts what
-# came: for each session that stands behind `== sessions` in crates/r10_trials/stdin. Run by hand:
+# Refuses the first allocation of a session of two feeds and a reader, then in another run the second, and so on, until runs meet no
+# refusal, and counts what came: for each session that stands behind `== sessions` in crates/r10_trials/stdin. Run by hand:
 #
 #     scripts/refuse_in_sessions.sh [MOST] [NUMBER]
 #
-# A build without proofs refuses the allocation of this number, 3000 if none is given, in each of its runs. A run asks for memory as often as its
-# line says before it begins, and more often behind it: so each of the first MOST allocations of a session, 400 if no number is given, is refused in
-# one run. As threads take turns otherwise in each run, one session asks for memory more often than another: the last fifty runs must have met
-# no refusal. It prints a line for each thing that came, and ends with status 1 where one is not as wanted.
+# A build without proofs refuses the allocation of this number, 3000 if none is given, in each of its runs. A run asks for memory as
+# often as its line says before it begins, and more often behind it: so each of the first MOST allocations of a session, 400 if no
+# number is given, is refused in one run. As threads take turns otherwise in each run, one session asks for memory more often than
+# another: the last fifty runs must have met no refusal. It prints a line for each thing that came, and ends with status 1 where one
+# is not as wanted.
 set -u
 
 most=${1:-400}
@@ -57,7 +58,8 @@ for name in $(names); do
         { place = 0 }
     ' "$work/lines" | sort -n >"$work/came"
     grep -v 'asks at the end$' "$work/came" >"$work/met"
-    echo "$name: $(wc -l <"$work/came") runs, $(wc -l <"$work/met") of them met a refusal, the last at allocation $(tail -1 "$work/met" | cut -d ' ' -f 1)"
+    echo "$name: $(wc -l <"$work/came") runs, $(wc -l <"$work/met") of them met a refusal, the last at allocation $(
+        tail -1 "$work/met" | cut -d ' ' -f 1)"
     cut -d ' ' -f 2- "$work/came" | sed 's/behind [0-9]* asks/behind asks/' | sort | uniq -c
     if [ "$(wc -l <"$work/came")" != "$most" ] || grep -q 'not as wanted\|asks before$' "$work/came"; then
         echo "  NOT AS IT SHOULD BE"

@@ -1,10 +1,13 @@
 #!/usr/bin/env python3
-"""Runs the cases of crates/r10_rows through a program, each in a process of its own, and compares what it prints with their answers.
+"""Runs the cases of crates/r10_rows through a program, each in a process of its own, and compares what it prints with their
+answers.
 
-    scripts/run_rows.py PROGRAM            all cases, in a quarter of a minute; a line for each that differs, and status 1 where one does
+    scripts/run_rows.py PROGRAM            all cases, in a quarter of a minute; a line for each that differs, and status 1 where one
+                                           does
     scripts/run_rows.py PROGRAM NAME..     these cases, with what the program prints
 
-docs/ROWS.md says what a case is. Cases of the words `judge closed` and `judge unclosed` are no calls of the program, and are left out.
+docs/ROWS.md says what a case is. Cases of the words `judge closed` and `judge unclosed` are no calls of the program, and are left
+out.
 """
 from __future__ import annotations
 
@@ -63,7 +66,8 @@ def main(words: list[str]) -> int:
         print(__doc__, file=sys.stderr)
         return 2
     program, names = words[0], words[1:]
-    answers = {(it.name, *it.words): it.status.encode() + b' '.join([b'', *(x.encode() for x in it.how)]) + b'\n' + it.body for it in cases('stdout')}
+    answers = {(it.name, *it.words): it.status.encode() + b' '.join([b'', *(x.encode() for x in it.how)]) + b'\n' + it.body
+               for it in cases('stdout')}
     wanted = [it for it in cases('stdin') if it.words[:1] != ['judge'] and (not names or it.name in names)]
     with ThreadPoolExecutor() as pool:
         found = list(pool.map(lambda it: answer_of(program, it), wanted))

@@ -1,8 +1,10 @@
 #!/usr/bin/env python3
-"""share_libraries.py TOP SOURCE: gives the checkout TOP the libraries that stand built in the checkout SOURCE, also those of a gate's run that goes on there.
+"""share_libraries.py TOP SOURCE: gives the checkout TOP the libraries that stand built in the checkout SOURCE, also those of a
+gate's run that goes on there.
 
-A library is given where it was built of SOURCE's files as they stand, where all files of its crate and of those below are the same, and those below are the very same
-libraries; with a stamp, so that `rt check` and `rt lib` take it as built. It proves nothing: no verdict of `rt ci` rests on it. Prints how many were given.
+A library is given where it was built of SOURCE's files as they stand, where all files of its crate and of those below are the same,
+and those below are the very same libraries; with a stamp, so that `rt check` and `rt lib` take it as built. It proves nothing: no
+verdict of `rt ci` rests on it. Prints how many were given.
 """
 import importlib.machinery
 import importlib.util
@@ -67,7 +69,8 @@ def main():
     theirs, given = crates(source), 0
     for name, crate in crates(top).items():
         other = theirs.get(name)
-        if other is None or crate.is_program or crate.is_built() or not os.path.isfile(f"{other.rlib}/format") or stamp(crate) != stamp(other) or not is_current(other):
+        if other is None or crate.is_program or crate.is_built() or not os.path.isfile(f"{other.rlib}/format") or stamp(
+                crate) != stamp(other) or not is_current(other):
             continue
         if any(not it.is_built() or not is_same(it, theirs[it.name]) for it in crate.below()):
             continue

@@ -1,12 +1,15 @@
 #!/usr/bin/env python3
-"""slips.py [CRATE..] [--lanes N] [--work FOLDER] [--list]: tries each slip of the edits by itself, so that no clause that refuses one can be lost unseen.
+"""slips.py [CRATE..] [--lanes N] [--work FOLDER] [--list]: tries each slip of the edits by itself, so that no clause that refuses
+one can be lost unseen.
 
-The edits stand in crates/*/must-fail (the gate tries those, each as a whole) and in crates/*/slips (tried here alone), in the same form: a line `file: ..`, then
-pairs of lines `old: ..` and `new: ..`. Each pair is a slip. Libraries have to be built (`rt lib`, or `scripts/build.sh`).
+The edits stand in crates/*/must-fail (the gate tries those, each as a whole) and in crates/*/slips (tried here alone), in the same
+form: a line `file: ..`, then pairs of lines `old: ..` and `new: ..`. Each pair is a slip. Libraries have to be built (`rt lib`, or
+`scripts/build.sh`).
 
-Prints a line for each slip: refused, with the goal that refuses it; refused by names (a proof names what the slip took away, which shows nothing of a contract);
-refused by a limit; LET THROUGH; or that it does not compile. Then the table. What was tried stands in FOLDER (.slips at the top), so a run goes on where
-one was stopped, and only what changed is tried again. Status 1 where a slip is let through or cannot be read.
+Prints a line for each slip: refused, with the goal that refuses it; refused by names (a proof names what the slip took away, which
+shows nothing of a contract); refused by a limit; LET THROUGH; or that it does not compile. Then the table. What was tried stands in
+FOLDER (.slips at the top), so a run goes on where one was stopped, and only what changed is tried again. Status 1 where a slip is
+let through or cannot be read.
 """
 from __future__ import annotations
 

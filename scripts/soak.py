@@ -1,15 +1,17 @@
 #!/usr/bin/env python3
-"""Kills a recording program at random moments, takes the power from its disk at random operations, and counts what it said is sure and is not there.
+"""Kills a recording program at random moments, takes the power from its disk at random operations, and counts what it said is sure
+and is not there.
 
     scripts/soak.py PROGRAM SECONDS SEED FOLDER [BLOCKS]
 
-PROGRAM is ffi/example.c (scripts/soak.sh compiles it and calls this). Each run records on the same file, FOLDER/medium, and has a number of its own,
-which stands in its messages: `RUN NUMBER`. Of each run that was not erased, the messages that it said are sure have to be on the medium, each once
-and in order, and behind them none but later ones of the same run.
+PROGRAM is ffi/example.c (scripts/soak.sh compiles it and calls this). Each run records on the same file, FOLDER/medium, and has a
+number of its own, which stands in its messages: `RUN NUMBER`. Of each run that was not erased, the messages that it said are sure
+have to be on the medium, each once and in order, and behind them none but later ones of the same run.
 
-Every twentieth run is one on a file of its own, FOLDER/cut, that is not killed and writes down its operations. Of it a loss of power is made at some of
-them: each block that was written since the last sync then holds, by chance, what was there at the sync or one of the writes since. The same has to
-hold of what is left, by what was said up to that operation; and PROGRAM itself has to open it, close what was cut off, and record.
+Every twentieth run is one on a file of its own, FOLDER/cut, that is not killed and writes down its operations. Of it a loss of
+power is made at some of them: each block that was written since the last sync then holds, by chance, what was there at the sync or
+one of the writes since. The same has to hold of what is left, by what was said up to that operation; and PROGRAM itself has to open
+it, close what was cut off, and record.
 """
 import mmap
 import os
@@ -111,7 +113,8 @@ def said_sure(text):
 
 
 def cuts(program, folder, chance, number):
-    """Losses of power in one run: how many, how many operations it had, how many messages were sure at them, and how many of these are missing."""
+    """Losses of power in one run: how many, how many operations it had, how many messages were sure at them, and how many of these
+    are missing."""
     path, log = f'{folder}/cut', f'{folder}/operations'
     if os.path.exists(path):
         os.remove(path)
@@ -129,7 +132,8 @@ def cuts(program, folder, chance, number):
         image = it.read()
     earlier = found_in(image).get(0, [])
     each = chance.choice((1, 3, 20, 100))
-    ran = subprocess.run([program, path, '1', str(chance.choice((30, 300, 1000))), str(each), log], stdout=subprocess.PIPE, check=True)
+    ran = subprocess.run([program, path, '1', str(chance.choice((30, 300, 1000))), str(each), log],
+                         stdout=subprocess.PIPE, check=True)
     with open(log, 'rb') as it:
         operations = operations_in(it.read())
     sure, sum_sure, missing, count = said_sure(ran.stdout.decode()), 0, 0, 12
@@ -151,7 +155,8 @@ def cuts(program, folder, chance, number):
             again = subprocess.run([program, path, '2', '10', '5'], stdout=subprocess.PIPE)
             with open(path, 'rb') as to:
                 found = found_in(to.read())
-            lost += again.returncode != 0 or found.get(2, []) != list(range(10)) or missing_in(found.get(1, []), 0, wanted) or found.get(0, []) != earlier
+            lost += (again.returncode != 0 or found.get(2, []) != list(range(10))
+                     or missing_in(found.get(1, []), 0, wanted) or found.get(0, []) != earlier)
         if lost:
             print(f'cut {number} behind {done} operations: of {wanted} messages {lost} are missing')
             missing += lost
@@ -211,9 +216,11 @@ def main(words):
                 print(f'run {run}: of run {which} {lost} of the messages {low} to {high - 1} are missing')
                 missing += lost
         run += 1
-    print(f'{kills} kills of {run} runs in {seconds:.0f} seconds: {acknowledged} messages acknowledged by commits, {read_back} read back before the '
+    print(f'{kills} kills of {run} runs in {seconds:.0f} seconds: {acknowledged} messages acknowledged by commits, {read_back} '
+          f'read back before the '
           f'kills, {files} files begun, {sealed} sealed after a kill, {erases} erases; {missing} missing')
-    print(f'{lost_power[0]} losses of power in runs of {lost_power[1]} operations: {lost_power[2]} messages acknowledged by then; {lost_power[3]} missing')
+    print(f'{lost_power[0]} losses of power in runs of {lost_power[1]} operations: {lost_power[2]} messages acknowledged by then; '
+          f'{lost_power[3]} missing')
     return 1 if missing or lost_power[3] else 0
 
 

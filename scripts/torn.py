@@ -1,14 +1,17 @@
 #!/usr/bin/env python3
-"""Takes the power from a disk that writes 4,096 bytes at once, and counts what that costs: a sector that was being written is lost whole.
+"""Takes the power from a disk that writes 4,096 bytes at once, and counts what that costs: a sector that was being written is lost
+whole.
 
     scripts/torn.py [RUNS [CUTS [SEED]]]
 
-The recorder asks that a block of 512 bytes is written whole or not at all, with its neighbours untouched. A disk with larger sectors does not keep that. In
-each of RUNS runs (40) ffi/example.c writes down the operations of its disk. After CUTS (12) of them, by chance, the power fails: each block that was
-written since the last sync holds what it had then, or one of the writes since; and the sector of one such block is lost, all eight blocks of it read as zeros.
+The recorder asks that a block of 512 bytes is written whole or not at all, with its neighbours untouched. A disk with larger
+sectors does not keep that. In each of RUNS runs (40) ffi/example.c writes down the operations of its disk. After CUTS (12) of them,
+by chance, the power fails: each block that was written since the last sync holds what it had then, or one of the writes since; and
+the sector of one such block is lost, all eight blocks of it read as zeros.
 
-It prints what the recorder then finds, for a directory of 2 blocks, which shares its sector with the first file, and one of 7, which has its sector for itself.
-Beside them stands the same without a lost sector, of which nothing may be missing: status 1 if there is.
+It prints what the recorder then finds, for a directory of 2 blocks, which shares its sector with the first file, and one of 7,
+which has its sector for itself. Beside them stands the same without a lost sector, of which nothing may be missing: status 1 if
+there is.
 """
 from __future__ import annotations
 
@@ -42,7 +45,8 @@ def compiled(folder: pathlib.Path, directory: int) -> pathlib.Path:
     if changed.count(wanted) != 1:
         sys.exit('torn: ffi/example.c has no directory of 2 blocks')
     source.write_text(changed, encoding='utf-8')
-    subprocess.run(['cc', '-std=c11', '-O2', '-I', TOP / 'ffi', '-o', program, source, library, kit / 'c' / 'liblibc_c.a'], check=True)
+    subprocess.run(['cc', '-std=c11', '-O2', '-I', TOP / 'ffi', '-o', program, source, library, kit / 'c' / 'liblibc_c.a'],
+                   check=True)
     return program
 
 
@@ -71,7 +75,8 @@ def outcome(image: bytes, sure: list[tuple[int, int]], done: int) -> str:
     return 'earlier messages are missing' if soak.missing_in(found, 0, before) else 'the last commit is missing'
 
 
-def trial(program: pathlib.Path, directory: int, folder: pathlib.Path, chance: random.Random, runs: int, cuts: int) -> tuple[dict, dict]:
+def trial(program: pathlib.Path, directory: int, folder: pathlib.Path, chance: random.Random, runs: int,
+          cuts: int) -> tuple[dict, dict]:
     """How often each outcome came, with a sector lost and without."""
     lost = dict.fromkeys(OUTCOMES, 0)
     kept = dict.fromkeys(OUTCOMES, 0)
@@ -82,7 +87,8 @@ def trial(program: pathlib.Path, directory: int, folder: pathlib.Path, chance: r
         subprocess.run([program, path, '0', '20', '10'], stdout=subprocess.DEVNULL, check=True)
         image = path.read_bytes()
         each = chance.choice((1, 3, 20, 100))
-        ran = subprocess.run([program, path, '1', str(chance.choice((30, 300))), str(each), log], stdout=subprocess.PIPE, check=True, text=True)
+        ran = subprocess.run([program, path, '1', str(chance.choice((30, 300))), str(each), log], stdout=subprocess.PIPE,
+                             check=True, text=True)
         operations, sure = soak.operations_in(log.read_bytes()), soak.said_sure(ran.stdout)
         for _ in range(cuts):
             done = chance.randrange(1, len(operations) + 1)

@@ -33,7 +33,8 @@ def stops():
            (TOP / FIRST).read_bytes())
     yield ('The image of a formatted medium.', './r10 format --blocks 8 --directory 2 --volume VOL > empty.img',
            ['format', '--blocks', '8', '--directory', '2', '--volume', 'VOL'], b'')
-    yield ('The files of an image, here of a file with every kind of channel.', 'scripts/play_cases.py image | ./r10 files', ['files'], image)
+    yield ('The files of an image, here of a file with every kind of channel.', 'scripts/play_cases.py image | ./r10 files',
+           ['files'], image)
     yield 'The entries of that file.', 'scripts/play_cases.py image | ./r10 play --file 0', ['play', '--file', '0'], image
     yield ('The verdict on that file, which begins at block 3.',
            'scripts/play_cases.py image | tail -c +1537 | head -c %d | ./r10 check' % len(KINDS), ['check'], KINDS)

@@ -5,9 +5,10 @@
     scripts/waits.py --old      the order that the sources had once, and a shortest way into its dead end
     scripts/waits.py --slips    each of the wrong orders in SLIPS, one at a time: each has to be found
 
-A session has up to two feeds, two readers, an order and three messages, though no session has all of them. A step is one that no other worker sees half
-done: a load or a store of a number that workers share, the taking of a lock, a message put into a lane or taken out of it, the falling asleep on a number. Each worker may be stopped by its gate; each
-call under the lock may end its worker, as where the recorder failed or memory was refused; a pump takes nothing while nothing is recorded, and the order begins or
+A session has up to two feeds, two readers, an order and three messages, though no session has all of them. A step is one that no
+other worker sees half done: a load or a store of a number that workers share, the taking of a lock, a message put into a lane or
+taken out of it, the falling asleep on a number. Each worker may be stopped by its gate; each call under the lock may end its
+worker, as where the recorder failed or memory was refused; a pump takes nothing while nothing is recorded, and the order begins or
 ends that. A thread that can't be made runs its work when its maker has done its own. Sleepers wake only where they are woken.
 
 Of the states that can be reached it says that
@@ -48,7 +49,8 @@ TEXTS: dict[str, list[tuple[str, str]]] = {
         ('reader: loads shown', 'self.shown.load(Ordering::SeqCst)'),
     ],
     SHARED + 'source.rt': [
-        ('feed: passes the gate, is stopped', 'let passed = gate.pass(worker); if passed { feed_all(rt, source, port, progress) } else {'),
+        ('feed: passes the gate, is stopped',
+         'let passed = gate.pass(worker); if passed { feed_all(rt, source, port, progress) } else {'),
         ('feed: has more, pushes, is refused', 'let pumped = pump_source(&mut source, port, 1);'),
         ('feed: has no more', 'if pumped.ended { return Tally { accepted, refused }; }'),
         ('feed: looks for who waits', 'if pumped.accepted > 0 { progress.come(); }'),
@@ -64,7 +66,8 @@ TEXTS: dict[str, list[tuple[str, str]]] = {
     ],
     SHARED + 'writing.rt': [
         ('writer: adds to shown', 'if round.committed { at.tell(); }'),
-        ('writer: loads over, turns', 'let last = at.is_over(); let round = at.round(last); tell_of(at, round); after(last, round.turn)'),
+        ('writer: loads over, turns',
+         'let last = at.is_over(); let round = at.round(last); tell_of(at, round); after(last, round.turn)'),
         ('writer: announces, loads the epoch, goes on', 'let wait = at.announce(); match turn(at) { Turn::Moved => true,'),
         ('writer: is told, is not told, sleeps, does not sleep', 'Turn::Idle => { at.sleep(wait); true }'),
         ('writer: turns', 'Turn::Idle => wait_for_more(at),'),
@@ -74,8 +77,10 @@ TEXTS: dict[str, list[tuple[str, str]]] = {
         ('control: has more, has no more', 'for order in orders { if !give_one(at, order) { return; } }'),
     ],
     SHARED + 'watching.rt': [
-        ('reader: announces, loads the epoch, loads written, loads shown', 'let wait = at.announce(); let last = at.is_ended(); let shown = at.shown();'),
-        ('reader: is told, is not told, sleeps, does not sleep', 'if !is_due(last, shown, seen) { at.sleep(wait); return Looked { shown, on: true }; }'),
+        ('reader: announces, loads the epoch, loads written, loads shown',
+         'let wait = at.announce(); let last = at.is_ended(); let shown = at.shown();'),
+        ('reader: is told, is not told, sleeps, does not sleep',
+         'if !is_due(last, shown, seen) { at.sleep(wait); return Looked { shown, on: true }; }'),
         ('reader: goes on, reads, read ends it', 'drop(wait); let answer = at.read(reading);'),
     ],
     SHARED + 'desk.rt': [
@@ -91,17 +96,23 @@ TEXTS: dict[str, list[tuple[str, str]]] = {
         ('reader: reads', 'reading.read_next(self.rt, self.alloc, self.cabinet)'),
     ],
     SHARED + 'working.rt': [
-        ('writer: passes the gate, is stopped, stores written', 'if gate.pass(worker) { let mut desk = Desk { rt, cabinet, progress, }; write(rt, &mut desk); } progress.end_writing();'),
-        ('control: passes the gate, is stopped, over', 'if gate.pass(worker) { let mut desk = Desk { rt, cabinet, progress, }; give(&mut desk, orders); } progress.end_one();'),
+        ('writer: passes the gate, is stopped, stores written',
+         'if gate.pass(worker) { let mut desk = Desk { rt, cabinet, progress, }; write(rt, &mut desk); } progress.end_writing();'),
+        ('control: passes the gate, is stopped, over',
+         'if gate.pass(worker) { let mut desk = Desk { rt, cabinet, progress, }; give(&mut desk, orders); } progress.end_one();'),
     ],
     SHARED + 'readers.rt': [
-        ('reader: passes the gate, is stopped', 'if gate.pass(worker) { reading.pass_over(alloc); let mut desk = ReadersDesk { rt, alloc, cabinet, progress, }; watch(rt, &mut desk, reading); }'),
+        ('reader: passes the gate, is stopped',
+         'if gate.pass(worker) { reading.pass_over(alloc); let mut desk = ReadersDesk { rt, alloc, cabinet, progress, }; watch(rt, '
+         '&mut desk, reading); }'),
     ],
     SHARED + 'reading.rt': [
         ('reader: locks, reads, read ends it, unlocks', 'match self.player.advance(rt, cabinet) {'),
     ],
     SHARED + 'session.rt': [
-        ('writer: begins', '|| write_on(rt, cabinet, gate, first, progress), || give_orders(rt, cabinet, gate, first.wrapping_add(1), orders, progress),'),
+        ('writer: begins',
+         '|| write_on(rt, cabinet, gate, first, progress), || give_orders(rt, cabinet, gate, first.wrapping_add(1), orders, '
+         'progress),'),
         ('reader: begins', 'thread::join_mut(rt, &mut reading, &mut writing);'),
         ('feed: begins', 'thread::join_mut(rt, &mut others, &mut feeding);'),
         ('control: begins', 'thread::join_mut(rt, &mut others, &mut feeding);'),
@@ -113,9 +124,14 @@ KIT_TEXTS: dict[str, list[tuple[str, str]]] = {
     'crossbeam_utils/src/sync/event_count.rt': [
         ('announces', 'self.waiters.fetch_add(1, SeqCst);'),
         ('loads the epoch', 'epoch: self.epoch.load(SeqCst),'),
-        ('looks for who waits, ends their waits, wakes', 'pub fn notify_one(&self) { if self.waiters.load(SeqCst) != 0 { self.epoch.fetch_add(1, SeqCst); self.epoch.wake_one(); } }'),
-        ('looks for who waits, ends their waits, wakes', 'pub fn notify_all(&self) { if self.waiters.load(SeqCst) != 0 { self.epoch.fetch_add(1, SeqCst); self.epoch.wake_all(); } }'),
-        ('is told, is not told, sleeps, does not sleep', 'if epoch.load(SeqCst) != self.epoch { break; } epoch.park(rt, (self.epoch & 0xffff_ffff) as u32);'),
+        ('looks for who waits, ends their waits, wakes',
+         'pub fn notify_one(&self) { if self.waiters.load(SeqCst) != 0 { self.epoch.fetch_add(1, SeqCst); self.epoch.wake_one(); } '
+         '}'),
+        ('looks for who waits, ends their waits, wakes',
+         'pub fn notify_all(&self) { if self.waiters.load(SeqCst) != 0 { self.epoch.fetch_add(1, SeqCst); self.epoch.wake_all(); } '
+         '}'),
+        ('is told, is not told, sleeps, does not sleep',
+         'if epoch.load(SeqCst) != self.epoch { break; } epoch.park(rt, (self.epoch & 0xffff_ffff) as u32);'),
         ('goes on', 'of.waiters.fetch_sub(1, SeqCst);'),
     ],
     'core/src/thread/lent.rt': [('begins', '// Calls f in a new thread, or last where none can be made, and g in this one.')],
@@ -139,7 +155,8 @@ SLIPS = {
 
 
 class Size(NamedTuple):
-    """A session: how many messages each feed has, how many readers and orders, whether something is recorded at first, and which threads can't be made."""
+    """A session: how many messages each feed has, how many readers and orders, whether something is recorded at first, and which
+    threads can't be made."""
 
     feeds: tuple[int, ...]
     readers: int
@@ -188,8 +205,9 @@ Way = tuple[str, Shared, Local]
 ROOM = 2  # a lane's capacity
 TELLING = ('look', 'raise', 'wake')
 
-# Steps that are a worker's own: nobody else loads what they change, or can while the worker has the lock; a lock that is given back hinders nobody; and
-# between the end of a wait and the waking nobody falls asleep, so that it is all one when the sleeper wakes. Nobody sees when such a step comes: it comes at once.
+# Steps that are a worker's own: nobody else loads what they change, or can while the worker has the lock; a lock that is given back
+# hinders nobody; and between the end of a wait and the waking nobody falls asleep, so that it is all one when the sleeper wakes.
+# Nobody sees when such a step comes: it comes at once.
 OWN = {'begin', 'gate', 'next', 'round', 'commit', 'read', 'order', 'unlock', 'turn', 'wake'}
 
 
@@ -199,7 +217,8 @@ class Model:
     def __init__(self, size: Size, slip: str) -> None:
         self.size = size
         self.slip = slip
-        self.workers = [f'feed {i}' for i in range(len(size.feeds))] + ['writer', 'control'] + [f'reader {i}' for i in range(size.readers)]
+        self.workers = [f'feed {i}' for i in range(len(size.feeds))] + ['writer', 'control']
+        self.workers += [f'reader {i}' for i in range(size.readers)]
         self.bit = {worker: 1 << place for place, worker in enumerate(self.workers)}
         self.all_readers = sum(bit for worker, bit in self.bit.items() if worker[0] == 'r')
         self.everybody = (1 << len(self.workers)) - 1
@@ -211,7 +230,8 @@ class Model:
         """Behind whose end each worker begins, as threads are refused."""
         feeds = [w for w in self.workers if w[0] == 'f']
         readers = [w for w in self.workers if w[0] == 'r']
-        joins = {'others': (['writer', 'control'] + readers, feeds), 'reading': (readers, ['writer', 'control']), 'writing': (['writer'], ['control'])}
+        joins = {'others': (['writer', 'control'] + readers, feeds), 'reading': (readers, ['writer', 'control']),
+                 'writing': (['writer'], ['control'])}
         if self.slip == 'old-joins':
             joins = {name: (second, first) for name, (first, second) in joins.items()}
         joins['a feed'] = (feeds[:1], feeds[1:])
@@ -249,9 +269,11 @@ class Model:
     def tells(self, worker: str, s: Shared, me: Local, whom: int, waiting: bool) -> Iterator[Way]:
         """EventCount::notify_one and notify_all: looks whether a wait was announced, ends it, and wakes who sleeps."""
         if me.at == 'look':
-            yield ('looks for who waits', s, me._replace(at='raise')) if waiting else self.goes_back(worker, s, me, 'looks for who waits')
+            goes_on = 'looks for who waits', s, me._replace(at='raise')
+            yield goes_on if waiting else self.goes_back(worker, s, me, 'looks for who waits')
         elif me.at == 'raise':
-            yield ('ends their waits', s if self.slip == 'old-reader' and worker == 'writer' else s._replace(told=s.told | whom & s.armed), me._replace(at='wake'))
+            yield ('ends their waits', s if self.slip == 'old-reader' and worker == 'writer'
+                   else s._replace(told=s.told | whom & s.armed), me._replace(at='wake'))
         else:
             yield self.goes_back(worker, s._replace(asleep=s.asleep & ~whom), me, 'wakes')
 
@@ -261,7 +283,9 @@ class Model:
         if me.at == 'check':
             yield ('is told', s, me._replace(at='cancel')) if told else ('is not told', s, me._replace(at='park'))
         else:
-            yield ('does not sleep', s, me._replace(at='check')) if told else ('sleeps', s._replace(asleep=s.asleep | self.bit[worker]), me._replace(at='check'))
+            yield ('does not sleep', s,
+                   me._replace(at='check')) if told else ('sleeps', s._replace(asleep=s.asleep | self.bit[worker]),
+                                                          me._replace(at='check'))
 
     def counts_itself(self, worker: str, s: Shared, me: Local) -> Way:
         """A feed, or control, counts itself as ended, and tells the writer."""
@@ -350,13 +374,16 @@ class Model:
                 to = 'load'
             else:
                 to = 'check' if asks_again else 'announce'
-            yield ('turns', s, me._replace(at='cancel' if me.announced and to != 'check' else to, back=to if me.announced and to != 'check' else '', last=False, due=False))
+            yield ('turns', s, me._replace(at='cancel' if me.announced and to != 'check' else to,
+                                           back=to if me.announced and to != 'check' else '', last=False, due=False))
         elif me.at == 'announce':
             yield ('announces', s._replace(coming=1), me._replace(at='epoch', announced=True))
         elif me.at == 'epoch':
-            yield ('loads the epoch', s._replace(armed=s.armed | me_bit), me._replace(at='check' if self.slip in ('no-look', 'no-announce') else 'load'))
+            yield ('loads the epoch', s._replace(armed=s.armed | me_bit),
+                   me._replace(at='check' if self.slip in ('no-look', 'no-announce') else 'load'))
         elif me.at == 'cancel':
-            yield ('goes on', s._replace(coming=0, armed=s.armed & ~me_bit, told=s.told & ~me_bit), me._replace(at=me.back or 'load', back='', announced=False))
+            yield ('goes on', s._replace(coming=0, armed=s.armed & ~me_bit, told=s.told & ~me_bit),
+                   me._replace(at=me.back or 'load', back='', announced=False))
         elif me.at in ('written', 'late'):
             now = s._replace(written=True)
             if me.at == 'late':
@@ -384,7 +411,8 @@ class Model:
             due = bool(s.fresh & me_bit) or me.last
             now = s._replace(fresh=s.fresh & ~me_bit)
             if old:
-                yield ('loads shown', now._replace(told=s.told & ~me_bit), me._replace(at='lock', back='read') if due else me._replace(at='park'))
+                yield ('loads shown', now._replace(told=s.told & ~me_bit),
+                       me._replace(at='lock', back='read') if due else me._replace(at='park'))
             else:
                 yield ('loads shown', now, me._replace(at='cancel', due=True) if due else me._replace(at='check'))
         elif me.at == 'cancel':
@@ -395,7 +423,8 @@ class Model:
             yield ('read ends it', s, me._replace(at='unlock', last=True))
         elif me.at == 'unlock':
             now = s._replace(lock=False)
-            yield self.ends(worker, now, me, 'unlocks') if me.last else ('unlocks', now, me._replace(at='park' if old else 'announce', due=False))
+            yield self.ends(worker, now, me, 'unlocks') if me.last else ('unlocks', now,
+                                                                         me._replace(at='park' if old else 'announce', due=False))
         elif old and me.at == 'check':
             yield ('is woken', s, me._replace(at='load'))
         else:
@@ -410,7 +439,8 @@ class Model:
             return 'a message is left in a lane' if s.recording and any(s.lanes) and not them['writer'].end else ''
         due = (s.recording and any(s.lanes)) or s.over > len(self.size.feeds)
         # (an order that was asked is told when the lock is given back)
-        telling = any(me.at in TELLING or me.at == 'unlock' and worker == 'control' for worker, me in them.items() if worker[0] in 'fc')
+        telling = any(me.at in TELLING or me.at == 'unlock' and worker == 'control' for worker, me in them.items()
+                      if worker[0] in 'fc')
         if s.asleep & self.bit['writer'] and due and not telling:
             return 'the writer sleeps, there is something to do, and nobody is about to wake it'
         late = s.asleep & (self.all_readers if s.written else s.fresh)
@@ -549,12 +579,14 @@ def nameless(came: set[str]) -> list[str]:
     named = set()
     for steps, _ in itertools.chain.from_iterable([*TEXTS.values(), *KIT_TEXTS.values()]):
         kind, of, words = steps.rpartition(': ')
-        named.update(f'{one}: {word}' for one in ([kind] if of else ['feed', 'writer', 'control', 'reader']) for word in words.split(', '))
+        named.update(f'{one}: {word}' for one in ([kind] if of else ['feed', 'writer', 'control', 'reader'])
+                     for word in words.split(', '))
     return sorted(came - named)
 
 
 def check(slip: str, chosen: list[Size], most: int) -> tuple[int, set[str], str, Size | None, list[str]]:
-    """Looks at these sessions up to the first in which something is wrong: how many states, which steps came, what is wrong, where, and the way there."""
+    """Looks at these sessions up to the first in which something is wrong: how many states, which steps came, what is wrong, where,
+    and the way there."""
     states, came = 0, set()
     for size in chosen:
         model = Model(size, slip)

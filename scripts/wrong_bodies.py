@@ -1,8 +1,8 @@
 """Wrong bodies: changes of a crate's source that its contracts have to refuse, tried by the prover in copies of the repository.
 
-`slips.py` tries the slips of the must-fail edits, `mutants.py` small changes that it makes. A function is proved by itself, over the contracts of those that it
-calls. So changes of different functions are tried in one check, and each is judged by the goals of its own function. A change that no goal of its function refuses
-there is tried once more alone.
+`slips.py` tries the slips of the must-fail edits, `mutants.py` small changes that it makes. A function is proved by itself, over
+the contracts of those that it calls. So changes of different functions are tried in one check, and each is judged by the goals of
+its own function. A change that no goal of its function refuses there is tried once more alone.
 """
 from __future__ import annotations
 
@@ -20,7 +20,8 @@ from typing import Callable, Iterable, Optional
 
 TOP = Path(__file__).resolve().parent.parent
 
-REFUSED, NAMES, LIMIT, PASSED, SAME, BAD = 'refused', 'refused by names', 'refused by a limit', 'LET THROUGH', 'no slip', 'does not compile'
+REFUSED, NAMES, LIMIT, PASSED = 'refused', 'refused by names', 'refused by a limit', 'LET THROUGH'
+SAME, BAD = 'no slip', 'does not compile'
 
 FUNCTION = re.compile(r'^[ \t]*(?:pub(?:\([a-z ]+\))? )?(?:const )?(?:unsafe )?(?:extern "C" )?fn (?P<name>\w+)', re.M)
 HEAD = re.compile(r'^(?:pub )?(?:unsafe )?(?P<kind>impl|trait)\b(?P<rest>[^{;]*)\{', re.M)
@@ -63,7 +64,8 @@ class Change:
         return min(inside, key=lambda it: it.end - it.start, default=None)
 
     def key(self) -> str:
-        return hashlib.sha256('\0'.join([self.crate, self.file, str(self.at), self.old, self.new, *map(str, self.more)]).encode()).hexdigest()[:24]
+        return hashlib.sha256('\0'.join([self.crate, self.file, str(self.at), self.old, self.new,
+                                         *map(str, self.more)]).encode()).hexdigest()[:24]
 
 
 @dataclass
@@ -173,7 +175,8 @@ class Kept:
         return Verdict(change, it['came'], it['goal'], it['function']) if it else None
 
     def put(self, sum_: str, verdict: Verdict) -> None:
-        it = {'sum': sum_, 'key': verdict.change.key(), 'crate': verdict.change.crate, 'came': verdict.came, 'goal': verdict.goal, 'function': verdict.function,
+        it = {'sum': sum_, 'key': verdict.change.key(), 'crate': verdict.change.crate, 'came': verdict.came, 'goal': verdict.goal,
+              'function': verdict.function,
               'old': verdict.change.old, 'new': verdict.change.new, 'file': verdict.change.file}
         with self.lock, open(self.path, 'a', encoding='utf-8') as out:
             fcntl.flock(out, fcntl.LOCK_EX)
@@ -191,13 +194,15 @@ class Lane:
         else:
             subprocess.run(['git', '-C', str(folder), 'fetch', '-q', 'origin'], check=True)
             subprocess.run(['git', '-C', str(folder), 'reset', '-q', '--hard', git('rev-parse', 'HEAD')], check=True)
-        subprocess.run([sys.executable, str(TOP / 'scripts' / 'share_libraries.py'), str(folder), str(TOP)], check=True, stdout=subprocess.DEVNULL)
+        subprocess.run([sys.executable, str(TOP / 'scripts' / 'share_libraries.py'), str(folder), str(TOP)], check=True,
+                       stdout=subprocess.DEVNULL)
 
     def check(self, crate: str, seconds: int) -> tuple[int, str]:
         """Checks the crate, and returns the status and what was printed."""
         place = self.folder / 'crates' / crate
         try:
-            ran = subprocess.run(['rt', 'check', '--jobs', '1'], cwd=place, stdin=subprocess.DEVNULL, stdout=subprocess.PIPE, stderr=subprocess.STDOUT,
+            ran = subprocess.run(['rt', 'check', '--jobs', '1'], cwd=place, stdin=subprocess.DEVNULL, stdout=subprocess.PIPE,
+                                 stderr=subprocess.STDOUT,
                                  timeout=seconds, check=False)
         except subprocess.TimeoutExpired as it:
             return 124, (it.stdout or b'').decode(errors='replace')
@@ -265,7 +270,8 @@ class Trial:
     def __init__(self, lane: Lane, crate: str, changes: list[Change], say: Callable[[Verdict], None], seconds: int):
         self.lane, self.crate, self.say, self.seconds = lane, crate, say, seconds
         folder = TOP / 'crates' / crate
-        self.texts = {str(it.relative_to(folder)): it.read_text(encoding='utf-8') for part in ('src', 'specs', 'proofs') for it in sorted((folder / part).rglob('*'))
+        self.texts = {str(it.relative_to(folder)): it.read_text(encoding='utf-8') for part in ('src', 'specs', 'proofs')
+                      for it in sorted((folder / part).rglob('*'))
                       if it.suffix in ('.rt', '.antt')}
         self.functions = [it for file, text in self.texts.items() if file.endswith('.rt') for it in functions_of(file, text)]
         self.changes = changes
@@ -298,7 +304,8 @@ class Trial:
         self.say(Verdict(change, came, goal, it.path() if it else ''))
 
     def at_line(self, made: Outcome, changes: list[Change]) -> dict[str, list[str]]:
-        """The errors that stand in the source, by the path of the function that they stand in, where the source has these changes."""
+        """The errors that stand in the source, by the path of the function that they stand in, where the source has these
+        changes."""
         grown = {}
         for file, line, said in made.broken:
             text = self.lane.folder.joinpath('crates', self.crate, file).read_text(encoding='utf-8')
@@ -411,7 +418,8 @@ def line_of(verdict: Verdict) -> str:
     """A verdict as a line."""
     it = verdict.change
     text = it.new.strip() or '(nothing)'
-    return f'{verdict.came}: {it.crate} {it.file} {verdict.function or "-"}: {it.old.strip()[:60]} -> {text[:60]}' + (f' ({verdict.goal})' if verdict.goal else '')
+    return f'{verdict.came}: {it.crate} {it.file} {verdict.function or "-"}: {it.old.strip()[:60]} -> {text[:60]}' + (
+        f' ({verdict.goal})' if verdict.goal else '')
 
 
 def table(verdicts: list[Verdict]) -> str:

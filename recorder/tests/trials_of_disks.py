@@ -43,7 +43,8 @@ def full_medium(room: Room) -> str:
     must(service.ask('.RECORD')[0].startswith('E 04'), 'a recording begins on a full medium')
     image = (room.folder / 'medium').read_bytes()
     found = judge(image, lines_of((room.folder / 'lines').read_text()), [5])
-    must(found['files'] > 1 and found['untold'] == found['untold_before'] == 0 and found['acknowledged'] <= found['messages'], f'{found}')
+    must(found['files'] > 1 and found['untold'] == found['untold_before'] == 0 and found['acknowledged'] <= found['messages'],
+         f'{found}')
     used = 512 * sum(int(it[2]) for it in files(image)) / (512 * 1491)
     must(service.ask('.ERASE', '.RECORD AGAIN', '.STATUS')[-1].startswith('S 05'), 'no recording after an erase')
     service.end()

@@ -38,7 +38,8 @@ build 0
 check "no lanes: status 2, one line" is "$status $(wc -l <"$room/errors")" "2 1"
 build 1
 check "all is proved" is "$status$errors" "0"
-check "each crate once, and none beside" is "$(sort "$kit/proofs" | tr '\n' ' ')" "lib r10_low lib r10_one lib r10_three lib r10_top lib r10_two run r10_cli "
+check "each crate once, and none beside" is "$(sort "$kit/proofs" | tr '\n' ' ')" \
+    "lib r10_low lib r10_one lib r10_three lib r10_top lib r10_two run r10_cli "
 check "lowest first" is "$(head -n 1 "$kit/proofs") $(tail -n 1 "$kit/proofs")" "lib r10_low run r10_cli"
 check "the crate with the longest way above it comes before another" is "$(sed -n 2p "$kit/proofs")" "lib r10_two"
 check "it says how many are proved" says "$said" "(6 of 6 proved, 0 more at work)"
@@ -58,7 +59,8 @@ rm -rf "$top"/crates/*/out "$top/out"
 build
 fits=$(($(sed -n 's/^MemAvailable: *\([0-9]*\) kB/\1/p' /proc/meminfo) * 1024 / 2500000000))
 most=$(printf '%s\n' "$(nproc)" "$fits" 6 | sort -n | head -n 1)
-check "without LANES it takes as many as processors and free memory have room for" says "$said" "side by side $((most > 0 ? most : 1)))"
+check "without LANES it takes as many as processors and free memory have room for" says "$said" \
+    "side by side $((most > 0 ? most : 1)))"
 
 rm -rf "$top"/crates/*/out "$top/out"
 : >"$kit/proofs"
@@ -104,5 +106,6 @@ wait "$one" "$two"
 check "of two calls at once one waits" says "$(cat "$room/one" "$room/two")" "waits"
 check "and takes over what the other proved" is "$(count)" 7
 mkdir "$room/no"
-check "without rt it is one line" is "$(PATH=$(dirname "$(command -v python3)"):/usr/bin:/bin "$top/scripts/build.sh" 2>&1 | wc -l)" 1
+check "without rt it is one line" is "$(PATH=$(dirname "$(command -v python3)"):/usr/bin:/bin "$top/scripts/build.sh" 2>&1 |
+    wc -l)" 1
 exit "$failed"

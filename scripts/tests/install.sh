@@ -28,7 +28,8 @@ if command -v pkg-config >/dev/null && command -v cc >/dev/null; then
     cc -std=c11 -I"$flat/usr/include" -o "$room/shared" "$top/ffi/calls.c" -L"$flat/usr/lib" -lr10 &&
         cc -std=c11 -I"$flat/usr/include" -o "$room/static" "$top/ffi/calls.c" "$flat/usr/lib/libr10.a"
     check "a program links with either library" is "$?" 0
-    check "with the shared one it prints what it is to" is "$(LD_LIBRARY_PATH="$flat/usr/lib" "$room/shared")" "$(cat "$top/ffi/calls.expected")"
+    check "with the shared one it prints what it is to" is "$(LD_LIBRARY_PATH="$flat/usr/lib" "$room/shared")" \
+        "$(cat "$top/ffi/calls.expected")"
     check "with the static one too" is "$("$room/static")" "$(cat "$top/ffi/calls.expected")"
     check "the shared one gives the calls of the header and no other name" is \
         "$(nm -D --defined-only "$flat/usr/lib/libr10.so" | sed 's/.* //' | sort | tr '\n' ' ')" \
@@ -47,12 +48,14 @@ if command -v groff >/dev/null; then
 fi
 words() { groff -man -Tascii -P-cbou "$1" | tr -s ' \n' '  '; }
 if command -v groff >/dev/null; then
-    check "the page of play says what its help says" says "$(words "$root/usr/share/man/man1/r10-play.1")" "$("$r10" play --help | grep -o 'The file must be strict' | head -n 1)"
+    check "the page of play says what its help says" says "$(words "$root/usr/share/man/man1/r10-play.1")" \
+        "$("$r10" play --help | grep -o 'The file must be strict' | head -n 1)"
     check "the page of the header has its calls" says "$(words "$root/usr/share/man/man3/r10.h.3")" "r10_commit(r10 *recorder)"
 fi
 
 complete_words() {
-    bash -c '. "$1"; shift; COMP_WORDS=("$@"); COMP_CWORD=$(($# - 1)); _"$1"; echo "${COMPREPLY[*]}"' - "$root/usr/share/bash-completion/completions/$1" "$@"
+    bash -c '. "$1"; shift; COMP_WORDS=("$@"); COMP_CWORD=$(($# - 1)); _"$1"; echo "${COMPREPLY[*]}"' - \
+        "$root/usr/share/bash-completion/completions/$1" "$@"
 }
 check "bash completes a command" is "$(complete_words r10 ch)" "check"
 check "bash completes an option" is "$(complete_words r10 play --f)" "--file --from"
@@ -90,7 +93,8 @@ if command -v dpkg-deb >/dev/null; then
     cp -r "$room" "$room.broken"
     dpkg-deb -R "$package" "$room.broken/whole" && echo 'echo no' >"$room.broken/whole/usr/bin/r10" &&
         dpkg-deb --root-owner-group -b "$room.broken/whole" "$room.broken/broken.deb" >/dev/null
-    check "a package whose program is another is refused" bash -c '! "$1" try "$2" >/dev/null 2>&1' - "$top/scripts/deb.sh" "$room.broken/broken.deb"
+    check "a package whose program is another is refused" bash -c '! "$1" try "$2" >/dev/null 2>&1' - "$top/scripts/deb.sh" \
+        "$room.broken/broken.deb"
     rm -rf "$room.broken"
 else
     echo "NOT TRIED: a Debian package (no dpkg-deb here)"

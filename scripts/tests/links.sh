@@ -17,10 +17,13 @@ of() {
     printf '%s\n' "$1" >"$room/README.md"
     "$room/scripts/links.py" | grep -c '^README.md:1: '
 }
-check "a link to a file and its heading" is "$(of '[a](docs/ONE.md) [b](docs/ONE.md#two-words-one-more) [c](docs/ONE.md#two-words-one-more-1) [d](https://example.org/x)')" 0
+check "a link to a file and its heading" is \
+    "$(of '[a](docs/ONE.md) [b](docs/ONE.md#two-words-one-more) [c](docs/ONE.md#two-words-one-more-1)'\
+        ' [d](https://example.org/x)')" 0
 check "a link to no file" is "$(of '[a](docs/TWO.md)')" 1
 check "a link to no heading" is "$(of '[a](docs/ONE.md#two-words-one-more-2)')" 1
-check "names of files" is "$(of '`crates/r10_one/src/lib.rt` `r10_one/src/{lib,other}.rt` `docs/ONE.md` `crates/NAME/src/lib.rt`')" 0
+check "names of files" is \
+    "$(of '`crates/r10_one/src/lib.rt` `r10_one/src/{lib,other}.rt` `docs/ONE.md` `crates/NAME/src/lib.rt`')" 0
 check "a name of no file" is "$(of '`crates/r10_one/src/gone.rt`')" 1
 check "one of two names is of no file" is "$(of '`r10_one/src/{lib,gone}.rt`')" 1
 check "what only begins like a file's name" is "$(of '`recorder.committed` `FLIGHT.1553.csv`')" 0

@@ -11,8 +11,10 @@ anew() {
     printf 'r10_low:\nr10_high: r10_low\nr10_side: r10_low\n' >"$room/crates.txt"
     printf 'Laws: `a_law`.\n' >"$low/README.md"
     printf '/// A law.\npub fn a_law()\n    ensures { (n : ℕ) → n ≡ n }\n{}\n' >"$low/src/laws.rt"
-    printf 'use Rattle.std.Common.{refl}\n\n-- it is itself\npub itself : (n : ℕ) → n ≡ n\nitself n = refl\n\na-worked-value : 1 ≡ 1\na-worked-value = refl\n' >"$low/proofs/Same.antt"
-    printf 'use Rattle.r10_low.proofs.Same.{itself as same}\n\npub returns : goal.returns\nreturns c = same c.n\n' >"$high/proofs/calls/f/Answers.antt"
+    printf '%b' 'use Rattle.std.Common.{refl}\n\n-- it is itself\npub itself : (n : ℕ) → n ≡ n\nitself n = refl\n\n' \
+        'a-worked-value : 1 ≡ 1\na-worked-value = refl\n' >"$low/proofs/Same.antt"
+    printf 'use Rattle.r10_low.proofs.Same.{itself as same}\n\npub returns : goal.returns\nreturns c = same c.n\n' \
+        >"$high/proofs/calls/f/Answers.antt"
 }
 says() {
     said=$("$room/scripts/said_once.py" --check)

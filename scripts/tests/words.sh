@@ -1,5 +1,6 @@
 #!/usr/bin/env bash
-# Tests of the program's words, over the build that is kept: its cases, its help, and the lines that help shows. Some ten seconds; status 1 where one fails.
+# Tests of the program's words, over the build that is kept: its cases, its help, and the lines that help shows. Some ten seconds;
+# status 1 where one fails.
 set -u
 # shellcheck disable=SC2016,SC2317 source=scripts/tests/kit.sh
 . "$(dirname "$(readlink -f "${BASH_SOURCE[0]}")")/kit.sh"
@@ -33,6 +34,7 @@ check "there are such lines for each command" test "$(for command in "" sim run 
 done | grep -c '^0$')" = 0
 
 sed 's/name = "FLT1"/name = "FLT 1"/' "$top/examples/first.toml" >"$room/refused.toml"
-check "a refused step with --image is silent, status 0" is "$("$program" sim --image <"$room/refused.toml" 2>&1 >/dev/null; echo $?)" "0"
+check "a refused step with --image is silent, status 0" is \
+    "$("$program" sim --image <"$room/refused.toml" 2>&1 >/dev/null; echo $?)" "0"
 check "the line that help shows finds it" says "$("$program" sim <"$room/refused.toml" | grep ' refused ')" "3 refused 15 BadName"
 exit "$failed"
