@@ -291,8 +291,8 @@ class Build:
                 give_up('crates.txt has a circle')
             free = [it for it in range(lanes) if it not in self.running]
             chosen = sorted(ready, key=lambda it: -self.longest[it])[:len(free)]
-            # A proof keeps the jobs that it begins with. All wait at last for the longest chain: what begins it gets a job for each processor, if memory has room,
-            # whatever else is at work. What is left over goes to the others.
+            # A proof keeps the jobs that it begins with. All wait at last for the longest chain: what begins it gets a job for
+            # each processor, if memory has room, whatever else is at work. What is left over goes to the others.
             jobs = self.jobs - sum(it for _, it, _, _ in self.running.values()) - len(chosen)
             longest = max(self.longest[it] for it in self.named if it not in done)
             for name in chosen:

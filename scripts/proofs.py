@@ -22,7 +22,8 @@ HEAD = """# What each crate promises
 
 Made by `scripts/proofs.py` from `crates.txt` and the crates' `README.md`; the lowest crate is first. Each crate's `README.md` says
 what is proved by which contract, what is only tested and what is neither. *Functions* counts the public functions in the crate's
-`src`, laws among them and calls of traits not. *Edits* counts the files in its `must-fail`: wrong bodies that the gate has to refuse.
+`src`, laws among them and calls of traits not. *Edits* counts the files in its `must-fail`: wrong bodies that the gate has to \
+refuse.
 
 | Crate | Promise | Functions | Edits |
 |---|---|---|---|

@@ -490,7 +490,8 @@ def page_of(tree: Tree) -> str:
         '# What the theorem stands on',
         '',
         f'Made by `scripts/reads.py --page` from the sources; `scripts/reads.py {THEOREM}` prints the text of all, with lines.',
-        f'The theorem about a whole recording is `{THEOREM}` in [{where}](../{item.path}). Its clause `records` needs no word of a recorder.',
+        f'The theorem about a whole recording is `{THEOREM}` in [{where}](../{item.path}). '
+        'Its clause `records` needs no word of a recorder.',
         'Here stand its contract, then the definitions that it names, then those that these name, and so on: each once.',
         'Those up to two steps below a clause have their text here, the others the first sentence of their comment.',
         '',

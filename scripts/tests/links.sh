@@ -6,7 +6,8 @@ set -u
 mkdir -p "$room/scripts" "$room/docs" "$room/crates/r10_one/src"
 cp "$top/scripts/links.py" "$top/scripts/reads.py" "$room/scripts"
 touch "$room/crates/r10_one/src/other.rt"
-printf 'pub fn go(n: u64)\n    ensures comes { n ≡ n }\n{\n    helper(n)\n}\n\npub enum Kind {\n    Small,\n}\n' >"$room/crates/r10_one/src/lib.rt"
+printf '%b' 'pub fn go(n: u64)\n    ensures comes { n ≡ n }\n{\n    helper(n)\n}\n\npub enum Kind {\n    Small,\n}\n' \
+    >"$room/crates/r10_one/src/lib.rt"
 mkdir -p "$room/crates/r10_two/specs" "$room/crates/r10_two/src"
 echo 'pub fn r10_go() {}' >"$room/crates/r10_two/src/lib.rt"
 printf 'use Rattle.std.specs.Prelude.{ℕ}\n\nabbrev pub Run : ℕ → Type 0\nRun n = Unit {0}\n' >"$room/crates/r10_two/specs/Runs.antt"

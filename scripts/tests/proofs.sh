@@ -18,21 +18,24 @@ says() {
     [ "$status" = "$1" ] && [ "$said" = "$2" ] || { echo "    status $status: $said"; false; }
 }
 
-check "a README without its neighbours" says 1 "proofs: crates/r10_low/README.md does not name its neighbours as scripts/proofs.py does: run it"
+check "a README without its neighbours" says 1 \
+    "proofs: crates/r10_low/README.md does not name its neighbours as scripts/proofs.py does: run it"
 "$room/scripts/proofs.py"
 check "what is written passes" says 0 ""
 check "neighbours, without what follows from others" is "$(grep -h '^Right below' "$room"/crates/*/README.md)" \
     'Right below: no crate of r10. Right above: `r10_mid`.
 Right below: `r10_low`. Right above: `r10_top`.
 Right below: `r10_mid`. Right above: no crate of r10.'
-check "a line for each crate" is "$(grep 'r10_mid' "$room/docs/PROOFS.md")" '| [`r10_mid`](../crates/r10_mid/README.md) | Promises mid. | 2 | 1 |'
+check "a line for each crate" is \
+    "$(grep 'r10_mid' "$room/docs/PROOFS.md")" '| [`r10_mid`](../crates/r10_mid/README.md) | Promises mid. | 2 | 1 |'
 "$room/scripts/proofs.py"
 check "written twice it is the same" says 0 ""
 sed -i 's/^mid\./more./' "$room/crates/r10_mid/README.md"
 check "a promise that the page has not" says 1 "proofs: docs/PROOFS.md is not what scripts/proofs.py writes: run it"
 sed -i 's/^more\./mid./' "$room/crates/r10_mid/README.md"
 sed -i 's/r10_top: r10_low r10_mid/r10_top: r10_low/' "$room/crates.txt"
-check "a crate that stands elsewhere" says 1 "proofs: crates/r10_low/README.md does not name its neighbours as scripts/proofs.py does: run it"
+check "a crate that stands elsewhere" says 1 \
+    "proofs: crates/r10_low/README.md does not name its neighbours as scripts/proofs.py does: run it"
 "$room/scripts/proofs.py"
 yes '
 more' | head -40 >>"$room/crates/r10_top/README.md"

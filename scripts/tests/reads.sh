@@ -1,5 +1,6 @@
 #!/usr/bin/env bash
-# Tests of scripts/reads.py, over a small tree of two crates that is made here, and of what it finds for the theorem. Some seconds; status 1 where one fails.
+# Tests of scripts/reads.py, over a small tree of two crates that is made here, and of what it finds for the theorem. Some seconds;
+# status 1 where one fails.
 set -u
 # shellcheck disable=SC2016,SC2317 source=scripts/tests/kit.sh
 . "$(dirname "$(readlink -f "${BASH_SOURCE[0]}")")/kit.sh"
@@ -136,7 +137,8 @@ check "clauses in turn, each definition once, with file and line" says 0 'crates
 ==== for the types of its parameters
  1  crates/r10_high/src/run.rt:7: Machine
 
-Machine::record_all: 8 definitions in 5 files of 2 crates, 27 lines; and 3 of the toolchain and ported crates' Machine::record_all --names
+Machine::record_all: 8 definitions in 5 files of 2 crates, 27 lines; and 3 of the toolchain and ported crates' \
+    Machine::record_all --names
 check "one clause, to a depth" says 0 'crates/r10_high/src/run.rt:13: Machine::record_all
 
 ==== for ends
@@ -145,7 +147,8 @@ check "one clause, to a depth" says 0 'crates/r10_high/src/run.rt:13: Machine::r
 ==== for the types of its parameters
  1  crates/r10_high/src/run.rt:7: Machine
 
-Machine::record_all: 2 definitions in 2 files of 1 crates, 7 lines; and 1 of the toolchain and ported crates' Machine::record_all.ends --names --depth 1
+Machine::record_all: 2 definitions in 2 files of 1 crates, 7 lines; and 1 of the toolchain and ported crates' \
+    Machine::record_all.ends --names --depth 1
 check "a definition, through one that is passed on" has 0 "1  crates/r10_low/specs/Counts.antt:5: IsCount" Ends --names
 check "the text of each, with its comment" has 0 '    -- a count has 48 bits
     abbrev pub IsCount : ℕ → Type 0
@@ -160,7 +163,8 @@ pub fn record_all(
 
 record_all: 0 definitions in 0 files of 0 crates, 0 lines; and 0 of the toolchain and ported crates' record_all --depth 0
 check "a name of nothing" says 1 "reads: there is no public function, type or definition Nothing" Nothing
-check "a clause that is not there" says 1 "reads: Machine::record_all has no clause last; it has requires, runs, ends" Machine::record_all.last
+check "a clause that is not there" says 1 \
+    "reads: Machine::record_all has no clause last; it has requires, runs, ends" Machine::record_all.last
 check "other words are refused" has 2 "scripts/reads.py NAME" --all
 cp "$low/specs/Counts.antt" "$high/specs/Counts.antt"
 check "a name of two crates" has 1 "IsCount is 2 things; with their crates: r10_high::IsCount (" IsCount

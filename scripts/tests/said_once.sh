@@ -25,8 +25,10 @@ says() {
 anew
 check "a tree in which all is said once" says 0 "said_once: 2 lemmas, 0 too many and 0 without a use; 0 idle laws"
 anew
-printf '\npub also : (other : ℕ) → other ≡ other\nalso other = itself other\n\npub used : (m k : ℕ) → m ≡ k → m ≡ k\nused m k e = also m\n\nlast : 2 ≡ 2\nlast = used 2 2 refl\n' >>"$low/proofs/Same.antt"
-check "a statement that stands twice, under other names" says 1 "1 statements stand twice or more, in 1 lemmas too many; where each can stay:
+printf '%b' '\npub also : (other : ℕ) → other ≡ other\nalso other = itself other\n\npub used : (m k : ℕ) → m ≡ k → m ≡ k\n' \
+    'used m k e = also m\n\nlast : 2 ≡ 2\nlast = used 2 2 refl\n' >>"$low/proofs/Same.antt"
+check "a statement that stands twice, under other names" says 1 \
+    "1 statements stand twice or more, in 1 lemmas too many; where each can stay:
     r10_low/proofs/Same.antt itself, also r10_low/proofs/Same.antt also"
 check "nothing of it is of another crate" test "$("$room/scripts/said_once.py" r10_high | grep -c .)" = 1
 anew
@@ -36,13 +38,15 @@ check "in two crates: it can stay in the lower one" says 1 "
 "
 mkdir -p "$room/crates/r10_side/proofs"
 for crate in high side; do
-    printf 'also : (other : ℕ) → other ≡ 2\nalso other = refl\n\nlast : 2 ≡ 2\nlast = also 2\n' >"$room/crates/r10_$crate/proofs/More.antt"
+    printf 'also : (other : ℕ) → other ≡ 2\nalso other = refl\n\nlast : 2 ≡ 2\nlast = also 2\n' \
+        >"$room/crates/r10_$crate/proofs/More.antt"
 done
 check "in two crates side by side: it can go to one below" says 1 "
     to r10_low, from r10_high/proofs/More.antt also, r10_side/proofs/More.antt also
 "
 anew
-printf '\npub idle : (m k : ℕ) → m ≡ k → m ≡ k\nidle m k e = helper m k e\n\nhelper : (m k : ℕ) → m ≡ k → k ≡ k\nhelper m k e = refl\n' >>"$low/proofs/Same.antt"
+printf '%b' '\npub idle : (m k : ℕ) → m ≡ k → m ≡ k\nidle m k e = helper m k e\n\n' \
+    'helper : (m k : ℕ) → m ≡ k → k ≡ k\nhelper m k e = refl\n' >>"$low/proofs/Same.antt"
 check "a lemma without a use, and one that such a lemma alone uses" says 1 "2 lemmas without a use:
     r10_low/proofs/Same.antt: helper, idle
 "
