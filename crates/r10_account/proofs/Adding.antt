@@ -15,7 +15,10 @@ use Rattle.r10_machine.specs.declared.event.Event.TheVariants.{Offer, Lose}
 use Rattle.r10_machine.specs.declared.reply.Reply.{Reply as ReplyValue}
 use Rattle.r10_machine.specs.declared.reply.Reply.TheVariants.{Done, Refused}
 use Rattle.r10_account.specs.Accepted.{Exchange, accepted_entries, entries_behind, entry_with, lost_by, lost_since}
-use Rattle.r10_account.specs.Sums.{all_lost, all_told, was_offered, was_refused}
+use Rattle.r10_account.specs.Account.{IsAccount, waiting_of}
+use Rattle.r10_machine.specs.Checks.{is_working}
+use Rattle.r10_machine.specs.ControlCalls.{own_entries}
+use Rattle.r10_account.specs.Sums.{TellLosses, all_lost, all_told, was_offered, was_refused}
 use Rattle.r10_account.proofs.Accounting.{missed_behind}
 use Rattle.r10_account.proofs.Exchanges.{lost_next}
 
@@ -68,6 +71,24 @@ all_told_from channel first before ((event, reply) ∷ xs) few =
 pub losses_add : (channel : ℕ) (events : List EventValue) (replies : List ReplyValue) → all_lost channel (zip events replies) ≤ 2 ^ 64 - 1
     → all_told (accepted_entries channel 0 events replies) + lost_since channel 0 (zip events replies) ≡ all_lost channel (zip events replies)
 losses_add channel events replies few = let all = all_told_from channel 0 [] (zip events replies) (omega (arith, few)) in omega (arith, all)
+
+-- what is gone, what is in files and what waits tell it
+pub tell_losses : (channel : ℕ) (events : List EventValue) (replies : List ReplyValue) (m : Machine) → IsAccount channel m (accepted_entries channel 0 events replies) → is_working m.mode ≡ true → all_lost channel (zip events replies) ≤ 2 ^ 64 - 1
+    → TellLosses channel m (zip events replies)
+tell_losses channel events replies m account works few =
+    let own = own_entries channel m.files in
+    let waiting = waiting_of channel m.lanes in
+    let told : all_told (account.gone ++ own ++ waiting) ≡ all_told (accepted_entries channel 0 events replies) = ap all_told (account.each works) in record {
+      gone = account.gone;
+      erased = account.erased;
+      told = omega (
+        arith,
+        told,
+        sum_by-append (λ (e : Entry). told_lost e.gap) (account.gone ++ own) waiting,
+        sum_by-append (λ (e : Entry). told_lost e.gap) account.gone own,
+        losses_add channel events replies few,
+      );
+    }
 
 -- ---- offers
 

@@ -12,7 +12,7 @@ use Rattle.r10_machine.specs.declared.reply.Reply.{Reply}
 use Rattle.r10_machine.specs.declared.reply.Reply.TheVariants as say
 use Rattle.r10_machine.specs.Vectors.{after_gap, both_offered, entry, leap_day, lost, name, replayed, resumed, setup_text, small_started, small_stopped, stopped, text, two}
 use Rattle.r10_account.specs.Accepted.{accepted_entries, lost_since}
-use Rattle.r10_account.specs.Sums.{all_lost, all_told, was_offered, was_refused}
+use Rattle.r10_account.specs.Sums.{TellLosses, all_lost, all_told, was_offered, was_refused}
 use Rattle.r10_account.specs.Account.{GoesOver, IsAccount, missed_of, shown_own, waiting_of}
 
 -- ---- the first recording
@@ -154,3 +154,10 @@ offered-in-all = refl
 
 pub refused-in-all : count_by (was_refused 5) (zip summed_events summed_replies) ≡ 1
 refused-in-all = refl
+
+-- the files of the recording with a lost message tell it
+pub files-tell : TellLosses 5 stopped (zip lost_events lost_replies)
+files-tell = record { gone = []; erased = refl; told = refl }
+
+pub one-in-files : all_told (own_entries 5 stopped.files) ≡ 1
+one-in-files = refl

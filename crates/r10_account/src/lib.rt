@@ -5,5 +5,6 @@
 mod laws;
 
 pub use laws::{
-    a_recording_accounts, a_run_goes_over, found_files_stay, losses_add_up, offers_add_up,
+    a_recording_accounts, a_run_goes_over, files_tell_losses, found_files_stay, losses_add_up,
+    offers_add_up,
 };
