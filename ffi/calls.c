@@ -110,6 +110,7 @@ int main(void) {
     r10_run_info run;
     r10_queue_info queue;
     r10_channel_info channel;
+    r10_account_info account;
     uint8_t name[56];
     r10_region small = {memory, 63};
 
@@ -118,6 +119,7 @@ int main(void) {
     say("pump, closed", r10_pump(&recorder, 3, 9, &moved));
     printf("  moved %zu\n", moved);
     say("lost, closed", r10_lost(&recorder, 3, 1));
+    say("account, closed", r10_account(&recorder, 0, &account));
     say("orders, closed", r10_orders(&recorder, &run, bytes, sizeof bytes));
     r10_close(&recorder);
     say("format, another size", r10_format(small, 64, script, strlen(script), &recorder));
@@ -248,6 +250,17 @@ int main(void) {
     say("commit", r10_commit(&recorder));
     say("commit", r10_commit(&recorder));
     status();
+    for (size_t place = 0; place < 6; place++) {
+        uint32_t answer = r10_account(&recorder, place, &account);
+        say("account", answer);
+        if (answer == R10_OK)
+            printf("  %u accepted %" PRIu64 " erased %" PRIu64, account.channel, account.accepted, account.erased);
+        if (answer == R10_OK)
+            printf(" lost %" PRIu64 " waiting %zu\n", account.lost, account.waiting);
+    }
+    say("account of ID 7", r10_account_of(&recorder, 7, &account));
+    printf("  %u accepted %" PRIu64 "\n", account.channel, account.accepted);
+    say("account of ID 8", r10_account_of(&recorder, 8, &account));
     say("queue", r10_queue(&recorder, &queue));
     printf("  waiting %zu\n", queue.waiting);
     r10_close(&recorder);

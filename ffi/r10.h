@@ -21,8 +21,10 @@
  *
  * What the program owes, and what nothing checks
  *  - A recorder is given to one call at a time. It may go from one thread to another between calls. Two recorders may run in two threads.
- *  - A pointer with a count leads to that many; an out pointer leads to one. Neither may be null, but where the count is 0 it may lead
- *    anywhere. A bool is 0 or 1. Memory that is lent is lent for the call alone, but for the region.
+ *  - A pointer with a count leads to that many; an out pointer leads to one. Where the count is 0 it may lead anywhere. A bool is 0 or
+ *    1. Memory that is lent is lent for the call alone, but for the region.
+ *  - Null pointers are found by this header, and not by the library. A null recorder is answered R10_CLOSED, any other null pointer
+ *    R10_ROOM, with nothing changed. Where R10_UNCHECKED is defined, or the calls are declared elsewhere, no pointer may be null.
  *  - An `r10` is all zeros before r10_open or r10_format, and is not copied while it is open. One that is not open is answered R10_CLOSED.
  *  - The region is the library's from r10_open or r10_format to r10_close: nothing else writes it. At the start it holds what the disk holds. A file is mapped with
  *    MAP_PRIVATE: with MAP_SHARED the system would write blocks before their turn.
@@ -34,7 +36,7 @@
  *    So the pages may be given back (madvise with MADV_DONTNEED): a later read takes the same bytes from the file. r10_disk_give_back does it.
  *  - The queue of operations takes 528 bytes a place. `room` places are there from the start; where more wait it grows. A stop or a seal puts the whole index into it:
  *    20.4 bytes a packet. A recorder keeps 32 bytes for each packet of the file that is recorded.
- *  - r10_advance queues all that was shown since the last call. A reader of a long file takes it in parts, by cursors over ranges of counts.
+ *  - r10_advance queues all that was shown since the last call. A long file is read in parts by r10_part.
  *
  * Time
  *  - A pump is refused R10_MEDIUM_FULL by the most that its entries may need, which is 104 bytes and more each: see docs/USING.md for how full a medium gets. Stop
@@ -170,6 +172,15 @@ typedef struct r10_channel_info {
     uint16_t channel;
 } r10_channel_info;
 
+/* What became of a channel's messages, of a recorder that failed too: so a program can give the next one how many it lost. */
+typedef struct r10_account_info {
+    uint64_t accepted; /* messages of which an offer answered R10_OK since the recorder was opened */
+    uint64_t erased;   /* of these, those that erases took */
+    uint64_t lost;     /* as r10_channel_info has it */
+    size_t waiting;    /* of those that were accepted, the ones in its lane */
+    uint16_t channel;
+} r10_account_info;
+
 /* What a disk has to do next. */
 enum { R10_NOTHING = 0, R10_WRITE = 1, R10_SYNC = 2 };
 
@@ -190,6 +201,33 @@ typedef struct r10_queue_info {
     size_t rings;   /* the further rings that wait, each of 64 to 16,384 places; 0 where the first was enough */
 } r10_queue_info;
 
+/* What is wrong with a file, in r10_fault_info. */
+enum {
+    R10_FAULT_TRUNCATED = 1,  /* there are fewer bytes than a header has, or than it says */
+    R10_FAULT_SYNC = 2,       /* the sync pattern is another */
+    R10_FAULT_HEADER_SUM = 3, /* the header checksum is wrong */
+    R10_FAULT_LENGTH = 4,     /* the packet length or the data length is none that a packet may have */
+    R10_FAULT_DATA_SUM = 5,   /* the data checksum is wrong or has no room */
+    R10_FAULT_BODY = 6,       /* the body is not what its type has */
+    R10_FAULT_RULE = 7        /* the packet breaks a rule of this recorder's files: docs/FORMAT.md has them by number */
+};
+
+typedef struct r10_fault_info {
+    /* R10_BAD_DIRECTORY: the first block of the directory that cannot be taken; R10_BAD_FILE: where the first wrong packet is */
+    uint64_t at;
+    uint32_t number; /* R10_BAD_DIRECTORY or R10_BAD_FILE; 0 where neither was answered since r10_open */
+    uint16_t fault;  /* R10_BAD_FILE: what is wrong there; else 0 */
+    uint16_t rule;   /* R10_FAULT_RULE: which rule; else 0 */
+} r10_fault_info;
+
+typedef struct r10_script_info {
+    size_t blocks;    /* the blocks that its medium has; this and the next two are 0 where the script cannot be taken */
+    size_t directory; /* how many of them are reserved for the directory */
+    size_t channels;
+    size_t line;   /* R10_SCRIPT: the line that is wrong, from 1; 0 where it is not known */
+    size_t length; /* R10_SCRIPT: how many bytes the text has that says what is wrong; else 0 */
+} r10_script_info;
+
 /* ---- a medium and a recorder over it
  *
  * `script` is the text of a script in TOML (docs/FORMAT.md): its settings and channels are taken, its steps are not done. `room` is how many operations
@@ -198,6 +236,11 @@ typedef struct r10_queue_info {
 
 /* The version of the library, as R10_VERSION. */
 uint32_t r10_version(void);
+
+/* What a script says of its medium, before a recorder is opened by it. After R10_SCRIPT `info` has the line that is wrong, and how
+ * long the text is that says why; `text` has of it what fits. The program `r10` prints the same text. No recorder is needed.
+ * R10_NO_MEMORY, R10_SCRIPT. */
+uint32_t r10_check_script(const void *script, size_t script_length, r10_script_info *info, void *text, size_t text_room);
 
 /* Writes the directory of a medium without files, and opens a recorder over it, not mounted, with empty lanes. Its operations wait, as after every call. After
  * R10_MEDIUM or R10_NO_MEMORY the region may have the new directory. R10_MEDIUM, R10_NO_MEMORY, R10_SCRIPT, R10_BLOCKS, R10_OPEN. */
@@ -223,7 +266,8 @@ uint32_t r10_disk_failed(r10 *recorder);
  * closed stays so. */
 void r10_close(r10 *recorder);
 
-/* ---- control. Each may answer R10_NO_MEMORY, and but for r10_offer_.., r10_lost, r10_status, r10_channel, r10_next and r10_close_cursor R10_FAILED. */
+/* ---- control. Each may answer R10_NO_MEMORY, and but for r10_offer_.., r10_lost, r10_status, r10_channel, r10_account, r10_next
+ * and r10_close_cursor R10_FAILED. */
 
 /* Begins to use the medium. R10_MOUNTED, R10_BAD_DIRECTORY, R10_MEDIUM. */
 uint32_t r10_mount(r10 *recorder);
@@ -295,8 +339,14 @@ uint32_t r10_file(r10 *recorder, size_t number, r10_file_info *info, uint8_t *na
 
 uint32_t r10_status(r10 *recorder, r10_status_info *info);
 
+/* What the last R10_BAD_DIRECTORY or R10_BAD_FILE was about. Other answers leave it. */
+uint32_t r10_fault(r10 *recorder, r10_fault_info *info);
+
 /* The channel at this place of the settings, from 0. R10_PLACE. */
 uint32_t r10_channel(r10 *recorder, size_t place, r10_channel_info *info);
+
+/* The account of the channel at this place of the settings, from 0, in every mode. R10_PLACE. */
+uint32_t r10_account(r10 *recorder, size_t place, r10_account_info *info);
 
 /* ---- readers, of files that are recorded too */
 
@@ -311,6 +361,13 @@ uint32_t r10_advance(r10 *recorder, size_t cursor, size_t *queued);
 /* Takes the first entry of the queue: `there` says whether there was one; its bytes are copied to `bytes`, its words to `words`. R10_NO_CURSOR,
  * and R10_ROOM where there is room for fewer than 65,535 bytes or 36 words: then nothing is taken. */
 uint32_t r10_next(r10 *recorder, size_t cursor, bool *there, r10_entry *entry, uint8_t *bytes, size_t byte_room, uint16_t *words, size_t word_room);
+
+/* The same in two calls, for a program that lends no more than an entry needs. r10_take takes the first entry of the queue into the
+ * recorder's hand, in place of what was there, and gives it without its bytes or words: `length` says how many it has.
+ * R10_NO_CURSOR: then none is in hand. r10_taken copies them, as often as it is called, also after other calls. R10_ROOM where there
+ * is room for fewer than the entry has: it stays in hand. R10_PLACE where none is in hand. */
+uint32_t r10_take(r10 *recorder, size_t cursor, bool *there, r10_entry *entry);
+uint32_t r10_taken(r10 *recorder, uint8_t *bytes, size_t byte_room, uint16_t *words, size_t word_room);
 
 /* R10_NO_CURSOR. */
 uint32_t r10_close_cursor(r10 *recorder, size_t cursor);
@@ -367,11 +424,29 @@ static inline const char *r10_strerror(uint32_t number) {
     }
 }
 
+/* What is wrong with a file, in r10_fault_info, by the name that `r10 check` prints. */
+static inline const char *r10_fault_name(uint16_t fault) {
+    switch (fault) {
+    case R10_FAULT_TRUNCATED: return "Truncated";
+    case R10_FAULT_SYNC: return "Sync";
+    case R10_FAULT_HEADER_SUM: return "HeaderSum";
+    case R10_FAULT_LENGTH: return "Length";
+    case R10_FAULT_DATA_SUM: return "DataSum";
+    case R10_FAULT_BODY: return "Body";
+    case R10_FAULT_RULE: return "Rule";
+    default: return "none";
+    }
+}
+
 /* The first block of a file, where `directory` is how many blocks the script reserves for the directory. Numbers as r10_file. */
 static inline uint32_t r10_first_block(r10 *recorder, size_t directory, size_t file, uint64_t *first) {
     r10_file_info info;
     uint64_t block = 1 + (uint64_t)directory;
     uint8_t name[56];
+    if (recorder == NULL)
+        return R10_CLOSED;
+    if (first == NULL)
+        return R10_ROOM;
     for (size_t number = 0; number <= file; number++) {
         uint32_t answer = r10_file(recorder, number, &info, name, sizeof name);
         if (answer != R10_OK)
@@ -389,6 +464,10 @@ static inline uint32_t r10_shown(r10 *recorder, r10_region region, size_t direct
     r10_file_info info;
     uint8_t name[56];
     uint64_t first;
+    if (recorder == NULL)
+        return R10_CLOSED;
+    if (region.at == NULL || got == NULL || (bytes == NULL && room > 0))
+        return R10_ROOM;
     uint32_t answer = r10_file(recorder, file, &info, name, sizeof name);
     if (answer != R10_OK)
         return answer;
@@ -406,6 +485,10 @@ static inline uint32_t r10_shown(r10 *recorder, r10_region region, size_t direct
 /* The channel of this ID. R10_NO_MEMORY, R10_NO_CHANNEL. */
 static inline uint32_t r10_channel_of(r10 *recorder, uint16_t id, r10_channel_info *info) {
     r10_channel_info found;
+    if (recorder == NULL)
+        return R10_CLOSED;
+    if (info == NULL)
+        return R10_ROOM;
     for (size_t place = 0;; place++) {
         uint32_t answer = r10_channel(recorder, place, &found);
         if (answer == R10_PLACE)
@@ -418,6 +501,405 @@ static inline uint32_t r10_channel_of(r10 *recorder, uint16_t id, r10_channel_in
         }
     }
 }
+
+/* The account of the channel of this ID. R10_NO_MEMORY, R10_NO_CHANNEL. */
+static inline uint32_t r10_account_of(r10 *recorder, uint16_t id, r10_account_info *info) {
+    r10_account_info found;
+    for (size_t place = 0;; place++) {
+        uint32_t answer = r10_account(recorder, place, &found);
+        if (answer == R10_PLACE)
+            return R10_NO_CHANNEL;
+        if (answer != R10_OK)
+            return answer;
+        if (found.channel == id) {
+            *info = found;
+            return R10_OK;
+        }
+    }
+}
+
+/* Where a reader of a long file is: from which count on it is not read, up to which it is wanted, and how many counts it tries next
+ * (0 at the start). */
+typedef struct r10_parts {
+    uint64_t from, to, span;
+} r10_parts;
+
+/* Opens a cursor on the next part of a file and queues it, so that a long file is read in little memory: the counts from parts->from
+ * on, as far as at most `most` entries are queued, or all of one count. Then parts->from is the first count that is not read yet, and
+ * above parts->to once all is read. `there` says whether there was a part; one may have no entries. The program takes the entries,
+ * and closes the cursor. Of a file that does not grow, the parts one after the other are what one cursor over all counts gives at
+ * once. Of a file that is recorded, what is shown later with a count below parts->from is not given. Numbers as r10_cursor and
+ * r10_advance. */
+static inline uint32_t r10_part(r10 *recorder, r10_parts *parts, size_t file, const uint16_t *ids, size_t id_count, size_t most,
+                                /* out */ bool *there, size_t *cursor, size_t *queued) {
+    if (recorder == NULL)
+        return R10_CLOSED;
+    if (parts == NULL || there == NULL || cursor == NULL || queued == NULL)
+        return R10_ROOM;
+    if (parts->from > parts->to) {
+        *there = false;
+        return R10_OK;
+    }
+    /* one second at the start */
+    uint64_t span = parts->span > 0 ? parts->span : 10000000;
+    for (;;) {
+        size_t id, count;
+        uint64_t last = parts->to - parts->from < span ? parts->to : parts->from + (span - 1);
+        uint32_t answer = r10_cursor(recorder, file, ids, id_count, parts->from, last, &id);
+        if (answer != R10_OK)
+            return answer;
+        answer = r10_advance(recorder, id, &count);
+        if (answer != R10_OK) {
+            r10_close_cursor(recorder, id);
+            return answer;
+        }
+        if (count > most && last > parts->from) {
+            r10_close_cursor(recorder, id);
+            span = (last - parts->from + 1) / 2;
+            continue;
+        }
+        parts->from = last + 1;
+        parts->span = count > most / 4 || span > UINT64_MAX / 2 ? span : 2 * span;
+        *there = true;
+        *cursor = id;
+        *queued = count;
+        return R10_OK;
+    }
+}
+
+/* ---- null pointers: from here on each name stands for a call that looks at them first */
+
+#ifndef R10_UNCHECKED
+/* clang-format off */
+
+static inline uint32_t r10_checked_check_script(const void *script, size_t script_length, r10_script_info *info, void *text,
+                                                size_t text_room) {
+    if ((script == NULL && script_length > 0) || info == NULL || (text == NULL && text_room > 0))
+        return R10_ROOM;
+    return r10_check_script(script, script_length, info, text, text_room);
+}
+
+static inline uint32_t r10_checked_format(r10_region region, size_t room, const void *script, size_t script_length,
+                                          r10 *recorder) {
+    if (recorder == NULL)
+        return R10_CLOSED;
+    if ((region.at == NULL && region.blocks > 0) || (script == NULL && script_length > 0))
+        return R10_ROOM;
+    return r10_format(region, room, script, script_length, recorder);
+}
+
+static inline uint32_t r10_checked_open(r10_region region, size_t room, const void *script, size_t script_length, r10 *recorder) {
+    if (recorder == NULL)
+        return R10_CLOSED;
+    if ((region.at == NULL && region.blocks > 0) || (script == NULL && script_length > 0))
+        return R10_ROOM;
+    return r10_open(region, room, script, script_length, recorder);
+}
+
+static inline uint32_t r10_checked_orders(r10 *recorder, r10_run_info *run, uint8_t *bytes, size_t byte_room) {
+    if (recorder == NULL)
+        return R10_CLOSED;
+    if (run == NULL || (bytes == NULL && byte_room > 0))
+        return R10_ROOM;
+    return r10_orders(recorder, run, bytes, byte_room);
+}
+
+static inline uint32_t r10_checked_order(r10 *recorder, r10_order_info *order, uint8_t *bytes, size_t byte_room) {
+    if (recorder == NULL)
+        return R10_CLOSED;
+    if (order == NULL || (bytes == NULL && byte_room > 0))
+        return R10_ROOM;
+    return r10_order(recorder, order, bytes, byte_room);
+}
+
+static inline uint32_t r10_checked_queue(r10 *recorder, r10_queue_info *info) {
+    if (recorder == NULL)
+        return R10_CLOSED;
+    if (info == NULL)
+        return R10_ROOM;
+    return r10_queue(recorder, info);
+}
+
+static inline uint32_t r10_checked_disk_failed(r10 *recorder) {
+    if (recorder == NULL)
+        return R10_CLOSED;
+    return r10_disk_failed(recorder);
+}
+
+static inline void r10_checked_close(r10 *recorder) {
+    if (recorder != NULL)
+        r10_close(recorder);
+}
+
+static inline uint32_t r10_checked_mount(r10 *recorder) {
+    if (recorder == NULL)
+        return R10_CLOSED;
+    return r10_mount(recorder);
+}
+
+static inline uint32_t r10_checked_dismount(r10 *recorder) {
+    if (recorder == NULL)
+        return R10_CLOSED;
+    return r10_dismount(recorder);
+}
+
+static inline uint32_t r10_checked_tick(r10 *recorder, uint64_t count, const r10_civil *civil) {
+    if (recorder == NULL)
+        return R10_CLOSED;
+    if (civil == NULL)
+        return R10_ROOM;
+    return r10_tick(recorder, count, civil);
+}
+
+static inline uint32_t r10_checked_start(r10 *recorder, const void *name, size_t name_length, const void *setup,
+                                         size_t setup_length) {
+    if (recorder == NULL)
+        return R10_CLOSED;
+    if ((name == NULL && name_length > 0) || (setup == NULL && setup_length > 0))
+        return R10_ROOM;
+    return r10_start(recorder, name, name_length, setup, setup_length);
+}
+
+static inline uint32_t r10_checked_pump(r10 *recorder, uint16_t channel, size_t most, size_t *moved) {
+    if (recorder == NULL)
+        return R10_CLOSED;
+    if (moved == NULL)
+        return R10_ROOM;
+    return r10_pump(recorder, channel, most, moved);
+}
+
+static inline uint32_t r10_checked_event(r10 *recorder, uint16_t number, uint64_t count) {
+    if (recorder == NULL)
+        return R10_CLOSED;
+    return r10_event(recorder, number, count);
+}
+
+static inline uint32_t r10_checked_commit(r10 *recorder) {
+    if (recorder == NULL)
+        return R10_CLOSED;
+    return r10_commit(recorder);
+}
+
+static inline uint32_t r10_checked_stop(r10 *recorder, size_t *taken, size_t *left) {
+    if (recorder == NULL)
+        return R10_CLOSED;
+    if (taken == NULL || left == NULL)
+        return R10_ROOM;
+    return r10_stop(recorder, taken, left);
+}
+
+static inline uint32_t r10_checked_seal(r10 *recorder) {
+    if (recorder == NULL)
+        return R10_CLOSED;
+    return r10_seal(recorder);
+}
+
+static inline uint32_t r10_checked_erase(r10 *recorder) {
+    if (recorder == NULL)
+        return R10_CLOSED;
+    return r10_erase(recorder);
+}
+
+static inline uint32_t r10_checked_offer_uart(r10 *recorder, uint16_t channel, uint64_t count, bool parity, uint16_t sub,
+                                              const void *bytes, size_t length) {
+    if (recorder == NULL)
+        return R10_CLOSED;
+    if (bytes == NULL && length > 0)
+        return R10_ROOM;
+    return r10_offer_uart(recorder, channel, count, parity, sub, bytes, length);
+}
+
+static inline uint32_t r10_checked_offer_1553(r10 *recorder, uint16_t channel, uint64_t count, uint16_t status, uint16_t gap,
+                                              const uint16_t *words, size_t length) {
+    if (recorder == NULL)
+        return R10_CLOSED;
+    if (words == NULL && length > 0)
+        return R10_ROOM;
+    return r10_offer_1553(recorder, channel, count, status, gap, words, length);
+}
+
+static inline uint32_t r10_checked_offer_arinc(r10 *recorder, uint16_t channel, uint64_t count, uint8_t bus, bool format,
+                                               bool parity, bool high, uint32_t word) {
+    if (recorder == NULL)
+        return R10_CLOSED;
+    return r10_offer_arinc(recorder, channel, count, bus, format, parity, high, word);
+}
+
+static inline uint32_t r10_checked_offer_discrete(r10 *recorder, uint16_t channel, uint64_t count, uint32_t states) {
+    if (recorder == NULL)
+        return R10_CLOSED;
+    return r10_offer_discrete(recorder, channel, count, states);
+}
+
+static inline uint32_t r10_checked_offer_message(r10 *recorder, uint16_t channel, uint64_t count, bool data_error, bool format,
+                                                 uint16_t sub, const void *bytes, size_t length) {
+    if (recorder == NULL)
+        return R10_CLOSED;
+    if (bytes == NULL && length > 0)
+        return R10_ROOM;
+    return r10_offer_message(recorder, channel, count, data_error, format, sub, bytes, length);
+}
+
+static inline uint32_t r10_checked_lost(r10 *recorder, uint16_t channel, uint64_t count) {
+    if (recorder == NULL)
+        return R10_CLOSED;
+    return r10_lost(recorder, channel, count);
+}
+
+static inline uint32_t r10_checked_files(r10 *recorder, size_t *count) {
+    if (recorder == NULL)
+        return R10_CLOSED;
+    if (count == NULL)
+        return R10_ROOM;
+    return r10_files(recorder, count);
+}
+
+static inline uint32_t r10_checked_file(r10 *recorder, size_t number, r10_file_info *info, uint8_t *name, size_t name_room) {
+    if (recorder == NULL)
+        return R10_CLOSED;
+    if (info == NULL || (name == NULL && name_room > 0))
+        return R10_ROOM;
+    return r10_file(recorder, number, info, name, name_room);
+}
+
+static inline uint32_t r10_checked_status(r10 *recorder, r10_status_info *info) {
+    if (recorder == NULL)
+        return R10_CLOSED;
+    if (info == NULL)
+        return R10_ROOM;
+    return r10_status(recorder, info);
+}
+
+static inline uint32_t r10_checked_fault(r10 *recorder, r10_fault_info *info) {
+    if (recorder == NULL)
+        return R10_CLOSED;
+    if (info == NULL)
+        return R10_ROOM;
+    return r10_fault(recorder, info);
+}
+
+static inline uint32_t r10_checked_account(r10 *recorder, size_t place, r10_account_info *info) {
+    if (recorder == NULL)
+        return R10_CLOSED;
+    if (info == NULL)
+        return R10_ROOM;
+    return r10_account(recorder, place, info);
+}
+
+static inline uint32_t r10_checked_channel(r10 *recorder, size_t place, r10_channel_info *info) {
+    if (recorder == NULL)
+        return R10_CLOSED;
+    if (info == NULL)
+        return R10_ROOM;
+    return r10_channel(recorder, place, info);
+}
+
+static inline uint32_t r10_checked_cursor(r10 *recorder, size_t file, const uint16_t *channels, size_t channel_count,
+                                          uint64_t from, uint64_t to, size_t *cursor) {
+    if (recorder == NULL)
+        return R10_CLOSED;
+    if ((channels == NULL && channel_count > 0) || cursor == NULL)
+        return R10_ROOM;
+    return r10_cursor(recorder, file, channels, channel_count, from, to, cursor);
+}
+
+static inline uint32_t r10_checked_advance(r10 *recorder, size_t cursor, size_t *queued) {
+    if (recorder == NULL)
+        return R10_CLOSED;
+    if (queued == NULL)
+        return R10_ROOM;
+    return r10_advance(recorder, cursor, queued);
+}
+
+static inline uint32_t r10_checked_next(r10 *recorder, size_t cursor, bool *there, r10_entry *entry, uint8_t *bytes,
+                                        size_t byte_room, uint16_t *words, size_t word_room) {
+    if (recorder == NULL)
+        return R10_CLOSED;
+    if (there == NULL || entry == NULL || (bytes == NULL && byte_room > 0) || (words == NULL && word_room > 0))
+        return R10_ROOM;
+    return r10_next(recorder, cursor, there, entry, bytes, byte_room, words, word_room);
+}
+
+static inline uint32_t r10_checked_take(r10 *recorder, size_t cursor, bool *there, r10_entry *entry) {
+    if (recorder == NULL)
+        return R10_CLOSED;
+    if (there == NULL || entry == NULL)
+        return R10_ROOM;
+    return r10_take(recorder, cursor, there, entry);
+}
+
+static inline uint32_t r10_checked_taken(r10 *recorder, uint8_t *bytes, size_t byte_room, uint16_t *words, size_t word_room) {
+    if (recorder == NULL)
+        return R10_CLOSED;
+    if ((bytes == NULL && byte_room > 0) || (words == NULL && word_room > 0))
+        return R10_ROOM;
+    return r10_taken(recorder, bytes, byte_room, words, word_room);
+}
+
+static inline uint32_t r10_checked_close_cursor(r10 *recorder, size_t cursor) {
+    if (recorder == NULL)
+        return R10_CLOSED;
+    return r10_close_cursor(recorder, cursor);
+}
+
+static inline uint32_t r10_checked_find(r10 *recorder, size_t file, uint16_t channel, uint64_t count, bool *there, size_t *number,
+                                        r10_entry *entry, uint8_t *bytes, size_t byte_room, uint16_t *words, size_t word_room) {
+    if (recorder == NULL)
+        return R10_CLOSED;
+    if (there == NULL || number == NULL || entry == NULL || (bytes == NULL && byte_room > 0) || (words == NULL && word_room > 0))
+        return R10_ROOM;
+    return r10_find(recorder, file, channel, count, there, number, entry, bytes, byte_room, words, word_room);
+}
+
+static inline uint32_t r10_checked_count_at(r10 *recorder, size_t file, const r10_civil *civil, bool *there, uint64_t *count) {
+    if (recorder == NULL)
+        return R10_CLOSED;
+    if (civil == NULL || there == NULL || count == NULL)
+        return R10_ROOM;
+    return r10_count_at(recorder, file, civil, there, count);
+}
+
+#define r10_check_script r10_checked_check_script
+#define r10_format r10_checked_format
+#define r10_open r10_checked_open
+#define r10_orders r10_checked_orders
+#define r10_order r10_checked_order
+#define r10_queue r10_checked_queue
+#define r10_disk_failed r10_checked_disk_failed
+#define r10_close r10_checked_close
+#define r10_mount r10_checked_mount
+#define r10_dismount r10_checked_dismount
+#define r10_tick r10_checked_tick
+#define r10_start r10_checked_start
+#define r10_pump r10_checked_pump
+#define r10_event r10_checked_event
+#define r10_commit r10_checked_commit
+#define r10_stop r10_checked_stop
+#define r10_seal r10_checked_seal
+#define r10_erase r10_checked_erase
+#define r10_offer_uart r10_checked_offer_uart
+#define r10_offer_1553 r10_checked_offer_1553
+#define r10_offer_arinc r10_checked_offer_arinc
+#define r10_offer_discrete r10_checked_offer_discrete
+#define r10_offer_message r10_checked_offer_message
+#define r10_lost r10_checked_lost
+#define r10_files r10_checked_files
+#define r10_file r10_checked_file
+#define r10_status r10_checked_status
+#define r10_fault r10_checked_fault
+#define r10_channel r10_checked_channel
+#define r10_account r10_checked_account
+#define r10_cursor r10_checked_cursor
+#define r10_advance r10_checked_advance
+#define r10_next r10_checked_next
+#define r10_take r10_checked_take
+#define r10_taken r10_checked_taken
+#define r10_close_cursor r10_checked_close_cursor
+#define r10_find r10_checked_find
+#define r10_count_at r10_checked_count_at
+
+/* clang-format on */
+#endif
 
 #ifdef __cplusplus
 }
@@ -438,9 +920,12 @@ R10_SIZE(r10_entry, 64);
 R10_SIZE(r10_file_info, 32);
 R10_SIZE(r10_status_info, 40);
 R10_SIZE(r10_channel_info, 32);
+R10_SIZE(r10_account_info, 40);
 R10_SIZE(r10_order_info, 16);
 R10_SIZE(r10_run_info, 24);
 R10_SIZE(r10_queue_info, 24);
+R10_SIZE(r10_fault_info, 16);
+R10_SIZE(r10_script_info, 40);
 #undef R10_SIZE
 
 #endif

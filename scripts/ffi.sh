@@ -10,8 +10,9 @@
 #                                        FOLDER/example_rs
 #     scripts/ffi.sh random CALLS [SEED]   # random calls under the address sanitizer, a tenth of them under valgrind, and scripts
 #                                            of 1,000 beside `r10 sim`
-#     scripts/ffi.sh check             # runs both, ffi/calls.c, which calls each function, also as C++, ffi/flight.c, ffi/disk.c
-#                                        and ffi/commits.c, and compares what they print with ffi/*.expected
+#     scripts/ffi.sh check             # runs both, ffi/calls.c, which calls each function, also as C++, ffi/flight.c, ffi/disk.c,
+#                                        ffi/commits.c, ffi/accounts.c, ffi/refused.c and ffi/parts.c, and compares what they
+#                                        print with ffi/*.expected
 #     scripts/ffi.sh kept              # prints where the library is: the proved one if it is there, else one that is not proved
 #     scripts/ffi.sh proved            # prints where the proved library is; status 1 if it is not there, or a source has changed
 #     scripts/ffi.sh behind-ci         # `rt ci`; after it `check` over its libraries, an installation of what was proved, the
@@ -187,6 +188,7 @@ without_operations() {
 }
 
 check() {
+    local kind
     if has cc example.c; then
         c_example example.c "$room/example_c"
         c_example calls.c "$room/calls"
@@ -212,6 +214,11 @@ check() {
         c_example commits.c "$room/commits"
         "$room/commits" >"$room/commits.out" || give_up "commits: status $?"
         compare commits.expected "$room/commits.out"
+        for trial in accounts refused parts; do
+            c_example "$trial.c" "$room/$trial"
+            "$room/$trial" >"$room/$trial.out" || give_up "$trial: status $?"
+            compare "$trial.expected" "$room/$trial.out"
+        done
         c_example random.c "$room/random"
         "$room/random" 1 50000 >"$room/random.out" || give_up "random: status $?"
         beside_sim 1 5
@@ -233,12 +240,13 @@ check() {
         fi
         if has cargo example.rs; then
             rust_example "$room/example_rs" "$room/installed/lib"
-            R10_LIB_DIR=$room/installed/lib R10_STATIC=1 CARGO_TARGET_DIR=$room/rust cargo test --offline --quiet --release \
-                --manifest-path "$top/ffi/rust/Cargo.toml" --tests \
-                >"$room/rust.out" 2>&1 || {
-                tail -n 40 "$room/rust.out" >&2
-                give_up "a test of ffi/rust failed"
-            }
+            for kind in --tests --doc; do
+                R10_LIB_DIR=$room/installed/lib R10_STATIC=1 CARGO_TARGET_DIR=$room/rust cargo test --offline --quiet --release \
+                    --manifest-path "$top/ffi/rust/Cargo.toml" "$kind" >"$room/rust.out" 2>&1 || {
+                    tail -n 40 "$room/rust.out" >&2
+                    give_up "a test of ffi/rust failed ($kind)"
+                }
+            done
             "$room/example_rs" 1000 100 >"$room/rs.out" || give_up "example_rs: status $?"
             compare example_rs.expected "$room/rs.out"
             "$room/example_rs" 1000 100 "$room/medium_rs" >"$room/rs.out" || give_up "example_rs over a file: status $?"
@@ -358,7 +366,7 @@ behind-ci)
     behind_ci
     ;;
 *)
-    sed -n '2,22s/^# \{0,1\}//p' "${BASH_SOURCE[0]}" >&2
+    sed -n '2,27s/^# \{0,1\}//p' "${BASH_SOURCE[0]}" >&2
     exit 2
     ;;
 esac

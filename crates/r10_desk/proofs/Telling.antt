@@ -7,7 +7,7 @@ use Rattle.r10_machine.specs.declared.event.Event.{Event as EventValue}
 use Rattle.r10_machine.specs.declared.reply.Reply.{Reply as ReplyValue}
 use Rattle.r10_machine.specs.declared.reply.Reply.TheVariants.{Refused}
 use Rattle.r10_medium.specs.Disk.{Disk}
-use Rattle.r10_world.specs.State.{WorldState}
+use Rattle.r10_desk.specs.declared.desk.Desk.{Desk as DeskValue}
 
 -- what is so of the events that were done and of the replies behind those that were there, is so of the one event and the one reply
 pub one_reply : {E R : Type 0} (P : List E → List R → Type 0) (event : E) (n k : ℕ) (items rest : List R) (reply : R)
@@ -20,5 +20,5 @@ one_reply {R = R} P event n k items rest reply le lt zero size is p =
     (subst (λ (j : ℕ). P (event ∷ []) (drop j items)) zero (subst (λ (m : ℕ). P (take m (event ∷ [])) (drop k items)) one p))
 
 -- where memory was refused before the event was told
-pub refused : {M : Type 0} (disk : M → Disk) (old : WorldState M) (event : EventValue) (tells : ReplyValue → Type 0) → tells (Refused OutOfMemory) → DoesEvent disk old event tells old
-refused disk old event tells says = record { reply = Refused OutOfMemory; told = inr (refl, refl); says = says; config = refl }
+pub refused : {M : Type 0} (disk : M → Disk) (old : DeskValue M) (event : EventValue) (tells : ReplyValue → Type 0) → tells (Refused OutOfMemory) → DoesEvent disk old event tells old
+refused disk old event tells says = record { reply = Refused OutOfMemory; told = inr (refl, refl); says = says; config = refl; fault = refl; hand = refl }

@@ -1,7 +1,11 @@
+pub mod Faults
 pub mod Told
+pub mod Hand
 pub mod Copies
 pub mod Entries
 pub mod Outs
 pub mod Reading
 pub mod Listing
+pub mod Accounts
 pub mod Opening
+pub mod Checking

@@ -8,6 +8,8 @@ use Rattle.r10_machine.specs.declared.event.Event.{Event as EventValue}
 use Rattle.r10_machine.specs.declared.mode.Stopped.{Stopped as StoppedValue}
 use Rattle.r10_machine.specs.declared.reply.Reply.{Reply as ReplyValue}
 use Rattle.r10_machine.specs.declared.reply.Reply.TheVariants.{Done, Moved, Stopped, Files, Status, Cursor, Advanced, Next, Found, CountAt, Refused}
+use Rattle.r10_desk.specs.Faults.{fault_in}
+use Rattle.r10_desk.specs.declared.desk.Desk.{Desk as DeskValue}
 use Rattle.r10_world.specs.Answering.{AnswersEach}
 use Rattle.r10_world.specs.State.{WorldState}
 use Rattle.r10_world.specs.Stopping.{RunsSafely}
@@ -24,12 +26,14 @@ pub record StepsToReply {M : Type 0} (disk : M → Disk) (old : WorldState M) (e
 abbrev pub Told : {M : Type 0} → (M → Disk) → WorldState M → EventValue → ReplyValue → WorldState M → Type 0
 Told disk old event reply new = StepsToReply disk old event reply new ⊎ ((reply ≡ Refused refusals.OutOfMemory) × (new ≡ old))
 
--- an event was told, and of its reply this is so
-pub record DoesEvent {M : Type 0} (disk : M → Disk) (old : WorldState M) (event : EventValue) (tells : ReplyValue → Type 0) (new : WorldState M) : Type 0 where
+-- An event was told, and of its reply this is so. What a refusal carries is kept, and the entry in hand stays.
+pub record DoesEvent {M : Type 0} (disk : M → Disk) (old : DeskValue M) (event : EventValue) (tells : ReplyValue → Type 0) (new : DeskValue M) : Type 0 where
   pub reply : ReplyValue
-  pub told : Told disk old event reply new
+  pub told : Told disk old.world event reply new.world
   pub says : tells reply
-  pub config : new.recorder.kept.config ≡ old.recorder.kept.config
+  pub config : new.world.recorder.kept.config ≡ old.world.recorder.kept.config
+  pub fault : new.fault ≡ fault_in reply old.fault
+  pub hand : new.hand ≡ old.hand
 
 -- ---- numbers
 

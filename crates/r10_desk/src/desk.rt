@@ -1,8 +1,10 @@
 //! A recorder and its readers, to which one event at a time is told.
 
 ghost use Rattle.std.specs.Prelude.{◌≡◌};
+ghost use Rattle.r10_desk.specs.Faults.{fault_in};
 ghost use Rattle.r10_desk.specs.Told.{Told, number_of};
 
+use crate::fault::{FaultOut, fault_in};
 use r10_body::Refusal;
 use r10_machine::{Event, Reply};
 use r10_medium::BlockMedium;
@@ -14,13 +16,38 @@ use std::alloc::Global;
 pub struct Desk<M: BlockMedium> {
     pub(crate) alloc: Global,
     pub(crate) world: World<M>,
+    // what the last refusal carried, of those that carry something
+    pub(crate) fault: FaultOut,
+    // the reply with the entry that the program has in hand, or one without an entry
+    pub(crate) hand: Reply,
 }
 
 impl<M: BlockMedium> Desk<M> {
-    /// Tells the recorder one event, and gives its reply. Where memory is refused before the event is done, that is the reply.
+    /// Tells the recorder one event, gives its reply, and keeps what a refusal carries.
     pub(crate) fn tell(&mut self, event: Event) -> Reply
         ensures told { Told M.disk self.old.world event result self.new.world }
         ensures config { self.new.world.recorder.kept.config ≡ self.old.world.recorder.kept.config }
+        ensures fault { self.new.fault ≡ fault_in result self.old.fault }
+        ensures hand { self.new.hand ≡ self.old.hand }
+    {
+        let reply = self.run_one(event);
+        self.fault = fault_in(&reply, self.fault);
+        reply
+    }
+
+    /// What the last refusal carried, of those that carry something.
+    pub fn fault(&self) -> FaultOut
+        ensures { result ≡ self.now.fault }
+    {
+        self.fault
+    }
+
+    /// Does one event, and gives its reply. Where memory is refused before the event is done, that is the reply.
+    fn run_one(&mut self, event: Event) -> Reply
+        ensures told { Told M.disk self.old.world event result self.new.world }
+        ensures config { self.new.world.recorder.kept.config ≡ self.old.world.recorder.kept.config }
+        ensures fault { self.new.fault ≡ self.old.fault }
+        ensures hand { self.new.hand ≡ self.old.hand }
     {
         let mut replies = Vec::new(self.alloc);
         let events = [event];

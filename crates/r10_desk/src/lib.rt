@@ -1,9 +1,13 @@
 //! A recorder and its readers, each of whose calls answers a number: 0, or that of its refusal.
 #![tactic(auto)]
 
+mod accounts;
+mod checking;
 mod control;
 mod copies;
 mod desk;
+mod fault;
+mod hand;
 mod listing;
 mod offers;
 mod opening;
@@ -11,7 +15,10 @@ mod outs;
 mod readers;
 mod told;
 
+pub use accounts::{Accepted, AccountOut, count_accepted, none_accepted};
+pub use checking::{ScriptOut, check_script};
 pub use desk::Desk;
+pub use fault::FaultOut;
 pub use listing::{ChannelOut, FileOut, StatusOut};
 pub use opening::{format, open};
 pub use told::EntryOut;

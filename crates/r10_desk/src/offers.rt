@@ -14,7 +14,7 @@ use r10_medium::BlockMedium;
 
 impl<M: BlockMedium> Desk<M> {
     fn offer(&mut self, channel: u16, count: u64, message: Message) -> u32
-        ensures { DoesEvent M.disk self.old.world (events.Offer channel count message) (λ reply. result ≡ number_of reply) self.new.world }
+        ensures { DoesEvent M.disk self.old (events.Offer channel count message) (λ reply. result ≡ number_of reply) self.new }
     {
         let reply = self.tell(Event::Offer {
             channel,
@@ -33,7 +33,7 @@ impl<M: BlockMedium> Desk<M> {
         sub: u16,
         bytes: &[u8],
     ) -> u32
-        ensures { DoesEvent M.disk self.old.world (events.Offer channel count (messages.Uart parity sub bytes.now)) (λ reply. result ≡ number_of reply) self.new.world }
+        ensures { DoesEvent M.disk self.old (events.Offer channel count (messages.Uart parity sub bytes.now)) (λ reply. result ≡ number_of reply) self.new }
     {
         let Ok(bytes) = Bytes::copy_of(self.alloc, bytes) else {
             return OUT_OF_MEMORY;
@@ -50,7 +50,7 @@ impl<M: BlockMedium> Desk<M> {
         gap: u16,
         words: &[u16],
     ) -> u32
-        ensures { DoesEvent M.disk self.old.world (events.Offer channel count (messages.Bus1553 status gap words.now)) (λ reply. result ≡ number_of reply) self.new.world }
+        ensures { DoesEvent M.disk self.old (events.Offer channel count (messages.Bus1553 status gap words.now)) (λ reply. result ≡ number_of reply) self.new }
     {
         let Ok(words) = Vec::from_slice(self.alloc, words) else {
             return OUT_OF_MEMORY;
@@ -70,7 +70,7 @@ impl<M: BlockMedium> Desk<M> {
         high: bool,
         word: u32,
     ) -> u32
-        ensures { DoesEvent M.disk self.old.world (events.Offer channel count (messages.Arinc bus format parity high word)) (λ reply. result ≡ number_of reply) self.new.world }
+        ensures { DoesEvent M.disk self.old (events.Offer channel count (messages.Arinc bus format parity high word)) (λ reply. result ≡ number_of reply) self.new }
     {
         let message = Message::Arinc {
             bus,
@@ -84,7 +84,7 @@ impl<M: BlockMedium> Desk<M> {
 
     /// The states of a channel's discretes, a bit for each.
     pub fn offer_discrete(&mut self, channel: u16, count: u64, states: u32) -> u32
-        ensures { DoesEvent M.disk self.old.world (events.Offer channel count (messages.Discrete states)) (λ reply. result ≡ number_of reply) self.new.world }
+        ensures { DoesEvent M.disk self.old (events.Offer channel count (messages.Discrete states)) (λ reply. result ≡ number_of reply) self.new }
     {
         self.offer(channel, count, Message::Discrete { states })
     }
@@ -99,7 +99,7 @@ impl<M: BlockMedium> Desk<M> {
         sub: u16,
         bytes: &[u8],
     ) -> u32
-        ensures { DoesEvent M.disk self.old.world (events.Offer channel count (messages.Message data_error format sub bytes.now)) (λ reply. result ≡ number_of reply) self.new.world }
+        ensures { DoesEvent M.disk self.old (events.Offer channel count (messages.Message data_error format sub bytes.now)) (λ reply. result ≡ number_of reply) self.new }
     {
         let Ok(bytes) = Bytes::copy_of(self.alloc, bytes) else {
             return OUT_OF_MEMORY;

@@ -1,13 +1,16 @@
 //! A medium is formatted, and a recorder is opened over it, with the settings of a script.
 
-ghost use Rattle.std.specs.Prelude.{◌≡◌, ◌⊎◌, IfErr, IfOk, length};
+ghost use Rattle.std.specs.Prelude.{◌≡◌, ◌⊎◌, IfErr, IfOk, length, map};
 ghost use Rattle.r10_medium.specs.Disk.{Rose};
+ghost use Rattle.r10_desk.specs.Accounts.{not_yet};
 ghost use Rattle.r10_desk.specs.Opening.{FormatsByScript, FormatsOver, HasOtherBlocks, IsSettings, OpensRecorder};
 
+use crate::accounts::{Accepted, none_accepted};
 use crate::desk::Desk;
+use crate::fault::FaultOut;
 use crate::told::{BLOCKS, MEDIUM, OUT_OF_MEMORY, SCRIPT};
 use r10_lines::ScriptFault;
-use r10_machine::Settings;
+use r10_machine::{Reply, Settings};
 use r10_medium::BlockMedium;
 use r10_script::{Script, read_script};
 use r10_world::World;
@@ -51,16 +54,32 @@ pub fn format<M: BlockMedium>(alloc: Global, medium: &mut M, script: &[u8]) -> u
     }
 }
 
-/// A recorder with the settings of this script over the medium, not mounted, and without readers. Its number is 30, 40 where the script can't be
-/// taken, or 41 where the medium has another number of blocks.
-pub fn open<M: BlockMedium + Drop>(alloc: Global, medium: M, script: &[u8]) -> Result<Desk<M>, u32>
-    ensures opens { IfOk result (λ d. OpensRecorder M.disk script.now medium d.world) }
+/// A recorder with the settings of this script over the medium, not mounted, and without readers; and of each of its channels, that no message
+/// was accepted. Its number is 30, 40 where the script can't be taken, or 41 where the medium has another number of blocks.
+pub fn open<M: BlockMedium + Drop>(
+    alloc: Global,
+    medium: M,
+    script: &[u8],
+) -> Result<(Desk<M>, Vec<Accepted>), u32>
+    ensures opens { IfOk result (λ r. OpensRecorder M.disk script.now medium r.0.world) }
+    ensures accepted { IfOk result (λ r. r.1.items ≡ map not_yet r.0.world.recorder.kept.config.channels) }
     ensures refused { IfErr result (λ n. (n ≡ 30) ⊎ (n ≡ 40) ⊎ (n ≡ 41)) }
     ensures other { IfErr result (λ n. n ≡ 41 → HasOtherBlocks script.now (length (M.disk medium).blocks)) }
 {
     let settings = settings_of(alloc, script, medium.blocks())?;
+    let Ok(accepted) = none_accepted(alloc, settings.channels()) else {
+        return Err(OUT_OF_MEMORY);
+    };
     match World::new(alloc, settings, medium) {
-        Ok(world) => Ok(Desk { alloc, world }),
+        Ok(world) => {
+            let desk = Desk {
+                alloc,
+                world,
+                fault: FaultOut::none(),
+                hand: Reply::Done,
+            };
+            Ok((desk, accepted))
+        }
         Err(_) => Err(OUT_OF_MEMORY),
     }
 }

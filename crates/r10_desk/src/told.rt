@@ -118,7 +118,7 @@ fn front_of(entry: &Entry, kind: u8) -> EntryOut
 }
 
 /// The fields of an entry.
-fn fields(entry: &Entry) -> EntryOut
+pub(crate) fn fields(entry: &Entry) -> EntryOut
     ensures { result ≡ fields_of entry.now }
 {
     match &entry.message {
@@ -182,6 +182,26 @@ fn fields(entry: &Entry) -> EntryOut
             occurrence: *count,
             ..front_of(entry, 7)
         },
+    }
+}
+
+/// The bytes of an entry's message, or none.
+pub(crate) fn bytes_of(entry: &Entry) -> &[u8]
+    ensures { result.now ≡ out_bytes entry.now }
+{
+    match &entry.message {
+        Message::Uart { bytes, .. } | Message::Message { bytes, .. } => bytes.as_slice(),
+        _ => &[],
+    }
+}
+
+/// The words of an entry's message, or none.
+pub(crate) fn words_of(entry: &Entry) -> &[u16]
+    ensures { result.now ≡ words_of entry.now }
+{
+    match &entry.message {
+        Message::Bus1553 { words, .. } => words.as_slice(),
+        _ => &[],
     }
 }
 

@@ -1,7 +1,12 @@
 -- What a call makes of what a handle holds.
-use Rattle.std.specs.Prelude.{◌≡◌, ℕ, List, [], Option, None, Some, true, false}
+use Rattle.std.specs.Prelude.{◌≡◌, ℕ, List, [], map, Option, None, Some, true, false}
 use Rattle.r10_medium.specs.Disk.{Image}
-use Rattle.r10_world.specs.State.{WorldState}
+use Rattle.r10_machine.specs.declared.event.Event.TheVariants.{Status}
+use Rattle.r10_desk.specs.Accounts.{account_given, counted, not_yet}
+use Rattle.r10_desk.specs.Listing.{lane_place}
+use Rattle.r10_desk.specs.Told.{DoesEvent}
+use Rattle.r10_desk.specs.declared.accounts.AccountOut.{AccountOut}
+use Rattle.r10_desk.specs.declared.desk.Desk.{Desk as DeskValue}
 use Rattle.r10_desk.specs.Opening.{FormatsByScript, FormatsOver, OpensRecorder}
 use Rattle.r10_region.specs.Orders.{IsOtherEnd}
 use Rattle.r10_region.specs.Queue.{queue_room, places_known}
@@ -17,16 +22,27 @@ IsOpen r = r.opened ≡ true
 abbrev pub IsClosed : Recorder → Type 0
 IsClosed r = r.opened ≡ false
 
--- it is open then, and between what it held and what it holds it is so
+-- it is open then, and between what it held and what it holds it is so; and of no channel a message was accepted
 abbrev pub Goes : Recorder → Recorder → (Held → Held → Type 0) → Type 0
-Goes before behind is = IsOpen behind × Between before.handle.held behind.handle.held is
+Goes before behind is = IsOpen behind × Between before.handle.held behind.handle.held (λ old new. is old new × (new.accepted ≡ old.accepted))
 
 -- between the recorder before and behind it is so, and its disk has still to do what it had, and what the call adds
-abbrev pub Does : Recorder → Recorder → (WorldState Region → WorldState Region → Type 0) → Type 0
-Does before behind is = Goes before behind (λ old new. is old.desk.world new.desk.world × (new.orders ≡ old.orders))
+abbrev pub Does : Recorder → Recorder → (DeskValue Region → DeskValue Region → Type 0) → Type 0
+Does before behind is = Goes before behind (λ old new. is old.desk new.desk × (new.orders ≡ old.orders))
 
--- A recorder by the script over memory that held this, of whose disk nothing was asked yet, and beside it the other end of its disk's queue, out of which
--- nothing was handed yet. So many operations may wait in it, and it is known that there is a place for each.
+-- likewise, of an offer to a channel that is answered so: where it is answered 0, one more message of the channel was accepted
+abbrev pub Offers : ℕ → ℕ → Recorder → Recorder → (DeskValue Region → DeskValue Region → Type 0) → Type 0
+Offers answer channel before behind is = IsOpen behind × Between before.handle.held behind.handle.held
+    (λ old new. is old.desk new.desk × (new.orders ≡ old.orders) × (new.accepted.items ≡ counted answer channel old.accepted.items))
+
+-- A channel's account was asked for: so the recorder's status was, and lent memory has what is told, with the numbers of accepted and of erased messages as they are kept.
+abbrev pub Accounts : ℕ → ℕ → AccountOut → AccountOut → Recorder → Recorder → Type 0
+Accounts answer place before_out out before behind = Goes before behind
+    (λ old new. DoesEvent region_disk old.desk Status (λ reply. (answer ≡ lane_place reply place) × (out ≡ account_given reply place old.accepted.items new.desk.world.recorder.kept before_out)) new.desk
+    × (new.orders ≡ old.orders))
+
+-- A recorder by the script over memory that held this, of whose disk nothing was asked yet, and of whose channels no message was accepted; and beside it the other end of its disk's queue,
+-- out of which nothing was handed yet. So many operations may wait in it, and it is known that there is a place for each.
 pub record OpensOver (text : List ℕ) (image : Image) (room : ℕ) (h : Held) : Type 0 where
   pub medium : Region
   pub lent : lent_to medium ≡ image
@@ -35,6 +51,7 @@ pub record OpensOver (text : List ℕ) (image : Image) (room : ℕ) (h : Held) :
   pub room_is : queue_room medium ≡ room
   pub places : places_known medium ≡ room
   pub opens : OpensRecorder region_disk text medium h.desk.world
+  pub accepted : h.accepted.items ≡ map not_yet h.desk.world.recorder.kept.config.channels
 
 abbrev pub IsOpened : List ℕ → Image → ℕ → Option Held → Type 0
 IsOpened text image room None = ⊥
@@ -46,6 +63,7 @@ pub record FormatsHeld (text : List ℕ) (image : Image) (h : Held) : Type 0 whe
   pub formats : FormatsByScript text (region_disk medium)
   pub over : FormatsOver text image (region_disk medium)
   pub opens : OpensRecorder region_disk text medium h.desk.world
+  pub accepted : h.accepted.items ≡ map not_yet h.desk.world.recorder.kept.config.channels
 
 abbrev pub IsFormattedRegion : List ℕ → Image → Option Held → Type 0
 IsFormattedRegion text image None = ⊥

@@ -1,8 +1,13 @@
 //! The calls of the library.
 
-ghost use Rattle.std.specs.Prelude.{◌≡◌, ◌≢◌, ◌⊎◌, ◌↔◌, ◌≤◌, ◌<◌, None, length};
+ghost use Rattle.std.specs.Prelude.{◌≡◌, ◌≢◌, ◌⊎◌, ◌↔◌, ◌≤◌, ◌<◌, None, Some, length};
+ghost use Rattle.r10_body.specs.declared.entry.Entry.{Entry};
 ghost use Rattle.r10_body.specs.declared.message.Message.TheVariants as messages;
 ghost use Rattle.r10_machine.specs.declared.event.Event.TheVariants as events;
+ghost use Rattle.r10_desk.specs.Checking.{TellsFault, TellsSettings};
+ghost use Rattle.r10_desk.specs.Copies.{copied};
+ghost use Rattle.r10_desk.specs.Entries.{out_bytes, words_of};
+ghost use Rattle.r10_desk.specs.Hand.{TakesInHand, entry_in, is_next_in, next_fields};
 ghost use Rattle.r10_desk.specs.Listing.{file_in, files_in, channel_given, lane_place, name_in, file_place, status_given};
 ghost use Rattle.r10_desk.specs.Opening.{HasOtherBlocks};
 ghost use Rattle.r10_desk.specs.Outs.{cursor_in, left_out, moved_in, queued_in, taken_out};
@@ -10,13 +15,15 @@ ghost use Rattle.r10_desk.specs.Reading.{count_in, found_in, is_count_in, lent, 
 ghost use Rattle.r10_desk.specs.Told.{DoesEvent, number_of};
 ghost use Rattle.r10_region.specs.Orders.{CountsQueue, HandsOrderOut, HandsRunOut, HasTold};
 ghost use Rattle.r10_region.specs.RegionDisk.{region_disk};
-ghost use Rattle.r10_ffi.specs.Calls.{Does, Goes, IsClosed, IsFormattedRegion, IsOpen, IsOpened};
+ghost use Rattle.r10_ffi.specs.Calls.{Accounts, Does, Goes, IsClosed, IsFormattedRegion, IsOpen, IsOpened, Offers};
 ghost use Rattle.r10_ffi.specs.Civil.{parts_of};
 
 use crate::civil::{Civil, parts_of};
 use crate::held::Held;
 use crate::recorder::Recorder;
-use r10_desk::{ChannelOut, EntryOut, FileOut, StatusOut};
+use r10_desk::{
+    AccountOut, ChannelOut, EntryOut, FaultOut, FileOut, ScriptOut, StatusOut, count_accepted,
+};
 use r10_region::{OrderOut, QueueOut, Region, RunOut, Strip};
 use std::alloc::Global;
 
@@ -39,6 +46,22 @@ pub extern "C" fn r10_version() -> u32
     ensures { result ≡ 200 }
 {
     VERSION
+}
+
+/// What the text of a script says of its medium: 0, or 30, or 40 where it can't be taken, and then what is wrong with it.
+#[unsafe(no_mangle)]
+pub extern "C" fn r10_check_script(
+    alloc: Global,
+    script: &[u8],
+    out: &mut ScriptOut,
+    text: &mut [u8],
+) -> u32
+    ensures taken { result ≡ 0 → TellsSettings script.now out.new × (text.new ≡ text.old) }
+    ensures refused { result ≡ 40 → TellsFault out.new text.old text.new }
+    ensures memory { result ≡ 30 → (out.new ≡ out.old) × (text.new ≡ text.old) }
+    ensures numbers { (result ≡ 0) ⊎ (result ≡ 30) ⊎ (result ≡ 40) }
+{
+    r10_desk::check_script(alloc, script, out, text)
 }
 
 /// Writes the directory of a medium without files into its memory, and opens a recorder over it, which is not mounted: 0, or 28, 30, 40, 41, 45.
@@ -66,11 +89,16 @@ pub extern "C" fn r10_format(
     if number != 0 {
         return number;
     }
-    let desk = match r10_desk::open(alloc, medium, script) {
-        Ok(desk) => desk,
+    let (desk, accepted) = match r10_desk::open(alloc, medium, script) {
+        Ok(opened) => opened,
         Err(number) => return number,
     };
-    match Box::new(alloc, Held { desk, orders }) {
+    let held = Held {
+        desk,
+        orders,
+        accepted,
+    };
+    match Box::new(alloc, held) {
         Ok(held) => {
             recorder.put(held);
             0
@@ -100,11 +128,16 @@ pub extern "C" fn r10_open(
     let Ok((medium, orders)) = Region::over(alloc, region, room) else {
         return OUT_OF_MEMORY;
     };
-    let desk = match r10_desk::open(alloc, medium, script) {
-        Ok(desk) => desk,
+    let (desk, accepted) = match r10_desk::open(alloc, medium, script) {
+        Ok(opened) => opened,
         Err(number) => return number,
     };
-    match Box::new(alloc, Held { desk, orders }) {
+    let held = Held {
+        desk,
+        orders,
+        accepted,
+    };
+    match Box::new(alloc, held) {
         Ok(held) => {
             recorder.put(held);
             0
@@ -280,14 +313,16 @@ pub extern "C" fn r10_offer_uart(
     sub: u16,
     bytes: &[u8],
 ) -> u32
-    ensures does { IsOpen recorder.old → Does recorder.old recorder.new (λ old new. DoesEvent region_disk old (events.Offer channel count (messages.Uart parity sub bytes.now)) (λ reply. result ≡ number_of reply) new) }
+    ensures does { IsOpen recorder.old → Offers result channel recorder.old recorder.new (λ old new. DoesEvent region_disk old (events.Offer channel count (messages.Uart parity sub bytes.now)) (λ reply. result ≡ number_of reply) new) }
     ensures closed { IsClosed recorder.old → (result ≡ 44) × (recorder.new ≡ recorder.old) }
 {
     if !recorder.is_open() {
         return CLOSED;
     }
     let mut held = recorder.take(alloc);
-    let answer = held.desk.offer_uart(channel, count, parity, sub, bytes);
+    let inside = &mut *held;
+    let answer = inside.desk.offer_uart(channel, count, parity, sub, bytes);
+    count_accepted(&mut inside.accepted, channel, answer);
     recorder.put(held);
     answer
 }
@@ -303,14 +338,16 @@ pub extern "C" fn r10_offer_1553(
     gap: u16,
     words: &[u16],
 ) -> u32
-    ensures does { IsOpen recorder.old → Does recorder.old recorder.new (λ old new. DoesEvent region_disk old (events.Offer channel count (messages.Bus1553 status gap words.now)) (λ reply. result ≡ number_of reply) new) }
+    ensures does { IsOpen recorder.old → Offers result channel recorder.old recorder.new (λ old new. DoesEvent region_disk old (events.Offer channel count (messages.Bus1553 status gap words.now)) (λ reply. result ≡ number_of reply) new) }
     ensures closed { IsClosed recorder.old → (result ≡ 44) × (recorder.new ≡ recorder.old) }
 {
     if !recorder.is_open() {
         return CLOSED;
     }
     let mut held = recorder.take(alloc);
-    let answer = held.desk.offer_1553(channel, count, status, gap, words);
+    let inside = &mut *held;
+    let answer = inside.desk.offer_1553(channel, count, status, gap, words);
+    count_accepted(&mut inside.accepted, channel, answer);
     recorder.put(held);
     answer
 }
@@ -328,16 +365,18 @@ pub extern "C" fn r10_offer_arinc(
     high: bool,
     word: u32,
 ) -> u32
-    ensures does { IsOpen recorder.old → Does recorder.old recorder.new (λ old new. DoesEvent region_disk old (events.Offer channel count (messages.Arinc bus format parity high word)) (λ reply. result ≡ number_of reply) new) }
+    ensures does { IsOpen recorder.old → Offers result channel recorder.old recorder.new (λ old new. DoesEvent region_disk old (events.Offer channel count (messages.Arinc bus format parity high word)) (λ reply. result ≡ number_of reply) new) }
     ensures closed { IsClosed recorder.old → (result ≡ 44) × (recorder.new ≡ recorder.old) }
 {
     if !recorder.is_open() {
         return CLOSED;
     }
     let mut held = recorder.take(alloc);
-    let answer = held
+    let inside = &mut *held;
+    let answer = inside
         .desk
         .offer_arinc(channel, count, bus, format, parity, high, word);
+    count_accepted(&mut inside.accepted, channel, answer);
     recorder.put(held);
     answer
 }
@@ -351,14 +390,16 @@ pub extern "C" fn r10_offer_discrete(
     count: u64,
     states: u32,
 ) -> u32
-    ensures does { IsOpen recorder.old → Does recorder.old recorder.new (λ old new. DoesEvent region_disk old (events.Offer channel count (messages.Discrete states)) (λ reply. result ≡ number_of reply) new) }
+    ensures does { IsOpen recorder.old → Offers result channel recorder.old recorder.new (λ old new. DoesEvent region_disk old (events.Offer channel count (messages.Discrete states)) (λ reply. result ≡ number_of reply) new) }
     ensures closed { IsClosed recorder.old → (result ≡ 44) × (recorder.new ≡ recorder.old) }
 {
     if !recorder.is_open() {
         return CLOSED;
     }
     let mut held = recorder.take(alloc);
-    let answer = held.desk.offer_discrete(channel, count, states);
+    let inside = &mut *held;
+    let answer = inside.desk.offer_discrete(channel, count, states);
+    count_accepted(&mut inside.accepted, channel, answer);
     recorder.put(held);
     answer
 }
@@ -375,16 +416,18 @@ pub extern "C" fn r10_offer_message(
     sub: u16,
     bytes: &[u8],
 ) -> u32
-    ensures does { IsOpen recorder.old → Does recorder.old recorder.new (λ old new. DoesEvent region_disk old (events.Offer channel count (messages.Message data_error format sub bytes.now)) (λ reply. result ≡ number_of reply) new) }
+    ensures does { IsOpen recorder.old → Offers result channel recorder.old recorder.new (λ old new. DoesEvent region_disk old (events.Offer channel count (messages.Message data_error format sub bytes.now)) (λ reply. result ≡ number_of reply) new) }
     ensures closed { IsClosed recorder.old → (result ≡ 44) × (recorder.new ≡ recorder.old) }
 {
     if !recorder.is_open() {
         return CLOSED;
     }
     let mut held = recorder.take(alloc);
-    let answer = held
+    let inside = &mut *held;
+    let answer = inside
         .desk
         .offer_message(channel, count, data_error, format, sub, bytes);
+    count_accepted(&mut inside.accepted, channel, answer);
     recorder.put(held);
     answer
 }
@@ -576,6 +619,27 @@ pub extern "C" fn r10_channel(
     answer
 }
 
+/// What became of the messages of the channel at this place of the settings, in every mode. 0, or 30, 43.
+#[unsafe(no_mangle)]
+pub extern "C" fn r10_account(
+    alloc: Global,
+    recorder: &mut Recorder,
+    place: usize,
+    out: &mut AccountOut,
+) -> u32
+    ensures does { IsOpen recorder.old → Accounts result place out.old out.new recorder.old recorder.new }
+    ensures closed { IsClosed recorder.old → (result ≡ 44) × (recorder.new ≡ recorder.old) × (out.new ≡ out.old) }
+{
+    if !recorder.is_open() {
+        return CLOSED;
+    }
+    let mut held = recorder.take(alloc);
+    let inside = &mut *held;
+    let answer = inside.desk.account(place, inside.accepted.as_slice(), out);
+    recorder.put(held);
+    answer
+}
+
 /// Opens a cursor. 0, or 1, 2, 10, 19, 27, 28, 30.
 #[unsafe(no_mangle)]
 pub extern "C" fn r10_cursor(
@@ -642,6 +706,67 @@ pub extern "C" fn r10_next(
     let answer = held.desk.next(id, there, out, bytes, words);
     recorder.put(held);
     answer
+}
+
+/// Takes the first entry of a cursor's queue into the recorder's hand, and gives its fields. 0, or 21, 30.
+#[unsafe(no_mangle)]
+pub extern "C" fn r10_take(
+    alloc: Global,
+    recorder: &mut Recorder,
+    id: usize,
+    there: &mut bool,
+    out: &mut EntryOut,
+) -> u32
+    ensures takes { IsOpen recorder.old → Does recorder.old recorder.new (λ old new. TakesInHand region_disk old id (λ reply. (result ≡ number_of reply) × (there.new ≡ is_next_in reply there.old) × (out.new ≡ next_fields reply out.old)) new) }
+    ensures closed { IsClosed recorder.old → (result ≡ 44) × (recorder.new ≡ recorder.old) × (there.new ≡ there.old) × (out.new ≡ out.old) }
+{
+    if !recorder.is_open() {
+        return CLOSED;
+    }
+    let mut held = recorder.take(alloc);
+    let answer = held.desk.take(id, there, out);
+    recorder.put(held);
+    answer
+}
+
+/// Copies the bytes or words of the entry in hand. 0, or 42 where there is less room than it has of them, 43 where there is none in hand, 44.
+#[unsafe(no_mangle)]
+pub extern "C" fn r10_taken(
+    alloc: Global,
+    recorder: &mut Recorder,
+    bytes: &mut [u8],
+    words: &mut [u16],
+) -> u32
+    ensures stays { IsOpen recorder.old → Does recorder.old recorder.new (λ old new. new ≡ old) }
+    ensures none { IsOpen recorder.old → Goes recorder.old recorder.new (λ old new. entry_in old.desk.hand ≡ None → (result ≡ 43) × (bytes.new ≡ bytes.old) × (words.new ≡ words.old)) }
+    ensures copies { IsOpen recorder.old → Goes recorder.old recorder.new (λ old new. (e : Entry) → entry_in old.desk.hand ≡ Some e → length (out_bytes e) ≤ length bytes.old → length (words_of e) ≤ length words.old
+        → (result ≡ 0) × (bytes.new ≡ copied (out_bytes e) bytes.old) × (words.new ≡ copied (words_of e) words.old)) }
+    ensures room { IsOpen recorder.old → Goes recorder.old recorder.new (λ old new. (e : Entry) → entry_in old.desk.hand ≡ Some e → (length bytes.old < length (out_bytes e)) ⊎ (length words.old < length (words_of e))
+        → (result ≡ 42) × (bytes.new ≡ bytes.old) × (words.new ≡ words.old)) }
+    ensures closed { IsClosed recorder.old → (result ≡ 44) × (recorder.new ≡ recorder.old) × (bytes.new ≡ bytes.old) × (words.new ≡ words.old) }
+{
+    if !recorder.is_open() {
+        return CLOSED;
+    }
+    let held = recorder.take(alloc);
+    let answer = held.desk.copy(bytes, words);
+    recorder.put(held);
+    answer
+}
+
+/// What the last refusal carried, of those that carry something. 0, or 44.
+#[unsafe(no_mangle)]
+pub extern "C" fn r10_fault(alloc: Global, recorder: &mut Recorder, out: &mut FaultOut) -> u32
+    ensures gives { IsOpen recorder.old → Goes recorder.old recorder.new (λ old new. (result ≡ 0) × (new.desk ≡ old.desk) × (new.orders ≡ old.orders) × (out.new ≡ old.desk.fault)) }
+    ensures closed { IsClosed recorder.old → (result ≡ 44) × (recorder.new ≡ recorder.old) × (out.new ≡ out.old) }
+{
+    if !recorder.is_open() {
+        return CLOSED;
+    }
+    let held = recorder.take(alloc);
+    *out = held.desk.fault();
+    recorder.put(held);
+    0
 }
 
 /// Closes a cursor. 0, or 21, 30.

@@ -1,11 +1,12 @@
 //! What a handle leads to.
 
-use r10_desk::Desk;
+use r10_desk::{Accepted, Desk};
 use r10_region::{Orders, Region};
 
-/// A recorder over memory that a caller lends, its readers, and what its device has still to do.
+/// A recorder over memory that a caller lends, its readers, what its device has still to do, and how many messages of each channel were accepted.
 #[derive(Drop)]
 pub struct Held {
     pub(crate) desk: Desk<Region>,
     pub(crate) orders: Orders,
+    pub(crate) accepted: Vec<Accepted>,
 }

@@ -3,6 +3,7 @@ use Rattle.std.specs.Prelude.{List, Option}
 use Rattle.r10_machine.specs.Machine.{Lane}
 use Rattle.r10_cursor.specs.declared.cursor.Cursor.{Cursor}
 use Rattle.r10_control.specs.State.{RecorderState}
+pub use Rattle.r10_control.specs.Told.{number_on}
 
 pub record WorldState (M : Type 0) : Type 0 where
   pub recorder : RecorderState M Lane

@@ -10,6 +10,7 @@ ghost use Rattle.r10_world.specs.Answering.{AnswersSo};
 ghost use Rattle.r10_world.specs.Stopping.{Recovers, Survives};
 ghost use Rattle.r10_world.specs.Telling.{WorldStandsFor, RecorderStepsTo};
 ghost use Rattle.r10_machine.specs.Says.{MediumHas, MediumSays};
+ghost use Rattle.r10_world.specs.State.{number_on};
 
 use crate::a_new_recorder_stands;
 use crate::control::{
@@ -107,6 +108,14 @@ impl<M: BlockMedium> World<M> {
         } = self;
         let (medium, _) = recorder.into_parts();
         medium
+    }
+
+    /// How many entries of a channel erases took, in every mode, up to `u64::MAX`. None where the settings have no such channel. It takes no
+    /// memory.
+    pub fn erased(&self, channel: u16) -> Option<u64>
+        ensures { result ≡ number_on channel self.now.recorder.kept.config.channels self.now.recorder.kept.erased }
+    {
+        self.recorder.erased(channel)
     }
 
     /// Where memory comes from.

@@ -10,8 +10,11 @@ pub const VERSION: u32 = 200;
 pub const OK: u32 = 0;
 pub const OVERFLOW: u32 = 12;
 pub const MEDIUM_FULL: u32 = 25;
+pub const BAD_DIRECTORY: u32 = 26;
+pub const BAD_FILE: u32 = 27;
 pub const MEDIUM: u32 = 28;
 pub const NO_MEMORY: u32 = 30;
+pub const SCRIPT: u32 = 40;
 pub const ROOM: u32 = 42;
 pub const PLACE: u32 = 43;
 pub const CLOSED: u32 = 44;
@@ -101,6 +104,16 @@ pub struct r10_channel_info {
 
 #[repr(C)]
 #[derive(Clone, Copy, Debug, Default)]
+pub struct r10_account_info {
+    pub accepted: u64,
+    pub erased: u64,
+    pub lost: u64,
+    pub waiting: usize,
+    pub channel: u16,
+}
+
+#[repr(C)]
+#[derive(Clone, Copy, Debug, Default)]
 pub struct r10_order_info {
     pub block: usize,
     pub kind: u8,
@@ -122,6 +135,25 @@ pub struct r10_queue_info {
     pub rings: usize,
 }
 
+#[repr(C)]
+#[derive(Clone, Copy, Debug, Default)]
+pub struct r10_fault_info {
+    pub at: u64,
+    pub number: u32,
+    pub fault: u16,
+    pub rule: u16,
+}
+
+#[repr(C)]
+#[derive(Clone, Copy, Debug, Default)]
+pub struct r10_script_info {
+    pub blocks: usize,
+    pub directory: usize,
+    pub channels: usize,
+    pub line: usize,
+    pub length: usize,
+}
+
 const _: () = {
     assert!(size_of::<usize>() == 8);
     assert!(size_of::<r10>() == 16);
@@ -131,13 +163,17 @@ const _: () = {
     assert!(size_of::<r10_file_info>() == 32);
     assert!(size_of::<r10_status_info>() == 40);
     assert!(size_of::<r10_channel_info>() == 32);
+    assert!(size_of::<r10_account_info>() == 40);
     assert!(size_of::<r10_order_info>() == 16);
     assert!(size_of::<r10_run_info>() == 24);
     assert!(size_of::<r10_queue_info>() == 24);
+    assert!(size_of::<r10_fault_info>() == 16);
+    assert!(size_of::<r10_script_info>() == 40);
 };
 
 unsafe extern "C" {
     pub fn r10_version() -> u32;
+    pub fn r10_check_script(script: *const u8, length: usize, info: *mut r10_script_info, text: *mut u8, text_room: usize) -> u32;
     pub fn r10_format(region: r10_region, room: usize, script: *const u8, length: usize, recorder: *mut r10) -> u32;
     pub fn r10_open(region: r10_region, room: usize, script: *const u8, length: usize, recorder: *mut r10) -> u32;
     pub fn r10_orders(recorder: *mut r10, run: *mut r10_run_info, bytes: *mut u8, room: usize) -> u32;
@@ -164,7 +200,9 @@ unsafe extern "C" {
     pub fn r10_files(recorder: *mut r10, count: *mut usize) -> u32;
     pub fn r10_file(recorder: *mut r10, number: usize, info: *mut r10_file_info, name: *mut u8, name_room: usize) -> u32;
     pub fn r10_status(recorder: *mut r10, info: *mut r10_status_info) -> u32;
+    pub fn r10_fault(recorder: *mut r10, info: *mut r10_fault_info) -> u32;
     pub fn r10_channel(recorder: *mut r10, place: usize, info: *mut r10_channel_info) -> u32;
+    pub fn r10_account(recorder: *mut r10, place: usize, info: *mut r10_account_info) -> u32;
     pub fn r10_cursor(recorder: *mut r10, file: usize, channels: *const u16, count: usize, from: u64, to: u64, cursor: *mut usize) -> u32;
     pub fn r10_advance(recorder: *mut r10, cursor: usize, queued: *mut usize) -> u32;
     pub fn r10_next(
@@ -177,6 +215,8 @@ unsafe extern "C" {
         words: *mut u16,
         word_room: usize,
     ) -> u32;
+    pub fn r10_take(recorder: *mut r10, cursor: usize, there: *mut bool, entry: *mut r10_entry) -> u32;
+    pub fn r10_taken(recorder: *mut r10, bytes: *mut u8, byte_room: usize, words: *mut u16, word_room: usize) -> u32;
     pub fn r10_close_cursor(recorder: *mut r10, cursor: usize) -> u32;
     pub fn r10_find(
         recorder: *mut r10,

@@ -1,4 +1,5 @@
 //! Why a call did not do its work.
+use r10_sys as sys;
 use std::fmt;
 
 /// The number of a refusal, as in `r10.h`.
@@ -95,3 +96,41 @@ impl fmt::Display for Error {
 }
 
 impl std::error::Error for Error {}
+
+/// What a [`Error::BAD_DIRECTORY`] or an [`Error::BAD_FILE`] was about.
+#[derive(Clone, Copy, Debug, PartialEq, Eq)]
+pub enum Fault {
+    /// the first block of the directory that cannot be taken
+    Directory { block: u64 },
+    /// where in the file the first wrong packet is, in bytes, and what is wrong there: a name as `r10 check` prints it
+    File { offset: u64, name: &'static str, rule: Option<u16> },
+}
+
+impl Fault {
+    pub(crate) fn of(info: &sys::r10_fault_info) -> Option<Fault> {
+        let name = match info.fault {
+            1 => "Truncated",
+            2 => "Sync",
+            3 => "HeaderSum",
+            4 => "Length",
+            5 => "DataSum",
+            6 => "Body",
+            _ => "Rule",
+        };
+        match info.number {
+            sys::BAD_DIRECTORY => Some(Fault::Directory { block: info.at }),
+            sys::BAD_FILE => Some(Fault::File { offset: info.at, name, rule: (info.fault == 7).then_some(info.rule) }),
+            _ => None,
+        }
+    }
+}
+
+impl fmt::Display for Fault {
+    fn fmt(&self, f: &mut fmt::Formatter) -> fmt::Result {
+        match self {
+            Fault::Directory { block } => write!(f, "block {block} of the directory cannot be taken"),
+            Fault::File { offset, name, rule: Some(rule) } => write!(f, "{offset} {name} {rule}"),
+            Fault::File { offset, name, rule: None } => write!(f, "{offset} {name}"),
+        }
+    }
+}

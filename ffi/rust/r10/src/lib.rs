@@ -7,10 +7,14 @@
 
 mod disk;
 mod error;
+mod parts;
+mod script;
 
 pub use disk::{Disk, Region};
-pub use error::Error;
+pub use error::{Error, Fault};
+pub use parts::Parts;
 pub use r10_sys::r10_civil as Civil;
+pub use script::{Script, ScriptError, check_script};
 
 use r10_sys as sys;
 use std::io;
@@ -116,6 +120,66 @@ pub struct Channel {
     pub waiting: usize,
     pub lost: u64,
     pub erased: u64,
+}
+
+/// What became of a channel's messages, of a recorder that failed too.
+///
+/// Where a disk failed, the recorder's last accounts say how many of its messages were lost: all that were accepted, without
+/// those that erases took and those that are found in its files again. The next recorder is given that number.
+///
+/// ```
+/// # use r10::{ALL_COUNTS, Civil, Error, Gap, Message, Recorder, Region, Run};
+/// # const SCRIPT: &str = "blocks = 64\ndirectory = 2\nvolume = \"VOL\"\nnodes = 100\ntime = 1\nevent = 2\n\
+/// # [[channel]]\nid = 3\nkind = \"uart\"\ncapacity = 8\ncheck = 0\nbytes = 4096\nnumber = 100\n";
+/// # const CIVIL: Civil = Civil { year: 2024, month: 2, day: 29, hour: 12, minute: 0, second: 0, centi: 0 };
+/// # fn offer(recorder: &mut Recorder, count: u64) -> Result<(), Error> {
+/// #     recorder.offer(3, count, Message::Uart { parity: false, sub: 0, bytes: b"message" })
+/// # }
+/// # fn main() -> Result<(), Error> {
+/// let mut recorder = Recorder::format(Region::memory(64), 4, SCRIPT).map_err(|(error, _)| error)?;
+/// # recorder.mount()?;
+/// # recorder.tick(1000, &CIVIL)?;
+/// # recorder.start("FLT1", b"")?;
+/// offer(&mut recorder, 1001)?;
+/// recorder.pump(3, 1)?;
+/// recorder.commit()?;
+/// offer(&mut recorder, 1002)?;
+/// recorder.pump(3, 1)?;
+/// offer(&mut recorder, 1003)?;
+/// recorder.disk_failed()?;
+/// assert_eq!(recorder.commit(), Err(Error::MEDIUM));
+///
+/// let account = recorder.account(3)?.ok_or(Error::NO_CHANNEL)?;
+/// assert_eq!((account.accepted, account.erased, account.waiting), (3, 0, 1));
+///
+/// let mut next = Recorder::open(recorder.close(), 4, SCRIPT).map_err(|(error, _)| error)?;
+/// # next.mount()?;
+/// # next.tick(2000, &CIVIL)?;
+/// next.seal()?;
+/// let cursor = next.cursor(0, &[3], ALL_COUNTS)?;
+/// let found = next.advance(cursor)? as u64;
+/// next.lose(3, account.accepted - account.erased - found)?;
+/// # next.start("FLT2", b"")?;
+/// offer(&mut next, 2001)?;
+/// # next.pump(3, 1)?;
+/// # next.stop()?;
+/// # let cursor = next.cursor(1, &[3], ALL_COUNTS)?;
+/// # next.advance(cursor)?;
+/// # assert_eq!(next.next(cursor)?.map(|entry| entry.gap), Some(Gap::Lost(2)));
+/// # Ok(())
+/// # }
+/// ```
+#[derive(Clone, Copy, Debug, PartialEq, Eq)]
+pub struct Account {
+    pub id: u16,
+    /// the messages that its lane accepted since the recorder was opened
+    pub accepted: u64,
+    /// of these, those that erases took
+    pub erased: u64,
+    /// the messages that were refused for an overflow, or lost before they were offered
+    pub lost: u64,
+    /// of those that were accepted, the ones in its lane
+    pub waiting: usize,
 }
 
 /// How many operations wait.
@@ -304,6 +368,13 @@ impl Recorder {
         answer(unsafe { sys::r10_erase(&mut self.raw) })
     }
 
+    /// What the last [`Error::BAD_DIRECTORY`] or [`Error::BAD_FILE`] was about, if one was answered.
+    pub fn fault(&mut self) -> Result<Option<Fault>, Error> {
+        let mut info = sys::r10_fault_info::default();
+        answer(unsafe { sys::r10_fault(&mut self.raw, &mut info) })?;
+        Ok(Fault::of(&info))
+    }
+
     /// The files of the medium.
     pub fn files(&mut self) -> Result<Vec<File>, Error> {
         let mut count = 0;
@@ -349,6 +420,24 @@ impl Recorder {
         Ok(None)
     }
 
+    /// The account of the channel at this place of the settings, in every mode.
+    pub fn account_at(&mut self, place: usize) -> Result<Account, Error> {
+        let mut info = sys::r10_account_info::default();
+        answer(unsafe { sys::r10_account(&mut self.raw, place, &mut info) })?;
+        Ok(Account { id: info.channel, accepted: info.accepted, erased: info.erased, lost: info.lost, waiting: info.waiting })
+    }
+
+    /// The account of the channel of this ID, if there is one.
+    pub fn account(&mut self, id: u16) -> Result<Option<Account>, Error> {
+        for place in 0..self.status()?.channels {
+            let account = self.account_at(place)?;
+            if account.id == id {
+                return Ok(Some(account));
+            }
+        }
+        Ok(None)
+    }
+
     /// Opens a cursor on a file, for these channels, or all where there are none.
     pub fn cursor(&mut self, file: usize, channels: &[u16], counts: RangeInclusive<u64>) -> Result<Cursor, Error> {
         let mut cursor = 0;
@@ -365,9 +454,16 @@ impl Recorder {
 
     /// Takes the first entry of a cursor's queue.
     pub fn next(&mut self, cursor: Cursor) -> Result<Option<Entry>, Error> {
-        let mut lent = Lent::new();
+        let mut lent = Lent::new(0);
+        answer(unsafe { sys::r10_take(&mut self.raw, cursor.0, &mut lent.there, &mut lent.entry) })?;
+        if !lent.there {
+            return Ok(None);
+        }
+        if matches!(lent.entry.kind, 1 | 5) {
+            lent.bytes = vec![0; lent.entry.length].into_boxed_slice();
+        }
         let (raw, l) = (&mut self.raw, &mut lent);
-        answer(unsafe { sys::r10_next(raw, cursor.0, &mut l.there, &mut l.entry, l.bytes.as_mut_ptr(), l.bytes.len(), l.words.as_mut_ptr(), l.words.len()) })?;
+        answer(unsafe { sys::r10_taken(raw, l.bytes.as_mut_ptr(), l.bytes.len(), l.words.as_mut_ptr(), l.words.len()) })?;
         Ok(lent.entry())
     }
 
@@ -377,7 +473,7 @@ impl Recorder {
 
     /// The first shown entry of a channel with at least this count, and its number on the channel from 0.
     pub fn find(&mut self, file: usize, channel: u16, count: u64) -> Result<Option<(usize, Entry)>, Error> {
-        let (mut lent, mut number) = (Lent::new(), 0);
+        let (mut lent, mut number) = (Lent::new(MOST_BYTES), 0);
         let (raw, l) = (&mut self.raw, &mut lent);
         answer(unsafe {
             sys::r10_find(
@@ -431,8 +527,8 @@ struct Lent {
 }
 
 impl Lent {
-    fn new() -> Lent {
-        Lent { there: false, entry: sys::r10_entry::default(), bytes: vec![0; MOST_BYTES].into_boxed_slice(), words: [0; MOST_WORDS] }
+    fn new(bytes: usize) -> Lent {
+        Lent { there: false, entry: sys::r10_entry::default(), bytes: vec![0; bytes].into_boxed_slice(), words: [0; MOST_WORDS] }
     }
 
     fn entry(self) -> Option<Entry> {

@@ -3,7 +3,7 @@ use Rattle.r10_ffi.proofs.Between.{between}
 use Rattle.r10_ffi.proofs.calls.r10_find.Goals as goal
 
 pub returns-clause-does : goal.returns-clause-does
-returns-clause-does c = λ bytes words is. (c.put.ensures.1, between _ _ _ _ _ _ c.take-held.ensures.taken c.deref_mut.ensures.value c.put.ensures.0 (c.find-answer.ensures.does bytes words, refl))
+returns-clause-does c = λ bytes words is. (c.put.ensures.1, between _ _ _ _ _ _ c.take-held.ensures.taken c.deref_mut.ensures.value c.put.ensures.0 ((c.find-answer.ensures.does bytes words, refl), refl))
 
 pub returns-clause-room : goal.returns-clause-room
-returns-clause-room c = λ small is. let r = c.find-answer.ensures.room small in (c.put.ensures.1, between _ _ _ _ _ _ c.take-held.ensures.taken c.deref_mut.ensures.value c.put.ensures.0 (r.0, r.1, refl, r.2, r.3))
+returns-clause-room c = λ small is. let r = c.find-answer.ensures.room small in (c.put.ensures.1, between _ _ _ _ _ _ c.take-held.ensures.taken c.deref_mut.ensures.value c.put.ensures.0 ((r.0, r.1, refl, r.2, r.3), refl))

@@ -12,5 +12,6 @@ returns-in-Ok-new-clause-opens c zero = (
     room_is = c.in-Ok.ensures.room.0;
     places = c.in-Ok.ensures.room.1;
     opens = c.in-Ok-open.ensures.opens;
+    accepted = c.in-Ok-open.ensures.accepted;
   }),
 )

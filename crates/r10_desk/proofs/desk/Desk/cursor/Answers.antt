@@ -3,4 +3,4 @@ use Rattle.r10_desk.proofs.Telling.{refused}
 use Rattle.r10_desk.proofs.desk.Desk.cursor.Goals as goal
 
 pub returns-in_default : goal.returns-in_default
-returns-in_default g c = refused g.M.BlockMedium.disk c.args.self.now.world _ _ (refl, refl)
+returns-in_default g c = refused g.M.BlockMedium.disk c.args.self.now _ _ (refl, refl)

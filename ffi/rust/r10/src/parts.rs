@@ -1,0 +1,50 @@
+//! A long file in parts.
+use crate::{Cursor, Error, Recorder};
+use std::ops::RangeInclusive;
+
+/// One second.
+const FIRST: u64 = 10_000_000;
+
+/// A reader of a long file, part by part: so it takes little memory. Of a file that does not grow, the parts one after the other are
+/// what one cursor gives at once. Of a file that is recorded, what is shown later with a count that was read already is not given.
+#[derive(Clone, Debug)]
+pub struct Parts {
+    file: usize,
+    channels: Vec<u16>,
+    from: u64,
+    to: u64,
+    span: u64,
+    most: usize,
+}
+
+impl Parts {
+    /// Of a file, for these channels, or all where there are none. A part has at most so many entries, or those of one count.
+    pub fn new(file: usize, channels: &[u16], counts: RangeInclusive<u64>, most: usize) -> Parts {
+        Parts { file, channels: channels.to_vec(), from: *counts.start(), to: *counts.end(), span: FIRST, most }
+    }
+
+    /// A cursor that has the next part in its queue, and how many entries that is; none where all is read. Its caller closes it.
+    pub fn next(&mut self, recorder: &mut Recorder) -> Result<Option<(Cursor, usize)>, Error> {
+        let mut span = self.span;
+        while self.from <= self.to {
+            let last = if self.to - self.from < span { self.to } else { self.from + (span - 1) };
+            let cursor = recorder.cursor(self.file, &self.channels, self.from..=last)?;
+            let queued = match recorder.advance(cursor) {
+                Ok(queued) => queued,
+                Err(error) => {
+                    recorder.close_cursor(cursor)?;
+                    return Err(error);
+                }
+            };
+            if queued > self.most && last > self.from {
+                recorder.close_cursor(cursor)?;
+                span = (last - self.from).div_ceil(2);
+                continue;
+            }
+            self.from = last + 1;
+            self.span = if queued > self.most / 4 { span } else { span.saturating_mul(2) };
+            return Ok(Some((cursor, queued)));
+        }
+        Ok(None)
+    }
+}

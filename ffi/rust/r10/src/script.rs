@@ -1,0 +1,51 @@
+//! What a script says, before a recorder is opened by it.
+use crate::Error;
+use r10_sys as sys;
+use std::fmt;
+
+/// What a script says of its medium.
+#[derive(Clone, Copy, Debug, PartialEq, Eq)]
+pub struct Script {
+    pub blocks: usize,
+    /// how many of the blocks are reserved for the directory
+    pub directory: usize,
+    pub channels: usize,
+}
+
+/// Why a script cannot be taken.
+#[derive(Clone, Debug, PartialEq, Eq)]
+pub struct ScriptError {
+    /// the number: [`Error::SCRIPT`], or [`Error::NO_MEMORY`], which says nothing of the script
+    pub error: Error,
+    /// the line that is wrong, from 1, where it is known
+    pub line: Option<usize>,
+    /// what is wrong there, as the program `r10` prints it
+    pub text: String,
+}
+
+impl fmt::Display for ScriptError {
+    fn fmt(&self, f: &mut fmt::Formatter) -> fmt::Result {
+        if self.text.is_empty() { self.error.fmt(f) } else { f.write_str(&self.text) }
+    }
+}
+
+impl std::error::Error for ScriptError {}
+
+/// What a script says of its medium, or what is wrong with it.
+pub fn check_script(script: &str) -> Result<Script, ScriptError> {
+    let mut text = vec![0; 64];
+    loop {
+        let mut info = sys::r10_script_info::default();
+        let number = unsafe { sys::r10_check_script(script.as_ptr(), script.len(), &mut info, text.as_mut_ptr(), text.len()) };
+        if number == sys::OK {
+            return Ok(Script { blocks: info.blocks, directory: info.directory, channels: info.channels });
+        }
+        if info.length > text.len() {
+            text.resize(info.length, 0);
+            continue;
+        }
+        text.truncate(info.length);
+        let text = String::from_utf8_lossy(&text).into_owned();
+        return Err(ScriptError { error: Error::new(number), line: (info.line > 0).then_some(info.line), text });
+    }
+}
