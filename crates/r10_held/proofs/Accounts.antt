@@ -12,7 +12,7 @@ use Rattle.r10_body.specs.declared.spec.ChannelSpec.{ChannelSpec}
 use Rattle.r10_control.specs.Taking.{entry_on, entries_on, Part, TookAll, entries_of, samples_on}
 use Rattle.r10_machine.specs.Machine.{saturated}
 use Rattle.r10_means.specs.Grown.{AreGrown}
-use Rattle.r10_held.specs.Account.{ChannelAccount, ChannelAccounts}
+use Rattle.r10_held.specs.Account.{ChannelAccount, ChannelAccounts, ChannelBound, ChannelBounds}
 
 -- ---- what was taken, on one channel
 
@@ -76,7 +76,49 @@ module _ {L : Type 0} (took : L → List Sample → L → Type 0) (spec_of : L �
   all_take own parts (spec ∷ specs) (t ∷ taken) (u ∷ grown) (e ∷ erased) [] later counts gave was = absurd was
   all_take own parts (spec ∷ specs) (t ∷ taken) (u ∷ grown) (e ∷ erased) (o ∷ lanes) [] counts gave was = absurd gave
 
+  -- within what was received the numbers stay, whatever more is received
+  one_stays_within : (parts : List Part) (spec : ChannelSpec) (t e : ℕ) (o p : L) → took o (samples_on (spec_of o).id parts) p → ChannelBound spec_of received_of spec t e o → ChannelBound spec_of received_of spec t e p
+  one_stays_within parts spec t e o p taken was =
+      let gave = gives o p (samples_on (spec_of o).id parts) taken in
+      let longer : length (received_of p) ≡ length (received_of o) + length (samples_on (spec_of o).id parts) = ap (λ (l : List Sample). length l) gave.1 ∙ length-append (received_of o) (samples_on (spec_of o).id parts) in record {
+        spec_is = gave.0 ∙ was.spec_is;
+        erased_within = was.erased_within;
+        taken_within = omega (arith, was.taken_within, longer);
+      }
+
+  pub all_stay_within : (parts : List Part) (specs : List ChannelSpec) (taken erased : List ℕ) (lanes later : List L) → TookAll took spec_of parts lanes later → ChannelBounds spec_of received_of specs taken erased lanes
+      → ChannelBounds spec_of received_of specs taken erased later
+  all_stay_within parts [] [] [] [] [] gave was = tt
+  all_stay_within parts (spec ∷ specs) (t ∷ taken) (e ∷ erased) (o ∷ lanes) (p ∷ later) gave was = (one_stays_within parts spec t e o p gave.0 was.0, all_stay_within parts specs taken erased lanes later gave.1 was.1)
+  all_stay_within parts [] [] [] [] (p ∷ later) gave was = absurd gave
+  all_stay_within parts [] [] [] (o ∷ lanes) later gave was = absurd was
+  all_stay_within parts [] [] (e ∷ erased) lanes later gave was = absurd was
+  all_stay_within parts [] (t ∷ taken) erased lanes later gave was = absurd was
+  all_stay_within parts (spec ∷ specs) [] erased lanes later gave was = absurd was
+  all_stay_within parts (spec ∷ specs) (t ∷ taken) [] lanes later gave was = absurd was
+  all_stay_within parts (spec ∷ specs) (t ∷ taken) (e ∷ erased) [] later gave was = absurd was
+  all_stay_within parts (spec ∷ specs) (t ∷ taken) (e ∷ erased) (o ∷ lanes) [] gave was = absurd gave
+
 module _ {L : Type 0} (spec_of : L → ChannelSpec) (received_of : L → List Sample) where
+  -- the numbers of an account are within what was received
+  one_within : (own : List Entry) (spec : ChannelSpec) (t e : ℕ) (o : L) → ChannelAccount spec_of received_of own spec t e o → ChannelBound spec_of received_of spec t e o
+  one_within own spec t e o was =
+      let all : length (received_of o) ≡ length was.gone + length was.filed = ap (λ (l : List Sample). length l) was.received_is ∙ length-append was.gone was.filed in record {
+        spec_is = was.spec_is;
+        erased_within = omega (arith, was.erased_is, was.taken_is);
+        taken_within = omega (arith, was.taken_is, all);
+      }
+
+  pub all_within : (own : List Entry) (specs : List ChannelSpec) (taken erased : List ℕ) (lanes : List L) → ChannelAccounts spec_of received_of own specs taken erased lanes → ChannelBounds spec_of received_of specs taken erased lanes
+  all_within own [] [] [] [] was = tt
+  all_within own (spec ∷ specs) (t ∷ taken) (e ∷ erased) (o ∷ lanes) was = (one_within own spec t e o was.0, all_within own specs taken erased lanes was.1)
+  all_within own [] [] [] (o ∷ lanes) was = absurd was
+  all_within own [] [] (e ∷ erased) lanes was = absurd was
+  all_within own [] (t ∷ taken) erased lanes was = absurd was
+  all_within own (spec ∷ specs) [] erased lanes was = absurd was
+  all_within own (spec ∷ specs) (t ∷ taken) [] lanes was = absurd was
+  all_within own (spec ∷ specs) (t ∷ taken) (e ∷ erased) [] was = absurd was
+
   -- where nothing was taken in, the numbers grew by nothing
   pub none_grown : (own : List Entry) (specs : List ChannelSpec) (taken erased : List ℕ) (lanes : List L) → ChannelAccounts spec_of received_of own specs taken erased lanes → AreGrown [] specs taken taken
   none_grown own [] [] [] [] was = tt

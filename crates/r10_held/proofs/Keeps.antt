@@ -25,11 +25,11 @@ use Rattle.r10_means.specs.Grown.{AreGrown}
 use Rattle.r10_means.specs.Kept.{Kept, Work, unmounted, idle, recording, failed}
 use Rattle.r10_medium.specs.Disk.{Disk, Image, Unchanged}
 use Rattle.r10_port.specs.Ends.{Receiving, TookReceived}
-use Rattle.r10_held.specs.Account.{Accounted, ChannelAccounts}
+use Rattle.r10_held.specs.Account.{Accounted, ChannelAccounts, ChannelBounds, IsAccounted, IsBounded}
 use Rattle.r10_held.specs.LockFact.{LanesAccounted, LockFact, outlet_received, outlet_spec}
 use Rattle.r10_held.specs.Naming.{AreNamed, ChannelRing, ring_for}
 use Rattle.r10_held.specs.Publishing.{LastIsShown, next_triple, triple_of}
-use Rattle.r10_held.proofs.Accounts.{all_erased, all_stay, all_take, none_grown, nothing_in}
+use Rattle.r10_held.proofs.Accounts.{all_erased, all_stay, all_stay_within, all_take, all_within, none_grown, nothing_in}
 use Rattle.r10_held.proofs.Leavings.{FailedOrSettles, KeepsNumbers, SameOrFailed, Settles, TellsStill, answered, call_tells, commit_left, erase_turns, open_tells, pump_refused, pump_tells, refused_left, settles_so, start_left, stop_refused, tells_after, where_done, where_refused, works}
 use Rattle.r10_gauge.proofs.Steps.{last_triple_push as last_behind}
 
@@ -42,18 +42,25 @@ module _ {M L : Type 0} (disk : M → Disk) (spec_of : L → ChannelSpec) (recei
   abbrev After : Type 0
   After = Accounted disk spec_of received_of new
 
+  -- the numbers are within what was received, whether the recorder failed before or not
+  within : Before → ChannelBounds spec_of received_of old.kept.config.channels old.kept.taken old.kept.erased old.lanes
+  within was = ⊎_elim (λ bounded. bounded.each) (λ accounted. all_within spec_of received_of accounted.own old.kept.config.channels old.kept.taken old.kept.erased old.lanes accounted.each) was
+
+  fails_within : KeepsNumbers old.kept new.kept → new.lanes ≡ old.lanes → new.kept.config ≡ old.kept.config → Before → new.kept.work ≡ failed → After
+  fails_within keeps lanes config was fails = inl (record { fails = fails; each = rw (config, keeps.numbers.0, keeps.numbers.1, lanes) (within was) })
+
   -- a call that takes nothing from lanes
   pub stays_accounted : KeepsNumbers old.kept new.kept → OwnStay old.kept (disk old.medium).blocks new.kept (disk new.medium).blocks → new.lanes ≡ old.lanes → new.kept.config ≡ old.kept.config → Before → After
-  stays_accounted keeps owned lanes config was = ⊎_elim (λ before. inl (keeps.fails before)) (λ accounted. ⊎_elim (λ fails. inl fails) (λ same. ⊎_elim (λ fails. inl fails) (λ grow. inr (record {
+  stays_accounted keeps owned lanes config was = ⊎_elim (λ bounded. fails_within keeps lanes config was (keeps.fails bounded.fails)) (λ accounted. ⊎_elim (λ fails. fails_within keeps lanes config was fails) (λ grow. inr (record {
     own = accounted.own ++ owned.more;
     is_own = grow accounted.own accounted.is_own;
-    each = rw (config, same.0, same.1, lanes) (all_stay spec_of received_of accounted.own owned.more old.kept.config.channels old.kept.taken old.kept.erased old.lanes owned.others accounted.each);
-  })) owned.own) keeps.numbers) was
+    each = rw (config, keeps.numbers.0, keeps.numbers.1, lanes) (all_stay spec_of received_of accounted.own owned.more old.kept.config.channels old.kept.taken old.kept.erased old.lanes owned.others accounted.each);
+  })) owned.own) was
 
   -- an erase that answered Ok
   erased_accounted : (new.kept.taken ≡ old.kept.taken) × (new.kept.erased ≡ old.kept.taken) → AreOwn new.kept.work (disk new.medium).blocks [] → (old.kept.work ≡ failed → ⊥) → new.lanes ≡ old.lanes → new.kept.config ≡ old.kept.config
       → Before → After
-  erased_accounted turned owned able lanes config was = ⊎_elim (λ before. absurd (able before)) (λ accounted. inr (record {
+  erased_accounted turned owned able lanes config was = ⊎_elim (λ bounded. absurd (able bounded.fails)) (λ accounted. inr (record {
     own = [];
     is_own = owned;
     each = rw (config, turned.0, turned.1, lanes) (all_erased spec_of received_of accounted.own old.kept.config.channels old.kept.taken old.kept.erased old.lanes accounted.each);
@@ -71,12 +78,23 @@ module _ {M L : Type 0} (disk : M → Disk) (spec_of : L → ChannelSpec) (recei
   module _ (took : L → List Sample → L → Type 0) (gives : (a b : L) (xs : List Sample) → took a xs b → (spec_of b ≡ spec_of a) × (received_of b ≡ received_of a ++ xs)) where
     taken_accounted : (parts : List Part) → TookAll took spec_of parts old.lanes new.lanes → new.kept.erased ≡ old.kept.erased → OwnGrow old.kept (disk old.medium).blocks new.kept (disk new.medium).blocks (entries_of parts)
         → new.kept.config ≡ old.kept.config → ((own : List Entry) → ChannelAccounts spec_of received_of own old.kept.config.channels old.kept.taken old.kept.erased old.lanes → AreGrown (entries_of parts) old.kept.config.channels old.kept.taken new.kept.taken)
-        → (old.kept.work ≡ failed → new.kept.work ≡ failed) → Before → After
-    taken_accounted parts gave erased owned config counts fails was = ⊎_elim (λ before. inl (fails before)) (λ accounted. ⊎_elim (λ now. inl now) (λ grow. inr (record {
-      own = accounted.own ++ entries_of parts;
-      is_own = grow accounted.own accounted.is_own;
-      each = rw (config, erased) (all_take took spec_of received_of gives accounted.own parts old.kept.config.channels old.kept.taken new.kept.taken old.kept.erased old.lanes new.lanes (counts accounted.own accounted.each) gave accounted.each);
-    })) owned) was
+        → (old.kept.work ≡ failed → (new.kept.work ≡ failed) × (new.kept.taken ≡ old.kept.taken)) → Before → After
+    taken_accounted parts gave erased owned config counts fails was = ⊎_elim
+        (λ (bounded : IsBounded spec_of received_of old). let still = fails bounded.fails in inl (record {
+          fails = still.0;
+          each = rw (config, still.1, erased) (all_stay_within took spec_of received_of gives parts old.kept.config.channels old.kept.taken old.kept.erased old.lanes new.lanes gave bounded.each);
+        }))
+        (λ (accounted : IsAccounted disk spec_of received_of old).
+        let each : ChannelAccounts spec_of received_of (accounted.own ++ entries_of parts) old.kept.config.channels new.kept.taken old.kept.erased new.lanes =
+        all_take took spec_of received_of gives accounted.own parts old.kept.config.channels old.kept.taken new.kept.taken old.kept.erased old.lanes new.lanes (counts accounted.own accounted.each) gave accounted.each in
+        ⊎_elim
+        (λ now. inl (record {
+          fails = now;
+          each = rw (config, erased) (all_within spec_of received_of (accounted.own ++ entries_of parts) old.kept.config.channels new.kept.taken old.kept.erased new.lanes each);
+        }))
+        (λ grow. inr (record { own = accounted.own ++ entries_of parts; is_own = grow accounted.own accounted.is_own; each = rw (config, erased) each }))
+        owned)
+        was
 
     pub takes_account : {T : Type 0} (quiet : L → Option (List Sample)) (order : List ℕ) (most : ℕ → ℕ) (says : T → List Part → Type 0) (bare : Result T Refusal → Type 0) (before now : ℕ) (event : EventValue) (reply : T → ReplyValue) (result : Result T Refusal)
         → StepsByTaking took quiet spec_of order most says bare old.kept (disk old.medium).blocks before event reply result new.kept (disk new.medium).blocks now old.lanes new.lanes
@@ -84,20 +102,27 @@ module _ {M L : Type 0} (disk : M → Disk) (spec_of : L → ChannelSpec) (recei
     takes_account quiet order most says bare before now event reply (Ok v) takes able left config was =
         taken_accounted takes.parts takes.taken (ap (λ (k : Kept). k.erased) takes.numbers) takes.own config (λ own each. takes.counts) (λ fails. absurd (able fails)) was
     takes_account quiet order most says bare before now event reply (Err r) takes able left config was =
-        ⊎_elim (λ fails. inl fails)
-        (λ settles. ⊎_elim (λ fails. inl fails)
-        (λ same. ⊎_elim (λ failing. absurd (settles.1 failing))
+        ⊎_elim
+        (λ fails.
+        let stays : new.kept.taken ≡ old.kept.taken = ap (λ (k : Kept). k.taken) fails in
+        let gone : new.kept.erased ≡ old.kept.erased = ap (λ (k : Kept). k.erased) fails in
+        inl (record {
+          fails = ap (λ (k : Kept). k.work) fails;
+          each = rw (config, stays, gone)
+              (all_stay_within took spec_of received_of gives takes.parts old.kept.config.channels old.kept.taken old.kept.erased old.lanes new.lanes takes.taken (within was));
+        }))
+        (λ settles. let same = settles.0.numbers.numbers in
+        ⊎_elim (λ failing. absurd (settles.1 failing))
         (λ none. taken_accounted takes.parts takes.taken same.1 takes.own config
-        (λ own each. rw (nothing_in takes.parts none, same.0) (none_grown spec_of received_of own old.kept.config.channels old.kept.taken old.kept.erased old.lanes each)) settles.0.numbers.fails was)
+        (λ own each. rw (nothing_in takes.parts none, same.0) (none_grown spec_of received_of own old.kept.config.channels old.kept.taken old.kept.erased old.lanes each)) (λ fails. (settles.0.numbers.fails fails, same.0)) was)
         takes.none)
-        settles.0.numbers.numbers)
         left
 
     -- a call that looks at lanes alone
     pub looks_accounted : TookAll took spec_of [] old.lanes new.lanes → new.kept ≡ old.kept → new.medium ≡ old.medium → Before → After
     looks_accounted gave kept medium was =
         taken_accounted [] gave (ap (λ (k : Kept). k.erased) kept) (inr (λ own is. let more : own ++ entries_of [] ≡ own = append-nil own in rw (kept, medium, more) is)) (ap (λ (k : Kept). k.config) kept)
-        (λ own each. rw kept (none_grown spec_of received_of own old.kept.config.channels old.kept.taken old.kept.erased old.lanes each)) (λ fails. ap (λ (k : Kept). k.work) kept ∙ fails) was
+        (λ own each. rw kept (none_grown spec_of received_of own old.kept.config.channels old.kept.taken old.kept.erased old.lanes each)) (λ fails. (ap (λ (k : Kept). k.work) kept ∙ fails, ap (λ (k : Kept). k.taken) kept)) was
 
 -- ---- a call that only read
 

@@ -45,9 +45,9 @@ same_still failed (recording made p) is = cc
 
 -- ---- what is kept
 
--- the recorder failed, or the channels' numbers stay; and one that failed has failed then
+-- the channels' numbers stay, and a recorder that failed has failed then
 pub record KeepsNumbers (k later : Kept) : Type 0 where
-  pub numbers : (later.work ≡ failed) ⊎ ((later.taken ≡ k.taken) × (later.erased ≡ k.erased))
+  pub numbers : (later.taken ≡ k.taken) × (later.erased ≡ k.erased)
   pub fails : k.work ≡ failed → later.work ≡ failed
 
 -- and the same is told of the file that is recorded
@@ -63,10 +63,10 @@ abbrev pub SameOrFailed : Kept → Kept → Type 0
 SameOrFailed k later = (later ≡ k) ⊎ (later ≡ record k { work = failed })
 
 settles_same : (k later : Kept) → later ≡ k → Settles k later
-settles_same k later is = subst (Settles k) (sym is) (record { numbers = record { numbers = inr (refl, refl); fails = λ fails. fails }; tells = still k.work })
+settles_same k later is = subst (Settles k) (sym is) (record { numbers = record { numbers = (refl, refl); fails = λ fails. fails }; tells = still k.work })
 
 settles_failed : (k later : Kept) → later ≡ record k { work = failed } → Settles k later
-settles_failed k later is = subst (Settles k) (sym is) (record { numbers = record { numbers = inl refl; fails = λ fails. refl }; tells = tt })
+settles_failed k later is = subst (Settles k) (sym is) (record { numbers = record { numbers = (refl, refl); fails = λ fails. refl }; tells = tt })
 
 pub settles_so : (k later : Kept) → SameOrFailed k later → Settles k later
 settles_so k later is = ⊎_elim (settles_same k later) (settles_failed k later) is
@@ -79,7 +79,7 @@ failed_still (recording chain o) later is fails = cc
 
 settles_asked : (k later : Kept) → IsSameKept k later → Settles k later
 settles_asked k later is = record {
-  numbers = record { numbers = inr (ap (λ (x : Kept). x.taken) is.0, ap (λ (x : Kept). x.erased) is.0); fails = failed_still k.work later.work is.1 };
+  numbers = record { numbers = (ap (λ (x : Kept). x.taken) is.0, ap (λ (x : Kept). x.erased) is.0); fails = failed_still k.work later.work is.1 };
   tells = same_still k.work later.work is.1;
 }
 
@@ -156,9 +156,9 @@ open_settles disk None lacks k later medium medium' (refusals.Behind seen) is = 
 open_settles disk None lacks k later medium medium' refusals.Medium is = settles_failed k later is.2
 open_settles disk None lacks k later medium medium' refusals.OutOfMemory is = settles_asked k later is.1
 
--- the recorder failed, or the medium did not fail in this call
+-- the recorder failed and nothing else changed, or the medium did not fail in this call
 abbrev pub FailedOrSettles : Kept → Kept → Refusal → Type 0
-FailedOrSettles k later r = (later.work ≡ failed) ⊎ (Settles k later × (r ≡ refusals.Medium → ⊥))
+FailedOrSettles k later r = (later ≡ record k { work = failed }) ⊎ (Settles k later × (r ≡ refusals.Medium → ⊥))
 
 pub readied_left : {M : Type 0} (disk : M → Disk) (first : Option Refusal) (lacks : Refusal → Type 0) (k later : Kept) (medium medium' : M) (r : Refusal) → (first ≡ Some refusals.Medium → ⊥) → RefusesReadied disk first lacks k later medium medium' r → FailedOrSettles k later r
 readied_left disk (Some first) lacks k later medium medium' r never is = inr (settles_same k later is.1, λ fails. never (ap (λ (x : Refusal). Some x) (sym is.0 ∙ fails)))
@@ -189,7 +189,7 @@ readied_left disk None lacks k later medium medium' refusals.MediumFull never is
 readied_left disk None lacks k later medium medium' (refusals.BadDirectory n) never is = inr (settles_asked k later is.1, λ fails. cc)
 readied_left disk None lacks k later medium medium' (refusals.BadFile at fault) never is = inr (settles_asked k later is.1, λ fails. cc)
 readied_left disk None lacks k later medium medium' (refusals.Behind seen) never is = inr (settles_asked k later is.1, λ fails. cc)
-readied_left disk None lacks k later medium medium' refusals.Medium never is = inl (ap (λ (x : Kept). x.work) is.1)
+readied_left disk None lacks k later medium medium' refusals.Medium never is = inl is.1
 readied_left disk None lacks k later medium medium' refusals.OutOfMemory never is = inr (settles_asked k later is.0, λ fails. cc)
 
 -- ---- effects
@@ -207,14 +207,14 @@ where_recording (recording chain o) holds is then = then chain o refl is
 where_recording failed holds is then = absurd is
 
 pub mount_settles : (k later : Kept) (old new : Disk) → (k.work ≡ failed → ⊥) → MountEffect k old later new → Settles k later
-mount_settles k later old new able is = subst (Settles k) (sym is.effect.kept) (record { numbers = record { numbers = inr (refl, refl); fails = λ fails. absurd (able fails) }; tells = tt })
+mount_settles k later old new able is = subst (Settles k) (sym is.effect.kept) (record { numbers = record { numbers = (refl, refl); fails = λ fails. absurd (able fails) }; tells = tt })
 
 pub dismount_settles : (k later : Kept) (old new : Disk) → (k.work ≡ failed → ⊥) → DismountEffect k old later new → Settles k later
-dismount_settles k later old new able is = where_idle k.work _ is (λ chain at effect. subst (Settles k) (sym effect.kept) (record { numbers = record { numbers = inr (refl, refl); fails = λ fails. absurd (able fails) }; tells = tt }))
+dismount_settles k later old new able is = where_idle k.work _ is (λ chain at effect. subst (Settles k) (sym effect.kept) (record { numbers = record { numbers = (refl, refl); fails = λ fails. absurd (able fails) }; tells = tt }))
 
 tick_settles_at : (work now : Work) (tick : Tick) (k later : Kept) (old new : Disk) → (k.work ≡ failed → ⊥) → k.work ≡ work → TickEffectIn work now tick k old later new → Settles k later
-tick_settles_at (idle chain) now tick k later old new able at is = subst (Settles k) (sym is.kept) (record { numbers = record { numbers = inr (refl, refl); fails = λ fails. absurd (able fails) }; tells = still k.work })
-tick_settles_at (recording chain o) (recording made p) tick k later old new able at is = subst (Settles k) (sym is.effect.kept) (record { numbers = record { numbers = inr (refl, refl); fails = λ fails. absurd (able fails) }; tells = subst (TellsStill (recording chain p)) (sym at) refl })
+tick_settles_at (idle chain) now tick k later old new able at is = subst (Settles k) (sym is.kept) (record { numbers = record { numbers = (refl, refl); fails = λ fails. absurd (able fails) }; tells = still k.work })
+tick_settles_at (recording chain o) (recording made p) tick k later old new able at is = subst (Settles k) (sym is.effect.kept) (record { numbers = record { numbers = (refl, refl); fails = λ fails. absurd (able fails) }; tells = subst (TellsStill (recording chain p)) (sym at) refl })
 tick_settles_at unmounted now tick k later old new able at is = absurd is
 tick_settles_at failed now tick k later old new able at is = absurd is
 tick_settles_at (recording chain o) unmounted tick k later old new able at is = absurd is
@@ -227,7 +227,7 @@ tick_settles tick k later old new able is = tick_settles_at k.work later.work ti
 pub event_settles : (number count : ℕ) (k later : Kept) (old new : Disk) → (k.work ≡ failed → ⊥) → EventEffect number count k old later new → Settles k later
 event_settles number count k later old new able is = where_recording k.work _ is
     (λ chain o at there. where_recording later.work _ there
-    (λ made p then effect. subst (Settles k) (sym effect.effect.kept) (record { numbers = record { numbers = inr (refl, refl); fails = λ fails. absurd (able fails) }; tells = subst (TellsStill (recording chain p)) (sym at) refl })))
+    (λ made p then effect. subst (Settles k) (sym effect.effect.kept) (record { numbers = record { numbers = (refl, refl); fails = λ fails. absurd (able fails) }; tells = subst (TellsStill (recording chain p)) (sym at) refl })))
 
 seal_tells : (s : Config) (old new : Image) (work later : Work) → IsSealed s old work new later → TellsStill later work
 seal_tells s old new work unmounted is = tt
@@ -239,7 +239,7 @@ seal_tells s old new (recording chain o) (recording made p) is = absurd is
 seal_tells s old new failed (recording made p) is = absurd is
 
 pub seal_settles : (k later : Kept) (old new : Image) → (k.work ≡ failed → ⊥) → IsSealed k.config old k.work new later.work → later ≡ record k { work = later.work } → Settles k later
-seal_settles k later old new able is rest = record { numbers = record { numbers = inr (ap (λ (x : Kept). x.taken) rest, ap (λ (x : Kept). x.erased) rest); fails = λ fails. absurd (able fails) }; tells = seal_tells k.config old new k.work later.work is }
+seal_settles k later old new able is rest = record { numbers = record { numbers = (ap (λ (x : Kept). x.taken) rest, ap (λ (x : Kept). x.erased) rest); fails = λ fails. absurd (able fails) }; tells = seal_tells k.config old new k.work later.work is }
 
 -- of a start and of a commit the channels' numbers stay
 pub start_stays : (name setup : List ℕ) (k later : Kept) (old new : Disk) → StartEffect name setup k old later new → (later.taken ≡ k.taken) × (later.erased ≡ k.erased)
@@ -324,7 +324,7 @@ module _ {M : Type 0} (disk : M → Disk) (lacks : Refusal → Type 0) (k later 
   pub start_left : (name setup : List ℕ) (result : Result (Unit {0}) Refusal) → OnOk result (recorder_refusal k (events.Start name setup) ≡ None) → OnOk result (StartEffect name setup k (disk old) later (disk new))
       → IfErr result (RefusesCall disk (recorder_refusal k (events.Start name setup)) lacks k later old new) → KeepsNumbers k later
   start_left name setup result passed effect refused = answered result (both _ _ result passed effect) refused
-      (λ done. record { numbers = inr (start_stays name setup k later (disk old) (disk new) done.1); fails = λ fails. absurd (works k.work _ done.0 fails) })
+      (λ done. record { numbers = start_stays name setup k later (disk old) (disk new) done.1; fails = λ fails. absurd (works k.work _ done.0 fails) })
       (λ r is. (left_by (recorder_refusal k (events.Start name setup)) r is).numbers)
 
   pub call_tells : (first : Option Refusal) (r : Refusal) → RefusesCall disk first lacks k later old new r → TellsStill later.work k.work
@@ -333,7 +333,7 @@ module _ {M : Type 0} (disk : M → Disk) (lacks : Refusal → Type 0) (k later 
   pub commit_left : (result : Result (Unit {0}) Refusal) → OnOk result (recorder_refusal k events.Commit ≡ None) → OnOk result (CommitEffect k (disk old) later (disk new)) → IfErr result (RefusesOpen disk (recorder_refusal k events.Commit) lacks k later old new)
       → KeepsNumbers k later
   commit_left result passed effect refused = answered result (both _ _ result passed effect) refused
-      (λ done. record { numbers = inr (commit_stays k later (disk old) (disk new) done.1); fails = λ fails. absurd (works k.work _ done.0 fails) })
+      (λ done. record { numbers = commit_stays k later (disk old) (disk new) done.1; fails = λ fails. absurd (works k.work _ done.0 fails) })
       (λ r is. (open_settles disk (recorder_refusal k events.Commit) lacks k later old new r is).numbers)
 
   pub open_tells : (first : Option Refusal) (r : Refusal) → RefusesOpen disk first lacks k later old new r → TellsStill later.work k.work
@@ -347,4 +347,4 @@ module _ {M : Type 0} (disk : M → Disk) (lacks : Refusal → Type 0) (k later 
   stop_refused r is = readied_left disk (recorder_refusal k events.Stop) lacks k later old new r (stop_checks k) is
 
 pub tells_after : (k later : Kept) (r : Refusal) → FailedOrSettles k later r → TellsStill later.work k.work
-tells_after k later r is = ⊎_elim (λ fails. subst (λ (w : Work). TellsStill w k.work) (sym fails) tt) (λ settles. settles.0.tells) is
+tells_after k later r is = ⊎_elim (λ fails. subst (λ (x : Kept). TellsStill x.work k.work) (sym fails) tt) (λ settles. settles.0.tells) is

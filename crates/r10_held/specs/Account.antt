@@ -1,5 +1,5 @@
 -- What is known of a recorder that alone took from its lanes, whatever lanes they are and whatever other files its medium has.
-use Rattle.std.specs.Prelude.{◌≡◌, ◌⊎◌, ℕ, ◌+◌, List, [], ◌∷◌, ◌++◌, length, map, replicate}
+use Rattle.std.specs.Prelude.{◌≡◌, ◌⊎◌, ℕ, ◌+◌, ◌≤◌, List, [], ◌∷◌, ◌++◌, length, map, replicate}
 use Rattle.std.specs.List.{AllByRecursion}
 use Rattle.r10_body.specs.Files.{on_channel}
 use Rattle.r10_body.specs.declared.entry.Entry.{Entry}
@@ -35,9 +35,25 @@ pub record IsAccounted {M L : Type 0} (disk : M → Disk) (spec_of : L → Chann
   pub is_own : AreOwn r.kept.work (disk r.medium).blocks own
   pub each : ChannelAccounts spec_of received_of own r.kept.config.channels r.kept.taken r.kept.erased r.lanes
 
--- unless the recorder failed
+-- A channel's part once the recorder failed: of what its lane received no more was counted as taken in than there is, and of that no more as erased. What the failed call took isn't counted.
+pub record ChannelBound {L : Type 0} (spec_of : L → ChannelSpec) (received_of : L → List Sample) (spec : ChannelSpec) (taken erased : ℕ) (lane : L) : Type 0 where
+  pub spec_is : spec_of lane ≡ spec
+  pub erased_within : erased ≤ taken
+  pub taken_within : taken ≤ length (received_of lane)
+
+abbrev pub ChannelBounds : {L : Type 0} → (L → ChannelSpec) → (L → List Sample) → List ChannelSpec → List ℕ → List ℕ → List L → Type 0
+ChannelBounds spec_of received_of [] [] [] [] = Unit {0}
+ChannelBounds spec_of received_of (spec ∷ specs) (t ∷ taken) (e ∷ erased) (lane ∷ lanes) = ChannelBound spec_of received_of spec t e lane × ChannelBounds spec_of received_of specs taken erased lanes
+ChannelBounds spec_of received_of specs taken erased lanes = ⊥
+
+-- so it is of a recorder that failed
+pub record IsBounded {M L : Type 0} (spec_of : L → ChannelSpec) (received_of : L → List Sample) (r : RecorderState M L) : Type 0 where
+  pub fails : r.kept.work ≡ failed
+  pub each : ChannelBounds spec_of received_of r.kept.config.channels r.kept.taken r.kept.erased r.lanes
+
+-- it is accounted for, or it failed and its numbers are within what was received
 abbrev pub Accounted : {M L : Type 0} → (M → Disk) → (L → ChannelSpec) → (L → List Sample) → RecorderState M L → Type 0
-Accounted disk spec_of received_of r = (r.kept.work ≡ failed) ⊎ IsAccounted disk spec_of received_of r
+Accounted disk spec_of received_of r = IsBounded spec_of received_of r ⊎ IsAccounted disk spec_of received_of r
 
 -- a recorder as it is made, over lanes of which nothing was received
 pub record IsNew {M L : Type 0} (disk : M → Disk) (spec_of : L → ChannelSpec) (received_of : L → List Sample) (r : RecorderState M L) : Type 0 where

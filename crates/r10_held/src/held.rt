@@ -21,7 +21,7 @@ use std::marker::{Model, PhantomData};
 ///
 /// By its type it is known, whatever was called: the recorder's lanes are those of the rings which `N` names for their channels. Unless it
 /// failed, each has received what erases took, and then what the recorder's own files have of the channel, each sample once and in order; and
-/// the numbers that it tells of both are theirs, up to `u64::MAX`. While it records, and once something was published, the last triple tells of
+/// the numbers that it tells of both are theirs, up to `u64::MAX`. If it failed, the numbers are no more than what was received. While it records, and once something was published, the last triple tells of
 /// the file that is recorded.
 ///
 /// The calls of a recorder are on this, each refused as the recorder's.

@@ -10,3 +10,4 @@ pub mod Orders
 pub mod Readings
 pub mod ReadingLaws
 pub mod Settling
+pub mod Failing

@@ -3,6 +3,7 @@
 ghost use Rattle.std.specs.Prelude.{◌≡◌, ◌⊎◌, ◌↔◌, IfErr, IfOk, IsTrue};
 ghost use Rattle.r10_body.specs.declared.refusal.Refusal.TheVariants as refusals;
 ghost use Rattle.r10_means.specs.Kept.{failed};
+ghost use Rattle.r10_shared.specs.Failing.{AreMoved};
 ghost use Rattle.r10_shared.specs.Settling.{AreWrittenDown, IsEndRefusal, Settles, is_failed as told_failed};
 
 use crate::report::SessionReport;
@@ -21,12 +22,51 @@ fn is_failed(refusal: Refusal) -> bool
 }
 
 /// Whether the recorder failed.
-fn has_failed<M: BlockMedium, N: Rings>(held: &Held<M, N>) -> bool
+pub(crate) fn has_failed<M: BlockMedium, N: Rings>(held: &Held<M, N>) -> bool
     ensures { IsTrue result ↔ (held.now.recorder.kept.work ≡ failed) }
 {
     match held.files() {
         Ok(_) => false,
         Err(refusal) => is_failed(refusal),
+    }
+}
+
+/// The recorder out of the lock, and of each feed what was left of its lane, whether the recorder failed or not. Where memory is refused, all
+/// comes back as it was.
+pub(crate) fn settle<M: BlockMedium, N: Rings>(
+    alloc: Global,
+    held: Held<M, N>,
+    session: Session<N>,
+) -> Result<SessionReport<M>, (Held<M, N>, Session<N>)>
+    ensures moved { IfOk result (λ report. AreMoved (λ feed. feed.line) (λ feed. feed.tally) N.rings held.recorder session.feeds.items report.feeds.items) }
+    ensures recorder { IfOk result (λ report. (report.recorder.kept ≡ held.recorder.kept) × (report.recorder.medium ≡ held.recorder.medium)) }
+    ensures transcripts { IfOk result (λ report. AreWrittenDown session.readings.items report.transcripts.items) }
+    ensures refused { IfErr result (λ back. (back.0 ≡ held) × (back.1 ≡ session)) }
+{
+    held.look();
+    let Some(reports) = rooms_for(alloc, &held, session.feeds.as_slice()) else {
+        return Err((held, session));
+    };
+    let Some(transcripts) = transcripts_for(alloc, session.readings.as_slice()) else {
+        return Err((held, session));
+    };
+    match held.apart() {
+        Ok((recorder, outlets)) => {
+            let Session { feeds, readings } = session;
+            let mut outlets = outlets;
+            let mut feeds = feeds;
+            let mut readings = readings;
+            let mut reports = reports;
+            let mut transcripts = transcripts;
+            drain_all(&mut outlets, &mut feeds, &mut reports);
+            hand_over(&mut transcripts, &mut readings);
+            Ok(SessionReport {
+                recorder,
+                feeds: reports,
+                transcripts,
+            })
+        }
+        Err(back) => Err((back, session)),
     }
 }
 
@@ -45,29 +85,9 @@ pub fn end_held<M: BlockMedium, N: Rings>(
     if has_failed(&held) {
         return Err((held, session, Refusal::Failed));
     }
-    let Some(reports) = rooms_for(alloc, &held, session.feeds.as_slice()) else {
-        return Err((held, session, Refusal::OutOfMemory));
-    };
-    let Some(transcripts) = transcripts_for(alloc, session.readings.as_slice()) else {
-        return Err((held, session, Refusal::OutOfMemory));
-    };
-    match held.apart() {
-        Ok((recorder, outlets)) => {
-            let Session { feeds, readings } = session;
-            let mut outlets = outlets;
-            let mut feeds = feeds;
-            let mut readings = readings;
-            let mut reports = reports;
-            let mut transcripts = transcripts;
-            drain_all(&mut outlets, &mut feeds, &mut reports);
-            hand_over(&mut transcripts, &mut readings);
-            Ok(SessionReport {
-                recorder,
-                feeds: reports,
-                transcripts,
-            })
-        }
-        Err(back) => Err((back, session, Refusal::OutOfMemory)),
+    match settle(alloc, held, session) {
+        Ok(report) => Ok(report),
+        Err((held, session)) => Err((held, session, Refusal::OutOfMemory)),
     }
 }
 

@@ -3,6 +3,7 @@
 
 mod desk;
 mod ending;
+mod failing;
 mod feed;
 mod gate;
 mod giving;
@@ -22,6 +23,7 @@ mod working;
 mod writing;
 
 pub use ending::{end_held, end_session};
+pub use failing::{NotEnded, end_failed_held, end_failed_session};
 pub use feed::Feed;
 pub use gate::{Gate, Open};
 pub use giving::{Control, give};

@@ -1,6 +1,6 @@
 //! What became of a session.
 
-ghost use Rattle.std.specs.Prelude.{◌≡◌, ◌↔◌, IfErr, IfOk, IsTrue, None, OnOk};
+ghost use Rattle.std.specs.Prelude.{◌≡◌, ◌↔◌, ◌-◌, IfErr, IfOk, IsTrue, None, OnOk, length};
 ghost use Rattle.r10_control.specs.Reading.{OnlyReads};
 ghost use Rattle.r10_control.specs.Refused.{RefusesCall};
 ghost use Rattle.r10_held.specs.Auditing.{AreAbsentOrRead, IsFirstRefused, audit_refusal};
@@ -13,7 +13,8 @@ use r10_lane::Spent;
 use r10_medium::BlockMedium;
 use std::alloc::Global;
 
-/// What became of the messages of a feed, each number up to `u64::MAX`.
+/// What became of the messages of a feed, each number up to `u64::MAX`. Of a session whose recorder failed, `erased` and `filed` are what the
+/// recorder had counted: what the failed call took is in neither, and what was not committed may be in no file.
 #[derive(Debug, Drop)]
 pub struct FeedReport {
     pub channel: u16,
@@ -27,6 +28,15 @@ pub struct FeedReport {
     pub filed: u64,
     /// The messages that the recorder did not take in, in order.
     pub rest: Vec<Sample>,
+}
+
+impl FeedReport {
+    /// How many messages the recorder took from the feed's lane: all that were sent, but the rest.
+    pub fn taken(&self) -> u64
+        ensures { result ≡ self.now.accepted - length self.now.rest.items }
+    {
+        self.accepted.saturating_sub(self.rest.len() as u64)
+    }
 }
 
 /// What became of a session: the recorder, with lanes that give nothing; of each feed its report; and what the players wrote down.
