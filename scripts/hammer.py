@@ -4,6 +4,7 @@
     scripts/hammer.py [--runs N] [--seed S] [--program P] [--taskset] [--yield] [--only PLACE]
     scripts/hammer.py --threads [--seed S] [--program P]
     scripts/hammer.py --idle [--program P]
+    scripts/hammer.py --images [--runs N] [--seed S] [--program P]
     scripts/hammer.py --gate [--program P]
 
 The first form makes 40 session scripts from the seed, and runs them in turn until there were N runs: one channel, no feed and 32
@@ -17,8 +18,16 @@ behind it, and all; and then it limits memory (ulimit -v) and, where it may run 
 The third form has a feed pause for 20 ms behind each of 150 messages, and asks that the session, whose writer then has nothing to
 do, takes less than a hundredth of a processor.
 
-The fourth form is what the gate runs: 2,000 runs of the first, 400 of them again with yields and 400 on one processor, the second
-and the third.
+The fourth form looks at the media that N sessions leave (`r10 run --image`). Half of them are the scripts of the first form. The
+others have room for all that is offered, in lanes and on the medium, and no order that closes the file; so every schedule files the
+same. Of each image it asks that it has the script's blocks, and a file that the steps began where no order erases; and that
+judge_image.py, written from the rules alone, has the lines of `files`, `play` and `check` over it, with no file that is not strict.
+The entries of a channel have to be messages that its feed offered, in order, and with the losses before them no more than these. Of
+the others they are all of them, as many as `r10 run` says are filed, and the times and the events are those of the steps and the
+orders.
+
+The fifth form is what the gate runs: 2,000 runs of the first, 400 of them again with yields and 400 on one processor, the second,
+the third, and 40 media.
 
 Of each run it asks that it ends within ten seconds, or a minute more where the machine is so busy that a thread of it waits for a
 processor. A run all of whose threads are asleep then hangs. It asks for status 0 where the audit says yes; that of each feed all
@@ -28,7 +37,7 @@ order erases or dismounts. Under a limit a run may end with status 3 and a line 
 and a reader may have ended early. Status 1 where a run is not so.
 
 P is the proved program, crates/r10_cli/out/r10_cli, where none is named. Where it is not there, or no C compiler for
-scripts/hammer.c, a line says what was NOT TRIED.
+scripts/hammer.c, or no Python 3.11 for the media, a line says what was NOT TRIED.
 """
 from __future__ import annotations
 
@@ -46,6 +55,15 @@ import time
 from collections.abc import Callable, Iterator
 from typing import NamedTuple
 
+sys.dont_write_bytecode = True  # a run leaves nothing in the folder of the scripts
+
+import judge_image  # noqa: E402
+
+try:
+    import tomllib
+except ImportError:  # (before Python 3.11)
+    tomllib = None
+
 TOP = pathlib.Path(__file__).resolve().parent.parent
 PROVED = TOP / 'crates' / 'r10_cli' / 'out' / 'r10_cli'
 SECONDS = 10  # in which a run has to end
@@ -55,11 +73,13 @@ MOST_COUNT = 2**48 - 1
 CIVIL = '2024-02-29 12:34:56.78'
 KINDS = ('uart', '1553', 'arinc', 'discrete', 'message')
 SETUP = '41424344'
+TIME, EVENT = 60001, 60002  # their channels, but in the example
 
 
 class Script(NamedTuple):
     """A session script, and what is wanted of it: how many messages each feed offers, which readers read as much as is filed on
-    which channel, and whether the audit may say no."""
+    which channel, whether the audit may say no, and how many entries each channel has at the end, if every schedule comes to the
+    same."""
 
     name: str
     text: str
@@ -68,6 +88,7 @@ class Script(NamedTuple):
     exact: dict[int, int]
     readers: int
     may_say_no: bool
+    entries: dict[int, int] | None = None
 
 
 def table(name: str, /, **keys: object) -> str:
@@ -114,7 +135,7 @@ def order_of(chance: random.Random, number: int) -> tuple[str, str]:
 
 
 def top_of(blocks: int) -> str:
-    return f'blocks = {blocks}\ndirectory = 2\nvolume = "VOL"\nnodes = 100\ntime = 60001\nevent = 60002\n'
+    return f'blocks = {blocks}\ndirectory = 2\nvolume = "VOL"\nnodes = 100\ntime = {TIME}\nevent = {EVENT}\n'
 
 
 def channel(number: int, kind: str, capacity: int, /, **more: int) -> str:
@@ -132,12 +153,12 @@ def idle_script(readers: int) -> Script:
     """One channel, no feed, and so many readers."""
     text = top_of(64) + channel(5, 'uart', 16) + ''.join(beginning()) + readers * table('reader', file=0, channels=[],
                                                                                         **{'from': 0, 'to': MOST_COUNT})
-    return Script(f'no feed, {readers} readers', text, 3, {}, {}, readers, False)
+    return Script(f'no feed, {readers} readers', text, 3, {}, {}, readers, False, {TIME: 1})
 
 
 def example_script() -> Script:
     text = (TOP / 'examples' / 'session.toml').read_text(encoding='utf-8')
-    return Script('examples/session.toml', text, 3, {5: 4, 6: 3}, {0: 5}, 2, False)
+    return Script('examples/session.toml', text, 3, {5: 4, 6: 3}, {0: 5}, 2, False, {5: 4, 6: 3, 1: 1, 2: 1})
 
 
 def crowd_script(feeds: int, readers: int, messages: int = 20) -> Script:
@@ -184,6 +205,26 @@ def any_script(seed: int, place: int) -> Script:
     return Script(f'script {place} of seed {seed}', text, len(steps), feeds, exact, readers, may_say_no)
 
 
+def roomy_script(seed: int, place: int) -> Script:
+    """Any script of this place from a seed whose lanes and medium have room for all, and whose orders close no file."""
+    chance = random.Random(f'{seed} {place}')
+    channels = [(number + 1, chance.choice(KINDS)) for number in range(chance.choice((1, 2, 3, 8, 32)))]
+    text = top_of(6000)
+    for number, kind in channels:
+        text += channel(number, kind, 1000, number=chance.choice((1, 4, 65535)))
+    text += ''.join(beginning())
+    feeds = {}
+    for number, kind in chance.sample(channels, min(len(channels), chance.randrange(1, 9))):
+        feeds[number] = chance.choice((0, 1, 5, 50, 400))
+        text += f'[[feed]]\nchannel = {number}\nitems = {items_of(chance, kind, feeds[number])}\n'
+    orders = [chance.choice(('event', 'tick', 'commit')) for _ in range(chance.choice((0, 1, 3, 8)))]
+    for number, do in enumerate(orders):
+        keys = {'event': {'number': number, 'count': 3000 + number}, 'tick': {'count': 3000 + number, 'civil': CIVIL}, 'commit': {}}
+        text += table('order', do=do, **keys[do])
+    entries = {**feeds, TIME: 1 + orders.count('tick'), EVENT: orders.count('event')}
+    return Script(f'roomy script {place} of seed {seed}', text, 3, feeds, {}, 0, False, entries)
+
+
 def scripts_of(seed: int) -> list[Script]:
     return [idle_script(32), example_script()] + [any_script(seed, place) for place in range(2, SCRIPTS)]
 
@@ -204,6 +245,8 @@ def fault_in(script: Script, output: str, status: int, is_short: bool) -> str:
         said, accepted, refused, erased, filed[number], rest = (int(word) for word in found.groups())
         if said != number or accepted + refused != offered or accepted != erased + filed[number] + rest:
             return f'the account of the feed {number} does not add up'
+        if script.entries is not None and filed[number] != script.entries[number] and not is_short:
+            return f'of the feed {number} {filed[number]} messages are filed, not {script.entries[number]}'
     readers = behind[len(script.feeds):-1]
     if len(readers) != script.readers or not behind:
         return 'not a line for each reader and the audit'
@@ -277,11 +320,15 @@ class Runner:
                 wrong = fault_in(script, output, made.returncode, or_no_memory)
         self.longest = max(self.longest, time.monotonic() - started)
         if wrong:
-            self.wrong += 1
-            kept = self.keep / f'hammer-{os.getpid()}-{self.runs}.toml'
-            kept.write_text(script.text, encoding='utf-8')
-            print(f'hammer: run {self.runs}, {script.name}{where}: {wrong} ({kept})', flush=True)
+            self.keep_script(script, f'{where}: {wrong}')
         return not wrong
+
+    def keep_script(self, script: Script, wrong: str) -> None:
+        """Prints what is wrong, and keeps the script."""
+        self.wrong += 1
+        kept = self.keep / f'hammer-{os.getpid()}-{self.runs}.toml'
+        kept.write_text(script.text, encoding='utf-8')
+        print(f'hammer: run {self.runs}, {script.name}{wrong} ({kept})', flush=True)
 
 
 def threads_of(process: int) -> list[str]:
@@ -384,6 +431,99 @@ def idle(runner: Runner, library: pathlib.Path) -> None:
         print('hammer: an idle session takes a processor')
 
 
+def offered_by(text: str) -> dict[int, list[str]]:
+    """Of each feed of a script what it offers, as `play` prints entries, behind their gap."""
+    script = tomllib.loads(text)
+    kinds = {it['id']: it['kind'] for it in script['channel']}
+    made = {}
+    for feed in script.get('feed', []):
+        kind = kinds[feed['channel']]
+        made[feed['channel']] = lines = []
+        for it in feed['items']:
+            if kind in ('uart', 'message'):
+                values = f'{"0 0" if kind == "message" else "0"} {it.get("sub", 0)} {it["bytes"] or "-"}'
+            elif kind == '1553':
+                values = f'0000 0000 {it["words"] or "-"}'
+            elif kind == 'arinc':
+                values = f'{it["bus"]} 0 0 0 {it["data"]:08x}'
+            else:
+                values = f'{it["states"]:08x}'
+            lines.append(f'{it["count"]} {kind} {values}')
+    return made
+
+
+class Images:
+    """Looks at images with the program's commands and with the judge."""
+
+    def __init__(self, program: pathlib.Path) -> None:
+        self.program = str(program)
+        self.files = self.entries = 0
+
+    def is_printed(self, words: list[str], given: bytes, lines: list[str]) -> bool:
+        """Whether the program prints these lines, with status 0."""
+        done = subprocess.run([self.program, *words], input=given, capture_output=True, check=False)
+        return (done.returncode, done.stdout.decode().splitlines()) == (0, lines)
+
+    def fault_in(self, script: Script, image: bytes) -> str:
+        """What is wrong in the image that a session of the script left, if something is."""
+        if len(image) != 512 * tomllib.loads(script.text)['blocks']:
+            return f'an image of {len(image)} bytes'
+        listed, refused = judge_image.answer(judge_image.files, image)
+        if refused:
+            return f'the judge does not list the files: {listed[0]}'
+        if not self.is_printed(['files'], image, listed):
+            return 'files has other lines than the judge'
+        if not listed and script.steps == 3 and 'do = "erase"' not in script.text:
+            return 'no file'
+        found: dict[int, list[str]] = {}
+        lost: dict[int, int] = {}
+        for number, (entry, verdict) in enumerate(zip(judge_image.listed(image), judge_image.check(image))):
+            lines, refused = judge_image.answer(judge_image.play, image, number)
+            if refused or not self.is_printed(['play', '--file', str(number)], image, lines):
+                return f'file {number}: play has other lines than the judge, whose first is {lines[:1]}'
+            words = verdict.partition(' ')[2]
+            if words != 'strict' or not self.is_printed(['check'], entry.data(image), [words]):
+                return f'file {number}: {words} by the judge, and check does not agree or it is not strict'
+            self.files += 1
+            self.entries += len(lines)
+            for line in lines:
+                _, channel_word, count, gap, message = line.split(' ', 4)
+                found.setdefault(int(channel_word), []).append(f'{count} {message}')
+                lost[int(channel_word)] = lost.get(int(channel_word), 0) + int(gap.rstrip('+'))
+        for number, offered in offered_by(script.text).items():
+            left = iter(offered)
+            if not all(text in left for text in found.get(number, [])):
+                return f'the entries of channel {number} are not messages of its feed in order'
+            if len(found.get(number, [])) + lost.get(number, 0) > len(offered):
+                return f'more entries and losses on channel {number} than its feed offered'
+        numbers = {channel_number: len(texts) for channel_number, texts in found.items()}
+        if script.entries is not None and numbers != {k: v for k, v in script.entries.items() if v}:
+            return f'so many entries of each channel, {numbers}, and not {script.entries}'
+        return ''
+
+
+def look_at_images(runner: Runner, given: argparse.Namespace, number: int) -> None:
+    """The fourth form."""
+    if tomllib is None:
+        print('hammer: NOT TRIED: the images, for which Python 3.11 is wanted')
+        return
+    some = scripts_of(given.seed)
+    pairs = [(some[place % len(some)], roomy_script(given.seed, place)) for place in range((number + 1) // 2)]
+    scripts = [script for pair in pairs for script in pair][:number]
+    images = Images(runner.program)
+    for script in scripts:
+        if not runner.run(script):
+            continue
+        words = [str(runner.program), 'run', '--image']
+        done = subprocess.run(words, input=script.text.encode(), capture_output=True, check=False, timeout=LATE_SECONDS)
+        wrong = images.fault_in(script, done.stdout)
+        if done.returncode not in ((0, 1) if script.may_say_no else (0,)) or done.stderr:
+            wrong = f'status {done.returncode}, {done.stderr.decode()}'
+        if wrong:
+            runner.keep_script(script, f', its image: {wrong}')
+    print(f'hammer: {len(scripts)} images, with {images.files} files and {images.entries} entries')
+
+
 def main() -> int:
     words = argparse.ArgumentParser(description=__doc__, formatter_class=argparse.RawDescriptionHelpFormatter)
     words.add_argument('--runs', type=int, default=2000)
@@ -394,6 +534,7 @@ def main() -> int:
     words.add_argument('--only', type=int, choices=range(SCRIPTS), metavar='PLACE')
     words.add_argument('--threads', action='store_true')
     words.add_argument('--idle', action='store_true')
+    words.add_argument('--images', action='store_true')
     words.add_argument('--gate', action='store_true')
     given = words.parse_args()
     if not os.access(given.program, os.X_OK):
@@ -414,7 +555,9 @@ def main() -> int:
             refuse_threads(runner, given, library)
         if (given.idle or given.gate) and library:
             idle(runner, library)
-        if not (given.gate or given.threads or given.idle):
+        if given.images or given.gate:
+            look_at_images(runner, given, 40 if given.gate else given.runs)
+        if not (given.gate or given.threads or given.idle or given.images):
             hammer(runner, given, library)
         print(f'hammer: {runner.runs} runs in {time.monotonic() - started:.0f} s, the longest {runner.longest:.2f} s, '
               f'{runner.late} after more than {SECONDS} s, {runner.wrong} not as they are to be')

@@ -56,8 +56,7 @@ def answer_of(program: str, case: Case) -> bytes:
     """What the program makes of a case, as its answer has it."""
     done = subprocess.run([program, *case.words], input=case.given(), capture_output=True, timeout=120)
     status = str(done.returncode) if str(done.returncode) == case.status else '%d, not %s' % (done.returncode, case.status)
-    shown = case.shown(done.stdout) if done.returncode == 0 or 'bytes' not in case.how else done.stdout
-    return b'%s\n%s%s' % (status.encode(), shown, done.stderr)
+    return b'%s\n%s%s' % (status.encode(), case.shown(done.stdout), done.stderr)
 
 
 def main(words: list[str]) -> int:

@@ -31,6 +31,8 @@ def stops():
     image = alone(KINDS)
     yield ('The image of the medium that a script leaves.', './r10 sim --image < %s > first.img' % FIRST, ['sim', '--image'],
            (TOP / FIRST).read_bytes())
+    yield ('The image of the medium that a session leaves.', './r10 run --image < examples/session.toml > session.img',
+           ['run', '--image'], (TOP / 'examples' / 'session.toml').read_bytes())
     yield ('The image of a formatted medium.', './r10 format --blocks 8 --directory 2 --volume VOL > empty.img',
            ['format', '--blocks', '8', '--directory', '2', '--volume', 'VOL'], b'')
     yield ('The files of an image, here of a file with every kind of channel.', 'scripts/play_cases.py image | ./r10 files',

@@ -36,5 +36,7 @@ done | grep -c '^0$')" = 0
 sed 's/name = "FLT1"/name = "FLT 1"/' "$top/examples/first.toml" >"$room/refused.toml"
 check "a refused step with --image is silent, status 0" is \
     "$("$program" sim --image <"$room/refused.toml" 2>&1 >/dev/null; echo $?)" "0"
+check "the image of a session has its file" says \
+    "$("$program" run --image <"$top/examples/session.toml" | "$program" files)" "file 0 FLT1 "
 check "the line that help shows finds it" says "$("$program" sim <"$room/refused.toml" | grep ' refused ')" "3 refused 15 BadName"
 exit "$failed"

@@ -17,3 +17,4 @@ mod Numbered
 mod Refusing
 mod Scripts
 mod Told
+mod Words

@@ -8,6 +8,7 @@ use Rattle.r10_control.specs.Own.{AreOwn}
 use Rattle.r10_cursor.specs.declared.cursor.Cursor.{Cursor}
 use Rattle.r10_session.specs.declared.ended.Ended.{Ended}
 use Rattle.r10_session.specs.declared.ended.FeedEnd.{FeedEnd}
+use Rattle.r10_session.specs.declared.ended.Left.{Left}
 use Rattle.r10_session.specs.declared.ended.ReaderEnd.{ReaderEnd}
 use Rattle.r10_machine.specs.declared.reply.Reply.{Reply}
 use Rattle.r10_means.specs.Kept.{Work}
@@ -25,21 +26,24 @@ use Rattle.r10_shared.specs.declared.report.FeedReport.{FeedReport}
 use Rattle.r10_held.specs.Transcripts.{AllAgree}
 use Rattle.r10_held.specs.declared.transcript.Transcript.{Transcript}
 
-pub put_together : {X : Type 0} (r : Result Ended X) (specs : List ChannelSpec) (steps : List Order) (tables : List FeedTable) (readers : List ReaderTable) (work : Work) (image : Image) (own : List Entry) (replies : List Reply) (refused : List (Option Refusal))
+pub put_together : {X : Type 0} (r : Result Left X) (specs : List ChannelSpec) (steps : List Order) (tables : List FeedTable) (readers : List ReaderTable) (work : Work) (image : Image) (own : List Entry) (replies : List Reply) (refused : List (Option Refusal))
     (cursors : List Cursor) (reports : List FeedReport) (transcripts : List Transcript) → BeginsReading memory_disk steps readers replies refused cursors → AreOwn work image own → AllZip (FeedCame specs own) tables (map feed_end reports)
-    → AllZip IsReadOf cursors transcripts → IfOk r (λ e. e.replies.items ≡ replies) → IfOk r (λ e. e.feeds.items ≡ map feed_end reports) → IfOk r (λ e. e.readers.items ≡ fill refused (map (λ t. entries_in t.instalments.items) transcripts))
-    → IfOk r (λ e. IfOk e.audit (λ yes. IsTrue yes ↔ AllAgree work image transcripts)) → IfOk r (λ e. CameOf specs steps tables readers e)
-put_together (Err x) specs steps tables readers work image own replies refused cursors reports transcripts begun is_own came read a b c d = tt
-put_together (Ok e) specs steps tables readers work image own replies refused cursors reports transcripts begun is_own came read a b c d = record {
-  refused = refused;
-  cursors = cursors;
-  begun = subst (λ (l : List Reply). BeginsReading memory_disk steps readers l refused cursors) (sym a) begun;
-  work = work;
-  image = image;
-  own = own;
-  is_own = is_own;
-  came = subst (λ (l : List FeedEnd). AllZip (FeedCame specs own) tables l) (sym b) came;
-  transcripts = transcripts;
-  read = subst (λ (l : List ReaderEnd). AreRead readers l transcripts) (sym c) (all_read memory_disk readers begun.1 refused cursors begun.2 transcripts begun.4 read);
-  audited = d;
-}
+    → AllZip IsReadOf cursors transcripts → IfOk r (λ l. l.ended.replies.items ≡ replies) → IfOk r (λ l. l.ended.feeds.items ≡ map feed_end reports)
+    → IfOk r (λ l. l.ended.readers.items ≡ fill refused (map (λ t. entries_in t.instalments.items) transcripts))
+    → IfOk r (λ l. IfOk l.ended.audit (λ yes. IsTrue yes ↔ AllAgree work image transcripts)) → IfOk r (λ l. (memory_disk l.medium).blocks ≡ image)
+    → IfOk r (λ l. CameOf specs steps tables readers (memory_disk l.medium).blocks l.ended)
+put_together (Err x) specs steps tables readers work image own replies refused cursors reports transcripts begun is_own came read a b c d m = tt
+put_together (Ok l) specs steps tables readers work image own replies refused cursors reports transcripts begun is_own came read a b c d m =
+    let ends : CameOf specs steps tables readers image l.ended = record {
+      refused = refused;
+      cursors = cursors;
+      begun = subst (λ (l : List Reply). BeginsReading memory_disk steps readers l refused cursors) (sym a) begun;
+      work = work;
+      own = own;
+      is_own = is_own;
+      came = subst (λ (l : List FeedEnd). AllZip (FeedCame specs own) tables l) (sym b) came;
+      transcripts = transcripts;
+      read = subst (λ (l : List ReaderEnd). AreRead readers l transcripts) (sym c) (all_read memory_disk readers begun.1 refused cursors begun.2 transcripts begun.4 read);
+      audited = d;
+    } in
+    subst (λ (i : Image). CameOf specs steps tables readers i l.ended) (sym m) ends

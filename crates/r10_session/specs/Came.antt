@@ -18,14 +18,15 @@ use Rattle.r10_shared.specs.declared.order.Order.{Order}
 use Rattle.r10_held.specs.Transcripts.{AllAgree}
 use Rattle.r10_held.specs.declared.transcript.Transcript.{Transcript}
 
--- The steps were asked of a recorder under a lock, and it answered so; the readers' cursors were opened or refused behind them. At the end, by the own files of
--- a recorder over a medium, this became of each feed's items, and this was read by each reader; and what the audit says of it, if it is not refused.
-pub record CameOf (specs : List ChannelSpec) (steps : List Order) (feeds : List FeedTable) (readers : List ReaderTable) (ended : Ended) : Type 0 where
+-- The steps were asked of a recorder under a lock, and it answered so; the readers' cursors were opened or refused behind them.
+-- At the end, by the own files of a recorder over a medium with this image, this became of each feed's items, and this was read by
+-- each reader; and what the audit says of it, if it is not refused.
+pub record CameOf (specs : List ChannelSpec) (steps : List Order) (feeds : List FeedTable)
+    (readers : List ReaderTable) (image : Image) (ended : Ended) : Type 0 where
   pub refused : List (Option Refusal)
   pub cursors : List Cursor
   pub begun : BeginsReading memory_disk steps readers ended.replies.items refused cursors
   pub work : Work
-  pub image : Image
   pub own : List Entry
   pub is_own : AreOwn work image own
   pub came : AllZip (FeedCame specs own) feeds ended.feeds.items

@@ -2,6 +2,7 @@
 
 use r10_body::Refusal;
 use r10_machine::Reply;
+use r10_medium::Memory;
 
 /// What became of the messages of a feed: how many were accepted and refused, and of the accepted ones how many erases took, the recorder's
 /// own files have, and the recorder did not take in.
@@ -29,4 +30,11 @@ pub struct Ended {
     pub feeds: Vec<FeedEnd>,
     pub readers: Vec<ReaderEnd>,
     pub audit: Result<bool, Refusal>,
+}
+
+/// What a session left: what came of it, and its medium.
+#[derive(Drop)]
+pub struct Left {
+    pub ended: Ended,
+    pub medium: Memory,
 }

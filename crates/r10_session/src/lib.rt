@@ -16,7 +16,7 @@ mod session;
 mod text;
 
 pub use command::run;
-pub use ended::{Ended, FeedEnd, ReaderEnd};
+pub use ended::{Ended, FeedEnd, Left, ReaderEnd};
 pub use fault::SessionFault;
 pub use running::run_script;
 pub use text::session_text;

@@ -7,7 +7,7 @@ ghost use Rattle.r10_session.specs.Feeds.{feed_end};
 ghost use Rattle.r10_session.specs.Readers.{fill};
 ghost use Rattle.r10_held.specs.Transcripts.{AllAgree};
 
-use crate::ended::{Ended, FeedEnd};
+use crate::ended::{Ended, FeedEnd, Left};
 use crate::fault::SessionFault;
 use crate::readers::reader_ends;
 use r10_body::Refusal;
@@ -64,13 +64,14 @@ fn numbers_of(alloc: Global, transcripts: &[Transcript]) -> Result<Vec<usize>, A
     Ok(numbers)
 }
 
-/// What an audit of the report says. Where memory is refused it says nothing.
+/// What an audit of the report says. Where memory is refused it says nothing. The medium is only read.
 fn audited(
     alloc: Global,
     report: &mut SessionReport<Memory>,
 ) -> Result<Result<bool, Refusal>, AllocError>
     ensures says { IfOk result (λ answer. IfOk answer (λ yes. IsTrue yes ↔ AllAgree report.old.recorder.kept.work (memory_disk report.old.recorder.medium).blocks report.old.transcripts.items)) }
     ensures same { (report.new.feeds ≡ report.old.feeds) × (report.new.transcripts ≡ report.old.transcripts) }
+    ensures medium { (memory_disk report.new.recorder.medium).blocks ≡ (memory_disk report.old.recorder.medium).blocks }
 {
     match audit(alloc, report) {
         Err(Refusal::OutOfMemory) => Err(AllocError),
@@ -79,27 +80,30 @@ fn audited(
     }
 }
 
-/// What is told of a session: the audit is done.
+/// What a session left, by its report: the audit is done.
 pub(crate) fn settle(
     alloc: Global,
     report: SessionReport<Memory>,
     replies: Vec<Reply>,
     refused: &[Option<Refusal>],
-) -> Result<Ended, SessionFault>
-    ensures replies { IfOk result (λ ended. ended.replies.items ≡ replies.items) }
-    ensures feeds { IfOk result (λ ended. ended.feeds.items ≡ map feed_end report.feeds.items) }
-    ensures readers { IfOk result (λ ended. ended.readers.items ≡ fill refused.now (map (λ transcript. entries_in transcript.instalments.items) report.transcripts.items)) }
-    ensures audited { IfOk result (λ ended. IfOk ended.audit (λ yes. IsTrue yes ↔ AllAgree report.recorder.kept.work (memory_disk report.recorder.medium).blocks report.transcripts.items)) }
+) -> Result<Left, SessionFault>
+    ensures replies { IfOk result (λ left. left.ended.replies.items ≡ replies.items) }
+    ensures feeds { IfOk result (λ left. left.ended.feeds.items ≡ map feed_end report.feeds.items) }
+    ensures readers { IfOk result (λ left. left.ended.readers.items ≡ fill refused.now (map (λ transcript. entries_in transcript.instalments.items) report.transcripts.items)) }
+    ensures audited { IfOk result (λ left. IfOk left.ended.audit (λ yes. IsTrue yes ↔ AllAgree report.recorder.kept.work (memory_disk report.recorder.medium).blocks report.transcripts.items)) }
+    ensures medium { IfOk result (λ left. (memory_disk left.medium).blocks ≡ (memory_disk report.recorder.medium).blocks) }
 {
     let mut report = report;
     let audit = audited(alloc, &mut report)?;
     let feeds = feed_ends(alloc, report.feeds.as_slice())?;
     let numbers = numbers_of(alloc, report.transcripts.as_slice())?;
     let readers = reader_ends(alloc, refused, numbers.as_slice())?;
-    Ok(Ended {
+    let ended = Ended {
         replies,
         feeds,
         readers,
         audit,
-    })
+    };
+    let medium = report.recorder.into_medium();
+    Ok(Left { ended, medium })
 }

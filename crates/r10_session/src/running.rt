@@ -13,7 +13,7 @@ ghost use Rattle.r10_shared.specs.Orders.{order_of};
 ghost use Rattle.r10_shared.specs.declared.order.Order.{Order as OrderValue};
 
 use crate::beginning::orders_of;
-use crate::ended::Ended;
+use crate::ended::Left;
 use crate::ends::{Sender, lanes_of};
 use crate::fault::SessionFault;
 use crate::feeds::run_tables;
@@ -48,14 +48,14 @@ fn run_between<N: Rings + Send + Sync, T: Threads + Wait + Sync>(
     recorder: Recorder<Memory, Outlet>,
     senders: Vec<Sender>,
     asked: Asked,
-) -> Result<Ended, SessionFault>
+) -> Result<Left, SessionFault>
     requires new { IsNew memory_disk outlet_spec outlet_received recorder }
     requires lanes { AreNamed N.rings recorder.lanes }
     requires named { All (IsRingNamed N.rings) senders.items }
     requires fresh { All (IsFresh recorder.kept.config.channels) senders.items }
     requires there { AllByRecursion (λ table. HasSender senders.items table.channel) asked.feeds.items }
     requires apart { AreApart asked.feeds.items }
-    ensures { IfOk result (λ ended. CameOf recorder.kept.config.channels asked.steps.items asked.feeds.items asked.readers.items ended) }
+    ensures { IfOk result (λ left. CameOf recorder.kept.config.channels asked.steps.items asked.feeds.items asked.readers.items (memory_disk left.medium).blocks left.ended) }
 {
     new_recorders_account_for_their_lanes::<Memory, N>();
     let Asked {
@@ -100,17 +100,17 @@ fn recorder_of(
     }
 }
 
-/// Runs a session script on a fresh medium in memory, which it formats.
+/// Runs a session script on a fresh medium in memory, which it formats, and hands out this medium with what came of it.
 pub fn run_script<T: Threads + Wait + Sync>(
     rt: &T,
     alloc: Global,
     script: SessionScript,
-) -> Result<Ended, SessionFault>
+) -> Result<Left, SessionFault>
     requires steps { All (λ event. IsSome (order_of event)) script.steps.items }
     requires orders { All (λ event. IsSome (order_of event)) script.orders.items }
     requires feeds { HaveChannels script.settings.channels script.feeds.items }
     requires apart { AreApart script.feeds.items }
-    ensures { IfOk result (λ ended. (steps : List OrderValue) × (map order_of script.steps.items ≡ map (λ order. Some order) steps) × CameOf script.settings.channels steps script.feeds.items script.readers.items ended) }
+    ensures { IfOk result (λ left. (steps : List OrderValue) × (map order_of script.steps.items ≡ map (λ order. Some order) steps) × CameOf script.settings.channels steps script.feeds.items script.readers.items (memory_disk left.medium).blocks left.ended) }
 {
     let SessionScript {
         settings,

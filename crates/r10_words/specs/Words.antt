@@ -15,13 +15,17 @@ AsksSim (name ∷ []) = Unit {0}
 AsksSim (name ∷ word ∷ []) = word ≡ codes "sim"
 AsksSim (name ∷ word ∷ other ∷ words) = ⊥
 
--- behind the program's own name `sim --image`
+-- behind the program's own name this word and `--image`
+abbrev pub AsksImageOf : List ℕ → List (List ℕ) → Type 0
+AsksImageOf command [] = ⊥
+AsksImageOf command (name ∷ []) = ⊥
+AsksImageOf command (name ∷ word ∷ []) = ⊥
+AsksImageOf command (name ∷ word ∷ option ∷ []) = (word ≡ command) × (option ≡ codes "--image")
+AsksImageOf command (name ∷ word ∷ option ∷ more ∷ words) = ⊥
+
+-- behind the program's own name `sim --image` alone
 abbrev pub AsksImage : List (List ℕ) → Type 0
-AsksImage [] = ⊥
-AsksImage (name ∷ []) = ⊥
-AsksImage (name ∷ word ∷ []) = ⊥
-AsksImage (name ∷ word ∷ option ∷ []) = (word ≡ codes "sim") × (option ≡ codes "--image")
-AsksImage (name ∷ word ∷ option ∷ more ∷ words) = ⊥
+AsksImage words = AsksImageOf (codes "sim") words
 
 -- behind the program's own name this word alone
 abbrev pub AsksOnly : List ℕ → List (List ℕ) → Type 0
@@ -39,6 +43,14 @@ AsksCheck words = AsksOnly (codes "check") words
 -- behind the program's own name `run` alone
 abbrev pub AsksRun : List (List ℕ) → Type 0
 AsksRun words = AsksOnly (codes "run") words
+
+-- behind the program's own name `run --image` alone
+abbrev pub AsksRunImage : List (List ℕ) → Type 0
+AsksRunImage words = AsksImageOf (codes "run") words
+
+-- the words are those of a command that reads a session script: its lines, or its medium's image
+abbrev pub AsksSession : List (List ℕ) → Type 0
+AsksSession words = AsksRun words ⊎ AsksRunImage words
 
 abbrev pub word_at : List (List ℕ) → ℕ → List ℕ
 word_at words i = slice_index_or words i []
@@ -90,6 +102,10 @@ IsVersion word = (word ≡ codes "-V") ⊎ (word ≡ codes "--version")
 abbrev pub plain_commands : List (List ℕ)
 plain_commands = codes "sim" ∷ codes "run" ∷ codes "files" ∷ codes "check" ∷ []
 
+-- the commands that write a medium's image, where `--image` asks for that
+abbrev pub image_commands : List (List ℕ)
+image_commands = codes "sim" ∷ codes "run" ∷ []
+
 -- the commands that `help` explains, itself among them
 abbrev pub commands : List (List ℕ)
 commands = codes "format" ∷ codes "play" ∷ codes "help" ∷ plain_commands
@@ -115,7 +131,8 @@ pub data AsksText (words : List (List ℕ)) : Type 0 where
   version : IsVersion (word_at words 1) → AsksText words
   help : IsHelp (word_at words 1) → AsksText words
   behind_plain : Contains plain_commands (word_at words 1) → IsHelp (word_at words 2) → AsksText words
-  behind_image : AsksCommand (codes "sim") words → word_at words 2 ≡ codes "--image" → IsHelp (word_at words 3) → AsksText words
+  behind_image : Contains image_commands (word_at words 1) → word_at words 2 ≡ codes "--image" → IsHelp (word_at words 3)
+      → AsksText words
   behind_format : AsksCommand (codes "format") words → AsksHelpBehind format_options words → AsksText words
   behind_play : AsksCommand (codes "play") words → AsksHelpBehind play_options words → AsksText words
 

@@ -5,7 +5,7 @@ ghost use Rattle.std.specs.Fmt.{decimal};
 ghost use Rattle.std.specs.List.{Contains};
 ghost use Rattle.r10_words.specs.Found.{found_words};
 ghost use Rattle.r10_words.specs.Options.{GivesOption, GivesOr, HasOnlyOptions};
-ghost use Rattle.r10_words.specs.Words.{AsksSim, AsksImage, AsksFiles, AsksCheck, AsksRun, AsksOnly, AsksCommand, AsksOther, AsksText, AsksHelpBehind, AsksHelpWord, IsHelp, IsVersion, OptionsOfFormat, OptionsOfPlay, plain_commands, word_at};
+ghost use Rattle.r10_words.specs.Words.{AsksSim, AsksImage, AsksImageOf, AsksFiles, AsksCheck, AsksRun, AsksRunImage, AsksSession, AsksOnly, AsksCommand, AsksOther, AsksText, AsksHelpBehind, AsksHelpWord, IsHelp, IsVersion, OptionsOfFormat, OptionsOfPlay, image_commands, plain_commands, word_at};
 ghost use Rattle.r10_words.specs.declared.asked.Asked.TheVariants.{Sim, Image, Files, Check};
 
 use crate::options::{FoundOption, front_options, gives_option, is_left_out, is_one_of};
@@ -67,6 +67,9 @@ const PLAY_OPTIONS: [&str; 4] = ["--file", "--channel", "--from", "--to"];
 /// The commands without options that have values.
 const PLAIN_COMMANDS: [&str; 4] = ["sim", "run", "files", "check"];
 
+/// The commands that write a medium's image, if `--image` asks for that.
+const IMAGE_COMMANDS: [&str; 2] = ["sim", "run"];
+
 /// The commands that `help` explains.
 const COMMANDS: [&str; 7] = ["format", "play", "help", "sim", "run", "files", "check"];
 
@@ -96,7 +99,7 @@ pub fn read_words(alloc: Global, words: &[String]) -> Result<Asked, WordsFault>
     if asks_sim(words) {
         return Ok(Asked::Sim);
     }
-    if asks_image(words) {
+    if asks_image_of(words, "sim") {
         return Ok(Asked::Image);
     }
     if asks_only(words, "files") {
@@ -108,12 +111,26 @@ pub fn read_words(alloc: Global, words: &[String]) -> Result<Asked, WordsFault>
     read_other(alloc, words)
 }
 
-/// Whether the words ask for a session: `run` alone behind the program's own name. It starts threads, so it is none of those that
-/// `read_words` reads.
+/// Whether the words ask for a session's lines: `run` alone behind the program's own name. It starts threads, so it is none of those
+/// that `read_words` reads.
 pub fn asks_run(words: &[String]) -> bool
     ensures { IsTrue result ↔ AsksRun (map string_bytes words.now) }
 {
     asks_only(words, "run")
+}
+
+/// Whether the words ask for the image that a session leaves: `run --image` alone behind the program's own name.
+fn asks_run_image(words: &[String]) -> bool
+    ensures { IsTrue result ↔ AsksRunImage (map string_bytes words.now) }
+{
+    asks_image_of(words, "run")
+}
+
+/// Whether the words ask for a session: for its lines, or for the image that it leaves.
+pub fn asks_session(words: &[String]) -> bool
+    ensures { IsTrue result ↔ AsksSession (map string_bytes words.now) }
+{
+    asks_run(words) || asks_run_image(words)
 }
 
 fn asks_sim(words: &[String]) -> bool
@@ -126,19 +143,20 @@ fn asks_sim(words: &[String]) -> bool
     }
 }
 
-fn asks_image(words: &[String]) -> bool
-    ensures { IsTrue result ↔ AsksImage (map string_bytes words.now) }
+/// Whether this command and `--image` are the two words behind the program's own name.
+fn asks_image_of(words: &[String], command: &str) -> bool
+    ensures { IsTrue result ↔ AsksImageOf command.now (map string_bytes words.now) }
 {
     match words {
-        [_, command, option] => is_image(command, option),
+        [_, word, option] => is_image_of(word, option, command),
         _ => false,
     }
 }
 
-fn is_image(command: &String, option: &String) -> bool
-    ensures { IsTrue result ↔ ((string_bytes command.now ≡ codes "sim") × (string_bytes option.now ≡ codes "--image")) }
+fn is_image_of(word: &String, option: &String, command: &str) -> bool
+    ensures { IsTrue result ↔ ((string_bytes word.now ≡ command.now) × (string_bytes option.now ≡ codes "--image")) }
 {
-    if command.as_str() == "sim" {
+    if word.as_str() == command {
         option.as_str() == "--image"
     } else {
         false
@@ -332,11 +350,18 @@ fn asks_help_of_plain(words: &[String]) -> bool
     }
 }
 
-/// Whether help is asked for behind `sim --image`.
+/// Whether help is asked for behind `sim --image` or `run --image`.
 fn asks_help_of_image(words: &[String]) -> bool
-    ensures { IsTrue result → AsksCommand (codes "sim") (map string_bytes words.now) × (word_at (map string_bytes words.now) 2 ≡ codes "--image") × IsHelp (word_at (map string_bytes words.now) 3) }
+    ensures { IsTrue result → Contains image_commands (word_at (map string_bytes words.now) 1) × (word_at (map string_bytes words.now) 2 ≡ codes "--image") × IsHelp (word_at (map string_bytes words.now) 3) }
 {
-    has_at(words, 1, "sim") && has_at(words, 2, "--image") && is_help_at(words, 3)
+    match words {
+        [_, word, ..] => {
+            is_one_of(word.as_str(), &IMAGE_COMMANDS)
+                && has_at(words, 2, "--image")
+                && is_help_at(words, 3)
+        }
+        _ => false,
+    }
 }
 
 /// Whether help is asked for behind options of a command that are known.

@@ -5,5 +5,5 @@ mod asked;
 mod options;
 mod usage;
 
-pub use asked::{Asked, FormatWords, PlayWords, WordsFault, asks_run, read_words};
+pub use asked::{Asked, FormatWords, PlayWords, WordsFault, asks_run, asks_session, read_words};
 pub use options::options_are_told;

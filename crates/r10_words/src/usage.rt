@@ -38,7 +38,13 @@ read is what the files have, all of the channels and counts that they want, in o
 
 With audit no the status is 1. A reader whose cursor is refused has the refusal for its line. An example:
 
-  r10 run < examples/session.toml";
+  r10 run < examples/session.toml
+
+With --image the medium's image is written in place of the lines: its blocks of 512 bytes, one after the other,
+as the session leaves them. The status is the same. This keeps the medium, and lists its files:
+
+  r10 run --image < examples/session.toml > session.img
+  r10 files < session.img";
 
 const ABOUT_FORMAT: &str = "Writes the image of a formatted medium";
 
@@ -155,9 +161,7 @@ pub(crate) fn command_line<'a>(alloc: Global) -> Result<Command<'a>, AllocError>
         .override_usage("r10 [COMMAND] < INPUT")
         .after_help(MORE);
     let line = line.subcommand(sim_line(alloc)?)?;
-    let line = line.subcommand(plain_line(alloc, "run", ABOUT_RUN, MORE_RUN).override_usage(
-        "r10 run < SCRIPT",
-    ))?;
+    let line = line.subcommand(run_line(alloc)?)?;
     let line = line.subcommand(format_line(alloc)?)?;
     let line = line.subcommand(plain_line(alloc, "files", ABOUT_FILES, MORE_FILES).override_usage(
         "r10 files < IMAGE",
@@ -177,11 +181,14 @@ fn plain_line<'a>(alloc: Global, name: &'a str, about: &'a str, more: &'a str) -
 fn sim_line<'a>(alloc: Global) -> Result<Command<'a>, AllocError> {
     plain_line(alloc, "sim", ABOUT_SIM, MORE_SIM)
         .override_usage("r10 sim [OPTIONS] < SCRIPT")
-        .arg(flag(
-            alloc,
-            "image",
-            "Write the medium's image in place of the lines",
-        ))
+        .arg(image_flag(alloc))
+}
+
+/// The command `run`.
+fn run_line<'a>(alloc: Global) -> Result<Command<'a>, AllocError> {
+    plain_line(alloc, "run", ABOUT_RUN, MORE_RUN)
+        .override_usage("r10 run [OPTIONS] < SCRIPT")
+        .arg(image_flag(alloc))
 }
 
 /// The command `format`, whose options must all be given.
@@ -218,12 +225,12 @@ fn free<'a>(alloc: Global, name: &'a str, help: &'a str) -> Arg<'a> {
     Arg::new(alloc, name).long(name).value_name("N").help(help)
 }
 
-/// An option without a value.
-fn flag<'a>(alloc: Global, name: &'a str, help: &'a str) -> Arg<'a> {
-    Arg::new(alloc, name)
-        .long(name)
+/// The option `--image`, without a value.
+fn image_flag<'a>(alloc: Global) -> Arg<'a> {
+    Arg::new(alloc, "image")
+        .long("image")
         .action(ArgAction::SetTrue)
-        .help(help)
+        .help("Write the medium's image in place of the lines")
 }
 
 /// An option with a number, which must be given.

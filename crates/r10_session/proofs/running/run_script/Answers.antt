@@ -2,6 +2,7 @@ use Rattle.std.proofs.Common.{◌≡◌, List, sym, ap, subst, ◌∙◌}
 use Rattle.std.specs.List.{All}
 use Rattle.r10_body.specs.declared.spec.ChannelSpec.{ChannelSpec}
 use Rattle.r10_machine.specs.Config.{Config}
+use Rattle.r10_medium.specs.MemoryDisk.{memory_disk}
 use Rattle.r10_session.proofs.Lanes.{feeds_have, lanes_named, nothing_received, senders_fresh, senders_named, specs_are}
 use Rattle.r10_session.proofs.Weaker.{ok_so}
 use Rattle.r10_session.proofs.running.run_script.Goals as goal
@@ -30,8 +31,8 @@ run_between-requires-clause-there g c κs within =
 
 pub returns : goal.returns
 returns g c =
-    ok_so c.run_between.result c.run_between.ensures (λ ended came. (
+    ok_so c.run_between.result c.run_between.ensures (λ left came. (
       c.in_ok-steps.steps.items,
       c.in_ok-steps.ensures,
-      subst (λ (s : Config). CameOf s.channels c.in_ok-steps.steps.items c.args.script.feeds.items c.args.script.readers.items ended) c.in_ok-recorder.ensures.config came,
+      subst (λ (s : Config). CameOf s.channels c.in_ok-steps.steps.items c.args.script.feeds.items c.args.script.readers.items (memory_disk left.medium).blocks left.ended) c.in_ok-recorder.ensures.config came,
     ))
