@@ -1,5 +1,6 @@
 #!/usr/bin/env bash
-# Makes a Debian package of r10, by what scripts/install.sh installs, and tries it.
+# Makes a Debian package of r10, by what scripts/install.sh installs, and tries it. If r10d is among it, the package makes its user,
+# r10, and does not start it.
 #
 #     scripts/deb.sh FOLDER            # makes FOLDER/r10_VERSION_ARCHITECTURE.deb, and prints its name
 #     scripts/deb.sh try PACKAGE       # unpacks it into a root of its own, which has a C library and nothing else, and runs r10
@@ -24,8 +25,43 @@ wanted_libc() {
     objdump -T "$@" 2>/dev/null | sed -n 's/.*(\{0,1\}GLIBC_\([0-9.]*\).*/\1/p' | sort -Vu | tail -n 1
 }
 
+# What the package does on a system: it makes the user, and ends what runs and goes. With DPKG_ROOT it is for another root.
+make_scripts() {
+    cat >"$1/postinst" <<'SCRIPT'
+#!/bin/sh
+# The user of r10d. The service is neither enabled nor started: it has no settings yet.
+set -e
+if [ "$1" = configure ]; then
+    if command -v systemd-sysusers >/dev/null; then
+        systemd-sysusers ${DPKG_ROOT:+--root="$DPKG_ROOT"} r10.conf
+    elif [ -z "${DPKG_ROOT:-}" ]; then
+        adduser --quiet --system --group --no-create-home --home /nonexistent r10
+    fi
+    if [ -z "${DPKG_ROOT:-}" ] && [ -d /run/systemd/system ]; then
+        systemctl daemon-reload || true
+    fi
+fi
+SCRIPT
+    cat >"$1/prerm" <<'SCRIPT'
+#!/bin/sh
+# A service whose program goes is ended first. An upgrade ends no recording: the new program is for the next start.
+set -e
+if [ "$1" = remove ] && [ -z "${DPKG_ROOT:-}" ] && [ -d /run/systemd/system ]; then
+    systemctl stop r10d.service || true
+fi
+SCRIPT
+    cat >"$1/postrm" <<'SCRIPT'
+#!/bin/sh
+set -e
+if [ -z "${DPKG_ROOT:-}" ] && [ -d /run/systemd/system ]; then
+    systemctl daemon-reload || true
+fi
+SCRIPT
+    chmod 755 "$1/postinst" "$1/prerm" "$1/postrm"
+}
+
 make_package() {
-    local version architecture package root=$made/root
+    local version architecture package root=$made/root programs depends
     version=$(cat "$top/VERSION")
     architecture=$(dpkg --print-architecture)
     "$top/scripts/install.sh" /usr "$root" >&2
@@ -37,6 +73,18 @@ make_package() {
     mv "$root"/usr/share/zsh/site-functions/* "$root/usr/share/zsh/vendor-completions"
     rmdir "$root/usr/share/zsh/site-functions"
     mkdir -p "$root/DEBIAN"
+    programs=("$root/usr/bin/r10" "$root"/usr/lib/libr10.so.*)
+    depends=
+    if [ -x "$root/usr/bin/r10d" ]; then
+        programs+=("$root/usr/bin/r10d" "$root/usr/bin/r10ctl")
+        depends=", libgcc-s1, adduser"
+        # where Debian 12 has units
+        mkdir -p "$root/lib/systemd/system"
+        mv "$root/usr/lib/systemd/system/r10d.service" "$root/lib/systemd/system"
+        rm -r "$root/usr/lib/systemd"
+        make_scripts "$root/DEBIAN"
+    fi
+    depends="libc6 (>= $(wanted_libc "${programs[@]}"))$depends"
     cat >"$root/DEBIAN/control" <<CONTROL
 Package: r10
 Version: $version
@@ -45,15 +93,16 @@ Maintainer: the r10 project <r10@localhost>
 Section: science
 Priority: optional
 Installed-Size: $(du -sk "$root/usr" | cut -f 1)
-Depends: libc6 (>= $(wanted_libc "$root/usr/bin/r10" "$root"/usr/lib/libr10.so.*))
+Depends: $depends
 Recommends: python3 (>= 3.7)
 Description: flight recorder for IRIG 106 Chapter 10 files
  Records UART, MIL-STD-1553, ARINC 429, discrete and message channels into
  recording files, plays them back, and says the verdict on a recording.
- With a library for programs in C and Rust, and filters for recordings.
+ With a library for programs in C and Rust, filters for recordings, and a
+ service that records live inputs.
 CONTROL
     printf 'activate-noawait ldconfig\n' >"$root/DEBIAN/triggers"
-    (cd "$root" && find usr -type f -print0 | sort -z | xargs -0 md5sum) >"$root/DEBIAN/md5sums"
+    (cd "$root" && find usr lib -type f -print0 2>/dev/null | sort -z | xargs -0 md5sum) >"$root/DEBIAN/md5sums"
     package=$1/r10_${version}_$architecture.deb
     dpkg-deb --root-owner-group --build "$root" "$made/package.deb" >&2 || give_up 3 "the package was not made"
     cp "$made/package.deb" "$package" || give_up 3 "$package can't be written"
@@ -62,7 +111,8 @@ CONTROL
 
 # A root with the C library and the words of a Debian system that dpkg asks for.
 make_root() {
-    local root=$1 file
+    local root=$1 file name
+    shift
     mkdir -p "$root/var/lib/dpkg/info" "$root/var/lib/dpkg/updates" "$root/var/lib/dpkg/triggers" "$root/var/log" "$root/tmp" \
         "$root/etc"
     cat >"$root/var/lib/dpkg/status" <<STATUS
@@ -74,10 +124,14 @@ Maintainer: none
 Description: what this root has of it
 
 STATUS
+    for name in libgcc-s1 adduser; do
+        printf 'Package: %s\nStatus: install ok installed\nArchitecture: all\nVersion: 1\n' "$name"
+        printf 'Maintainer: none\nDescription: nothing of it\n\n'
+    done >>"$root/var/lib/dpkg/status"
     while read -r file; do
         mkdir -p "$root$(dirname "$file")"
         cp -L "$file" "$root$file"
-    done < <(ldd "$2" "$3" | sed -n 's/.* => \(\/[^ ]*\) .*/\1/p; s/^\t\(\/[^ ]*\) .*/\1/p' | sort -u)
+    done < <(ldd "$@" | sed -n 's/.* => \(\/[^ ]*\) .*/\1/p; s/^\t\(\/[^ ]*\) .*/\1/p' | sort -u)
 }
 
 try_package() {
@@ -90,18 +144,25 @@ try_package() {
         into=(unshare --user --map-root-user)
     fi
     dpkg-deb -x "$1" "$made/unpacked"
-    make_root "$root" "$made/unpacked/usr/bin/r10" "$made/unpacked"/usr/lib/libr10.so.*.*
+    make_root "$root" "$made"/unpacked/usr/bin/r10* "$made/unpacked"/usr/lib/libr10.so.*.*
     "${into[@]}" dpkg --root="$root" --force-script-chrootless --force-not-root --log=/dev/null -i "$1" >"$made/dpkg" 2>&1 ||
         { cat "$made/dpkg" >&2; give_up 1 "dpkg does not install it"; }
     "${into[@]}" chroot "$root" /usr/bin/r10 <"$top/examples/first.toml" | cmp - "$top/examples/first.expected" ||
         give_up 1 "r10 in that root prints another thing"
     "${into[@]}" chroot "$root" /usr/bin/r10 --version | grep -qx "r10 $(cat "$top/VERSION")" ||
         give_up 1 "r10 in that root has another version"
+    if [ -e "$root/usr/bin/r10d" ]; then
+        "${into[@]}" chroot "$root" /usr/bin/r10d --version | grep -qx "r10d $(cat "$top/VERSION")" ||
+            give_up 1 "r10d in that root has another version"
+        ! command -v systemd-sysusers >/dev/null || grep -q '^r10:x:' "$root/etc/passwd" || give_up 1 "there is no user r10"
+        [ -f "$root/lib/systemd/system/r10d.service" ] && [ -z "$(find "$root/etc" -name 'r10d*')" ] ||
+            give_up 1 "the unit is not there, or is enabled"
+    fi
     dpkg --root="$root" --verify r10 || give_up 1 "files are not as the package has them"
     listed=$(dpkg --root="$root" -L r10 | wc -l)
     "${into[@]}" dpkg --root="$root" --force-script-chrootless --force-not-root --log=/dev/null -r r10 >"$made/dpkg" 2>&1 ||
         give_up 1 "dpkg does not remove it"
-    [ -z "$(find "$root/usr" -name '*r10*' 2>/dev/null)" ] || give_up 1 "after it was removed files are left"
+    [ -z "$(find "$root/usr" "$root/lib" -name '*r10*' 2>/dev/null)" ] || give_up 1 "after it was removed files are left"
     echo "deb: $(basename "$1") is installed in a root of its own, runs there, and is removed ($listed names)"
 }
 

@@ -1,13 +1,14 @@
 #!/usr/bin/env bash
-# Installs r10: the program, the library for C and Rust (static and shared), its header and r10.pc, the filters as ch10, the manual
-# pages, completions for bash and zsh, and the documents.
+# Installs r10: the program, the library for C and Rust (static and shared), its header and r10.pc, the filters as ch10, the service
+# r10d with r10ctl and its unit for systemd, the manual pages, completions for bash and zsh, and the documents.
 #
 #     scripts/install.sh [PREFIX] [DESTDIR]               # below /usr/local, or below DESTDIR/PREFIX for a package
 #     scripts/install.sh --uninstall [PREFIX] [DESTDIR]   # removes what the list of an installation names, and nothing else
 #
 # It takes the proved builds where they are there and of the sources as they stand (scripts/build.sh, scripts/ffi.sh build), else
-# those without proofs, and says so. What was installed stands in PREFIX/share/r10/installed. Without leave to write, or room, that
-# is one line, and status 3; then nothing is changed.
+# those without proofs, and says so. Where r10d cannot be built (no cargo, or not its crates), a line says so, and the rest is
+# installed. What was installed stands in PREFIX/share/r10/installed. Without leave to write, or room, that is one line, and status
+# 3; then nothing is changed.
 set -eu
 
 top=$(cd "$(dirname "$(readlink -f "${BASH_SOURCE[0]}")")/.." && pwd)
@@ -89,8 +90,11 @@ install -m 644 "$top"/ch10/*.py "$share/r10/ch10"
 install -m 644 "$top/VERSION" "$share/r10"
 ln -s ../share/r10/scripts/ch10.py "$whole$prefix/bin/ch10"
 
-"$top/scripts/manual.py" "$program" "$top/scripts/ch10.py" "$made/manual" || exit 3
-cp -r "$made/manual/man1" "$made/manual/man3" "$share/man"
+"$top/scripts/recorder.sh" install "$prefix" "$whole" || exit 3
+service=()
+[ ! -x "$whole$prefix/bin/r10d" ] || service=("$whole$prefix/bin")
+"$top/scripts/manual.py" "$program" "$top/scripts/ch10.py" "$made/manual" "${service[@]}" || exit 3
+cp -r "$made/manual/"man? "$share/man"
 cp "$made/manual/bash/"* "$share/bash-completion/completions"
 cp "$made/manual/zsh/"* "$share/zsh/site-functions"
 cp -r "$top/README.md" "$top/docs" "$top/examples" "$share/doc/r10"

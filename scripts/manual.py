@@ -1,11 +1,11 @@
 #!/usr/bin/env python3
 """Writes the manual pages and the completions for shells, out of what the commands themselves say. scripts/install.sh calls it.
 
-    scripts/manual.py PROGRAM FILTERS FOLDER
+    scripts/manual.py PROGRAM FILTERS FOLDER [SERVICE]
 
-PROGRAM is a build of r10, FILTERS is scripts/ch10.py, and FOLDER gets man1/, man3/, bash/ and zsh/. The texts are those of
-`--help`, and of ffi/r10.h: nothing is said twice. Where a help text has another form than the one that is read here, that is one
-line, and status 1.
+PROGRAM is a build of r10, FILTERS is scripts/ch10.py, and FOLDER gets man1/, man3/, bash/ and zsh/; with SERVICE, a folder that has
+r10d and r10ctl, also man8/. The texts are those of `--help`, of ffi/r10.h and of docs/RECORDER.md: nothing is said twice.
+Where a text has another form than the one that is read here, that is one line, and status 1.
 """
 from __future__ import annotations
 
@@ -75,11 +75,11 @@ class Help:
         part = self.more
         for line in lines[usage + 1:]:
             head = line.strip().lower()
-            if head == 'commands:':
+            if head in ('commands:', 'words:'):
                 part = self.commands
             elif head in ('options:', 'optional arguments:'):
                 part = self.options
-            elif head == 'positional arguments:':
+            elif head in ('positional arguments:', 'arguments:'):
                 part = self.options
             elif part is not self.more and not line.strip():
                 continue
@@ -182,6 +182,60 @@ def page_of_header(header: pathlib.Path, version: str) -> dict[str, str]:
                                  ['#include <r10.h>', 'cc ... $(pkg-config --cflags --libs r10)'], parts, ['r10(1)'])}
 
 
+def tables(page: pathlib.Path, heading: str) -> list[tuple[str, str]]:
+    """The rows of the tables below a heading: what stands first, and the rest in a sentence."""
+    text = re.search(r'^## %s\n(.*?)(?=^## |\Z)' % re.escape(heading), page.read_text(encoding='utf-8'), re.S | re.M)
+    if text is None:
+        raise Wrong('%s has no part "%s"' % (page, heading))
+    rows, heads = [], []
+    for line in text[1].splitlines():
+        plain = re.sub(r'\[([^]]*)\]\([^)]*\)', r'\1', line).replace('`', '')
+        cells = [it.strip() for it in plain.strip('|').split('|')] if line.startswith('|') else []
+        if not cells:
+            heads = []
+        elif not heads:
+            heads = cells
+        elif set(cells[0]) != {'-'}:
+            more = ['%s: %s' % (head.lower(), it) for head, it in zip(heads[2:], cells[2:]) if it]
+            rows.append((cells[0], '; '.join(it for it in [cells[1], *more] if it)))
+    if not rows:
+        raise Wrong('%s has no table in "%s"' % (page, heading))
+    return rows
+
+
+def pages_of_service(service: pathlib.Path, version: str) -> tuple[dict[str, str], dict[str, Help]]:
+    """The pages of r10d and r10ctl, and the help of each."""
+    about = TOP / 'docs' / 'RECORDER.md'
+    daemon, control = (Help(said([str(service / name), '--help'])) for name in ('r10d', 'r10ctl'))
+    if not control.commands:
+        raise Wrong('r10ctl --help has no words')
+    settings = ['It is TOML. Paths are taken from the folder of the file.', '.PP'] + listed(tables(about, 'Settings'))
+    files = [
+        ('/etc/r10/recorder.toml', 'the settings of the service that systemd runs (r10d.service)'),
+        ('/var/lib/r10', 'its medium'),
+        ('/run/r10/control', 'its control socket'),
+    ]
+    made = {
+        'man8/r10d.8': page('r10d', 8, version, 'a flight recorder as a service', [daemon.usage], [
+            ('DESCRIPTION', body(daemon.about + [''] + daemon.more)), ('OPTIONS', listed(daemon.options)), ('SETTINGS', settings),
+            ('STATES', listed(tables(about, 'States, and what to do'))), ('FILES', listed(files))], ['r10ctl(1)', 'r10(1)']),
+        'man1/r10ctl.1': page('r10ctl', 1, version, 'asks and controls a recorder', [control.usage], [
+            ('DESCRIPTION', body(control.about + [''] + control.more)), ('WORDS', listed(control.commands)),
+            ('OPTIONS', listed(control.options)), ('ANSWERS', listed(tables(about, 'Control')))], ['r10d(8)', 'r10(1)'])}
+    return made, {'r10d': daemon, 'r10ctl': control}
+
+
+def completions_of_service(helps: dict[str, Help]) -> dict[str, str]:
+    """What bash and zsh complete after r10d and r10ctl."""
+    words = {head.split()[0]: Help('%s\n\nUsage: %s\n' % (text, head)) for head, text in helps['r10ctl'].commands}
+    made = completions('r10ctl', words, words_of(helps['r10ctl']))
+    bash = completions('r10d', {}, words_of(helps['r10d']))['bash/r10d']
+    described = [(word, text) for head, text in helps['r10d'].options for word in re.findall(r'--[\w-]+', head)]
+    options = ' '.join("'%s[%s]'" % (word, text.replace("'", "'\\''")) for word, text in described)
+    zsh = "#compdef r10d\n# completions for zsh: r10d\n_arguments %s '1:settings:_files'\n" % options
+    return made | {'bash/r10d': bash, 'zsh/_r10d': zsh}
+
+
 def words_of(one: Help) -> list[str]:
     """The options of a command, in their long forms."""
     return [word for head, _ in one.options for word in re.findall(r'--[\w-]+', head)]
@@ -236,10 +290,10 @@ case $words[1] in
 
 def main(words: list[str]) -> int:
     """Writes all."""
-    if len(words) != 3:
+    if len(words) not in (3, 4):
         print(__doc__, file=sys.stderr)
         return 2
-    program, filters, folder = words[0], words[1], pathlib.Path(words[2])
+    program, filters, folder, service = words[0], words[1], pathlib.Path(words[2]), words[3:]
     version = (TOP / 'VERSION').read_text(encoding='utf-8').strip()
     try:
         made = pages_of_program(program, version)
@@ -249,6 +303,9 @@ def main(words: list[str]) -> int:
         made |= completions('r10', {it: Help(said([program, it, '--help'])) for it in commands if it != 'help'},
                             ['help', '--help', '--version'])
         made |= completions('ch10', helps, ['--help', '--version'])
+        for it in service:
+            of_service, helps = pages_of_service(pathlib.Path(it), version)
+            made |= of_service | completions_of_service(helps)
     except (Wrong, ValueError) as wrong:
         print('manual: %s' % wrong, file=sys.stderr)
         return 1

@@ -2,10 +2,13 @@
 # The recorder as a service, r10d and r10ctl (docs/RECORDER.md): builds it, and tries it.
 #
 #     scripts/recorder.sh build [--quick]   # builds both over the library, and prints the folder that they are in
+#     scripts/recorder.sh ready             # whether they can be built here; if not, a line says why, and the status is 1
+#     scripts/recorder.sh install PREFIX [DESTDIR]   # over the library below DESTDIR/PREFIX: puts both there, the unit for systemd,
+#                                           # its user, and an example of settings; or says in a line why not (install.sh calls it)
 #     scripts/recorder.sh check             # what the gate runs: tests of its parts, and recordings through the running service, in
-#                                             under a minute
+#                                           # under a minute
 #     scripts/recorder.sh long [WORDS..]    # 200 kills, 1,000 power cuts, failures at each operation, a flood:
-#                                             recorder/tests/long.py says more
+#                                           # recorder/tests/long.py says more
 #     scripts/recorder.sh soak HOURS        # records for so long, and draws memory and acknowledged messages
 #
 # Crates come from Debian's packages where those are there (apt-get install the librust-*-dev packages of PACKAGES below), so no
@@ -21,11 +24,6 @@ readonly REGISTRY=/usr/share/cargo/registry
 give_up() {
     echo "recorder: $1" >&2
     exit 1
-}
-
-not_tried() {
-    echo "recorder: NOT TRIED: $1"
-    exit 0
 }
 
 # The crate r10 wants this Rust, 1.89.
@@ -47,15 +45,37 @@ build_by() {
         "$top/recorder/Cargo.toml"
 }
 
-# The folder with libr10.a.
+# The folder with libr10.a: one of its own, in which the file changes only if its bytes do, so that nothing is built anew.
 library() {
-    if [ -n "${R10_LIB_DIR:-}" ]; then
-        echo "$R10_LIB_DIR"
-        return
+    local made=${R10_LIB_DIR:-} kept=$top/out/recorder/lib
+    if [ -z "$made" ]; then
+        made=$("$top/scripts/ffi.sh" build "$@" --shared) || return
+        made=$(dirname "$made")
     fi
-    local made
-    made=$("$top/scripts/ffi.sh" build "$@" --shared) || return
-    dirname "$made"
+    mkdir -p "$kept" && { cmp -s "$made/libr10.a" "$kept/libr10.a" || cp "$made/libr10.a" "$kept/libr10.a"; } || return
+    echo "$kept"
+}
+
+# Whether both can be built here; if not, why.
+ready() {
+    if ! command -v cargo >/dev/null; then
+        echo "there is no cargo of 1.$OLDEST or later: rustup installs one"
+    elif ! is_new; then
+        echo "the cargo that is there is older than 1.$OLDEST: $(cargo --version)"
+    # cargo says whether all crates are there, without building one
+    elif ! library=/nonexistent from_kept metadata --format-version 1 >/dev/null 2>&1; then
+        echo "the crates of r10d are not there: apt-get install $PACKAGES; or, with a network, scripts/recorder.sh build"
+    else
+        return 0
+    fi
+    return 1
+}
+
+# cargo without a network.
+from_kept() {
+    local from=("${from[@]}")
+    [ "${#from[@]}" != 0 ] || from=(--offline)
+    build_by "$@"
 }
 
 build() {
@@ -65,6 +85,24 @@ build() {
 }
 
 case ${1:-} in
+ready)
+    ready || exit 1
+    ;;
+install)
+    [[ ${2:-} = /* ]] || give_up "below which folder? scripts/recorder.sh install /PREFIX [DESTDIR]"
+    prefix=${2%/} to=${3:-}${2%/}
+    why=$(ready) && library=$(R10_LIB_DIR=$to/lib library) && why=$(build 2>&1) || {
+        [[ $why != *$'\n'* ]] || why="it was not built, for \"$(tail -n 1 <<<"$why")\""
+        echo "(r10d and r10ctl are not installed: ${why:-there is no library below $to})" >&2
+        exit 0
+    }
+    made=$top/out/recorder/target/release
+    mkdir -p "$to/bin" "$to/lib/systemd/system" "$to/lib/sysusers.d" "$to/share/doc/r10/examples" &&
+        install -m 755 "$made/r10d" "$made/r10ctl" "$to/bin" &&
+        sed "s|/usr/local/bin/|$prefix/bin/|" "$top/recorder/r10d.service" >"$to/lib/systemd/system/r10d.service" &&
+        install -m 644 "$top/recorder/sysusers.conf" "$to/lib/sysusers.d/r10.conf" &&
+        install -m 644 "$top/recorder/recorder.toml" "$to/share/doc/r10/examples" || give_up "not all could be written below $to"
+    ;;
 build)
     command -v cargo >/dev/null && is_new || give_up "there is no cargo of 1.$OLDEST or later: rustup installs one"
     library=$(library ${2:+"$2"}) || give_up "there is no library: scripts/ffi.sh build says why"
@@ -72,12 +110,11 @@ build)
     echo "$top/out/recorder/target/release"
     ;;
 check)
-    command -v cargo >/dev/null || not_tried "there is no cargo to build r10d with"
-    is_new || not_tried "the cargo that is there is older than 1.$OLDEST: $(cargo --version)"
-    # cargo says whether all crates are there, without building one
+    why=$(ready) || {
+        echo "recorder: NOT TRIED: $why"
+        exit
+    }
     [ "${#from[@]}" != 0 ] || from=(--offline)
-    library=/nonexistent build_by metadata --format-version 1 >/dev/null 2>&1 ||
-        not_tried "the crates of r10d are not there: apt-get install $PACKAGES"
     kept=$("$top/scripts/ffi.sh" kept) || give_up "there is no library to build r10d over"
     quick=()
     [[ $kept != */out/builds/* ]] || quick=(--quick)
@@ -93,7 +130,7 @@ long | soak)
     exec "$top/recorder/tests/$1.py" "$top/out/recorder/target/release" "${@:2}"
     ;;
 *)
-    sed -n '2,14s/^# \{0,1\}//p' "${BASH_SOURCE[0]}" >&2
+    sed -n '2,16s/^# \{0,1\}//p' "${BASH_SOURCE[0]}" >&2
     exit 2
     ;;
 esac

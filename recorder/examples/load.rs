@@ -1,10 +1,10 @@
 //! Load for a recorder: numbered messages by UDP at a rate, until the time is up or it is killed.
 //!
-//!     load PORT.. rate=N size=N seconds=N run=N count=N
+//!     load ADDRESS:PORT.. rate=N size=N seconds=N run=N count=N
 //!
 //! A message has its run and its number on its port, eight bytes each, the low ones first, and then bytes that follow from the
 //! number.
-use std::net::UdpSocket;
+use std::net::{SocketAddr, UdpSocket};
 use std::time::{Duration, Instant};
 
 fn main() {
@@ -12,14 +12,14 @@ fn main() {
     let get = |key: &str, other: u64| {
         words.iter().find_map(|it| it.strip_prefix(&format!("{key}=")).map(|it| it.parse().unwrap_or(other))).unwrap_or(other)
     };
-    let ports: Vec<u16> = words.iter().filter_map(|it| it.parse().ok()).collect();
+    let ports: Vec<SocketAddr> = words.iter().filter_map(|it| it.parse().ok()).collect();
     let (rate, size, run) = (get("rate", 10_000), get("size", 40).max(16) as usize, get("run", 0));
     let (seconds, count) = (Duration::from_secs(get("seconds", 10)), get("count", u64::MAX));
     let sockets: Vec<UdpSocket> = ports
         .iter()
         .map(|port| {
             let socket = UdpSocket::bind("127.0.0.1:0").expect("a socket");
-            socket.connect(("127.0.0.1", *port)).expect("a port");
+            socket.connect(port).expect("a port");
             socket
         })
         .collect();

@@ -1,7 +1,7 @@
 //! What a recorder is measured beside: a plain program that logs the same datagrams into a file, with two syncs each so many
 //! milliseconds, as a commit has.
 //!
-//!     plain FILE MIB COMMIT_MS PORT..
+//!     plain FILE MIB COMMIT_MS ADDRESS:PORT..
 //!
 //! A datagram's bytes go into the file after its length. At SIGTERM it says how many it had, and how long they took to be on the
 //! disk.
@@ -24,7 +24,7 @@ fn main() -> Result<(), Box<dyn std::error::Error>> {
     signal_hook::flag::register(signal_hook::consts::SIGTERM, ending.clone())?;
     let (to, from) = sync_channel::<(Instant, Vec<u8>)>(1 << 20);
     for port in &words[3..] {
-        let (socket, to) = (r10_recorder::udp::open(format!("127.0.0.1:{port}").parse()?, None, 64)?, to.clone());
+        let (socket, to) = (r10_recorder::udp::open(port.parse()?, None, 64)?, to.clone());
         std::thread::spawn(move || {
             let mut bytes = vec![0; 65536];
             // (a second without a datagram is an error too)

@@ -3,7 +3,10 @@
 use std::fmt::Write as _;
 use std::fs::{File, OpenOptions};
 use std::io::{self, Write};
+use std::os::unix::fs::OpenOptionsExt;
 use std::path::Path;
+
+use nix::fcntl::OFlag;
 
 use crate::warning;
 
@@ -14,8 +17,9 @@ pub struct Acknowledge {
 
 impl Acknowledge {
     pub fn open(path: &Path) -> io::Result<Acknowledge> {
+        // a pipe or a terminal that nobody reads is not waited for
         let to =
-            OpenOptions::new().append(true).create(true).open(path).map_err(|it| {
+            OpenOptions::new().append(true).create(true).custom_flags(OFlag::O_NONBLOCK.bits()).open(path).map_err(|it| {
                 io::Error::new(it.kind(), format!("acknowledge = {path:?}: {it}; give a file that may be written"))
             })?;
         Ok(Acknowledge { to: Some(to), lines: String::new() })

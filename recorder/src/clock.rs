@@ -34,6 +34,18 @@ impl Default for Counter {
     }
 }
 
+/// Both clocks at one time: a thread that has to wait for a processor between the two looks again.
+pub fn both() -> (Instant, OffsetDateTime) {
+    let (mut before, mut civil) = (Instant::now(), OffsetDateTime::now_utc());
+    for _ in 0..20 {
+        if before.elapsed() < Duration::from_millis(10) {
+            break;
+        }
+        (before, civil) = (Instant::now(), OffsetDateTime::now_utc());
+    }
+    (before, civil)
+}
+
 pub fn civil(at: OffsetDateTime) -> r10::Civil {
     let (hour, minute, second) = at.to_hms();
     r10::Civil {

@@ -1,6 +1,8 @@
 //! Control over a UNIX socket, and over TCP where the settings say so: lines in, answers out. What the words mean is in `words`.
 use std::io::{self, BufRead, BufReader, ErrorKind, Read, Write};
 use std::net::{IpAddr, TcpListener, TcpStream};
+use std::os::fd::AsRawFd;
+use std::os::unix::fs::FileTypeExt;
 use std::os::unix::net::{UnixListener, UnixStream};
 use std::path::Path;
 use std::sync::Arc;
@@ -9,10 +11,12 @@ use std::sync::mpsc::{Receiver, RecvTimeoutError, Sender, channel};
 use std::thread::{self, Thread};
 use std::time::Duration;
 
+use nix::sys::socket::{setsockopt, sockopt};
 use nix::sys::stat::{Mode, umask};
 
+use crate::info;
+use crate::inputs::{AGAIN, Seldom};
 use crate::settings::Settings;
-use crate::{info, warning};
 
 /// Where a command came from: some are for the socket alone.
 #[derive(Clone, Copy, Debug, PartialEq, Eq)]
@@ -59,8 +63,10 @@ impl Asking {
     }
 }
 
-/// How many may be connected at a time.
+/// How many may be connected at a time to the socket, and as many over TCP: so these cannot shut out those.
 const MOST: usize = 32;
+/// After so many seconds of silence a peer over TCP is asked whether it is still there.
+const KEEPALIVE: u32 = 60;
 /// A command of more bytes is none.
 const LONGEST: u64 = 4096;
 
@@ -89,30 +95,40 @@ impl Connection for TcpStream {
     }
 }
 
-/// Makes the socket anew where nobody listens on it, for its owner and group.
+/// Makes the socket anew where nobody listens on it, for its owner and group. What is there and is no socket stays.
 fn bind(path: &Path) -> io::Result<UnixListener> {
-    if UnixStream::connect(path).is_ok() {
-        return Err(io::Error::new(ErrorKind::AddrInUse, "another service listens there"));
+    if let Ok(found) = path.symlink_metadata() {
+        if !found.file_type().is_socket() {
+            return Err(io::Error::new(ErrorKind::AlreadyExists, "another file is there; give a path of its own"));
+        }
+        if UnixStream::connect(path).is_ok() {
+            return Err(io::Error::new(ErrorKind::AddrInUse, "another service listens there"));
+        }
+        std::fs::remove_file(path)?;
     }
-    let _ = std::fs::remove_file(path);
     let before = umask(Mode::from_bits_truncate(0o117));
     let listener = UnixListener::bind(path);
     umask(before);
     listener
 }
 
+/// Those who connect, one after another. What the system refuses it may give later.
+pub fn connected<S>(listener: impl Iterator<Item = io::Result<S>>) -> impl Iterator<Item = S> {
+    listener.filter_map(|it| it.inspect_err(|_| thread::sleep(AGAIN)).ok())
+}
+
 /// Starts to listen.
 pub fn start(settings: &Settings, asking: &Asking) -> io::Result<()> {
-    let open = Arc::new(AtomicUsize::new(0));
     let path = &settings.socket;
     let failed = |it: io::Error| {
         io::Error::new(it.kind(), format!("control.socket = {path:?}: {it}; it wants a folder that may be written"))
     };
     let listener = bind(path).map_err(failed)?;
-    let (asking_here, open_here) = (asking.clone(), open.clone());
+    let asking_here = asking.clone();
     thread::Builder::new().name("control".to_string()).spawn(move || {
-        for stream in listener.incoming().flatten() {
-            connect(stream, Origin::Socket, &asking_here, &open_here);
+        let open = Arc::new(AtomicUsize::new(0));
+        for stream in connected(listener.incoming()) {
+            connect(stream, Origin::Socket, &asking_here, &open);
         }
     })?;
     let Some(address) = settings.tcp else { return Ok(()) };
@@ -120,10 +136,17 @@ pub fn start(settings: &Settings, asking: &Asking) -> io::Result<()> {
         .map_err(|it| io::Error::new(it.kind(), format!("control.tcp = \"{address}\": {it}; give a free port of this machine")))?;
     let (asking, peers) = (asking.clone(), settings.peers.clone());
     thread::Builder::new().name("control tcp".to_string()).spawn(move || {
-        for stream in listener.incoming().flatten() {
+        let (open, mut strangers) = (Arc::new(AtomicUsize::new(0)), Seldom::default());
+        for stream in connected(listener.incoming()) {
             match stream.peer_addr() {
-                Ok(peer) if is_welcome(peer.ip(), &peers) => connect(stream, Origin::Tcp, &asking, &open),
-                Ok(peer) => warning!("control: {peer} is not one of control.peers, and is not heard"),
+                Ok(peer) if is_welcome(peer.ip(), &peers) => {
+                    // one that went without a word, as by a cable, leaves its place after some minutes
+                    let fd = stream.as_raw_fd();
+                    let _ =
+                        setsockopt(fd, sockopt::KeepAlive, &true).and_then(|()| setsockopt(fd, sockopt::TcpKeepIdle, &KEEPALIVE));
+                    connect(stream, Origin::Tcp, &asking, &open);
+                }
+                Ok(peer) => strangers.warn(|| format!("control: {peer} is not one of control.peers, and is not heard")),
                 Err(_) => (),
             }
         }
@@ -169,7 +192,14 @@ fn serve<S: Connection>(mut to: S, origin: Origin, asking: &Asking) -> io::Resul
             to.write_all(b"E 00 INVALID COMMAND: a line has at most 4096 bytes\n*\n")?;
             return Ok(());
         }
-        match asking.ask(String::from_utf8_lossy(&line).trim(), origin) {
+        let text = String::from_utf8_lossy(&line);
+        let text = text.trim();
+        // a page in a browser of this machine can send what begins otherwise, with commands in the lines after it
+        if origin == Origin::Tcp && !text.is_empty() && !text.starts_with('.') {
+            to.write_all(b"E 00 INVALID COMMAND: over TCP a command begins with a dot; the connection ends\n*\n")?;
+            return Ok(());
+        }
+        match asking.ask(text, origin) {
             None => return Ok(()),
             Some(Reply::Text(text)) => to.write_all(format!("{text}*\n").as_bytes())?,
             Some(Reply::Stream(chunks, queued)) => {

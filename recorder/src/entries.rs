@@ -68,6 +68,10 @@ pub fn to_hex(out: &mut String, bytes: &[u8]) {
 pub fn read(line: &str, only: Option<u16>, kind_of: impl Fn(u16) -> Option<Kind>) -> Result<Offer, String> {
     let bare = line.trim().trim_end_matches(',').trim();
     let inner = bare.strip_prefix('{').and_then(|it| it.strip_suffix('}')).unwrap_or(bare);
+    // no value has these, and each would be read one level deeper: a long line of them would use up the thread's memory
+    if inner.contains(['[', '{', '.']) {
+        return Err("a line has no lists, no tables in it and no dots".to_string());
+    }
     #[derive(Deserialize)]
     #[serde(deny_unknown_fields)]
     struct Whole {
@@ -235,6 +239,9 @@ mod tests {
             "channel = 40, kind = \"uart\"",
             "channel = 10, bytes = \"\u{e9}\u{e9}\"",
             "channel = 40, bus = 300",
+            &format!("channel = 40, states = {}", "[".repeat(100_000))[..],
+            &format!("channel = 40, states = {}", "{a=".repeat(40_000))[..],
+            &format!("channel = 40, {}a = 1", "a.".repeat(60_000))[..],
         ] {
             assert!(of(line).is_err(), "{line}");
         }

@@ -40,8 +40,10 @@ pub struct Batch {
 }
 
 impl Batch {
+    /// What it takes of memory: a batch of one short message is mostly room.
     fn size(&self) -> usize {
-        self.bytes.len() + self.items.len() * size_of::<Item>() + self.lost.len() * size_of::<(usize, u64)>()
+        let rooms = self.bytes.capacity() + self.items.capacity() * size_of::<Item>();
+        size_of::<Batch>() + rooms + self.lost.capacity() * size_of::<(usize, u64)>()
     }
 }
 
@@ -141,7 +143,7 @@ impl Feed {
     /// Hands over what there is. An input does so before it waits.
     pub fn flush(&mut self) {
         // losses alone wait where the queue is full: they go with what comes next
-        let has_room = self.queued.load(Relaxed) + self.batch.size() + size_of::<Batch>() <= self.limit;
+        let has_room = self.queued.load(Relaxed) + self.batch.size() <= self.limit;
         let lost = self.channels.iter_mut().filter(|it| it.lost > 0);
         if has_room || !self.batch.items.is_empty() {
             self.batch.lost = lost.map(|it| (it.place, std::mem::take(&mut it.lost))).collect();
@@ -179,20 +181,22 @@ mod tests {
     #[test]
     fn what_does_not_fit_is_counted_and_goes_with_the_next_message() {
         let came = Arc::new(Came::default());
-        let room = 3 * (size_of::<Item>() + 100) + 5;
-        let (mut feed, outlet) = feed(std::thread::current(), Counter::new(), room, &[(7, came.clone())]);
-        for _ in 0..5 {
-            feed.message(0, 0, HEAD, &[0; 100]);
+        // as much room as five messages take
+        let five = Batch { items: Vec::with_capacity(8), bytes: Vec::with_capacity(2400), lost: Vec::new() }.size();
+        let (mut feed, outlet) = feed(std::thread::current(), Counter::new(), five, &[(7, came.clone())]);
+        for _ in 0..50 {
+            feed.message(0, 0, HEAD, &[0; 300]);
         }
         feed.flush();
-        assert_eq!((came.messages.load(Relaxed), came.lost.load(Relaxed)), (5, 2));
+        let (lost, taken) = (came.lost.load(Relaxed), 50 - came.lost.load(Relaxed));
+        assert_eq!((came.messages.load(Relaxed), taken), (50, 5));
         // it is full: what is lost now waits
         feed.message(0, 0, HEAD, b"");
         feed.flush();
         let first = outlet.take().unwrap();
-        assert_eq!(first.items.iter().map(|it| (it.place, it.lost)).collect::<Vec<_>>(), [(7, 0); 3]);
+        assert_eq!(first.items.iter().map(|it| (it.place, it.lost)).collect::<Vec<_>>(), vec![(7, 0); taken as usize]);
         assert!(first.items.windows(2).all(|it| it[0].count < it[1].count));
-        assert_eq!((first.lost, outlet.queued(), outlet.take().is_none()), (vec![(7, 2)], 0, true));
+        assert_eq!((first.lost, outlet.queued(), outlet.take().is_none()), (vec![(7, lost)], 0, true));
         feed.flush();
         let alone = outlet.take().unwrap();
         assert_eq!((alone.items.len(), alone.lost, outlet.queued()), (0, vec![(7, 1)], 0));
@@ -202,7 +206,23 @@ mod tests {
         let next = outlet.take().unwrap();
         assert_eq!(next.items.iter().map(|it| it.lost).collect::<Vec<_>>(), [4, 0]);
         assert_eq!(next.bytes, b"nextone more");
-        assert_eq!(came.lost.load(Relaxed), 7);
+        assert_eq!(came.lost.load(Relaxed), lost + 5);
+    }
+
+    /// Messages that come one by one are handed over one by one, and each takes more memory than its bytes.
+    #[test]
+    fn what_waits_is_counted_with_all_that_it_takes() {
+        let (mut feed, outlet) = feed(std::thread::current(), Counter::new(), 1 << 16, &[(0, Arc::default())]);
+        let (mut taken, mut memory) = (0, 0);
+        for _ in 0..10_000 {
+            feed.message(0, 0, HEAD, b"short");
+            feed.flush();
+        }
+        while let Some(batch) = outlet.take() {
+            taken += batch.items.len();
+            memory += size_of::<Batch>() + batch.bytes.capacity() + batch.items.capacity() * size_of::<Item>();
+        }
+        assert!(taken > 100 && memory <= 1 << 16, "{taken} messages in {memory} bytes");
     }
 
     #[test]

@@ -49,6 +49,8 @@ pub fn start(settings: &Settings, counter: Counter, came: &[Arc<Came>], owner: &
         }
     }
     for (path, places) in pipes {
+        // it is there once the service is ready; why it is not the thread says
+        let _ = path.as_deref().map(pipe::make);
         let feed = queue(&places);
         let channels: Vec<_> = places.iter().map(|it| settings.channels[*it].clone()).collect();
         thread::Builder::new().name("lines".to_string()).spawn(move || pipe::run(path.as_deref(), feed, &channels))?;

@@ -23,4 +23,5 @@ pub mod recovery;
 pub mod serial;
 pub mod settings;
 pub mod udp;
+pub mod watchdog;
 pub mod words;

@@ -1,8 +1,23 @@
 //! The log: one line an event on standard error, with no message bodies.
+//!
+//! A thread of its own writes the lines: a terminal that is held, or a program that does not read them, holds up nothing else. What
+//! does not fit the queue is left out, and counted.
 use std::io::Write;
 use std::sync::OnceLock;
+use std::sync::atomic::{AtomicU64, Ordering::SeqCst};
+use std::sync::mpsc::{Receiver, SyncSender, sync_channel};
+use std::time::{Duration, Instant};
 
 use crate::clock;
+
+/// How many lines may wait to be written.
+const LINES: usize = 256;
+/// How long the end of the service waits for them.
+const PATIENCE: Duration = Duration::from_millis(500);
+
+/// Lines that wait, and lines that had no place.
+static WAITING: AtomicU64 = AtomicU64::new(0);
+static LEFT_OUT: AtomicU64 = AtomicU64::new(0);
 
 #[derive(Clone, Copy, Debug, PartialEq, Eq)]
 pub enum Level {
@@ -23,14 +38,49 @@ pub fn write(level: Level, text: &str) {
         Level::Warning => (4, "warning"),
         Level::Info => (6, "info"),
     };
-    // one write for a line, so that threads do not mix; a line has no ends of lines in it
+    // a line has no ends of lines in it
     let text: String = text.chars().map(|it| if it.is_control() { ' ' } else { it }).collect();
     let line = if is_journal() {
         format!("<{number}>{text}\n")
     } else {
         format!("{}Z {name}: {text}\n", clock::text(&clock::civil(time::OffsetDateTime::now_utc())))
     };
-    let _ = std::io::stderr().write_all(line.as_bytes());
+    WAITING.fetch_add(1, SeqCst);
+    if queue().is_none_or(|it| it.try_send(line).is_err()) {
+        WAITING.fetch_sub(1, SeqCst);
+        LEFT_OUT.fetch_add(1, SeqCst);
+    }
+}
+
+/// Where lines wait. None where no thread could be had.
+fn queue() -> Option<&'static SyncSender<String>> {
+    static QUEUE: OnceLock<Option<SyncSender<String>>> = OnceLock::new();
+    let start = || {
+        let (to, from) = sync_channel(LINES);
+        std::thread::Builder::new().name("log".to_string()).spawn(move || write_down(&from)).ok().map(|_| to)
+    };
+    QUEUE.get_or_init(start).as_ref()
+}
+
+fn write_down(from: &Receiver<String>) {
+    for mut line in from {
+        let left_out = LEFT_OUT.swap(0, SeqCst);
+        if left_out > 0 {
+            let more = format!("{left_out} lines of the log were left out before this one: nobody read them\n");
+            line.insert_str(0, &if is_journal() { format!("<4>{more}") } else { more });
+        }
+        // one write for a line, so that those of threads and of other programs do not mix
+        let _ = std::io::stderr().write_all(line.as_bytes());
+        WAITING.fetch_sub(1, SeqCst);
+    }
+}
+
+/// Waits until all lines are written, but not for long.
+pub fn flush() {
+    let start = Instant::now();
+    while WAITING.load(SeqCst) > 0 && start.elapsed() < PATIENCE {
+        std::thread::sleep(Duration::from_millis(1));
+    }
 }
 
 #[macro_export]

@@ -11,10 +11,10 @@ use nix::sys::stat::{major, minor};
 use r10::{Disk, Error, Recorder};
 
 use crate::settings::Settings;
-use crate::{info, warning};
+use crate::{info, warning, watchdog};
 
 /// How many operations may wait before the library asks for memory.
-const ROOM: usize = 4096;
+pub(crate) const ROOM: usize = 4096;
 
 /// How long a medium may be in use by a program that is gone.
 const GONE: Duration = Duration::from_secs(2);
@@ -80,7 +80,30 @@ impl Medium {
             ))
         })?;
         info!("medium {}: made and allocated, {} MiB in {} ms", self.name(), self.blocks >> 11, start.elapsed().as_millis());
+        self.keep(false);
         Ok(())
+    }
+
+    /// The file that is there while a recording is to go on: beside a medium that is a file.
+    fn mark(&self) -> Option<PathBuf> {
+        let mut name = self.path.clone().into_os_string();
+        name.push(".recording");
+        fs::metadata(&self.path).is_ok_and(|it| it.is_file()).then(|| name.into())
+    }
+
+    /// Whether a recording was to go on. Of a loss of power between two files the medium itself says nothing.
+    pub fn goes_on(&self) -> bool {
+        self.mark().is_some_and(|it| it.exists())
+    }
+
+    /// Keeps over a loss of power that a recording is to go on, or that it is not.
+    pub fn keep(&self, goes_on: bool) {
+        let Some(mark) = self.mark().filter(|it| it.exists() != goes_on) else { return };
+        let done = if goes_on { File::create(&mark).map(|_| ()) } else { fs::remove_file(&mark) };
+        let folder = mark.parent().filter(|it| !it.as_os_str().is_empty()).unwrap_or(Path::new("."));
+        if let Err(error) = done.and_then(|()| File::open(folder)?.sync_all()) {
+            warning!("{}: {error}; a loss of power between two files may not be gone on from", mark.display());
+        }
     }
 
     /// Writes an empty directory, as a block device needs it once. A medium that has a directory is left as it is.
@@ -115,19 +138,15 @@ impl Medium {
         let cache = of_disk("write_cache").unwrap_or_else(|| "not known".to_string());
         let room = nix::sys::statvfs::statvfs(&self.path).map(|it| (it.blocks_available() * it.fragment_size()) >> 20);
         info!(
-            "medium {}: {} of {} MiB, sectors of {} bytes, the disk's cache is {cache}{}",
+            "medium {}: {} of {} MiB, sectors of {}, the disk's cache is {cache}{}",
             self.name(),
             if is_device { "a block device" } else { "a file" },
             self.blocks >> 11,
-            sector.map_or("unknown size, not 512".to_string(), |it| it.to_string()),
+            sector.map_or("unknown size".to_string(), |it| format!("{it} bytes")),
             room.ok().filter(|_| !is_device).map_or(String::new(), |it| format!(", {it} MiB are free beside it"))
         );
-        if sector != Some(512) {
-            warning!(
-                "medium {}: a loss of power amid a write may tear eight blocks of a disk whose sectors are not of 512 bytes; \
-                 prefer a disk of 512",
-                self.name()
-            );
+        if let Some(danger) = danger_of(sector) {
+            warning!("medium {}: {danger}", self.name());
         }
         if !is_device && found.blocks() * 512 < 512 * self.blocks as u64 {
             warning!(
@@ -219,11 +238,24 @@ impl Medium {
     }
 }
 
+/// What a disk with sectors of so many bytes may do to blocks of 512.
+fn danger_of(sector: Option<u32>) -> Option<String> {
+    let what = match sector {
+        Some(512) => return None,
+        Some(it) => format!("its sectors are not of 512 bytes, but of {it}"),
+        None => "how large its sectors are is not known".to_string(),
+    };
+    Some(format!(
+        "{what}: a loss of power amid a write may tear all blocks of one; keep 63 blocks for the directory; prefer a disk of 512"
+    ))
+}
+
 /// The first block in a range of bytes that cannot be read, and why. A mapping reads by pages of 4,096 bytes, so these count.
 fn first_unreadable(bytes: Range<u64>, read: impl Fn(&mut [u8], u64) -> io::Result<()>) -> Option<(u64, io::Error)> {
     let mut buffer = vec![0; PART as usize];
     let mut at = bytes.start & !4095;
     while at < bytes.end {
+        watchdog::beat();
         let count = PART.min(bytes.end - at) as usize;
         if read(&mut buffer[..count], at).is_err() {
             for block in at / 512..(at + count as u64).div_ceil(512) {
@@ -240,6 +272,13 @@ fn first_unreadable(bytes: Range<u64>, read: impl Fn(&mut [u8], u64) -> io::Resu
 #[cfg(test)]
 mod tests {
     use super::*;
+
+    #[test]
+    fn sectors_that_are_not_of_512_bytes_are_warned_of() {
+        assert_eq!(danger_of(Some(512)), None);
+        assert!(danger_of(Some(4096)).unwrap().starts_with("its sectors are not of 512 bytes, but of 4096: "));
+        assert!(danger_of(None).unwrap().starts_with("how large its sectors are is not known: "));
+    }
 
     #[test]
     fn the_first_block_that_cannot_be_read_is_named() {

@@ -7,14 +7,14 @@ use std::time::Duration;
 
 use serde_json::Value;
 
-use crate::control::{Asking, Origin, Reply};
+use crate::control::{Asking, Origin, Reply, connected};
 use crate::info;
 
 pub fn start(address: SocketAddr, asking: Asking) -> io::Result<()> {
     let listener = TcpListener::bind(address)
         .map_err(|it| io::Error::new(it.kind(), format!("metrics = \"{address}\": {it}; give a free port of this machine")))?;
     thread::Builder::new().name("metrics".to_string()).spawn(move || {
-        for mut stream in listener.incoming().flatten() {
+        for mut stream in connected(listener.incoming()) {
             let wait = Some(Duration::from_secs(2));
             let _ = stream.set_read_timeout(wait).and_then(|()| stream.set_write_timeout(wait));
             // whatever is asked, the answer is the same: so the request is read, as far as it fits, and not looked at

@@ -20,7 +20,7 @@ use crate::medium::{Medium, Refusal};
 use crate::readers::Reader;
 use crate::settings::{self, Begin, Settings};
 use crate::words::Point;
-use crate::{error, info, warning};
+use crate::{error, info, warning, watchdog};
 
 /// What stops the thread in what it does.
 #[derive(Debug)]
@@ -138,11 +138,12 @@ pub struct Owner {
     pub why: String,
     pub commits: u64,
     pub times: Times,
-    pub(crate) watchdog: Option<(Duration, Instant)>,
+    /// up to this block the medium was read plainly
+    pub(crate) ahead: u64,
 }
 
 /// How long batches are taken in before something else has its turn.
-const TURN: Duration = Duration::from_millis(20);
+pub(crate) const TURN: Duration = Duration::from_millis(20);
 
 impl Owner {
     pub fn new(
@@ -170,8 +171,6 @@ impl Owner {
             seldom: Seldom::default(),
         });
         let now = Instant::now();
-        let mut micros = 0;
-        let watchdog = sd_notify::watchdog_enabled(false, &mut micros).then(|| (Duration::from_micros(micros / 2), now));
         Ok(Owner {
             medium: Medium::new(&settings),
             lanes: lanes.collect(),
@@ -200,7 +199,7 @@ impl Owner {
             why: String::new(),
             commits: 0,
             times: Times::default(),
-            watchdog,
+            ahead: 0,
         })
     }
 
@@ -209,11 +208,13 @@ impl Owner {
     pub fn begin(&mut self) -> Result<bool, Refusal> {
         self.medium.make()?;
         self.medium.describe();
+        let goes_on = self.medium.goes_on();
+        let begins = |was_cut: bool, begin: Begin| begin == Begin::Record || begin == Begin::Resume && (was_cut || goes_on);
         match self.open() {
-            Ok(was_cut) => Ok(self.settings.begin == Begin::Record || self.settings.begin == Begin::Resume && was_cut),
+            Ok(was_cut) => Ok(begins(was_cut, self.settings.begin)),
             Err(refusal @ Refusal::Taken(_)) => Err(refusal),
             Err(Refusal::Failed(why)) => {
-                self.wants = self.settings.begin == Begin::Record;
+                self.wants = begins(false, self.settings.begin);
                 self.fail(&why);
                 Ok(false)
             }
@@ -254,11 +255,17 @@ impl Owner {
 
     /// One turn: what came, what is asked, what is due.
     fn turn(&mut self) -> Result<(), Trouble> {
-        self.beat();
+        watchdog::beat();
         self.retry();
-        let has_more = self.take_in()?;
+        let mut has_more = self.take_in()?;
+        // who asks without an end has a turn too, and what comes has the next one
+        let until = Instant::now() + TURN;
         while let Ok(command) = self.commands.try_recv() {
             self.answer(command)?;
+            if Instant::now() > until {
+                has_more = true;
+                break;
+            }
         }
         let now = Instant::now();
         if self.recorder.is_some() && now >= self.ticked + Duration::from_secs(1) {
@@ -297,15 +304,6 @@ impl Owner {
         if self.state == State::Recording && self.settings.commit >= Duration::from_millis(5) {
             let due = (self.committed + self.settings.commit).saturating_duration_since(Instant::now());
             std::thread::sleep(due.min(Duration::from_millis(2)));
-        }
-    }
-
-    fn beat(&mut self) {
-        if let Some((each, last)) = &mut self.watchdog
-            && last.elapsed() >= *each
-        {
-            *last = Instant::now();
-            let _ = sd_notify::notify(false, &[sd_notify::NotifyState::Watchdog]);
         }
     }
 
@@ -449,6 +447,7 @@ impl Owner {
 
     fn close(&mut self) -> Result<(), Trouble> {
         if self.state == State::Recording {
+            self.medium.keep(false);
             self.stop("was stopped by the end of the service")?;
         }
         self.recorder()?.dismount()?;

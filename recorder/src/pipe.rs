@@ -1,10 +1,12 @@
 //! Lines in: from a named pipe, which is made where it is not there, from standard input, or from a file. A line is an entry.
-use std::fs::{File, OpenOptions};
-use std::io::{self, BufRead, BufReader, Read};
-use std::os::fd::AsFd;
-use std::os::unix::fs::FileTypeExt;
+use std::fs::{File, OpenOptions, Permissions};
+use std::io::{self, BufRead, BufReader};
+use std::os::fd::{AsFd, AsRawFd};
+use std::os::unix::fs::{FileTypeExt, MetadataExt, PermissionsExt};
 use std::path::Path;
 
+use nix::errno::Errno;
+use nix::poll::{PollFd, PollFlags, poll};
 use nix::sys::stat::Mode;
 
 use crate::entries;
@@ -16,13 +18,43 @@ use crate::{info, warning};
 /// A line of more bytes is none: 65,535 bytes of a message are 131,070 digits.
 const LONGEST: usize = 140_000;
 
+/// How long a pipe is silent before it is looked after, in milliseconds.
+const LOOK: i32 = 1000;
+
+/// Makes a pipe where nothing is, for the service's user and group, whatever its mask.
+pub fn make(path: &Path) -> io::Result<()> {
+    if !path.exists() {
+        nix::unistd::mkfifo(path, Mode::S_IRUSR | Mode::S_IWUSR)?;
+        std::fs::set_permissions(path, Permissions::from_mode(0o660))?;
+    }
+    Ok(())
+}
+
 /// Opens a pipe to read and to write, so that it does not end where a writer goes; any other file to read.
 fn open(path: &Path) -> io::Result<(File, bool)> {
-    if !path.exists() {
-        nix::unistd::mkfifo(path, Mode::S_IRUSR | Mode::S_IWUSR | Mode::S_IRGRP | Mode::S_IWGRP)?;
-    }
+    make(path)?;
     let is_pipe = path.metadata()?.file_type().is_fifo();
     Ok((OpenOptions::new().read(true).write(is_pipe).open(path)?, is_pipe))
+}
+
+/// Waits until there is something to read. A pipe that has lost its name gets no more writers: once it is silent, it is given up.
+fn wait(file: &File, path: Option<&Path>) -> io::Result<()> {
+    loop {
+        match poll(&mut [PollFd::new(file.as_raw_fd(), PollFlags::POLLIN)], LOOK) {
+            Ok(0) if path.is_some_and(|it| !is_at(file, it)) => {
+                return Err(io::Error::new(io::ErrorKind::NotFound, "it was removed"));
+            }
+            Ok(0) | Err(Errno::EINTR) => (),
+            Ok(_) => return Ok(()),
+            Err(error) => return Err(error.into()),
+        }
+    }
+}
+
+/// Whether an open file is the one at this path.
+fn is_at(file: &File, path: &Path) -> bool {
+    let Ok(one) = file.metadata() else { return false };
+    path.metadata().is_ok_and(|other| (one.dev(), one.ino()) == (other.dev(), other.ino()))
 }
 
 pub fn run(path: Option<&Path>, mut feed: Feed, channels: &[Channel]) {
@@ -33,10 +65,11 @@ pub fn run(path: Option<&Path>, mut feed: Feed, channels: &[Channel]) {
             None => io::stdin()
                 .as_fd()
                 .try_clone_to_owned()
-                .and_then(|it| read(BufReader::with_capacity(1 << 16, it.into()), &from, &mut feed, channels)),
+                .and_then(|it| read(BufReader::with_capacity(1 << 16, it.into()), None, &from, &mut feed, channels)),
             Some(Ok((file, is_pipe))) => {
                 was_said = false;
-                let ended = read(BufReader::with_capacity(1 << 16, file), &from, &mut feed, channels);
+                let at = path.filter(|_| is_pipe);
+                let ended = read(BufReader::with_capacity(1 << 16, file), at, &from, &mut feed, channels);
                 match ended {
                     Ok(()) if is_pipe => Err(io::ErrorKind::UnexpectedEof.into()),
                     // a file that was read in part is not read again: its lines would come twice
@@ -58,26 +91,21 @@ pub fn run(path: Option<&Path>, mut feed: Feed, channels: &[Channel]) {
     }
 }
 
-/// Reads lines to the end. What is no entry is counted; the channel is the line's, or the first.
-fn read(mut from: BufReader<File>, name: &str, feed: &mut Feed, channels: &[Channel]) -> io::Result<()> {
+/// Reads lines to the end. What is no entry is counted; the channel is the line's, or the first. `at` is where a pipe is.
+fn read(mut from: BufReader<File>, at: Option<&Path>, name: &str, feed: &mut Feed, channels: &[Channel]) -> io::Result<()> {
     let only = if channels.len() == 1 { channels.first().map(|it| it.id) } else { None };
     let (mut line, mut number, mut bad) = (Vec::new(), 0u64, Seldom::default());
     loop {
-        // what came goes over before the thread may wait
-        if !from.buffer().contains(&b'\n') {
+        let found = read_line(&mut from, &mut line, |file| {
+            // what came goes over before the thread may wait
             feed.flush();
-        }
-        line.clear();
-        let count = from.by_ref().take(LONGEST as u64).read_until(b'\n', &mut line)?;
-        if count == 0 {
+            wait(file, at)
+        })?;
+        let Some(is_whole) = found else {
             feed.flush();
             return Ok(());
-        }
+        };
         number += 1;
-        let is_whole = count < LONGEST || line.ends_with(b"\n");
-        if !is_whole {
-            skip_line(&mut from)?;
-        }
         if line.iter().all(u8::is_ascii_whitespace) || line.trim_ascii_start().starts_with(b"#") {
             continue;
         }
@@ -100,21 +128,33 @@ fn read(mut from: BufReader<File>, name: &str, feed: &mut Feed, channels: &[Chan
     }
 }
 
-/// Goes on after the end of the line.
-fn skip_line(from: &mut impl BufRead) -> io::Result<()> {
-    loop {
-        let bytes = from.fill_buf()?;
-        let Some(end) = bytes.iter().position(|it| *it == b'\n') else {
-            let count = bytes.len();
-            if count == 0 {
-                return Ok(());
-            }
-            from.consume(count);
-            continue;
+/// Reads a line, with its end where it has one, and says whether it is whole: of one that is too long the rest is left out. None at
+/// the end.
+fn read_line(
+    from: &mut BufReader<File>,
+    line: &mut Vec<u8>,
+    mut wait: impl FnMut(&File) -> io::Result<()>,
+) -> io::Result<Option<bool>> {
+    let (mut count, mut is_ended) = (0, false);
+    line.clear();
+    while !is_ended {
+        if from.buffer().is_empty() {
+            wait(from.get_ref())?;
+        }
+        let bytes = match from.fill_buf() {
+            Ok([]) => break,
+            Ok(bytes) => bytes,
+            Err(error) if error.kind() == io::ErrorKind::Interrupted => continue,
+            Err(error) => return Err(error),
         };
-        from.consume(end + 1);
-        return Ok(());
+        let end = bytes.iter().position(|it| *it == b'\n');
+        let length = end.map_or(bytes.len(), |it| it + 1);
+        line.extend_from_slice(&bytes[..length.min(LONGEST - line.len())]);
+        from.consume(length);
+        count += length;
+        is_ended = end.is_some();
     }
+    Ok((count > 0).then_some(count <= LONGEST))
 }
 
 #[cfg(test)]

@@ -9,13 +9,15 @@ use std::process::ExitCode;
 use std::time::{Duration, Instant};
 
 use clap::Parser;
-use r10_recorder::words::PATIENCE;
+use r10_recorder::words::{PATIENCE, WORDS};
 use serde_json::{Value, json};
 
 #[derive(Parser)]
 #[command(
+    name = "r10ctl",
     version,
-    about = "Asks and controls a recorder: r10ctl status, record FLT1, watch, follow 5. `r10ctl help` lists the words."
+    about = "Asks and controls a recorder: r10ctl status, record FLT1, watch, follow 5.",
+    after_help = words_in_lines()
 )]
 #[command(disable_help_subcommand = true)]
 struct Words {
@@ -28,10 +30,20 @@ struct Words {
     /// Answers in JSON, one value a line
     #[arg(long)]
     json: bool,
-    /// A word of chapter 6, with a dot before it or without: status, record, stop, erase, event, files, health, find, replay,
-    /// publish; or watch, follow, figures
+    /// One of the words below, and what follows it
     #[arg(required = true)]
     words: Vec<String>,
+}
+
+/// The words, as the recorder lists them, and the one that is this program's.
+fn words_in_lines() -> String {
+    let mut out = "Words:\n".to_string();
+    let watch = ("watch", "", "draws rates, losses, free room and last messages once a second");
+    for (word, more, text) in WORDS.into_iter().chain([watch]) {
+        let head = format!("{} {more}", word.trim_start_matches('.').to_ascii_lowercase());
+        let _ = writeln!(out, "  {:40}  {text}", head.trim_end());
+    }
+    out
 }
 
 trait Line: Read + Write {}
@@ -120,6 +132,10 @@ fn main() -> ExitCode {
 }
 
 fn run(words: &Words) -> Result<(), String> {
+    // a line is a command: so an end of a line in a word would be a second one
+    if let Some(word) = words.words.iter().find(|it| it.contains(char::is_control)) {
+        return Err(format!("{word:?} is no word: it has a control character"));
+    }
     let mut recorder = Recorder::connect(words)?;
     let word = words.words[0].trim_start_matches('.').to_ascii_lowercase();
     let rest = words.words[1..].join(" ");

@@ -13,13 +13,18 @@ use r10_recorder::feed::Came;
 use r10_recorder::medium::{Medium, Refusal};
 use r10_recorder::owner::Owner;
 use r10_recorder::settings::{self, Settings};
-use r10_recorder::{error, info, inputs, metrics};
-use signal_hook::consts::{SIGINT, SIGTERM};
+use r10_recorder::{error, info, inputs, log, metrics, watchdog};
+use signal_hook::consts::{SIGHUP, SIGINT, SIGTERM};
 
 #[derive(Parser)]
 #[command(
+    name = "r10d",
     version,
-    about = "Records live inputs as IRIG 106 chapter 10 files on a disk, and can be watched and controlled meanwhile (r10ctl)."
+    about = "Records live inputs as IRIG 106 chapter 10 files on a disk, and can be watched and controlled meanwhile (r10ctl).",
+    after_help = "SIGTERM, SIGINT and SIGHUP end the file, and then the service.
+
+Statuses: 0 all went well; 2 the settings are wrong; 3 it cannot start. With 4 it ended while recording was down, or with a
+file that is not closed."
 )]
 struct Words {
     /// The settings, in TOML: see docs/RECORDER.md
@@ -67,19 +72,30 @@ fn main() -> ExitCode {
             }
         };
     }
-    match serve(settings) {
+    let status = match serve(settings) {
         Ok(true) => ExitCode::SUCCESS,
         Ok(false) => NOT_CLOSED.into(),
         Err(why) => {
             error!("the service does not start: {why}");
             NO_START.into()
         }
-    }
+    };
+    log::flush();
+    status
+}
+
+/// Whether whoever started the service has it ignore that its terminal goes, as nohup does.
+fn ignores_hangups() -> bool {
+    let status = std::fs::read_to_string("/proc/self/status").unwrap_or_default();
+    let ignored = status.lines().find_map(|it| u64::from_str_radix(it.strip_prefix("SigIgn:")?.trim(), 16).ok());
+    ignored.is_some_and(|it| it >> (SIGHUP - 1) & 1 == 1)
 }
 
 fn serve(settings: Settings) -> Result<bool, String> {
+    watchdog::start();
     let ending = Arc::new(AtomicBool::new(false));
-    for signal in [SIGTERM, SIGINT] {
+    let hangup = Some(SIGHUP).filter(|_| !ignores_hangups());
+    for signal in [SIGTERM, SIGINT].into_iter().chain(hangup) {
         signal_hook::flag::register(signal, ending.clone()).map_err(|it| it.to_string())?;
     }
     let counter = Counter::new();

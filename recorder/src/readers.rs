@@ -3,13 +3,14 @@
 use std::sync::Arc;
 use std::sync::atomic::{AtomicUsize, Ordering::Relaxed};
 use std::sync::mpsc::{Sender, channel};
+use std::time::Instant;
 
 use r10::{Cursor, Error};
 
 use crate::clock::COUNTS;
 use crate::control::Reply;
 use crate::entries;
-use crate::owner::{Owner, State, Trouble};
+use crate::owner::{Owner, State, TURN, Trouble};
 
 /// The bytes of text that may wait for a client.
 const WAITING: usize = 1 << 20;
@@ -60,6 +61,11 @@ impl Reader {
         text.is_empty() || self.to.send(text).is_ok()
     }
 
+    /// Whether nobody has the other end any more.
+    fn is_gone(&self) -> bool {
+        Arc::strong_count(&self.queued) == 1
+    }
+
     fn has_room(&self) -> bool {
         self.queued.load(Relaxed) < WAITING
     }
@@ -74,45 +80,56 @@ impl Owner {
             let bytes = recorder.shown(self.settings.directory, *number, self.live.shown)?;
             self.live.send(bytes);
         }
-        self.step(|it| !it.is_replay()).map(|_| ())
+        self.drop_gone();
+        for _ in 0..self.readers.iter().filter(|it| !it.is_replay()).count() {
+            self.turn_of_next(|it| !it.is_replay())?;
+        }
+        Ok(())
     }
 
     /// Goes on with replays. Whether one has more that can be given now.
     pub fn read_on(&mut self) -> Result<bool, Trouble> {
-        self.step(Reader::is_replay)
-    }
-
-    /// A step of each reader of a kind. One that the recorder refuses ends.
-    fn step(&mut self, wanted: impl Fn(&Reader) -> bool) -> Result<bool, Trouble> {
-        let (mut more, mut at) = (false, 0);
-        while at < self.readers.len() {
-            if !wanted(&self.readers[at]) {
-                at += 1;
-                continue;
-            }
-            let mut it = self.readers.swap_remove(at);
-            let done = match it.what {
-                What::Follow { .. } => self.follow_on(&mut it).map(|goes_on| (goes_on, false)),
-                What::Replay { .. } => self.replay_on(&mut it),
-            };
-            match done {
-                Ok((true, has_more)) => {
-                    more |= has_more;
-                    self.readers.push(it);
-                    // the last one stands here now, and this one at the end: it has had its turn
-                    let last = self.readers.len() - 1;
-                    self.readers.swap(at, last);
-                    at += 1;
-                }
-                Ok((false, _)) => self.drop_reader(&it),
-                Err(Trouble::Refused(error)) => {
-                    it.give(format!("E 05 COMMAND FAILED: {error}\n"));
-                    self.drop_reader(&it);
-                }
-                Err(trouble) => return Err(trouble),
+        self.drop_gone();
+        let (mut more, begin) = (false, Instant::now());
+        for _ in 0..self.readers.iter().filter(|it| it.is_replay()).count() {
+            more |= self.turn_of_next(Reader::is_replay)?;
+            // what comes has its turn between two of them
+            if self.state == State::Recording && begin.elapsed() > TURN {
+                return Ok(true);
             }
         }
         Ok(more)
+    }
+
+    /// A step of the next reader of a kind, which stands at the end then. Whether it has more that can be given now. One that the
+    /// recorder refuses ends.
+    fn turn_of_next(&mut self, wanted: impl Fn(&Reader) -> bool) -> Result<bool, Trouble> {
+        let Some(at) = self.readers.iter().position(wanted) else { return Ok(false) };
+        let mut it = self.readers.remove(at);
+        let done = match it.what {
+            What::Follow { .. } => self.follow_on(&mut it).map(|goes_on| (goes_on, false)),
+            What::Replay { .. } => self.replay_on(&mut it),
+        };
+        match done {
+            Ok((true, has_more)) => {
+                self.readers.push(it);
+                return Ok(has_more);
+            }
+            Ok((false, _)) => self.drop_reader(&it),
+            Err(Trouble::Refused(error)) => {
+                it.give(format!("E 05 COMMAND FAILED: {error}\n"));
+                self.drop_reader(&it);
+            }
+            Err(trouble) => return Err(trouble),
+        }
+        Ok(false)
+    }
+
+    /// Gives up the readers whose clients are gone.
+    pub fn drop_gone(&mut self) {
+        let (gone, here) = std::mem::take(&mut self.readers).into_iter().partition::<Vec<_>, _>(Reader::is_gone);
+        self.readers = here;
+        gone.iter().for_each(|it| self.drop_reader(it));
     }
 
     fn drop_reader(&mut self, it: &Reader) {
@@ -208,5 +225,13 @@ impl Owner {
         }
         let files = self.recorder.as_mut().map_or(Ok(Vec::new()), r10::Recorder::files)?;
         Ok(files.get(file).is_none_or(|it| it.size <= LONG))
+    }
+
+    /// Reads a file that is closed plainly, before it is read through the mapping, and says what is wrong with it.
+    pub fn read_file_plainly(&mut self, file: usize) -> Result<Option<String>, Error> {
+        let files = self.recorder.as_mut().map_or(Ok(Vec::new()), r10::Recorder::files)?;
+        let Some(found) = files.get(file).filter(|it| it.closed) else { return Ok(None) };
+        let first = self.medium.first_block(&files[..file]);
+        Ok(self.medium.read_plainly(first..first + found.blocks).err().map(|it| it.text().to_string()))
     }
 }

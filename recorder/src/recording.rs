@@ -1,6 +1,7 @@
 //! What is recorded: lanes go into the file, commits make it durable, files begin and end.
 use std::time::Instant;
 
+use r10::Queue;
 use time::OffsetDateTime;
 
 use crate::clock;
@@ -11,13 +12,20 @@ use crate::{error, info, warning};
 const PUMPED: usize = 4 << 20;
 /// Operations that may wait before the disk does them.
 const OPERATIONS: usize = 8192;
-/// Blocks that are read plainly where a file begins: a mapped one that cannot be read would end the process.
+/// Blocks that are read plainly at a time before they are written: a mapped one that cannot be read would end the process.
 const AHEAD: u64 = 8 << 11;
+
+/// Whether so many operations wait that the disk does them before more come. A queue counts those of the ring in hand, and how many
+/// rings stand after it: there is one only where the first is full.
+fn are_many(queue: Queue) -> bool {
+    queue.rings > 0 || queue.waiting > OPERATIONS
+}
 
 impl Owner {
     /// Takes a channel's messages from its lane into the file.
     pub(crate) fn pump(&mut self, place: usize) -> Result<(), Trouble> {
         while self.lanes[place].waiting > 0 {
+            self.read_ahead()?;
             let lane = &mut self.lanes[place];
             let most = (PUMPED / (lane.longest + 64)).max(1);
             let id = lane.channel.id;
@@ -26,9 +34,21 @@ impl Owner {
                 return Err(Trouble::Failed(format!("channel {id}: the recorder takes none of what waits")));
             }
             self.lanes[place].waiting -= moved;
-            if self.recorder()?.queue()?.waiting > OPERATIONS {
+            if are_many(self.recorder()?.queue()?) {
                 self.settle()?;
             }
+        }
+        Ok(())
+    }
+
+    /// Reads plainly what the next step of a pump may write: it has to be within three quarters of [`AHEAD`].
+    fn read_ahead(&mut self) -> Result<(), Trouble> {
+        let blocks = self.settings.blocks as u64;
+        let end = blocks.saturating_sub(self.recorder()?.status()?.free / 512);
+        while self.ahead < blocks && end + AHEAD / 4 * 3 > self.ahead {
+            let to = self.ahead + AHEAD;
+            self.medium.read_plainly(self.ahead..to).map_err(|it| Trouble::Failed(it.text().to_string()))?;
+            self.ahead = to;
         }
         Ok(())
     }
@@ -68,7 +88,7 @@ impl Owner {
     }
 
     pub(crate) fn tick(&mut self) -> Result<(), Trouble> {
-        let (now, civil) = (Instant::now(), OffsetDateTime::now_utc());
+        let (now, civil) = clock::both();
         self.ticked = now;
         let (count, stepped) = (self.counter.count_at(now), self.steps.look(now, civil));
         self.recorder()?.tick(count, &clock::civil(civil))?;
@@ -92,6 +112,9 @@ impl Owner {
         let done = self.start_by(name);
         // where the disk fails in it, it is begun again
         self.wants = matches!(done, Ok(()) | Err(Trouble::Failed(_)));
+        if !self.wants {
+            self.medium.keep(false);
+        }
         done
     }
 
@@ -100,7 +123,9 @@ impl Owner {
         let files = self.recorder()?.files()?;
         let first = self.medium.first_block(&files);
         self.medium.read_plainly(first..first + AHEAD).map_err(|it| Trouble::Failed(it.text().to_string()))?;
+        self.ahead = first + AHEAD;
         let name = name.map_or_else(|| fresh_name(&self.settings.prefix, &files), str::to_string);
+        self.medium.keep(true);
         let setup = std::mem::take(&mut self.settings.setup);
         let started = self.recorder()?.start(&name, &setup);
         self.settings.setup = setup;
@@ -156,6 +181,7 @@ impl Owner {
         match begun {
             Err(Trouble::Full) => {
                 self.state = State::Full;
+                self.medium.keep(true);
                 error!(
                     "the medium is full: nothing is recorded, and what comes is counted as lost; copy the files, then give \
                      .ERASE and .RECORD"
@@ -173,4 +199,33 @@ fn fresh_name(prefix: &str, files: &[r10::File]) -> String {
     let base = format!("{prefix}{:04}{:02}{:02}-{:02}{:02}{:02}", it.year, it.month, it.day, it.hour, it.minute, it.second);
     let is_taken = |name: &str| files.iter().any(|it| it.name == name);
     (1..).map(|number| if number == 1 { base.clone() } else { format!("{base}_{number}") }).find(|it| !is_taken(it)).unwrap_or(base)
+}
+
+#[cfg(test)]
+mod tests {
+    use super::*;
+    use crate::medium::ROOM;
+
+    /// The queue's own number counts the ring in hand alone, and never exceeds its places: what a pump leaves is more.
+    #[test]
+    fn what_one_pump_leaves_is_many_operations() {
+        let text =
+            "medium = \"m\"\nblocks = 40000\nvolume = \"V\"\n[control]\nsocket = \"c\"\n[[channel]]\nid = 5\nkind = \"message\"\n";
+        let script = crate::settings::read(text, std::path::Path::new("/")).unwrap().script;
+        let Ok(mut recorder) = r10::Recorder::format(r10::Region::memory(40_000), ROOM, &script) else { panic!("no recorder") };
+        recorder.mount().unwrap();
+        recorder.tick(0, &clock::civil(OffsetDateTime::from_unix_timestamp(1_709_210_096).unwrap())).unwrap();
+        recorder.start("FLT1", b"").unwrap();
+        recorder.settle().unwrap();
+        assert!(!are_many(recorder.queue().unwrap()));
+        for count in 0..4000 {
+            let message = r10::Message::Message { data_error: false, format: false, sub: 0, bytes: &[7; 1000] };
+            recorder.offer(5, count, message).unwrap();
+        }
+        assert_eq!(recorder.pump(5, PUMPED / 1064), Ok(PUMPED / 1064));
+        let queue = recorder.queue().unwrap();
+        assert!(are_many(queue), "{queue:?}");
+        recorder.settle().unwrap();
+        assert!(!are_many(recorder.queue().unwrap()));
+    }
 }

@@ -18,10 +18,15 @@ impl Owner {
         let mut recorder = self.medium.mount()?;
         recorder.tick(self.counter.count(), &clock::civil(OffsetDateTime::now_utc())).map_err(failed)?;
         let files = recorder.files().map_err(failed)?;
-        let cut = files.last().filter(|it| !it.closed);
-        if let Some(file) = cut {
-            let (start, first) = (Instant::now(), self.medium.first_block(&files[..files.len() - 1]));
+        let (start, cut) = (Instant::now(), files.last().filter(|it| !it.closed));
+        // what is closed now, or looked into for messages that were not committed, is read plainly first
+        if let Some(file) = files.last()
+            && (cut.is_some() || self.lanes.iter().any(|it| !it.pending.is_empty()))
+        {
+            let first = self.medium.first_block(&files[..files.len() - 1]);
             self.medium.read_plainly(first..first + file.blocks)?;
+        }
+        if let Some(file) = cut {
             match recorder.seal() {
                 Ok(()) => (),
                 Err(Error::BAD_FILE) => {

@@ -19,6 +19,29 @@ pub enum Kind {
     Message,
 }
 
+impl Channel {
+    /// Whether its socket hears what is sent to this address of this machine.
+    pub fn hears(&self, to: SocketAddr) -> bool {
+        match &self.input {
+            Some(Input::Udp { address, .. }) => {
+                let is_here = to.ip() == address.ip() || to.ip().is_loopback() || to.ip().is_unspecified();
+                address.port() == to.port() && has(address.ip(), to.ip()) && is_here
+            }
+            _ => false,
+        }
+    }
+}
+
+/// Whether a socket at the one address has the other: one without an address has all of this machine.
+fn has(one: IpAddr, other: IpAddr) -> bool {
+    one == other || one.is_unspecified() && (one.is_ipv6() || other.is_ipv4())
+}
+
+/// Whether two sockets cannot be had together.
+fn are_one(one: SocketAddr, other: SocketAddr) -> bool {
+    one.port() == other.port() && (has(one.ip(), other.ip()) || has(other.ip(), one.ip()))
+}
+
 impl Kind {
     pub const NAMES: [(&'static str, Kind); 5] = [
         ("uart", Kind::Uart),
@@ -127,7 +150,7 @@ struct Document {
     file_minutes: Option<Spanned<u64>>,
     tries: Option<Spanned<u64>>,
     clock_event: Option<Spanned<u64>>,
-    acknowledge: Option<PathBuf>,
+    acknowledge: Option<Spanned<PathBuf>>,
     control: ControlTable,
     metrics: Option<Spanned<String>>,
     publish: Option<Spanned<String>>,
@@ -137,7 +160,7 @@ struct Document {
 #[derive(Deserialize)]
 #[serde(deny_unknown_fields)]
 struct ControlTable {
-    socket: PathBuf,
+    socket: Spanned<PathBuf>,
     tcp: Option<Spanned<String>>,
     #[serde(default)]
     peers: Vec<Spanned<String>>,
@@ -247,7 +270,7 @@ impl Reader<'_> {
     }
 
     fn address(&mut self, key: &str, value: &Spanned<String>) -> Option<SocketAddr> {
-        let found = value.get_ref().parse().ok();
+        let found = value.get_ref().parse::<SocketAddr>().ok().filter(|it| it.port() != 0);
         if found.is_none() {
             self.fault(value, format!("{key} = {:?}: give an address and a port, as \"127.0.0.1:20005\"", value.get_ref()));
         }
@@ -288,7 +311,8 @@ impl Reader<'_> {
             self.faults.push(Fault { line: 1, text: format!("{} channels: give 1 to 64 tables [[channel]]", it.channel.len()) });
         }
         let mut inputs = BTreeMap::new();
-        let channels = it.channel.iter().map(|it| self.channel(it, &mut taken, &mut inputs, &mut script)).collect();
+        let channels: Vec<Channel> = it.channel.iter().map(|it| self.channel(it, &mut taken, &mut inputs, &mut script)).collect();
+        self.paths(&it);
         let setup = self.setup(&it);
         let begin = it.start.as_ref().map_or(Begin::Resume, |at| match at.get_ref().as_str() {
             "record" => Begin::Record,
@@ -313,6 +337,18 @@ impl Reader<'_> {
                 ),
             );
         }
+        let metrics = it.metrics.as_ref().and_then(|at| self.address("metrics", at));
+        if let (Some(one), Some(other), Some(at)) = (metrics, tcp, &it.metrics)
+            && are_one(one, other)
+        {
+            self.fault(at, format!("metrics = \"{one}\": control.tcp has this port; give another one"));
+        }
+        let publish = it.publish.as_ref().and_then(|at| self.address("publish", at));
+        if let (Some(to), Some(at)) = (publish, &it.publish)
+            && let Some(channel) = channels.iter().find(|it| it.hears(to))
+        {
+            self.fault(at, format!("publish = \"{to}\": channel {} listens there; give another address", channel.id));
+        }
         Settings {
             medium: self.path(it.medium.get_ref()),
             blocks: blocks as usize,
@@ -325,13 +361,34 @@ impl Reader<'_> {
             file_for: Duration::from_secs(60 * self.number_or("file_minutes", &it.file_minutes, 60, 1..=1440)),
             tries: self.number_or("tries", &it.tries, 5, 1..=100) as u32,
             clock_event: self.number_or("clock_event", &it.clock_event, 4095, 0..=4095) as u16,
-            socket: self.path(&it.control.socket),
+            socket: self.path(it.control.socket.get_ref()),
             tcp,
             peers,
-            metrics: it.metrics.as_ref().and_then(|at| self.address("metrics", at)),
-            publish: it.publish.as_ref().and_then(|at| self.address("publish", at)),
-            acknowledge: it.acknowledge.as_ref().map(|it| self.path(it)),
+            metrics,
+            publish,
+            acknowledge: it.acknowledge.as_ref().map(|it| self.path(it.get_ref())),
             channels,
+        }
+    }
+
+    /// No two things have one path: what one writes the other would read, or take away.
+    fn paths(&mut self, it: &Document) {
+        let mut named = vec![("medium", &it.medium), ("control.socket", &it.control.socket)];
+        named.extend(it.setup.iter().map(|at| ("setup", at)));
+        named.extend(it.acknowledge.iter().map(|at| ("acknowledge", at)));
+        for input in it.channel.iter().filter_map(|it| it.input.as_ref()).map(Spanned::get_ref) {
+            named.extend(input.serial.iter().map(|at| ("serial", at)));
+            named.extend(input.lines.iter().filter(|at| at.get_ref() != Path::new("-")).map(|at| ("lines", at)));
+        }
+        let mut taken = BTreeMap::new();
+        for (key, at) in named {
+            let path = self.path(at.get_ref());
+            // of two serial lines more is said elsewhere, and a pipe may have several channels
+            if let Some(other) = taken.insert(path.clone(), key)
+                && other != key
+            {
+                self.fault(at, format!("{key} = {path:?}: {other} has this path; give each a path of its own"));
+            }
         }
     }
 
@@ -441,6 +498,18 @@ impl Reader<'_> {
                 && !group.is_multicast()
             {
                 self.fault(at, format!("group = \"{group}\": give a multicast address"));
+            } else if let (Some(group), Some(at)) = (group, &it.group)
+                && group.is_ipv4() != address.is_ipv4()
+            {
+                self.fault(at, format!("group = \"{group}\": give one of the kind of {address}, version 4 or version 6"));
+            }
+            // one socket would have what the other is to get
+            let other = inputs.iter().find(|it| {
+                it.0.strip_prefix("udp ").and_then(|it| it.parse().ok()).is_some_and(|it| it != address && are_one(it, address))
+            });
+            if let Some((what, other)) = other {
+                let text = format!("input udp {address}: channel {other} has {what} already; give each channel a port of its own");
+                self.fault(at, text);
             }
             let receive_mib = self.number_or("receive_mib", &it.receive_mib, 32, 1..=1024);
             (Input::Udp { address, group, receive_mib }, format!("udp {address}"))
@@ -555,6 +624,32 @@ input = { udp = \"127.0.0.1:20005\" }
                 "line 6: control.tcp = \"0.0.0.0:7\": beyond this machine it wants a list of peers; \
                  give control.peers = [\"ADDRESS\", ..]",
             ),
+            ("127.0.0.1:20005", "127.0.0.1:0", "line 9: udp = \"127.0.0.1:0\": give an address and a port, as \"127.0.0.1:20005\""),
+            (
+                "127.0.0.1:20005\"",
+                "0.0.0.0:20005\", group = \"ff02::1\"",
+                "line 9: group = \"ff02::1\": give one of the kind of 0.0.0.0:20005, version 4 or version 6",
+            ),
+            (
+                "socket = \"c\"",
+                "socket = \"m\"",
+                "line 5: control.socket = \"/f/m\": medium has this path; give each a path of its own",
+            ),
+            (
+                "volume",
+                "acknowledge = \"/f/m\"\nvolume",
+                "line 3: acknowledge = \"/f/m\": medium has this path; give each a path of its own",
+            ),
+            (
+                "volume",
+                "publish = \"127.0.0.1:20005\"\nvolume",
+                "line 3: publish = \"127.0.0.1:20005\": channel 5 listens there; give another address",
+            ),
+            (
+                "volume = \"VOL\"\n[control]",
+                "volume = \"VOL\"\nmetrics = \"127.0.0.1:9\"\n[control]\ntcp = \"127.0.0.1:9\"",
+                "line 4: metrics = \"127.0.0.1:9\": control.tcp has this port; give another one",
+            ),
             ("volume", "start = \"now\"\nvolume", "line 3: start = \"now\": give \"record\", \"resume\" or \"wait\""),
             ("volume", "commit_ms = 0\nvolume", "line 3: commit_ms = 0: give a number from 1 to 10000"),
         ] {
@@ -571,6 +666,12 @@ input = { udp = \"127.0.0.1:20005\" }
             faults(&twice),
             ["line 13: input udp 127.0.0.1:20005: channel 5 has it already; give each channel an input of its own"]
         );
+        // one port of this machine, by another name
+        assert_eq!(
+            faults(&twice.replacen("127.0.0.1:20005", "0.0.0.0:20005", 1)),
+            ["line 13: input udp 127.0.0.1:20005: channel 5 has udp 0.0.0.0:20005 already; give each channel a port of its own"]
+        );
+        assert!(faults(&twice.replacen("127.0.0.1:20005", "127.0.0.2:20005", 1)).is_empty());
     }
 
     /// The library takes what stands at the limits here, and refuses what is one beyond: the limits are its own.

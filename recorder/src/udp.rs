@@ -48,9 +48,15 @@ fn all_dropped(socket: &UdpSocket) -> Option<u32> {
     table.ok()?.lines().find(|it| it.split_whitespace().nth(9) == Some(inode))?.split_whitespace().next_back()?.parse().ok()
 }
 
-/// How many were dropped since the last datagram, of a number of 32 bits that goes on from its start.
+/// How many were dropped since the last look, of a number of 32 bits that goes on from its start. A datagram has the number of when
+/// it came, and may be read after a look at the socket that was later: then there is none.
 fn dropped(last: &mut u32, now: u32) -> u64 {
-    now.wrapping_sub(std::mem::replace(last, now)).into()
+    let more = now.wrapping_sub(*last);
+    if more > u32::MAX / 2 {
+        return 0;
+    }
+    *last = now;
+    more.into()
 }
 
 pub fn run(socket: UdpSocket, mut feed: Feed, channel: &Channel) {
@@ -120,6 +126,9 @@ mod tests {
         assert_eq!((dropped(&mut last, 0), dropped(&mut last, 5), dropped(&mut last, 5)), (0, 5, 0));
         last = u32::MAX - 1;
         assert_eq!((dropped(&mut last, 3), last), (5, 3));
+        // one that came before the last look at the socket
+        last = 8;
+        assert_eq!((dropped(&mut last, 5), dropped(&mut last, 9), last), (0, 1, 9));
     }
 
     /// More datagrams than the system holds: what did not come is counted, with the next one that comes.
@@ -141,7 +150,7 @@ mod tests {
         std::thread::spawn(move || run(socket, feed, &channel));
         let (mut messages, mut lost, start) = (0, 0, std::time::Instant::now());
         let mut take = |wanted: u64| {
-            while messages + lost < wanted && start.elapsed().as_secs() < 20 {
+            while messages + lost < wanted && start.elapsed().as_secs() < 120 {
                 std::thread::sleep(Duration::from_millis(5));
                 while let Some(batch) = outlet.take() {
                     messages += batch.items.len() as u64;

@@ -145,6 +145,8 @@ impl Owner {
             }
             ".RECORD" => return self.record(&words),
             ".STOP" if self.state == State::Recording => {
+                // one that is cut off before it is stopped goes on
+                self.medium.keep(false);
                 self.take_in_all()?;
                 self.stop("was stopped by a command")?;
                 String::new()
@@ -154,6 +156,7 @@ impl Owner {
                 return Ok(Err(No::Mode("a file is recorded; give .STOP first".to_string())));
             }
             ".ERASE" => {
+                self.medium.keep(false);
                 self.readers.clear();
                 self.recorder()?.erase()?;
                 self.settle()?;
@@ -288,8 +291,8 @@ impl Owner {
                 _ if rest.is_empty() => Some(0),
                 (Ok(count), _) => Some(count).filter(|it| *it < COUNTS),
                 (_, Some(civil)) => {
-                    if !self.may_read(file - 1)? {
-                        return Ok(Err(too_long()));
+                    if let Some(no) = self.unreadable(file - 1)? {
+                        return Ok(Err(no));
                     }
                     match self.recorder()?.count_at(file - 1, &civil) {
                         Err(error @ (Error::BAD_CIVIL | Error::BAD_FILE)) => return Ok(Err(No::Parameter(error.to_string()))),
@@ -324,8 +327,8 @@ impl Owner {
         if file >= self.recorder()?.files()?.len() {
             return Ok(Err(No::Parameter("there is no such file; .FILES lists them, .FIND chooses one".to_string())));
         }
-        if !self.may_read(file)? {
-            return Ok(Err(too_long()));
+        if let Some(no) = self.unreadable(file)? {
+            return Ok(Err(no));
         }
         // what stands behind this count comes later than now
         let to = if self.file.as_ref().is_some_and(|it| it.0 == file) { self.count() } else { COUNTS - 1 };
@@ -341,7 +344,16 @@ impl Owner {
         Ok(self.add(readers::follow(file, from, channels)))
     }
 
+    /// Why a file is not read now, if it is not.
+    fn unreadable(&mut self, file: usize) -> Result<Option<No>, Trouble> {
+        if !self.may_read(file)? {
+            return Ok(Some(too_long()));
+        }
+        Ok(self.read_file_plainly(file)?.map(No::Failed))
+    }
+
     fn add(&mut self, (reader, reply): (readers::Reader, Reply)) -> Result<Reply, No> {
+        self.drop_gone();
         if self.readers.len() >= MOST {
             return Err(No::Failed(format!("{MOST} read already; end one of them first")));
         }
@@ -361,6 +373,10 @@ impl Owner {
             })),
             ["START", host, port] | ["START", host, port, "ALL"] => {
                 let address = address(host, port).ok_or_else(usage)?;
+                if let Some(lane) = self.lanes.iter().find(|it| it.channel.hears(address)) {
+                    let id = lane.channel.id;
+                    return Err(No::Parameter(format!("channel {id} listens there, so that what goes out would come in again")));
+                }
                 // what the file has up to now does not go out
                 if !self.live.is_on()
                     && let (Some(recorder), Some((number, _))) = (&mut self.recorder, &self.file)
@@ -396,11 +412,12 @@ impl Owner {
             State::Failed(Some(_)) => "retrying",
             State::Failed(None) => "failed",
         };
+        self.drop_gone();
         let queued: Vec<usize> = self.outlets.iter().map(crate::feed::Outlet::queued).collect();
         let mut channels = Vec::new();
-        for lane in &mut self.lanes {
+        for (place, lane) in self.lanes.iter().enumerate() {
             let overflow = match &mut self.recorder {
-                Some(recorder) => recorder.channel(lane.channel.id)?.map_or(0, |it| it.lost.saturating_sub(lane.given)),
+                Some(recorder) => recorder.channel_at(place)?.lost.saturating_sub(lane.given),
                 None => 0,
             };
             let (count, length, bytes) = lane.last.clone().unwrap_or_default();

@@ -13,7 +13,7 @@ from typing import Optional
 import trials_of_disks
 import trials_of_inputs
 import trials_of_service
-from trying import R10, Room, fault, must, report
+from trying import R10, NotTried, Room, fault, must, report, tidy_up_at_signals
 
 
 # the trials stand in these modules, each under its name
@@ -28,7 +28,10 @@ TRIALS = {
 def main() -> None:
     programs, names = sys.argv[1], sys.argv[2:] or list(TRIALS)
     must(subprocess.run([R10, 'files'], input=b'', capture_output=True).returncode != 127, 'there is no r10')
-    begin, needs_disk = time.monotonic(), ('a-clock-that-steps', 'power-cuts', 'disk-failures', 'a-block-that-cannot-be-read')
+    begin, needs_disk = time.monotonic(), (
+        'a-clock-that-steps', 'power-cuts', 'disk-failures', 'a-block-that-cannot-be-read', 'a-disk-that-fails-twice'
+    )
+    tidy_up_at_signals()
 
     def run(name: str) -> Optional[str]:
         """One trial: why it failed."""
@@ -38,6 +41,9 @@ def main() -> None:
                 print(f'recorder: NOT TRIED: {name}: there is no cc for recorder/tests/disk.c', flush=True)
             else:
                 report(f'recorder: {name}', start, TRIALS[name](room))
+            return None
+        except NotTried as why:
+            print(f'recorder: NOT TRIED: {name}: {why}', flush=True)
             return None
         except Exception as why:
             room.end_all()

@@ -7,6 +7,8 @@
  *     DISK_LINES=PATH      what the service acknowledges
  *     DISK_FAIL=N:ERRNO    its Nth operation fails, from 1 on; N+:ERRNO that and all later
  *                          ones, N-M:ERRNO those up to the Mth
+ *     DISK_AGAIN=N         the Nth operation after the first that failed fails too
+ *     DISK_NEXT=PATH       where this file is, the next operation fails with EIO, and takes the file away
  *     DISK_HIT=PATH        made where an operation failed
  *     DISK_SLOW=MICROS     each sync takes so much longer
  *     DISK_BAD=BLOCK       a plain read that touches this block fails
@@ -25,9 +27,9 @@
 #include <time.h>
 #include <unistd.h>
 
-static const char *disk, *lines, *clock_file, *hit;
+static const char *disk, *lines, *clock_file, *hit, *next;
 static int trail = -1, fail_errno, slow;
-static long fail_at, fail_to, done, bad = -1;
+static long fail_at, fail_to, again, failed_at, done, bad = -1;
 
 __attribute__((constructor)) static void begin(void) {
     const char *text;
@@ -35,6 +37,9 @@ __attribute__((constructor)) static void begin(void) {
     lines = getenv("DISK_LINES");
     clock_file = getenv("DISK_CLOCK");
     hit = getenv("DISK_HIT");
+    next = getenv("DISK_NEXT");
+    if ((text = getenv("DISK_AGAIN")))
+        again = atol(text);
     if ((text = getenv("DISK_TRAIL")))
         trail = open(text, O_WRONLY | O_CREAT | O_APPEND | O_CLOEXEC, 0644);
     if ((text = getenv("DISK_SLOW")))
@@ -72,8 +77,14 @@ static void note(char kind, const uint64_t *head, size_t heads, const void *byte
 /* Whether the next operation fails. */
 static int fails(void) {
     long number = __atomic_add_fetch(&done, 1, __ATOMIC_SEQ_CST);
-    if (fail_at == 0 || number < fail_at || (fail_to >= 0 && number > fail_to))
+    if (next && unlink(next) == 0) {
+        errno = EIO;
+        return 1;
+    }
+    int is_again = again && failed_at && number == failed_at + again;
+    if (!is_again && (fail_at == 0 || number < fail_at || (fail_to >= 0 && number > fail_to)))
         return 0;
+    failed_at = failed_at ? failed_at : number;
     if (hit)
         syscall(SYS_close, (int)syscall(SYS_open, hit, O_CREAT | O_WRONLY, 0644));
     errno = fail_errno;

@@ -5,9 +5,11 @@
 
     kills          200 kills under load
     cuts           1,000 media that a loss of power may leave, from the operations of 12 runs
-    failures       EIO and ENOSPC at each operation of a short run
+    failures       EIO and ENOSPC at each operation of a short run, and a second failure after each number of operations
+    end            the service ends within two seconds of a SIGTERM
     flood          1,000,000 datagrams as fast as they can be sent
     full           a full medium, five times
+    torn           what a lost sector of 4,096 bytes leaves: nothing of it is promised
 """
 import pathlib
 import subprocess
@@ -17,18 +19,21 @@ from typing import Callable
 
 import trials_of_disks as disks
 import trials_of_service as service
-from trying import Room, Wrong, fault, report
+from trying import Room, Wrong, fault, report, tidy_up_at_signals
 
 TRIALS: dict[str, Callable[[Room], str]] = {
-    'kills': lambda room: disks.kills(room, 200, 2),
+    'kills': lambda room: disks.kills(room, 200, 2, 2.0),
     'cuts': lambda room: disks.power_cuts(room, 12, 21, 3),
     'failures': lambda room: disks.disk_failures(room, 1),
+    'end': lambda room: service.the_end_and_the_manager(room, 2.0),
     'flood': lambda room: service.a_flood(room, 1_000_000),
+    'torn': lambda room: '; '.join(disks.torn_sectors(room, 4, 25, directory) for directory in (63, 8)),
     'full': lambda room: '; '.join((room.clear(), disks.full_medium(room))[1] for _ in range(5)),
 }
 
 
 def main() -> None:
+    tidy_up_at_signals()
     for name in sys.argv[2:] or TRIALS:
         room, start = Room(sys.argv[1]), time.monotonic()
         try:

@@ -5,6 +5,7 @@
 
 Each row is a run of its own; those of both programs take turns. Rates are messages a second from UDP to durable, on four sockets.
 """
+import contextlib
 import json
 import pathlib
 import shutil
@@ -13,13 +14,17 @@ import subprocess
 import sys
 import time
 
-from trying import Room, Service, settings, udp_channels
+from trying import HOST, Room, Service, settings, tidy_up_at_signals, udp_channels
 
 
 def cpu_of(child: int) -> float:
     """Seconds of a processor that a process has had, of all its threads, as the system's scheduler counts them."""
-    tasks = pathlib.Path(f'/proc/{child}/task').iterdir()
-    return sum(int((it / 'schedstat').read_text().split()[0]) for it in tasks) / 1e9
+    total = 0
+    for it in pathlib.Path(f'/proc/{child}/task').iterdir():
+        # (one that answered a client is gone at once)
+        with contextlib.suppress(OSError):
+            total += int((it / 'schedstat').read_text().split()[0])
+    return total / 1e9
 
 
 def recorder(room: Room, commit: int, rate: int, size: int, seconds: float) -> dict[str, float]:
@@ -52,7 +57,8 @@ def recorder(room: Room, commit: int, rate: int, size: int, seconds: float) -> d
 
 def plain(room: Room, commit: int, rate: int, size: int, seconds: float) -> dict[str, float]:
     ports = room.ports(4)
-    program = [str(room.programs / 'examples' / 'plain'), str(room.folder / 'plain'), '2048', str(commit), *map(str, ports)]
+    addresses = [f'{HOST}:{port}' for port in ports]
+    program = [str(room.programs / 'examples' / 'plain'), str(room.folder / 'plain'), '2048', str(commit), *addresses]
     child = subprocess.Popen(program, stdout=subprocess.PIPE, text=True)
     while not (room.folder / 'plain').exists() or (room.folder / 'plain').stat().st_size < 2048 << 20:
         time.sleep(0.1)
@@ -77,6 +83,7 @@ def plain(room: Room, commit: int, rate: int, size: int, seconds: float) -> dict
 
 
 def main() -> None:
+    tidy_up_at_signals()
     room, seconds = Room(sys.argv[1]), float(sys.argv[2]) if len(sys.argv) > 2 else 8
     if len(sys.argv) > 3:
         library = room.disk_library.read_bytes()

@@ -1,9 +1,13 @@
-"""Trials of the disk: full, failing, unreadable, taken by another service; kills, and losses of power."""
+"""Trials of the disk: full, failing, unreadable, taken by another service, a block device; kills, and losses of power."""
+import os
 import random
+import shutil
 import subprocess
 import time
+from typing import Optional
 
-from trying import Room, Service, Trail, Wrong, files, judge, lines_of, must, seconds, settings, trial, udp_channels
+from trying import LONG, NotTried, Room, Service, Trail, Wrong, channel, entries, files, judge, lines_of, must, r10, settings, trial
+from trying import udp_channels
 
 
 @trial
@@ -29,13 +33,11 @@ def full_medium(room: Room) -> str:
     an erase."""
     ports = room.ports(1)
     service = Service(room, settings(udp_channels(ports, more='bytes = 4096\nnumber = 50\n'), blocks=1500, commit_ms=10))
-    load = room.load(ports, rate=20000, size=60, seconds=30)
-    service.wait_for('the medium is full', 30)
-    time.sleep(0.3)
-    figures = service.figures()
+    load = room.load(ports, rate=20000, size=60, seconds=600)
+    service.wait_for('the medium is full')
+    service.until(lambda it: it['state'] == 'full' and it['channels'][0]['lost'] > 0, 'what comes is not counted as lost')
     load.kill()
     load.wait()
-    must(figures['state'] == 'full' and figures['channels'][0]['lost'] > 0, f'full: {figures}')
     must(
         service.ask('.STATUS')[0].startswith('S 01 1 1') and service.ask('.HEALTH')[0].startswith('0 40000000'),
         'a full medium is no warning',
@@ -43,8 +45,8 @@ def full_medium(room: Room) -> str:
     must(service.ask('.RECORD')[0].startswith('E 04'), 'a recording begins on a full medium')
     image = (room.folder / 'medium').read_bytes()
     found = judge(image, lines_of((room.folder / 'lines').read_text()), [5])
-    must(found['files'] > 1 and found['untold'] == found['untold_before'] == 0 and found['acknowledged'] <= found['messages'],
-         f'{found}')
+    must(found['files'] > 1 and found['untold'] == found['untold_before'] == 0, f'{found}')
+    must(found['acknowledged'] <= found['messages'], f'{found}')
     used = 512 * sum(int(it[2]) for it in files(image)) / (512 * 1491)
     must(service.ask('.ERASE', '.RECORD AGAIN', '.STATUS')[-1].startswith('S 05'), 'no recording after an erase')
     service.end()
@@ -52,7 +54,7 @@ def full_medium(room: Room) -> str:
 
 
 @trial
-def kills(room: Room, count: int = 4, seed: int = 1) -> str:
+def kills(room: Room, count: int = 4, seed: int = 1, limit: float = LONG) -> str:
     """A service that is killed under load records again by itself, and all that it acknowledged is there."""
     chance, ports, sum_of, gone = random.Random(seed), room.ports(2), {'acknowledged': 0, 'messages': 0, 'untold': 0}, []
     text = settings(udp_channels(ports), start='resume', commit_ms=chance.choice((2, 20, 50)))
@@ -63,7 +65,7 @@ def kills(room: Room, count: int = 4, seed: int = 1) -> str:
         service = Service(room, text, disk={'slow': chance.choice((0, 300, 2000))} if room.has_disk else None)
         if number == 0:
             service.ask('.RECORD')
-        service.wait_for(': recording', 30)
+        service.wait_for(': recording')
         gone.append(time.monotonic() - start)
         load = room.load(ports, rate=chance.choice((500, 5000, 30000)), size=chance.choice((16, 40, 700)), run=number, seconds=60)
         time.sleep(chance.uniform(0.1, 0.7))
@@ -83,10 +85,39 @@ def kills(room: Room, count: int = 4, seed: int = 1) -> str:
                 service.kill()
                 acknowledged = {}
                 (room.folder / 'lines').write_text('')
-    must(max(gone) < seconds(2), f'to record again took {max(gone):.2f} s')
-    must(sum_of['untold'] == 0 and sum_of['acknowledged'] > 0, f'{sum_of}')
+    must(max(gone) < limit, f'to record again took {max(gone):.2f} s')
+    must(sum_of['untold'] == 0, f'{sum_of}')
     counted = f"{sum_of['acknowledged']} acknowledged of {sum_of['messages']} messages, 0 missing"
     return f'{count} kills, {counted}, recording again within {max(gone):.2f} s'
+
+
+@trial
+def between_two_files(room: Room) -> str:
+    """Killed after the end of a file and before the begin of the next: nothing on the medium says that a recording is to go on, and
+    it does. After an order to stop, one that was refused, or the end of the service, it does not."""
+    text = settings(udp_channels(room.ports(1)), start='resume')
+    service = Service(room, text)
+    must(service.ask('.RECORD', '.STATUS')[0].startswith('S 05'), 'it does not record')
+    service.kill()
+    # the cut-off file is closed, and no other is begun
+    service = Service(room, text.replace('"resume"', '"wait"'))
+    must(service.ask('.STATUS')[0].startswith('S 01') and service.ask('.FILES')[0].endswith(' closed'), service.log())
+    service.kill()
+    service = Service(room, text)
+    must(service.ask('.STATUS')[0].startswith('S 05'), f'it does not go on: {service.log()}')
+    service.ask('.STOP')
+    service.kill()
+    service = Service(room, text)
+    must(service.ask('.STATUS')[0].startswith('S 01'), f'it goes on after an order to stop: {service.log()}')
+    service.ask('.RECORD A/B')
+    service.kill()
+    service = Service(room, text)
+    must(service.ask('.STATUS', '.RECORD')[0].startswith('S 01'), f'it goes on after an order that was refused: {service.log()}')
+    service.end()
+    service = Service(room, text)
+    must(service.ask('.STATUS')[0].startswith('S 01'), f'it goes on after its end: {service.log()}')
+    service.end()
+    return 'it goes on'
 
 
 @trial
@@ -120,8 +151,7 @@ def power_cuts(room: Room, runs: int = 1, places: int = 6, seed: int = 1) -> str
         (room.folder / 'lines').write_text('')
         service = Service(room, text, disk={'trail': room.folder / 'trail'})
         load = room.load(ports, rate=chance.choice((500, 5000, 20000)), size=chance.choice((16, 60, 300)), run=number, seconds=20)
-        # (on a busy machine that may be too short for a commit)
-        service.until_durable(100, 60)
+        service.until(lambda it: sum(at['durable'] for at in it['channels']) >= 100, 'no message becomes durable')
         time.sleep(chance.uniform(0.2, 0.5))
         service.end() if chance.random() < 0.5 else service.kill()
         load.kill()
@@ -129,9 +159,9 @@ def power_cuts(room: Room, runs: int = 1, places: int = 6, seed: int = 1) -> str
         trail = Trail(room.folder / 'trail')
         steps += len(trail.steps)
         last = b''
-        for place, way, cut, said in trail.cuts(
-            image, sorted(chance.sample(range(len(trail.steps) + 1), min(places, len(trail.steps) + 1))), chance
-        ):
+        # (the last place of all has what was acknowledged before)
+        chosen = {*chance.sample(range(len(trail.steps)), min(places - 1, len(trail.steps))), len(trail.steps)}
+        for place, way, cut, said, _ in trail.cuts(image, sorted(chosen), chance):
             try:
                 sum_of += judge(cut, {**before, **lines_of(said)}, [5, 6]).get('acknowledged', 0)
             except Wrong as why:
@@ -144,7 +174,7 @@ def power_cuts(room: Room, runs: int = 1, places: int = 6, seed: int = 1) -> str
         service = Service(room, text)
         if not files(last) or files(last)[-1][3] == '1':
             service.ask('.RECORD')
-        service.wait_for(': recording', 30)
+        service.wait_for(': recording')
         load = room.load(ports, rate=1000, run=2000, count=100)
         service.until_durable(100)
         load.wait()
@@ -155,22 +185,67 @@ def power_cuts(room: Room, runs: int = 1, places: int = 6, seed: int = 1) -> str
             'it does not record on',
         )
         on += 1
-    must(sum_of > 0, 'nothing was acknowledged: the machine is too busy for this trial')
+    must(sum_of > 0, 'nothing was acknowledged')
     return f'{runs} runs of {steps} operations, {images} media, {sum_of} acknowledged messages, 0 missing, recorded on from {on}'
 
 
-def failing_run(room: Room, ports: list[int], text: str, fail: str, messages: int = 400) -> tuple[str, dict[str, int]]:
-    """A short run whose disk fails once: what the service says, and what is on the medium."""
+def torn_sectors(room: Room, runs: int, places: int, directory: int, seed: int = 4) -> str:
+    """Media after a loss of power on a disk that writes 4,096 bytes at once: the sector of one block that was being written is lost
+    whole. What r10 finds on them, and whether the service records on."""
+    chance, found = random.Random(seed), {key: 0 for key in ('all there', 'messages missing', 'a file at fault', 'no directory')}
+    on = tried = 0
+    for number in range(runs):
+        room.clear()
+        ports = room.ports(2)
+        text = settings(udp_channels(ports), blocks=8192, directory=directory, commit_ms=5, file_minutes=1)
+        Service(room, text.replace('"record"', '"wait"')).end()
+        image = (room.folder / 'medium').read_bytes()
+        service = Service(room, text, disk={'trail': room.folder / 'trail'})
+        load = room.load(ports, rate=5000, size=60, run=number, seconds=600)
+        service.until(lambda it: sum(at['durable'] for at in it['channels']) >= 500, 'no message becomes durable')
+        service.ask('.STOP', '.RECORD NEXT')
+        service.until(lambda it: it['channels'][0]['in_file'] >= 250, 'no message becomes durable')
+        service.kill()
+        load.kill()
+        load.wait()
+        trail = Trail(room.folder / 'trail')
+        chosen = sorted(chance.sample(range(len(trail.steps)), min(places, len(trail.steps))))
+        for _, _, cut, said, unsure in trail.cuts(image, chosen, chance, ways=(0,)):
+            if not unsure:
+                continue
+            sector = chance.choice(unsure) // 8
+            torn = cut[: 4096 * sector] + bytes(4096) + cut[4096 * (sector + 1) :]
+            if r10(['files'], torn)[0]:
+                found['no directory'] += 1
+            else:
+                try:
+                    judge(torn, lines_of(said), [5, 6])
+                    found['all there'] += 1
+                except Wrong as why:
+                    found['a file at fault' if 'r10 play' in str(why) else 'messages missing'] += 1
+            if tried < 20 and not r10(['files'], torn)[0]:
+                tried += 1
+                (room.folder / 'medium').write_bytes(torn)
+                service = Service(room, text)
+                on += service.ask('.STATUS')[0].startswith('S 05')
+                service.end(status=None)
+    return f'directory of {directory} blocks: {found}; the service recorded on from {on} of {tried} that have a directory'
+
+
+def failing_run(
+    room: Room, ports: list[int], text: str, fail: str, again: int = 0, messages: int = 400
+) -> tuple[str, dict[str, int]]:
+    """A short run whose disk fails once, or so many operations later again: what the service says, and what is on the medium."""
     for it in ('medium', 'medium.new', 'lines', 'log', 'hit'):
         (room.folder / it).unlink(missing_ok=True)
     (room.folder / 'medium').write_bytes((room.folder / 'empty').read_bytes())
-    service = Service(room, text, disk={'fail': fail, 'hit': room.folder / 'hit'})
+    service = Service(room, text, disk={'fail': fail, 'again': again, 'hit': room.folder / 'hit'})
     load = room.load(ports, count=messages, rate=4000)
     durable = None
     if fail.split(':')[0].endswith('+'):
-        service.wait_for('recording is down', 10)
+        service.wait_for('recording is down')
     else:
-        figures = service.until_durable(messages, 10)
+        figures = service.until_durable(messages)
         durable, lost = (sum(it[key] for it in figures['channels']) for key in ('durable', 'lost'))
         must(
             durable + lost == messages,
@@ -224,18 +299,95 @@ def disk_failures(room: Room, each: int = 9) -> str:
             number += each
             continue
         break
+    # a second failure follows the first: while the medium is opened again, the cut-off file closed, or the next begun
+    seconds = range(1, 15, (each + 1) // 2)
+    for again in seconds:
+        log, _ = failing_run(room, ports, text, '12:5', again)
+        must('the medium can be taken away' in log, f'a second failure {again} operations after the first:\n{log}')
     # some operations in a row fail, those of the first tries to go on among them
     log, _ = failing_run(room, ports, text, '12-14:5')
     must('(try 3 of 5)' in log and 'the medium can be taken away' in log, log)
     # one that fails from some operation on: it stays down, and says so; with a good disk it records again by a command
     log, _ = failing_run(room, ports, text, '30+:5')
     must('recording is down' in log, log)
-    return f'{count} runs with a failure at operation 1 to {number}, and one disk that stayed away'
+    return f'{count} runs with a failure at operation 1 to {number}, {len(seconds)} with a second one, and a disk that stayed away'
+
+
+@trial
+def a_disk_that_fails_twice(room: Room) -> str:
+    """A disk that fails, is opened again, and fails again before another message is durable: what was accepted is in the files, or
+    in the gap of the next message that is."""
+    service = Service(
+        room,
+        settings(channel(13, 'discrete', 'lines = "pipe"'), blocks=16384, directory=63, commit_ms=10, tries=100),
+        disk={'next': room.folder / 'next'},
+    )
+    service.wait_for(': recording')
+    wanted: list[tuple[str, str]] = []
+    sent, lost, gap = 0, 0, 0
+
+    def fail() -> None:
+        """The next operation of the disk fails."""
+        service.until(lambda it: it['state'] == 'recording', 'it does not go on')
+        (room.folder / 'next').write_text('')
+
+    def fail_now() -> None:
+        """The disk fails while no message comes."""
+        before = service.figures()['failures']
+        fail()
+        service.ask('.EVENT 1')
+        service.until(lambda it: it['failures'] > before and it['state'] == 'recording', 'the disk does not fail')
+
+    def is_lost(states: int) -> bool:
+        """Sends a message, and says what became of it."""
+        nonlocal sent, lost, gap
+        print(f'states = {states}', file=pipe, flush=True)
+        sent += 1
+        found = service.until_durable(sent)['channels'][0]['lost']
+        if found == lost:
+            wanted.append((str(gap), f'{states:08x}'))
+            gap = 0
+            return False
+        gap, lost = gap + found - lost, found
+        return True
+
+    def lose() -> None:
+        """Sends messages over a disk that fails, until one is lost: an operation for the clock may come before it and fail."""
+        for states in range(1, 99):
+            fail()
+            if is_lost(states):
+                return
+        raise Wrong('no message was lost')
+
+    with open(room.folder / 'pipe', 'w', encoding='ascii') as pipe:
+        must(not is_lost(200), 'the first message is lost')
+        # one is lost, and the disk fails again before there is another
+        lose()
+        fail_now()
+        must(not is_lost(201), 'a message is lost on a disk that is well')
+        # the next one has the number of the lost in it, and is lost with it
+        for _ in range(20):
+            lose()
+            fail()
+            if is_lost(202):
+                break
+        # the number was given to the recorder, and the message that was to carry it is refused
+        must(is_lost(0x1FF), 'a state out of range is taken')
+        fail_now()
+        must(not is_lost(203), 'a message is lost on a disk that is well')
+        figures = service.figures()
+    service.end()
+    image = (room.folder / 'medium').read_bytes()
+    found = [(it.gap, it.words[-1]) for file in range(len(files(image))) for it in entries(image, file, 13)]
+    must(found == wanted, f'in the files are {found}, wanted were {wanted}:\n{service.log()}')
+    must(sum(int(it[0]) for it in found) == lost and len(found) + lost == sent, f'{sent} sent, {lost} lost, {found}')
+    return f"{figures['failures']} failures: {len(found)} messages in the files and {lost} lost, as many as were sent"
 
 
 @trial
 def a_block_that_cannot_be_read(room: Room) -> str:
-    """A restart reads plainly before it maps: it names the block, stays up and says that it is down."""
+    """What a mapping is to read is read plainly before: a bad block is named, at a restart, where a file begins, within it, and in
+    a replay; the service stays up, and goes on or says that it is down."""
     ports = room.ports(1)
     text = settings(udp_channels(ports), tries=2)
     service = Service(room, text)
@@ -252,5 +404,99 @@ def a_block_that_cannot_be_read(room: Room) -> str:
     service = Service(room)
     must(service.ask('.STATUS')[0].startswith('S 05'), 'with a good disk')
     service.end()
+    image = (room.folder / 'medium').read_bytes()
+    judge(image, lines_of((room.folder / 'lines').read_text()), [5])
+    end = 9 + sum(int(it[2]) for it in files(image))
+    # where a file is to begin
+    service = Service(room, text.replace('"record"', '"wait"'), disk={'bad': end + 5000})
+    found = service.ask('.RECORD')
+    must(found[0].startswith(f'E 05 COMMAND FAILED: block {end + 5000} of the medium'), f'{found}')
+    service.wait_for('recording is down')
+    service.end(status=None)
+    # further on than is read at first, before the file comes there; and in an older file that is asked for
+    service = Service(room, text.replace('"record"', '"wait"'), disk={'bad': end + (8 << 11) + 77})
+    service.ask('.RECORD LONG')
+    load = room.load(ports, size=1000, rate=8000, seconds=600)
+    service.wait_for(f'block {end + (8 << 11) + 77} of the medium')
+    service.wait_for('recording is down')
+    load.kill()
+    load.wait()
+    must(service.child.poll() is None and service.ask('.STATUS')[0].startswith('S 00'), service.log())
+    service.end(status=None)
+    service = Service(room, text, disk={'bad': 12})
+    service.wait_for(': recording')
+    found = service.ask('.FIND 1', '.REPLAY')
+    must(found[1].startswith('E 05 COMMAND FAILED: block 12 of the medium'), f'a replay of a bad block: {found}')
+    must(service.ask('.STATUS')[0].startswith('S 05'), 'a replay ends the recording')
+    service.end()
     judge((room.folder / 'medium').read_bytes(), lines_of((room.folder / 'lines').read_text()), [5])
-    return 'blocks 3 and 60 named'
+    return 'six blocks named'
+
+
+class Loop:
+    """A block device over a file, with sectors of so many bytes."""
+
+    def __init__(self, room: Room, blocks: int, sector: int) -> None:
+        self.file, self.device = room.folder / f'disk-{sector}', ''
+        if os.geteuid() != 0 or shutil.which('losetup') is None:
+            raise NotTried('a block device wants root, and losetup')
+        with open(self.file, 'wb') as it:
+            it.truncate(512 * blocks)
+        ran = subprocess.run(
+            ['losetup', '--find', '--show', '--sector-size', str(sector), str(self.file)], capture_output=True, text=True
+        )
+        if ran.returncode:
+            raise NotTried(f'no block device is to be had: {ran.stderr.strip()}')
+        self.device = ran.stdout.strip()
+
+    def close(self) -> bytes:
+        """What it holds after all."""
+        subprocess.run(['losetup', '--detach', self.device], check=True)
+        return self.file.read_bytes()
+
+
+def on_a_device(room: Room, sector: int) -> int:
+    """Formats a block device, records on it, is killed, and records on. How many messages are on it."""
+    device: Optional[Loop] = Loop(room, 16384, sector)
+    try:
+        ports = room.ports(1)
+        text = settings(udp_channels(ports), medium=device.device, blocks=16384, directory=63)
+        service = Service(room, text)
+        service.wait_for('has no directory of this recorder')
+        must(service.ask('.STATUS')[0].startswith('S 00'), 'it records on a device without a directory')
+        is_warned = 'sectors are not of 512 bytes' in service.log()
+        must(is_warned == (sector != 512), f'sectors of {sector} bytes: {service.log()}')
+        service.end(status=4)
+        for status in (0, 3):
+            words = [room.programs / 'r10d', '--format', 'settings.toml']
+            ran = subprocess.run(words, cwd=room.folder, capture_output=True, text=True)
+            must(ran.returncode == status, f'--format: {ran}')
+        must('has a recorder\'s directory already' in ran.stderr, f'{ran}')
+        service = Service(room)
+        load = room.load(ports, count=500, rate=20000)
+        service.until_durable(500)
+        load.wait()
+        service.kill()
+        service = Service(room)
+        load = room.load(ports, count=500, rate=20000, run=1)
+        service.until_durable(500)
+        load.wait()
+        service.end()
+        image, device = device.close(), None
+    finally:
+        room.end_all()
+        if device is not None:
+            device.close()
+    found = judge(image, lines_of((room.folder / 'lines').read_text()), [5])
+    must(found['files'] == 2 and found['acknowledged'] > 0, f'{found}')
+    return found['messages']
+
+
+@trial
+def block_devices(room: Room) -> str:
+    """A block device is formatted once, and recorded on; one whose sectors are not of 512 bytes is warned of."""
+    messages = []
+    for sector in (512, 4096):
+        room.clear()
+        messages.append(on_a_device(room, sector))
+    return f'sectors of 512 and of 4,096 bytes, {messages[0]} and {messages[1]} messages'

@@ -1,44 +1,192 @@
 """Trials of the service as such: readers, the clock, its end and its manager, a flood."""
+import fcntl
+import os
+import signal
 import socket
-import time
+import threading
 
-from trying import Room, Service, entries, files, load_numbers, must, seconds, settings, trial, udp_channels
+from trying import HOST, LONG, Room, Service, channel, entries, files, load_numbers, must, settings, trial, udp_channels, until
+
+# (fcntl has it from Python 3.10 on)
+F_SETPIPE_SZ = 1031
+
+
+def numbered(number: int, size: int) -> str:
+    """A line with a message as those of load are."""
+    body = bytes(8) + number.to_bytes(8, 'little') + bytes((number * 31 + at) & 255 for at in range(size - 16))
+    return f'bytes = "{body.hex()}"\n'
 
 
 @trial
 def a_follower_that_stops_reading(room: Room) -> str:
     """Who follows gets what is durable. One that stops reading holds up nothing, and hears that it was left out."""
-    ports = room.ports(1)
-    service = Service(room, settings(udp_channels(ports), blocks=262144))
-    with socket.socket(socket.AF_UNIX) as slow, socket.socket(socket.AF_UNIX) as quick:
+    service = Service(room, settings(channel(5, 'message', 'lines = "pipe"'), blocks=262144))
+    count = 20_000
+    with socket.socket(socket.AF_UNIX) as slow, socket.socket(socket.AF_UNIX) as quick, open(room.folder / 'pipe', 'w') as pipe:
         for it in (slow, quick):
+            it.settimeout(LONG)
             it.connect(str(room.folder / 'control'))
             it.sendall(b'.FOLLOW 5\n')
-        slow.settimeout(5)
-        time.sleep(0.1)
-        load = room.load(ports, count=60000, rate=40000, size=100)
-        text = b''
-        quick.settimeout(2)
-        while text.count(b'\n') < 2000:
-            text += quick.recv(1 << 16)
+        service.until(lambda it: it['readers'] == 2, 'two follow')
+        text, got = b'', threading.Event()
+
+        def read() -> None:
+            nonlocal text
+            while text.count(b'\n') < 2000:
+                text += quick.recv(1 << 16)
+            got.set()
+
+        reader = threading.Thread(target=read)
+        reader.start()
+        for number in range(count):
+            pipe.write(numbered(number, 100))
+        pipe.flush()
+        must(got.wait(LONG), f'who follows got {len(text)} bytes')
+        reader.join()
         first = [line.split(' ') for line in text.decode().splitlines()[:1000]]
         numbers = [int.from_bytes(bytes.fromhex(it[-1])[8:16], 'little') for it in first if len(it[-1]) == 200]
         must(numbers == list(range(len(numbers))), f'who follows got {numbers[:20]}')
         quick.close()
-        figures = service.until_durable(60000)
-        load.wait()
+        figures = service.until_durable(count)
         must(figures['channels'][0]['lost'] == 0 and figures['memory_kib'] < 150000, f'a follower that stops reading: {figures}')
         # now it reads on: what it missed is said
         text = b''
-        end = time.monotonic() + 5
-        late = room.load(ports, rate=1000, seconds=3)
-        while b'skipped: ' not in text and time.monotonic() < end:
-            text += slow.recv(1 << 16)
-        late.kill()
-        late.wait()
+        while b'skipped: ' not in text:
+            pipe.write(numbered(0, 100))
+            pipe.flush()
+            text = text[-100:] + slow.recv(1 << 16)
         must(b'skipped: it was read too slowly' in text, f'the slow one got {text[-300:]!r}')
     service.end()
-    return f"60,000 messages, none lost, {figures['memory_kib'] >> 10} MiB"
+    return f"{count} messages, none lost, {figures['memory_kib'] >> 10} MiB"
+
+
+@trial
+def clients_that_go(room: Room) -> str:
+    """Those who follow and go, read or unread, leave nothing: there is room for the next one, also while nothing comes."""
+    service = Service(room, settings(channel(5, 'message', 'lines = "pipe"'), blocks=262144))
+
+    def follow() -> socket.socket:
+        it = socket.socket(socket.AF_UNIX)
+        it.settimeout(LONG)
+        it.connect(str(room.folder / 'control'))
+        it.sendall(b'.FOLLOW\n')
+        return it
+
+    service.ask('.STOP')
+    for _ in range(2):
+        gone = [follow() for _ in range(14)]
+        service.until(lambda it: it['readers'] == 14, '14 follow')
+        for it in gone:
+            it.close()
+        service.until(lambda it: it['readers'] == 0, 'those who are gone are readers still')
+    # those who do not read have much waiting for them when they go
+    service.ask('.RECORD')
+    gone = [follow() for _ in range(14)]
+    service.until(lambda it: it['readers'] == 14, '14 follow')
+    with open(room.folder / 'pipe', 'w') as pipe:
+        for number in range(10_000):
+            pipe.write(numbered(number, 100))
+    service.until_durable(10_000)
+    for it in gone:
+        it.close()
+    service.until(lambda it: it['readers'] == 0, 'those who are gone and did not read are readers still')
+    with follow() as it:
+        must(it.recv(100).startswith(b'entry '), 'the next one gets nothing')
+    service.end()
+    return '42 came and went'
+
+
+@trial
+def peers(room: Room) -> str:
+    """Peers over TCP that say nothing leave the socket free, and what a browser sends does nothing."""
+    (port,) = room.ports(1)
+    service = Service(room, settings(channel(5, 'message', 'lines = "pipe"'), control=f'tcp = "{HOST}:{port}"'))
+    silent = [socket.create_connection((HOST, port), LONG) for _ in range(40)]
+    # those over the limit have heard so: the others are connected
+    must(silent[-1].recv(100).startswith(b'E 05'), '40 peers')
+    must(service.ask('.STATUS')[0].startswith('S 05'), 'the socket does not answer')
+    for it in silent:
+        it.close()
+    while True:
+        with socket.create_connection((HOST, port), LONG) as it:
+            it.sendall(b'POST / HTTP/1.1\r\nHost: here\r\nContent-Length: 6\r\n\r\n.STOP\n')
+            found = b''
+            try:
+                while data := it.recv(1000):
+                    found += data
+            except ConnectionResetError:
+                pass
+        # (the silent ones may not have gone yet)
+        if not found.startswith(b'E 05'):
+            break
+    must(service.ask('.STATUS')[0].startswith('S 05') and found.startswith(b'E 00'), f'a page stops the recorder: {found!r}')
+    must(service.ask('.STATUS', path=(HOST, port))[0].startswith('S 05'), 'a command over TCP')
+    service.end()
+    return '40 silent ones, and a browser'
+
+
+@trial
+def a_pipe_that_goes(room: Room) -> str:
+    """A named pipe that is removed is made again, for the service's user and group, and lines come through it; a line of brackets
+    without an end does nothing."""
+    mask = os.umask(0o077)
+    try:
+        service = Service(room, settings(channel(13, 'discrete', 'lines = "pipe"')))
+    finally:
+        os.umask(mask)
+    path = room.folder / 'pipe'
+    for number in (1, 2, 3):
+        service.until(lambda it: path.exists() and path.stat().st_mode & 0o777 == 0o660, 'there is no pipe for user and group')
+        with open(path, 'w', encoding='ascii') as it:
+            it.write(f'states = {"[" * 100_000}\nstates = {number}\n')
+        service.until_durable(number)
+        if number < 3:
+            path.unlink()
+    service.end()
+    found = [it.words[-1] for it in entries((room.folder / 'medium').read_bytes(), 0, 13)]
+    must(found == ['00000001', '00000002', '00000003'], f'{found}')
+    return 'removed twice'
+
+
+@trial
+def nobody_reads_what_it_says(room: Room) -> str:
+    """A log and a file of acknowledgements that are pipes, and that nobody reads, hold up nothing; what was left out is counted."""
+    ports = room.ports(1)
+    os.mkfifo(room.folder / 'lines')
+    log, to_log = os.pipe()
+    acknowledged = os.open(room.folder / 'lines', os.O_RDONLY | os.O_NONBLOCK)
+    for pipe in (to_log, acknowledged):
+        fcntl.fcntl(pipe, F_SETPIPE_SZ, 4096)
+    os.set_blocking(log, False)
+    text = b''
+
+    def has_read(wanted: bytes) -> bool:
+        nonlocal text
+        try:
+            text += os.read(log, 1 << 16)
+        except BlockingIOError:
+            service.ask('.STOP', '.RECORD')
+        return wanted in text
+
+    try:
+        service = Service(room, settings(udp_channels(ports), start='wait', commit_ms=2), log=to_log, wait=False)
+        os.close(to_log)
+        service.until_there()
+        # (each of them is a line of the log, and nothing for the disk)
+        service.ask(*[f'.PUBLISH START {HOST} 9', '.PUBLISH STOP'] * 400)
+        service.ask('.RECORD')
+        load = room.load(ports, rate=2000, seconds=600)
+        service.until(lambda it: it['channels'][0]['durable'] > 0 and it['commits'] > 400, 'it is held up')
+        until(lambda: has_read(b'lines of the log were left out'), 'what was left out is not said')
+        must(len(os.read(acknowledged, 1 << 16)) <= 4096, 'the acknowledgements go on')
+        load.kill()
+        load.wait()
+        service.child.send_signal(signal.SIGTERM)
+        must(service.child.wait(LONG) == 0, 'it does not end')
+    finally:
+        os.close(log)
+        os.close(acknowledged)
+    return 'neither held it up'
 
 
 @trial
@@ -47,11 +195,12 @@ def a_clock_that_steps(room: Room) -> str:
     ports = room.ports(1)
     (room.folder / 'clock').write_text('0')
     service = Service(room, settings(udp_channels(ports), clock_event=4000), disk={'clock': room.folder / 'clock'})
-    time.sleep(1.2)
+    # (a recording begins with a look at the clock)
+    service.wait_for(': recording')
     (room.folder / 'clock').write_text('3600')
-    service.wait_for('clock stepped by +3600', 4)
+    service.wait_for('clock stepped by +3600')
     (room.folder / 'clock').write_text('-86400')
-    service.wait_for('clock stepped by -90000', 4)
+    service.wait_for('clock stepped by -90000')
     must(service.ask('.HEALTH')[0].startswith('0 00000008'), 'no warning of the clock')
     service.end()
     found = entries((room.folder / 'medium').read_bytes(), 0)
@@ -62,18 +211,20 @@ def a_clock_that_steps(room: Room) -> str:
 
 
 @trial
-def the_end_and_the_manager(room: Room) -> str:
-    """The service says when it is ready, beats, and ends within two seconds of a SIGTERM with a closed file, under load."""
+def the_end_and_the_manager(room: Room, limit: float = LONG) -> str:
+    """The service says when it is ready, beats, and ends soon after a SIGTERM with a closed file, under load; also where its
+    terminal goes."""
     ports = room.ports(1)
     with socket.socket(socket.AF_UNIX, socket.SOCK_DGRAM) as it:
         path = str(room.folder / 'notify')
         it.bind(path)
-        it.settimeout(5)
+        it.settimeout(LONG)
         service = Service(room, settings(udp_channels(ports)), environment={'NOTIFY_SOCKET': path, 'WATCHDOG_USEC': '200000'})
-        load = room.load(ports, rate=20000, seconds=20)
-        seen, begin = [], time.monotonic()
-        while time.monotonic() < begin + 1.5:
+        load = room.load(ports, rate=20000, seconds=600)
+        seen: list[str] = []
+        while seen.count('WATCHDOG=1') < 5:
             seen += it.recv(4096).decode().split()
+        service.until(lambda it: it['channels'][0]['durable'] > 0, 'nothing becomes durable')
         took = service.end()
         load.kill()
         load.wait()
@@ -83,9 +234,14 @@ def the_end_and_the_manager(room: Room) -> str:
                 seen += it.recv(4096).decode().split()
         except BlockingIOError:
             pass
-    must('READY=1' in seen and 'STOPPING=1' in seen and seen.count('WATCHDOG=1') >= 5, f'{seen}')
-    must(took < seconds(2), f'the end took {took:.2f} s')
+    must('READY=1' in seen and 'STOPPING=1' in seen, f'{seen}')
+    must(took < limit, f'the end took {took:.2f} s')
     must(files((room.folder / 'medium').read_bytes())[0][3] == '1', 'the file is not closed')
+    service = Service(room)
+    service.wait_for(': recording')
+    service.end(signal.SIGHUP)
+    closed = [it[3] for it in files((room.folder / 'medium').read_bytes())]
+    must(closed == ['1', '1'], f'where its terminal goes the file is not closed: {closed}')
     return f'ended in {took:.2f} s'
 
 

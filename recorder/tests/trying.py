@@ -15,11 +15,18 @@ import sys
 import tempfile
 import threading
 import time
+from types import FrameType
 from typing import Any, Callable, Iterable, Optional
 
 TOP = pathlib.Path(__file__).resolve().parent.parent.parent
 R10 = os.environ.get('R10', str(TOP / 'r10'))
 KINDS = ('uart', '1553', 'arinc', 'discrete', 'message')
+# An address of this machine that no other run has: so ports that are free stay so.
+HOST = '127.' + '.'.join(str(random.SystemRandom().randrange(1, 255)) for _ in range(3))
+# How long is waited for what has to come: a trial fails by what is wrong, and not by a slow machine.
+LONG = float(os.environ.get('R10_PATIENCE', '240'))
+# A child ends with the thread that started it, however that ends.
+WITH_PARENT = ['setpriv', '--pdeathsig', 'KILL'] if shutil.which('setpriv') else []
 
 
 def trial(function: Callable[[Room], str]) -> Callable[[Room], str]:
@@ -32,70 +39,81 @@ class Wrong(Exception):
     """What did not come out as it has to."""
 
 
+class NotTried(Exception):
+    """Why a trial cannot be made here."""
+
+
 def must(holds: Any, text: str) -> None:
     if not holds:
         raise Wrong(text)
 
 
-def seconds(wanted: float) -> float:
-    """So many seconds, and more where more processes want a processor than there are: then the service waits for one too."""
-    return wanted * max(1.0, 2 * os.getloadavg()[0] / (os.cpu_count() or 1))
+def until(holds: Callable[[], Any], text: str) -> Any:
+    """Waits until something holds, and gives it."""
+    end = time.monotonic() + LONG
+    while not (found := holds()):
+        must(time.monotonic() < end, f'{text}: not within {LONG:.0f} s')
+        time.sleep(0.01)
+    return found
 
 
 class Room:
-    """A folder for a trial, with programs, a free range of ports, and what is left of it when it goes wrong."""
+    """A folder for a trial, with programs, ports, and what is left of it when it goes wrong."""
 
     lock = threading.Lock()
-    port = 21000 + os.getpid() % 500 * 20
+    port = random.SystemRandom().randrange(10_000, 30_000)
+    # (files of all rooms: a run that is ended takes them away)
+    all: list[Room] = []
+    library: Optional[bytes] = None
 
     def __init__(self, programs: str) -> None:
-        self.programs = pathlib.Path(programs)
+        self.programs = pathlib.Path(programs).resolve()
         self.folder = pathlib.Path(tempfile.mkdtemp(prefix='r10d-'))
         self.disk_library = self.folder / 'disk.so'
-        compiler = shutil.which('cc')
         self.started: list[subprocess.Popen[Any]] = []
-        self.has_disk = (
-            compiler is not None
-            and subprocess.run(
-                [
-                    compiler,
-                    '-shared',
-                    '-fPIC',
-                    '-O2',
-                    '-Wall',
-                    '-Wextra',
-                    '-Werror',
-                    '-o',
-                    str(self.disk_library),
-                    str(pathlib.Path(__file__).parent / 'disk.c'),
-                ]
-            ).returncode
-            == 0
-        )
+        with Room.lock:
+            Room.all.append(self)
+            if Room.library is None:
+                Room.library = self.compiled()
+        self.has_disk = Room.library != b''
+        self.disk_library.write_bytes(Room.library)
+
+    def compiled(self) -> bytes:
+        """The library that stands in front of the C library; nothing where it cannot be had."""
+        compiler = shutil.which('cc')
+        if compiler is None:
+            return b''
+        source = str(pathlib.Path(__file__).parent / 'disk.c')
+        words = [compiler, '-shared', '-fPIC', '-O2', '-Wall', '-Wextra', '-Werror', '-o', str(self.disk_library), source]
+        return self.disk_library.read_bytes() if subprocess.run(words).returncode == 0 else b''
 
     def ports(self, count: int) -> list[int]:
-        """Ports that are free now."""
+        """Ports that are free now, below those that the system gives by itself."""
         found: list[int] = []
         while len(found) < count:
             with Room.lock:
-                Room.port = Room.port + 1 if Room.port < 32000 else 21000
+                Room.port = Room.port + 1 if Room.port < 32_000 else 10_000
                 port = Room.port
             with socket.socket(socket.AF_INET, socket.SOCK_DGRAM) as one, socket.socket(
                 socket.AF_INET, socket.SOCK_STREAM
             ) as other:
                 try:
-                    one.bind(('127.0.0.1', port))
-                    other.bind(('127.0.0.1', port))
+                    one.bind((HOST, port))
+                    other.bind((HOST, port))
                 except OSError:
                     continue
             found.append(port)
         return found
 
-    def load(self, ports: Iterable[int], **words: int) -> subprocess.Popen[str]:
-        command = [str(self.programs / 'examples' / 'load'), *map(str, ports), *(f'{key}={value}' for key, value in words.items())]
-        child = subprocess.Popen(command, stdout=subprocess.PIPE, text=True)
+    def start(self, command: list[str], **words: Any) -> subprocess.Popen[Any]:
+        """Starts a program, which ends with this one."""
+        child = subprocess.Popen([*WITH_PARENT, *command], **words)
         self.started.append(child)
         return child
+
+    def load(self, ports: Iterable[int], **words: int) -> subprocess.Popen[str]:
+        given = [*(f'{HOST}:{port}' for port in ports), *(f'{key}={value}' for key, value in words.items())]
+        return self.start([str(self.programs / 'examples' / 'load'), *given], stdout=subprocess.PIPE, text=True)
 
     def clear(self) -> None:
         for it in self.folder.iterdir():
@@ -112,6 +130,21 @@ class Room:
     def close(self) -> None:
         self.end_all()
         shutil.rmtree(self.folder, ignore_errors=True)
+
+
+def end_by_signal(number: int, _: Optional[FrameType]) -> None:
+    """This program is ended: nothing that it started or made stays."""
+    for room in Room.all:
+        for child in room.started:
+            if child.poll() is None:
+                child.kill()
+        shutil.rmtree(room.folder, ignore_errors=True)
+    os._exit(128 + number)
+
+
+def tidy_up_at_signals() -> None:
+    for number in (signal.SIGTERM, signal.SIGINT, signal.SIGHUP):
+        signal.signal(number, end_by_signal)
 
 
 def settings(channels: str, **keys: Any) -> str:
@@ -134,7 +167,7 @@ def settings(channels: str, **keys: Any) -> str:
 
 def udp_channels(ports: Iterable[int], first: int = 5, more: str = '') -> str:
     return ''.join(
-        f'[[channel]]\nid = {first + n}\nkind = "message"\ninput = {{ udp = "127.0.0.1:{port}", receive_mib = 32 }}\n{more}'
+        f'[[channel]]\nid = {first + n}\nkind = "message"\ninput = {{ udp = "{HOST}:{port}", receive_mib = 32 }}\n{more}'
         for n, port in enumerate(ports)
     )
 
@@ -155,6 +188,7 @@ class Service:
         environment: Optional[dict[str, str]] = None,
         wait: bool = True,
         stdin: Any = subprocess.DEVNULL,
+        log: Any = None,
     ) -> None:
         self.room, self.folder = room, room.folder
         if text is not None:
@@ -171,22 +205,33 @@ class Service:
             around.update({f'DISK_{key.upper()}': str(value) for key, value in disk.items()})
         self.log_path = self.folder / 'log'
         self.log_start = self.log_path.stat().st_size if self.log_path.exists() else 0
-        with open(self.log_path, 'ab') as log:
+        with open(self.log_path, 'ab') as to:
             # (the manager gives the number of the process that has to beat)
             command = ['sh', '-c', 'WATCHDOG_PID=$$ exec "$0" settings.toml', str(room.programs / 'r10d')]
-            self.child = subprocess.Popen(command, cwd=self.folder, env=around, stderr=log, stdin=stdin, stdout=subprocess.DEVNULL)
-        room.started.append(self.child)
+            self.child = room.start(
+                command, cwd=self.folder, env=around, stderr=to if log is None else log, stdin=stdin, stdout=subprocess.DEVNULL
+            )
         if wait:
             self.wait_for('is ready')
+
+    def until_there(self) -> None:
+        """Until it answers."""
+        while True:
+            try:
+                self.ask('.STATUS')
+                return
+            except (FileNotFoundError, ConnectionRefusedError):
+                must(self.child.poll() is None, 'the service has ended')
+                time.sleep(0.01)
 
     def log(self) -> str:
         with open(self.log_path, 'rb') as it:
             it.seek(self.log_start)
             return it.read().decode(errors='replace')
 
-    def wait_for(self, text: str, seconds: float = 20) -> None:
+    def wait_for(self, text: str) -> None:
         """Until a text stands in the log."""
-        end = time.monotonic() + seconds
+        end = time.monotonic() + LONG
         while text not in self.log():
             if self.child.poll() is not None and text not in self.log():
                 raise Wrong(f'the service ended with {self.child.returncode} before its log has {text!r}:\n{self.log()}')
@@ -197,7 +242,7 @@ class Service:
     def ask(self, *lines: str, path: Optional[tuple[str, int]] = None) -> list[str]:
         """What is answered to these commands, without the ends."""
         with socket.socket(socket.AF_INET if path else socket.AF_UNIX) as it:
-            it.settimeout(30)
+            it.settimeout(LONG)
             it.connect(path or str(self.folder / 'control'))
             stream = it.makefile('rw')
             found = []
@@ -213,29 +258,34 @@ class Service:
     def figures(self) -> dict[str, Any]:
         return json.loads(self.ask('.FIGURES')[0])
 
-    def until_durable(self, count: int, seconds: float = 20) -> dict[str, Any]:
-        """Until so many messages are durable or lost, of all channels."""
-        end = time.monotonic() + seconds
-        while True:
-            figures = self.figures()
-            durable, lost = (sum(it[key] for it in figures['channels']) for key in ('durable', 'lost'))
-            if durable + lost >= count:
-                return figures
+    def until(self, holds: Callable[[dict[str, Any]], Any], text: str, patience: float = LONG) -> dict[str, Any]:
+        """Until something holds of the figures."""
+        end = time.monotonic() + patience
+        while not holds(figures := self.figures()):
             if time.monotonic() > end:
-                raise Wrong(f'of {count} messages {durable} are durable and {lost} lost:\n{self.log()}')
+                raise Wrong(f'{text}: {figures}:\n{self.log()}')
             time.sleep(0.02)
+        return figures
+
+    def until_durable(self, count: int, patience: float = LONG) -> dict[str, Any]:
+        """Until so many messages are durable or lost, of all channels."""
+
+        def is_there(figures: dict[str, Any]) -> bool:
+            return sum(it['durable'] + it['lost'] for it in figures['channels']) >= count
+
+        return self.until(is_there, f'of {count} messages not all came', patience)
 
     def end(self, how: int = signal.SIGTERM, status: Optional[int] = 0) -> float:
         """Ends it, and says how long that took."""
         start = time.monotonic()
         self.child.send_signal(how)
         try:
-            found = self.child.wait(30)
+            found = self.child.wait(LONG)
         except subprocess.TimeoutExpired:
             self.child.kill()
             raise Wrong(f'the service does not end:\n{self.log()}') from None
         took = time.monotonic() - start
-        if how == signal.SIGTERM and status is not None:
+        if how != signal.SIGKILL and status is not None:
             must(found == status, f'status {found}:\n{self.log()}')
         return took
 
@@ -350,10 +400,10 @@ class Trail:
 
     def cuts(
         self, image: bytes, places: list[int], chance: random.Random, ways: Iterable[int] = (0, 1, 2, 3)
-    ) -> Iterable[tuple[int, int, bytes, str]]:
-        """The media that a loss of power after so many steps may leave, and what was acknowledged before it. Of each block that
-        was written since the last
-        sync there is one of its contents: by chance; the oldest of all; all old but one; all new but one."""
+    ) -> Iterable[tuple[int, int, bytes, str, list[int]]]:
+        """The media that a loss of power after so many steps may leave, what was acknowledged before it, and the blocks that were
+        written since the last sync. Of each of these there is one of its contents: by chance; the oldest of all; all old but one;
+        all new but one."""
         left, unsure, said, at = bytearray(image), collections.OrderedDict[int, list[bytes]](), '', 0
         for place in places:
             for kind, offset, data in self.steps[at:place]:
@@ -383,7 +433,7 @@ class Trail:
                         else new
                     )
                     cut[512 * block : 512 * block + 512] = one
-                yield place, way, bytes(cut), said
+                yield place, way, bytes(cut), said, list(unsure)
 
 
 def report(name: str, start: float, text: str) -> None:

@@ -21,6 +21,43 @@ check "the filters run" says "$("$root/usr/bin/ch10" summary <"$room/medium.img"
 check "the filters have the number too" is "$("$root/usr/bin/ch10" --version)" "ch10 $version"
 check "the filters leave nothing" is "$(find "$root" -name '__pycache__' | wc -l)" 0
 
+# The service, where it can be built here.
+if why=$("$top/scripts/recorder.sh" ready); then
+    example=$root/usr/share/doc/r10/examples/recorder.toml
+    check "the service has the number too" is "$("$root/usr/bin/r10d" --version)" "r10d $version"
+    check "so has the program that controls it" is "$("$root/usr/bin/r10ctl" --version)" "r10ctl $version"
+    found=$(sed -n 's/^ExecStart=//p' "$root/usr/lib/systemd/system/r10d.service")
+    check "its unit runs what was installed" is "$found" "/usr/bin/r10d /etc/r10/recorder.toml"
+    check "its settings are an example that it takes" says "$("$root/usr/bin/r10d" --check "$example")" "good, 1 channels"
+    if command -v systemd-analyze >/dev/null; then
+        # (of this root alone: so it has the units that this one names, as empty ones)
+        for name in local-fs network sysinit basic shutdown multi-user; do
+            printf '[Unit]\nDescription=empty\nDefaultDependencies=no\n' >"$root/usr/lib/systemd/system/$name.target"
+        done
+        check "systemd takes its unit" is "$(systemd-analyze verify --root="$root" --man=no r10d.service 2>&1 | grep r10d)" ""
+        rm "$root/usr/lib/systemd/system/"*.target
+    fi
+    sed 's:/var/lib/r10/::; s:/run/r10/::; s:2097152:4096:; s/^input = .*/input = { lines = "pipe" }/' "$example" >"$room/my.toml"
+    (cd "$room" && exec "$root/usr/bin/r10d" my.toml 2>r10d.log) &
+    ctl() { "$root/usr/bin/r10ctl" --socket "$room/control" "$@"; }
+    until ctl status >/dev/null 2>&1 || ! kill -0 $! 2>/dev/null; do sleep 0.05; done
+    ctl record FLT1 && echo 'bytes = "68656c6c6f"' >"$room/pipe"
+    until [[ $(ctl figures) == *'"durable":1,'* ]] || ! kill -0 $! 2>/dev/null; do sleep 0.05; done
+    ctl shutdown
+    wait $!
+    check "it records, and ends well" is "$?" 0
+    check "what it recorded is played" says "$("$r10" play --channel 5 <"$room/medium")" "message 0 0 0 68656c6c6f"
+else
+    echo "NOT TRIED: the service ($why)"
+fi
+mkdir "$room/old"
+printf '#!/bin/sh\necho cargo 1.0.0\n' >"$room/old/cargo"
+chmod +x "$room/old/cargo"
+PATH=$room/old:$PATH "$top/scripts/install.sh" /usr "$room/without" >"$room/said" 2>&1
+check "without a cargo the rest is installed" is "$? $("$room/without/usr/bin/r10" --version)" "0 r10 $version"
+check "and a line says so" is "$(grep -c '^(r10d and r10ctl are not installed: ' "$room/said")" 1
+check "and nothing of the service is there" is "$(find "$room/without" -name 'r10d*' -o -name 'r10ctl*' -o -name '*.service')" ""
+
 flags() { PKG_CONFIG_PATH="$root/usr/lib/pkgconfig" PKG_CONFIG_SYSROOT_DIR="$root" pkg-config "$@" r10; }
 if command -v pkg-config >/dev/null && command -v cc >/dev/null; then
     check "r10.pc has the version" is "$(flags --modversion)" "$version"
@@ -60,6 +97,16 @@ complete_words() {
 }
 check "bash completes a command" is "$(complete_words r10 ch)" "check"
 check "bash completes an option" is "$(complete_words r10 play --f)" "--file --from"
+check "bash completes the option of a session" is "$(complete_words r10 run --i)" "--image"
+if [ -x "$root/usr/bin/r10ctl" ]; then
+    check "bash completes a word of the recorder's" is "$(complete_words r10ctl st)" "status stop"
+    check "bash completes an option of the service" is "$(complete_words r10d --f)" "--format"
+    if command -v groff >/dev/null; then
+        found=$(words "$root/usr/share/man/man8/r10d.8")
+        check "the page of the service has its settings" says "$found" "commit_ms how often what came is made durable"
+        check "the page of r10ctl has the words" says "$(words "$root/usr/share/man/man1/r10ctl.1")" "record [NAME] begins a file"
+    fi
+fi
 check "bash completes a command of the filters" is "$(complete_words ch10 sum)" "summary"
 if command -v zsh >/dev/null; then
     check "zsh reads its completions" zsh -n "$root/usr/share/zsh/site-functions/_r10"
