@@ -1,6 +1,7 @@
 """What the words of buses mean: MIL-STD-1553 messages, ARINC 429 words, discretes, and text."""
 from __future__ import annotations
 
+from functools import lru_cache
 from typing import Optional, Sequence, Tuple
 
 # ---- MIL-STD-1553
@@ -18,11 +19,13 @@ def named(value: int, names: Sequence[Tuple[int, str]]) -> str:
     return '+'.join(name for bit, name in names if value >> bit & 1)
 
 
+@lru_cache(maxsize=1 << 16)
 def block_1553(status: int) -> Tuple[str, str]:
     """Of a block status word the bus, and the errors by name."""
     return 'B' if status >> 13 & 1 else 'A', named(status, ERRORS_1553)
 
 
+@lru_cache(maxsize=1 << 16)
 def command_1553(command: Optional[int]) -> tuple:
     """Of a command word: RT, R (the terminal receives) or T (it transmits), subaddress, word count (1 to 32), and in place of that
     a mode code."""
@@ -51,7 +54,12 @@ def layout_1553(command: int, number: int, is_between: bool) -> Tuple[Optional[i
 
 def flags_1553(first: Optional[int], second: Optional[int]) -> str:
     """The flags of the status words by name."""
-    return named((first or 0) | (second or 0), FLAGS_1553)
+    return flags_of(((first or 0) | (second or 0)) & 0x7FF)
+
+
+@lru_cache(maxsize=1 << 11)
+def flags_of(bits: int) -> str:
+    return named(bits, FLAGS_1553)
 
 
 def message_1553(status: int, words: list) -> tuple:
@@ -75,11 +83,12 @@ ODD = bytes(bin(value).count('1') & 1 for value in range(1 << 16))
 TURNED = bytes(int('{:08b}'.format(value)[::-1], 2) for value in range(256))
 
 
+ERRORS_429 = tuple(named(bits, ((2, 'format error'), (1, 'parity error'), (0, 'even parity'))) for bits in range(8))
+
+
 def errors_429(head: int, word: int) -> str:
     """What the header says of a word's reception, and whether the word has the odd parity that the bus asks for."""
-    is_odd = ODD[word & 0xFFFF] ^ ODD[word >> 16]
-    return '+'.join(name for held, name in ((head >> 23 & 1, 'format error'), (head >> 22 & 1, 'parity error'),
-                                            (not is_odd, 'even parity')) if held)
+    return ERRORS_429[head >> 21 & 6 | 1 ^ ODD[word & 0xFFFF] ^ ODD[word >> 16]]
 
 
 def word_429(word: int, turned: bool = False) -> tuple:

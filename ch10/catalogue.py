@@ -7,13 +7,16 @@ import os
 import stat
 import sys
 import time
+from contextlib import suppress
 from typing import Any, Dict, Iterable, Iterator, List, NamedTuple, Optional, Sequence, Tuple
 
-from .facts import CHANNEL_COLUMNS, RECORDING_COLUMNS, facts_of, most, nothing_in, program_of, sum_of, verdict_of_image, version_of
+from .facts import facts_of, most, nothing_in, program_of, sum_of, verdict_of_image, version_of
 from .inputs import Output, is_recording, shown
 from .medium import directory
+from .range_words import place as place_of
 from .standard import Fault
 from .store import Store, StoreError, open_store
+from .store_schema import CASE, CHANNEL_COLUMNS, RECORDING_COLUMNS
 from .workers import Pool, Room, Task, processors
 
 SMALL = 1 << 26  # bytes of a file that is read; a larger one is mapped
@@ -23,6 +26,9 @@ MOST_TOGETHER, MOST_WAIT = 64, 1.0  # recordings, or seconds, that a transaction
 AHEAD = 32  # recordings for each worker, whose facts wait while others go into the database
 MOST_PLACE = 2000  # bytes, for an index takes no more
 TAKEN_OUT = 'the database: somebody took a recording out of the catalogue meanwhile; the next call adds it'
+CHANGED = 'it was changed while it was read'
+MOST_TICK = 10 ** 8  # nanoseconds in which a file system may give two writes the same time, and more
+NAME = CHANNEL_COLUMNS.index('name')
 PARAMETERS = 900  # values in one statement, of which some builds of SQLite take no more than 999
 
 
@@ -35,16 +41,11 @@ class Input(NamedTuple):
     place: str
 
 
-def printable(path: str) -> str:
-    """A path as text: bytes that are no UTF-8 are escaped."""
-    return os.fsencode(path).decode('utf-8', 'backslashreplace')
-
-
 def inputs_of(paths: Sequence[str], base: Optional[str], passed: List[str], failed: List[Tuple[str, str]]) -> Iterator[Input]:
     """The files of a call: those that it names, and of a folder those below it that look like recordings or images; the others are
     counted in `passed`, and folders that cannot be read go to `failed`."""
     def unreadable(error: OSError) -> None:
-        failed.append((printable(error.filename), error.strerror or str(error)))
+        failed.append((place_of(error.filename), error.strerror or str(error)))
 
     for path in paths:
         if os.path.isdir(path):
@@ -61,7 +62,11 @@ def inputs_of(paths: Sequence[str], base: Optional[str], passed: List[str], fail
 
 
 def placed(path: str, rest: str, base: Optional[str]) -> str:
-    return printable(os.path.abspath(path)) if base is None else '%s/%s' % (base.rstrip('/'), printable(rest))
+    """Where a file is said to lie. `..` after a link leads to where the link does, and not to where its name stands."""
+    if base is not None:
+        return '%s/%s' % (base.rstrip('/'), place_of(rest))
+    folder, name = os.path.split(path)
+    return place_of(os.path.join(os.path.realpath(folder), name) if '..' in folder.split('/') else os.path.abspath(path))
 
 
 def looks_right(path: str) -> bool:
@@ -91,19 +96,47 @@ def opened(path: str) -> Any:
         return file.read() if os.fstat(file.fileno()).st_size <= SMALL else mmap.mmap(file.fileno(), 0, access=mmap.ACCESS_READ)
 
 
+class Mark:
+    """What tells that a file was changed: which one lies at a path, its size, and when it was written to. It is taken before the
+    file is read."""
+
+    def __init__(self, path: str) -> None:
+        self.path = path
+        self.taken = self.now()
+        self.is_sharp = time.time_ns() - self.taken[3] > MOST_TICK
+
+    def now(self) -> Tuple[int, ...]:
+        state = os.stat(self.path)
+        return state.st_dev, state.st_ino, state.st_size, state.st_mtime_ns, state.st_ctime_ns
+
+    def need_same(self, begin: int, end: int, sum_: str, is_all: bool) -> None:
+        """That the file has these bytes still, or is all of them, after it was read: who reads what is written to meanwhile may see
+        some of both."""
+        if self.is_sharp and self.now() == self.taken:
+            return
+        data = opened(self.path)
+        with memoryview(data)[begin:end] as view:
+            if is_all and len(data) != end or sum_of(view) != sum_:
+                raise OSError(0, CHANGED)
+
+
 def tasks_of(inputs: Iterable[Input], failed: List[Tuple[str, str]]) -> Iterator[Task]:
     """What is to be done for each input: one task for a recording, one for each file of an image."""
+    seen: Dict[str, str] = {}
     for path, place in inputs:
         try:
             need_file(path)
             if len(place.encode()) > MOST_PLACE:
                 raise OSError(0, 'its place has more than %d bytes' % MOST_PLACE)
+            if seen.setdefault(place, path) != path and not os.path.samefile(seen[place], path):
+                raise OSError(0, 'another input of this call has the same place: %s' % place_of(seen[place]))
             with open(path, 'rb') as file:
                 size, front = os.fstat(file.fileno()).st_size, file.read(520)
             if is_recording(front) or front[512:520] != b'FORTYtwo':
-                yield dict(path=path, place=place, begin=0, end=size, number=-1, files=0, bytes=size)
+                yield dict(path=path, place=place, begin=0, end=size, number=-1, files=0, bytes=size, mapped=size > SMALL)
                 continue
-            yield from image_tasks(path, place, opened(path))
+            for task in image_tasks(path, place, opened(path)):
+                yield dict(task, mapped=size > SMALL)
         except OSError as error:
             failed.append((place, error.strerror or str(error)))
 
@@ -130,10 +163,11 @@ def work(setting: Task) -> Any:
 
     def look(task: Task) -> Task:
         try:
-            data = opened(task['path'])
+            mark, data = Mark(task['path']), opened(task['path'])
         except OSError as error:
             return {'error': error.strerror or str(error)}
-        begin, end = task['begin'], min(task['end'], len(data))
+        is_all = task['number'] < 0
+        begin, end = task['begin'], len(data) if is_all else min(task['end'], len(data))
         with memoryview(data)[begin:end] as view:
             sum_ = sum_of(view)
             known = store.rows('SELECT verdict FROM recording WHERE sha256 = ?', (sum_,))
@@ -145,9 +179,11 @@ def work(setting: Task) -> Any:
                 found.update(verdict_of_image(program, view, Fault(task['fault'])))
         if 'fault' not in task:
             found = facts_of(data, begin, end, program)
+        mark.need_same(begin, end, sum_, is_all)
         found.update(sha256=sum_, judge=setting['judge'] if found['verdict'] != 'unjudged' else None)
         return found
 
+    look.close = store.close  # type: ignore
     return look
 
 
@@ -200,12 +236,12 @@ def replace(store: Store, number: int, facts: Task, anew: bool) -> str:
 
 def details(store: Store, found: Sequence[Tuple[int, Task]]) -> None:
     """The rows that belong to recordings."""
-    store.insert('channel', ('recording',) + CHANNEL_COLUMNS,
-                 ((number, *row) for number, facts in found for row in facts['channels']))
-    store.insert('damage', ('recording', 'byte_offset', 'byte_length', 'reason'),
-                 ((number, *row) for number, facts in found for row in facts['damage']))
-    store.insert('attribute', ('recording', 'code', 'value'),
-                 ((number, *row) for number, facts in found for row in facts['attributes']))
+    store.insert('channel', ('recording',) + CHANNEL_COLUMNS + ('lower_name',), (
+        (number, *row, row[NAME] and row[NAME].translate(CASE)) for number, facts in found for row in facts['channels']))
+    store.insert('damage', ('recording', 'byte_offset', 'byte_length', 'reason'), (
+        (number, *row) for number, facts in found for row in facts['damage']))
+    store.insert('attribute', ('recording', 'code', 'value'), (
+        (number, *row) for number, facts in found for row in facts['attributes']))
 
 
 def put_places(store: Store, found: Sequence[Tuple[Task, Task]], ids: Dict[str, int], moment: str) -> None:
@@ -304,7 +340,8 @@ def add(asked: Any, data: None, out: Output) -> None:
             progress.flush()
         progress.flush(is_end=True)
         if progress.ways['added'] + progress.ways['judged']:
-            store.settle()
+            with suppress(StoreError):  # as where another program is at work: all is added, and the next call does this
+                store.settle()
     finally:
         store.close()
     out.line('%d added, %d judged anew, %d known before; %d of them faulty%s' % (

@@ -9,16 +9,9 @@ import re
 import sys
 from typing import Any, BinaryIO, Callable, List, NoReturn, Optional, Tuple
 
-from .cuts import as_file, as_range, setup
-from .database import as_sqlite
 from .inputs import Output, given
-from .lines import as_csv, as_json
-from .picture import as_svg
-from .range_words import add_words
-from .script import as_tmats
+from .range_words import add_words, run_of
 from .standard import KIND_BY_NAME, Fault, Wrong
-from .table import summary
-from .times import Bound
 
 
 class Help(Exception):
@@ -80,9 +73,14 @@ def channel_number(word: str) -> int:
     return number(word)
 
 
-TIMES = """A and B are civil times, as '2024-02-29 12:34:56.78', with none to seven places behind the second; 12:34:56 is of the \
-day of the recording's
-first time; '060 12:34:56' is a day of the year, where the recording has no date; 1000 is a count. Both ends are taken in."""
+def bound(word: str) -> Any:
+    from .times import Bound  # read when it is asked for, as the modules of the commands are: a call begins in a third of the time
+    return Bound(word)
+
+
+TIMES = """A and B are civil times, as '2024-02-29 12:34:56.78', with none to seven places behind the second; 12:34:56 is of
+the day of the recording's first time; '060 12:34:56' is a day of the year, where the recording has no date; 1000 is a count.
+Both ends are taken in."""
 
 
 def parser_of() -> 'Parser':
@@ -120,33 +118,37 @@ def parser_of() -> 'Parser':
         return made
 
     def with_times(made: argparse.ArgumentParser) -> None:
-        made.add_argument('--from', dest='first', type=Bound, metavar='A', help='the first time')
-        made.add_argument('--to', dest='last', type=Bound, metavar='B', help='the last time')
+        made.add_argument('--from', dest='first', type=bound, metavar='A', help='the first time')
+        made.add_argument('--to', dest='last', type=bound, metavar='B', help='the last time')
 
-    made = command('summary', summary, 'Says what each channel of a recording, or of each file of an image, has.', SUMMARY_MORE)
+    made = command('summary', run_of('table', 'summary'),
+                   'Says what each channel of a recording, or of each file of an image, has.', SUMMARY_MORE)
     made.add_argument('--json', action='store_true', help='a JSON object for each line of the table, with whole times')
-    for name, run, about, more in (('csv', as_csv, 'Writes the entries as CSV.', CSV_MORE),
-                                   ('json', as_json, 'Writes the entries as JSON lines.', JSON_MORE),
-                                   ('svg', as_svg, 'Draws rates and losses over time, as SVG.', SVG_MORE)):
+    for name, run, about, more in (('csv', run_of('lines', 'as_csv'), 'Writes the entries as CSV.', CSV_MORE),
+                                   ('json', run_of('lines', 'as_json'), 'Writes the entries as JSON lines.', JSON_MORE),
+                                   ('svg', run_of('picture', 'as_svg'), 'Draws rates and losses over time, as SVG.', SVG_MORE)):
         made = going_on(command(name, run, about, more + TIMES))
         with_channels(made)
         with_times(made)
         if name != 'svg':
             with_forms(made)
-    made = going_on(command('setup', setup, 'Writes the setup text, byte for byte; of several setup packets one after the other.'))
-    made.add_argument('--tree', action='store_true',
-                      help='the attributes of chapter 9 as a tree, and which channels of the recording they do not name or name '
-                           'otherwise')
-    made = command('tmats', as_tmats, 'Writes a setup text of chapter 9 for the channels of a script.',
+    made = going_on(command('setup', run_of('cuts', 'setup'),
+                            'Writes the setup text, byte for byte; of several setup packets one after the other.'))
+    made.add_argument('--tree', action='store_true', help='the attributes of chapter 9 as a tree, '
+                      'and which channels of the recording they do not name or name otherwise')
+    made = command('tmats', run_of('script', 'as_tmats'), 'Writes a setup text of chapter 9 for the channels of a script.',
                    'As in: ch10 tmats --hex < SCRIPT, which is what setup = "..." takes.')
     made.add_argument('--hex', action='store_true', help='as hex digits')
-    made = going_on(command('sqlite', as_sqlite, 'Writes the entries into a new database of SQLite.', SQLITE_MORE))
+    made = going_on(command('sqlite', run_of('database', 'as_sqlite'), 'Writes the entries into a new database of SQLite.',
+                            SQLITE_MORE))
     made.add_argument('--out', metavar='FILE', help='where the database is to be; there must be none')
     with_channels(made)
     made.add_argument('--turned-labels', action='store_true',
                       help='labels of ARINC 429 whose first bit on the bus is the lowest of the word')
-    with_times(going_on(command('range', as_range, 'Writes the packets of a range of time as a recording.', RANGE_MORE + TIMES)))
-    made = command('file', as_file, 'Writes one file of an image, byte for byte.', 'As in: ch10 file FLT1 < medium.img | r10 check')
+    with_times(going_on(command('range', run_of('cuts', 'as_range'), 'Writes the packets of a range of time as a recording.',
+                                RANGE_MORE + TIMES)))
+    made = command('file', run_of('cuts', 'as_file'), 'Writes one file of an image, byte for byte.',
+                   'As in: ch10 file FLT1 < medium.img | r10 check')
     made.add_argument('name', nargs='?', metavar='NAME', help='its name, as r10 files prints it')
     add_words(commands, Parser, channel_number)
     return top

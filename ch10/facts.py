@@ -6,26 +6,22 @@ import os
 import re
 import subprocess
 from bisect import bisect_right
-from typing import Any, Dict, List, Optional, Tuple
+from typing import Any, Callable, Dict, List, Optional, Tuple
 
 from .bodies import counts
 from .clocks import TimeLine
 from .packets import HEADER, ONE_WORD, packet_at
-from .standard import ARINC, BUS, DISCRETE, EVENT, INDEX, LOSS, MESSAGE, SETUP, TIME, UART, Fault, Wrong, little
+from .standard import ARINC, BUS, COUNT_BITS, DISCRETE, EVENT, INDEX, LOSS, MESSAGE, SETUP, TIME, UART, Fault, Wrong, little
 from .store_schema import MOST_NUMBER
 from .survey import REPORT_ROW, Row, Survey, ends_of, name_of
 from .times import Clock, civil, time
 from .tmats import Names
 
 PART = 1 << 20
-RECORDING_COLUMNS = ('sha256', 'kind', 'size', 'verdict', 'opaque', 'fault_offset', 'fault', 'judge', 'first_time', 'last_time',
-                     'first_count', 'last_count',
-                     'packets', 'entries', 'losses', 'lost', 'untold', 'jumps', 'damaged', 'damaged_bytes', 'added')
-CHANNEL_COLUMNS = ('channel', 'data_type', 'type', 'name', 'packets', 'entries', 'bytes', 'first_count', 'last_count', 'first_time',
-                   'last_time', 'rate',
-                   'losses', 'lost', 'untold', 'jumps', 'opaque', 'bad')
+MOST_IN_MEMORY = 1 << 24  # bytes
 SUMS = ('losses', 'lost', 'untold', 'jumps')
 MOST_CODE = 200
+NUMBERED = re.compile(r'-[0-9]+$').search
 
 
 # ---- the verdict, by the program
@@ -60,18 +56,46 @@ def version_of(program: str) -> str:
 
 def said_of(program: str, command: str, data: memoryview) -> Tuple[int, str]:
     """The status and the line of a command of the program that reads these bytes."""
-    with subprocess.Popen([program, command], stdin=subprocess.PIPE, stdout=subprocess.PIPE, stderr=subprocess.PIPE,
-                          bufsize=0) as made:
-        try:
-            for at in range(0, len(data), PART):
-                part = data[at:at + PART]
-                while part:
-                    part = part[made.stdin.write(part):]
-            made.stdin.close()
-        except BrokenPipeError:
-            pass
-        said = made.stdout.read().decode('ascii', 'replace').strip() or made.stderr.read().decode('ascii', 'replace').strip()
+    held = in_memory(data)
+    try:
+        source = subprocess.PIPE if held is None else held
+        with subprocess.Popen([program, command], stdin=source, stdout=subprocess.PIPE, stderr=subprocess.PIPE, bufsize=0) as made:
+            try:
+                if held is None:
+                    write_all(made.stdin.write, data)
+                    made.stdin.close()
+            except BrokenPipeError:
+                pass
+            said = made.stdout.read().decode('ascii', 'replace').strip() or made.stderr.read().decode('ascii', 'replace').strip()
+    finally:
+        if held is not None:
+            os.close(held)
     return made.returncode, said
+
+
+def in_memory(data: memoryview) -> Optional[int]:
+    """A file in memory that has these bytes, for who reads them then waits for nobody; None where they are many, or where there is
+    no such file."""
+    if len(data) > MOST_IN_MEMORY or not hasattr(os, 'memfd_create'):
+        return None
+    try:
+        held = os.memfd_create('recording')
+    except OSError:
+        return None
+    try:
+        write_all(lambda part: os.write(held, part), data)
+        os.lseek(held, 0, os.SEEK_SET)
+    except OSError:
+        os.close(held)
+        return None
+    return held
+
+
+def write_all(write: Callable[[memoryview], int], data: memoryview) -> None:
+    for at in range(0, len(data), PART):
+        part = data[at:at + PART]
+        while part:
+            part = part[write(part):]
 
 
 def verdict_of(program: Optional[str], data: memoryview) -> Dict[str, Any]:
@@ -188,7 +212,7 @@ class StrictSurvey:
             report = told
             at += length
         for key, place in last.items():
-            rows[key].high = counts(packet_at(data, place, begin, end, False))[-1]
+            rows[key].high = last_count(data, place, begin, end)
         self.rows = [rows[key] for key in sorted(rows)]
         self.times = list(lines.values())
         self.clock = Clock(self.times) if self.times else None
@@ -197,6 +221,14 @@ class StrictSurvey:
     def span(self) -> Optional[Tuple[int, int]]:
         drawn = [row for row in self.rows if row.kind not in (SETUP, INDEX, REPORT_ROW)]
         return ends_of(drawn or self.rows)
+
+
+def last_count(data: Any, at: int, begin: int, end: int) -> int:
+    """The count of the last entry of a packet of a strict recording."""
+    packet = packet_at(data, at, begin, end, False)
+    if packet.kind == DISCRETE:
+        return little(packet.body, len(packet.body) - 12, 8) & COUNT_BITS
+    return counts(packet)[-1]
 
 
 def entries_in(data: Any, at: int, size: int, kind: int, word: int) -> int:
@@ -222,7 +254,7 @@ def attributes_of(names: Names) -> List[Tuple[str, str]]:
     is a question mark."""
     found: Dict[str, str] = {}
     for code, value in names.attributes.items():
-        if len(code) <= MOST_CODE and (code.startswith('G\\') or not re.search(r'-[0-9]+$', code)):
+        if len(code) <= MOST_CODE and (code.startswith('G\\') or not (code[-1].isdigit() and NUMBERED(code))):
             found.setdefault(code.replace('\0', '?'), value.replace('\0', '?'))
     return list(found.items())
 
@@ -239,7 +271,9 @@ def facts_of(data: Any, begin: int, end: int, program: Optional[str], survey: Op
     one was."""
     with memoryview(data)[begin:end] as view:
         found = verdict_of(program, view)
-    survey = survey or (StrictSurvey if found['verdict'] == 'strict' else Survey)(data, begin, end)
+    if survey is None:
+        is_strict, is_lenient = found['verdict'] == 'strict', found['verdict'] == 'lenient'
+        survey = StrictSurvey(data, begin, end) if is_strict else Survey(data, begin, end, judged=is_lenient)
     ends = Ends(survey.clock) if survey.clock else None
     rows = []
     for row in survey.rows:

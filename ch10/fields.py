@@ -85,7 +85,7 @@ class Reader:
         for count, status, gap, words in bus_messages(packet):
             found = message_1553(status, words)
             first, second = found[9], found[10]
-            yield count, (''.join(map('{:04x}'.format, found[12])), found[0], name, *found[1:9],
+            yield count, (struct.pack('>%dH' % len(found[12]), *found[12]).hex(), found[0], name, *found[1:9],
                           first if first is None else '%04x' % first,
                           second if second is None else '%04x' % second, found[11], (gap & 0xFF) / 10, (gap >> 8) / 10)
 

@@ -3,25 +3,22 @@ from __future__ import annotations
 
 import json
 import re
-import string
 from typing import Any, Dict, Iterable, List, Optional, Sequence, Tuple
 
-from .facts import CHANNEL_COLUMNS, RECORDING_COLUMNS
 from .inputs import Output
 from .standard import Fault, Wrong
 from .range_words import Moment
 from .store import Store, open_store
+from .store_schema import CASE, CHANNEL_COLUMNS, RECORDING_COLUMNS
 
 PLACE_COLUMNS = ('path', 'file_number', 'volume', 'file_name', 'closed', 'listed_size', 'seen')
 DAMAGE_COLUMNS = ('byte_offset', 'byte_length', 'reason')
 LAST = '\U0010ffff'  # which sorts after all letters
 TOGETHER = 500  # recordings whose places are asked for in one question
+MANY = 3000  # channel rows from which on SQLite looks for one of each recording, in place of all of them
 
 
 # ---- conditions
-
-CASE = str.maketrans(string.ascii_uppercase, string.ascii_lowercase)  # as lower() of both engines: other letters stay as they are
-
 
 def pattern(word: str) -> str:
     """A pattern with * and ? as LIKE has it."""
@@ -38,12 +35,14 @@ class Question:
             self.one_of(self.channel, 'c.channel', asked.channel)
         if asked.type:
             self.one_of(self.channel, 'c.type', asked.type)
+        self.leading = list(self.channel)  # an index begins with one of these, and has the recording after it
+        self.is_named, self.is_rare = bool(asked.name), bool(asked.losses or asked.jumps)  # an index has rare rows alone
         if asked.name:
-            self.like(self.channel, 'c.name', asked.name)
+            self.like(self.channel, 'c.lower_name', asked.name)
         if asked.losses:
             self.channel.append(('c.losses > 0 AND c.losses >= ?', [asked.losses]))  # an index has those above 0
         if asked.jumps:
-            self.channel.append(('c.jumps >= ?', [asked.jumps]))
+            self.channel.append(('c.jumps > 0 AND c.jumps >= ?', [asked.jumps]))
         times = self.channel if self.channel else self.recording
         self.within(times, 'c' if self.channel else 'r', asked.first, asked.last)
         if asked.verdict:
@@ -57,15 +56,33 @@ class Question:
             if asked.volume:
                 self.one_of(places, 'p.volume', asked.volume)
             if asked.place:
-                self.like(places, 'p.path', asked.place)
+                self.like(places, 'lower(p.path)', asked.place)
             self.recording.append(('r.id IN (SELECT p.recording FROM place p WHERE %s)' % joined(places), values_of(places)))
         for code, value in asked.attribute or ():
-            self.recording.append(
-                ('r.id IN (SELECT a.recording FROM attribute a WHERE a.code = ? AND substr(a.value, 1, 100) = ? AND a.value = ?)',
-                 [code, value[:100], value]))
+            self.recording.append((
+                'r.id IN (SELECT a.recording FROM attribute a WHERE a.code = ? AND substr(a.value, 1, 100) = ? AND a.value = ?)',
+                [code, value[:100], value]))
+
+    def conditions(self, store: Store) -> Tuple[str, List[Any]]:
+        """All conditions as one on recordings, and its values."""
+        every = list(self.recording)
         if self.channel:
-            self.recording.append(('r.id IN (SELECT c.recording FROM channel c WHERE %s)' % joined(self.channel),
-                                   values_of(self.channel)))
+            text, values = joined(self.channel), values_of(self.channel)
+            form = 'r.id IN (SELECT c.recording FROM channel c WHERE %s)'
+            if store.engine == 'sqlite':  # which has no statistics that say what follows; PostgreSQL has them
+                if self.is_rare:
+                    text = text.replace('c.lower_name', '+c.lower_name')  # by another index than that of names
+                elif self.is_named:
+                    text = text.replace('c.type', '+c.type')
+                elif self.leading and self.has_many(store):
+                    form = 'EXISTS (SELECT 1 FROM channel c WHERE c.recording = r.id AND %s)'
+            every.append((form % text, values))
+        return joined(every), values_of(every)
+
+    def has_many(self, store: Store) -> bool:
+        """Whether very many channel rows have the channel or type that is asked for."""
+        text = 'SELECT count(*) FROM (SELECT 1 FROM channel c WHERE %s LIMIT %d) some' % (joined(self.leading), MANY)
+        return store.rows(text, values_of(self.leading))[0][0] == MANY
 
     @staticmethod
     def one_of(conditions: List, column: str, words: Sequence[Any]) -> None:
@@ -76,12 +93,12 @@ class Question:
         word = word.translate(CASE)
         front = re.split(r'[*?]', word, 1)[0]
         if front == word:
-            conditions.append(('lower(%s) = ?' % column, [front]))
+            conditions.append(('%s = ?' % column, [front]))
             return
         if front:  # which an index finds
-            conditions.append(('lower(%s) BETWEEN ? AND ?' % column, [front, front + LAST]))
+            conditions.append(('%s BETWEEN ? AND ?' % column, [front, front + LAST]))
         if word != front + '*':
-            conditions.append(("lower(%s) LIKE ? ESCAPE '!'" % column, [pattern(word)]))
+            conditions.append(("%s LIKE ? ESCAPE '!'" % column, [pattern(word)]))
 
     @staticmethod
     def within(conditions: List, of: str, first: Optional[Moment], last: Optional[Moment]) -> None:
@@ -107,20 +124,35 @@ def values_of(conditions: Sequence[Tuple[str, List[Any]]]) -> List[Any]:
 # ---- answers
 
 RECORDING = ('id',) + RECORDING_COLUMNS
+IN_TABLE = ('id', 'sha256', 'size', 'verdict', 'opaque', 'fault_offset', 'fault', 'first_time', 'last_time', 'entries', 'losses',
+            'lost', 'untold', 'damaged')
+PLACE_IN_TABLE = ('path', 'file_number', 'file_name')
+ORDER = 'r.first_time IS NULL, r.first_time, r.sha256'
 
 
-def found(store: Store, question: Question, limit: Optional[int]) -> List[Dict[str, Any]]:
-    """The recordings that a question asks for, by their first time and then their sum, each with its places."""
-    rows = store.rows('SELECT %s FROM recording r WHERE %s ORDER BY r.first_time IS NULL, r.first_time, r.sha256%s' % (
-        ', '.join('r.' + name for name in RECORDING), joined(question.recording), '' if limit is None else ' LIMIT %d' % limit),
-        values_of(question.recording))
-    made = [dict(zip(RECORDING, row), places=[]) for row in rows]
-    places = {facts['id']: facts['places'] for facts in made}
-    for number, path, file_number, volume, name, closed, size, seen in of_recordings(store, 'place', PLACE_COLUMNS,
-                                                                                     'path, file_number', list(places)):
-        places[number].append({'path': path, 'file_number': file_number, 'volume': volume, 'file_name': name,
-                               'closed': closed if closed is None else bool(closed),
-                               'listed_size': size, 'seen': seen})
+def found(store: Store, question: Question, limit: Optional[int], is_whole: bool) -> List[Dict[str, Any]]:
+    """The recordings that a question asks for, by their first time and then their sum, each with its places; whole, or what a table
+    shows of them."""
+    columns, of_place = (RECORDING, PLACE_COLUMNS) if is_whole else (IN_TABLE, PLACE_IN_TABLE)
+    text, values = question.conditions(store)
+    asked = 'SELECT %s FROM recording r WHERE %s' % (', '.join('r.' + name for name in columns), text)
+    if limit is not None:
+        asked += ' ORDER BY %s LIMIT %d' % (ORDER, limit)
+    rows = store.rows('SELECT r.*, %s FROM (%s) r LEFT JOIN place p ON p.recording = r.id ORDER BY %s, p.path, p.file_number' % (
+        ', '.join('p.' + name for name in of_place), asked, ORDER), values)
+    made: List[Dict[str, Any]] = []
+    width, last = len(columns), None
+    for row in rows:
+        if row[0] != last:
+            last = row[0]
+            facts = dict(zip(columns, row))
+            facts['places'] = places = []
+            made.append(facts)
+        if row[width] is not None:
+            place = dict(zip(of_place, row[width:]))
+            if is_whole and place['closed'] is not None:
+                place['closed'] = bool(place['closed'])
+            places.append(place)
     return made
 
 
@@ -193,8 +225,9 @@ def find(asked: Any, data: None, out: Output) -> None:
     question = Question(asked)
     store = open_store(asked.db, make=False)
     try:
-        made = found(store, question, asked.limit)
-        channels = channels_of(store, question, [facts['id'] for facts in made]) if asked.channels else {}
+        with store.snapshot():
+            made = found(store, question, asked.limit, asked.json)
+            channels = channels_of(store, question, [facts['id'] for facts in made]) if asked.channels else {}
     finally:
         store.close()
     if asked.json:
@@ -249,17 +282,20 @@ def one(store: Store, front: str) -> Dict[str, Any]:
     return made[0]
 
 
+PARTS = (('place', PLACE_COLUMNS, 'path, file_number'), ('channel', CHANNEL_COLUMNS, 'channel, data_type'),
+         ('damage', DAMAGE_COLUMNS, 'byte_offset'), ('attribute', ('code', 'value'), 'code'))
+
+
 def show(asked: Any, data: None, out: Output) -> None:
     """`ch10 catalogue show`."""
     store = open_store(asked.db, make=False)
     try:
-        facts = one(store, asked.sum.lower())
-        number = facts.pop('id')
-        parts = {}
-        for name, columns, order in (('place', PLACE_COLUMNS, 'path, file_number'),
-                                     ('channel', CHANNEL_COLUMNS, 'channel, data_type'),
-                                     ('damage', DAMAGE_COLUMNS, 'byte_offset'), ('attribute', ('code', 'value'), 'code')):
-            parts[name] = [dict(zip(columns, row[1:])) for row in of_recordings(store, name, columns, order, [number])]
+        with store.snapshot():
+            facts = one(store, asked.sum.lower())
+            number = facts.pop('id')
+            parts = {}
+            for name, columns, order in PARTS:
+                parts[name] = [dict(zip(columns, row[1:])) for row in of_recordings(store, name, columns, order, [number])]
     finally:
         store.close()
     for place in parts['place']:

@@ -9,8 +9,7 @@ import sys
 from typing import Any, BinaryIO, List, Optional, Tuple
 
 from .medium import File, bytes_of, directory
-from .packets import PATTERN, Resync
-from .standard import Data, Fault
+from .standard import PATTERN, Data, Fault
 
 
 MOST_HELD = 64 << 20
@@ -33,6 +32,7 @@ def is_recording(data: Data) -> bool:
     after a damaged front."""
     if data[:2] == PATTERN:
         return True
+    from .packets import Resync  # read when it is asked for: questions to a catalogue do without
     return data[512:520] != b'FORTYtwo' and Resync(data, 0, min(len(data), MOST_FRONT)).first() is not None
 
 

@@ -4,12 +4,13 @@ from __future__ import annotations
 from argparse import Namespace
 import json
 from itertools import product
+from json.encoder import encode_basestring_ascii
 from operator import itemgetter
 from typing import Any, Callable, Dict, Iterable, Iterator, Optional, Tuple, Union
 
 from . import vector
 from .bodies import BODIES, entries
-from .fields import COLUMNS, FRONT, KINDS, REAL, TRUTH, WHOLE, Reader, type_of
+from .fields import COLUMNS, FRONT, KINDS, REAL, TEXT, TRUTH, WHOLE, Reader, type_of
 from .inputs import Output, one_part
 from .packets import UNTOLD, Packet
 from .parallel import LEAST, MOST, in_order, processors
@@ -140,9 +141,13 @@ class Csv(RawCsv):
         form = self.shapes.get(packet.kind)
         if form is None:
             return
+        commas = form.count(',')
         for count, values in self.reader.entries(packet, before):
-            yield count, form % tuple(['' if value is None else csv_text(value) if value.__class__ is str else value
-                                       for value in values])
+            tail = form % tuple(['' if value is None else value for value in values])
+            if '"' in tail or '\n' in tail or '\r' in tail or tail.count(',') != commas:
+                tail = form % tuple(['' if value is None else csv_text(value) if value.__class__ is str else value
+                                     for value in values])
+            yield count, tail
 
     def cell(self, _kind: int, _place: int, value: Any) -> str:
         return '' if value is None else csv_text(value) if value.__class__ is str else str(value)
@@ -167,7 +172,7 @@ class Json(RawJson):
         for each, columns in KINDS.items():
             if kind in (None, each):
                 self.shapes[each] = '"type": "%s", %s}' % (BODIES[each].name, ', '.join('"%s": %%s' % column for column in columns))
-                self.makers[each] = [CELLS.get(type_of(each, column), json.dumps) for column in columns]
+                self.makers[each] = [CELLS[type_of(each, column)] for column in columns]
 
     def front(self, channel: int) -> str:
         return '{"channel": %d, "name": %s, "count": ' % (channel, json.dumps(self.reader.names.channel(channel) or None))
@@ -191,7 +196,7 @@ class Json(RawJson):
         return '"1+"' if lost == UNTOLD else str(lost)
 
 
-CELLS: Dict[str, Callable] = {WHOLE: str, REAL: str, TRUTH: TRUTHS_TEXT.__getitem__}
+CELLS: Dict[str, Callable] = {WHOLE: str, REAL: str, TRUTH: TRUTHS_TEXT.__getitem__, TEXT: encode_basestring_ascii}
 
 Meant = Union[Csv, Json]
 Form = Union[RawCsv, RawJson, Csv, Json]

@@ -3,24 +3,26 @@ from __future__ import annotations
 
 import datetime
 import struct
-from contextlib import closing
-from typing import Any, Dict, FrozenSet, Iterator, List, NamedTuple, Optional, Sequence, Set, Tuple
+from contextlib import closing, contextmanager
+from typing import Any, Callable, Dict, FrozenSet, Iterable, Iterator, List, NamedTuple, Optional, Sequence, Set, Tuple
 
 from .bodies import counts
-from .catalogue import TAKEN_OUT, added, now, opened, title, unread
+from .catalogue import TAKEN_OUT, Mark, added, now, opened, title, unread
 from .clocks import TimeLine
 from .entry_rows import END, FRONT, TABLES, Reader, days_of, flat, packed
 from .facts import sum_of
 from .inputs import Output
 from .packets import loss_of, packets
 from .standard import DISCRETE, TIME, Fault
-from .store import Store, StoreError, open_store
+from .store import Store, StoreError, open_store, partition_of
 from .times import Clock, time
 from .workers import Pool, Task, processors
 
 PART = 1 << 22  # bytes of a recording that a worker reads at a time
-TOGETHER = 1 << 26  # bytes of recordings that a transaction takes together
-# tables of days that a transaction reaches into: a server has room for 6,400 locks, if nobody changed that, and each takes some
+TOGETHER = 1 << 26  # bytes of recordings that are loaded together, and in SQLite in one transaction
+SHARE = 1 << 22  # bytes of recordings that a worker loads in one transaction
+LARGE = 1 << 26  # bytes of a recording whose parts all workers read
+# Tables of days that a transaction reaches into: a server has room for 6,400 locks, if nobody changed that, and each takes some.
 MOST_DAYS = 1000
 CHANGED = 'its entries are not those of the catalogue: was the file changed meanwhile?'
 SPREAD = 'its entries lie on too many days: they would take more than %d tables' % MOST_DAYS
@@ -32,7 +34,8 @@ class Wanted(NamedTuple):
     """A recording to load: where its bytes are, its id and sum, of each wanted channel and type how many entries it has, and its
     first and last civil time.
 
-    Where the engine keeps days apart, `days` has the tables and the days that its entries go to.
+    Where the engine keeps days apart, `days` has the tables and the days that its entries go to, and `day` the one that all of them
+    lie on, if it is one.
     """
 
     task: Task
@@ -41,6 +44,10 @@ class Wanted(NamedTuple):
     entries: Dict[Tuple[int, int], int]
     times: Tuple[Optional[str], Optional[str]]
     days: Days = frozenset()
+    day: Optional[str] = None
+
+    def size(self) -> int:
+        return self.task['end'] - self.task['begin']
 
 
 class NotLoaded(Exception):
@@ -77,43 +84,76 @@ class Layout:
         self.end = end - begin
 
 
-def need_sum(data: Any, begin: int, end: int, wanted: str) -> None:
-    """That these bytes are those of the catalogue."""
-    with memoryview(data)[begin:end] as view:
-        if sum_of(view) != wanted:
-            raise Fault(CHANGED)
+class Held:
+    """The bytes of a recording, which are those of the catalogue, and its layout."""
+
+    def __init__(self, path: str, begin: int, end: int, sum_: str, passed: Dict[int, int]) -> None:
+        self.mark, self.data = Mark(path), opened(path)
+        self.begin, self.end, self.sum, self.passed = begin, end, sum_, passed
+        with memoryview(self.data)[begin:end] as view:
+            if sum_of(view) != sum_:
+                raise Fault(CHANGED)
+        self.layout = Layout(self.data, begin, end, passed)
+
+    def packets(self) -> Iterator[Any]:
+        return packets(self.data, self.begin, self.end, False, self.passed)
+
+    def part(self, cut: int) -> Iterator[Any]:
+        """The packets of a part; their offsets count from the recording's first byte."""
+        cuts = self.layout.cuts
+        start = cuts[cut][0]
+        end = cuts[cut + 1][0] if cut + 1 < len(cuts) else self.layout.end
+        inside = {offset - start: length for offset, length in self.passed.items() if start <= offset < end}
+        for packet in packets(self.data, self.begin + start, self.begin + end, False, inside):
+            yield packet._replace(offset=packet.offset + start)
+
+    def packed(self, number: int, wanted: Set[Tuple[int, int]], cut: int) -> Dict[int, Tuple[int, bytes]]:
+        """The wanted entries of a part, as COPY takes them."""
+        _, report, states = self.layout.cuts[cut]
+        return packed(Reader(number, wanted, report, dict(states)), self.part(cut), self.layout.clock)
+
+    def need_same(self) -> None:
+        """That what was read is still what was summed."""
+        self.mark.need_same(self.begin, self.end, self.sum, False)
 
 
 def work(setting: Task) -> Any:
-    """What reads one part of a recording, in a process of its own or in this one."""
+    """What reads one part of a recording, or loads some whole ones by a session of its own; in a process of its own or in this
+    one."""
     kept: Dict[str, Any] = {}
 
     def look(task: Task) -> Task:
+        if 'share' in task:
+            if 'store' not in kept:
+                kept['store'] = open_store(setting['db'], make=False)
+            failed: List[Tuple[str, str]] = []
+            kept['store'].make_days([(table, day) for table, day in task['days']], task['share'])
+            loaded, entries = load_those(kept['store'], [received(*one) for one in task['some']], copied_whole, failed)
+            return {'loaded': sorted(loaded), 'entries': entries, 'failed': failed}
         key = (task['path'], task['begin'])
-        passed = {int(offset): length for offset, length in task['passed']}
         if kept.get('key') != key:
-            data = opened(task['path'])
-            need_sum(data, task['begin'], task['end'], task['sum'])
-            kept.update(key=key, data=data, layout=Layout(data, task['begin'], task['end'], passed))
-        data, layout = kept['data'], kept['layout']
-        if task.get('asks_days'):
-            return {'days': days_in(data, task, layout.clock, passed)}
-        _, report, states = layout.cuts[task['cut']]
+            kept.pop('key', None)
+            passed = {int(offset): length for offset, length in task['passed']}
+            kept.update(held=Held(task['path'], task['begin'], task['end'], task['sum'], passed), key=key)
+        held = kept['held']
         wanted = {(channel, kind) for channel, kind in task['wanted']}
-        reader = Reader(task['number'], wanted, report, dict(states))
-        found = packed(reader, part_of(data, task['begin'], layout, task['cut'], passed), layout.clock)
+        if task.get('asks_days'):
+            return {'days': days_in(held, wanted)}
+        found = held.packed(task['number'], wanted, task['cut'])
+        held.need_same()
         return {'kinds': [[kind, number] for kind, (number, _) in found.items()], 'parts': [part for _, part in found.values()]}
 
+    look.close = lambda: kept['store'].close() if 'store' in kept else None  # type: ignore
     return look
 
 
-def days_in(data: Any, task: Task, clock: Optional[Clock], passed: Dict[int, int]) -> Optional[List[List[int]]]:
-    """The data types and days, by their numbers, that a recording has entries of; None where these are too many."""
+def days_in(held: Held, wanted: Set[Tuple[int, int]]) -> Optional[List[List[int]]]:
+    """The data types and days, by their numbers, that a recording has wanted entries of; None where these are too many."""
     found: Set[Tuple[int, int]] = set()
+    clock = held.layout.clock
     if clock is None or not clock.dated:
         return []
-    wanted = {(channel, kind) for channel, kind in task['wanted']}
-    for packet in packets(data, task['begin'], task['end'], False, passed):
+    for packet in held.packets():
         if (packet.channel, packet.kind) in wanted:
             there = counts(packet)
             if there:
@@ -121,15 +161,6 @@ def days_in(data: Any, task: Task, clock: Optional[Clock], passed: Dict[int, int
                 if len(found) > MOST_DAYS:
                     return None
     return sorted(map(list, found))
-
-
-def part_of(data: Any, begin: int, layout: Layout, cut: int, passed: Dict[int, int]) -> Iterator[Any]:
-    """The packets of a part; their offsets count from the recording's first byte."""
-    start = layout.cuts[cut][0]
-    end = layout.cuts[cut + 1][0] if cut + 1 < len(layout.cuts) else layout.end
-    inside = {offset - start: length for offset, length in passed.items() if start <= offset < end}
-    for packet in packets(data, begin + start, begin + end, False, inside):
-        yield packet._replace(offset=packet.offset + start)
 
 
 # ---- what is to be loaded
@@ -175,7 +206,8 @@ def with_days(store: Store, some: Sequence[Wanted], pool: Pool) -> Iterator[Tupl
     for one in some:
         first, last = (time and len(time) == 27 and datetime.date.fromisoformat(time[:10]).toordinal() for time in one.times)
         if first and last and last - first <= 1:
-            yield one._replace(days=days_named((kind, day) for _, kind in one.entries for day in (first, last))), None
+            yield one._replace(days=days_named((kind, day) for _, kind in one.entries for day in (first, last)),
+                               day=day_text(first) if first == last else None), None
         else:
             asked.append(one)
     damage = {one.number: damage_in(store, one.number) for one in asked}
@@ -191,62 +223,106 @@ def with_days(store: Store, some: Sequence[Wanted], pool: Pool) -> Iterator[Tupl
             yield one._replace(days=days_named((kind, day) for kind, day in found['days'])), None
 
 
-def days_named(found: Iterator[Tuple[int, int]]) -> Days:
+def days_named(found: Iterable[Tuple[int, int]]) -> Days:
     return frozenset((TABLES[kind].name, day_text(day)) for kind, day in found)
 
 
-def together(some: Sequence[Wanted]) -> Iterator[List[Wanted]]:
-    """Recordings by transactions: as many as do not reach into too many days."""
+def together(some: Sequence[Wanted], most_days: int, most_bytes: int) -> Iterator[List[Wanted]]:
+    """Recordings by transactions: as many as do not reach into too many days, and have not too many bytes."""
     held: List[Wanted] = []
     days: Set[Tuple[str, str]] = set()
+    size = 0
     for one in some:
-        if held and len(days | one.days) > MOST_DAYS:
+        if held and (len(days | one.days) > most_days or size + one.size() > most_bytes):
             yield held
-            held, days = [], set()
+            held, days, size = [], set(), 0
         held.append(one)
         days |= one.days
+        size += one.size()
     if held:
         yield held
 
 
 # ---- into the database
 
+# Puts entries into the tables, inside a transaction, and answers of each recording how many.
+Put = Callable[[Any, Sequence[Wanted]], Dict[int, int]]
+
+
 def load_all(store: Store, some: Sequence[Wanted], pool: Optional[Pool], failed: List[Tuple[str, str]]) -> Tuple[Set[int], int]:
     """Loads some recordings, and answers the ids of those that were loaded, and how many entries. What cannot be read is left out,
     and goes to `failed`."""
     if pool is None:
-        return load_those(store, some, pool, failed)
-    loaded, total, able = set(), 0, []
+        return load_those(store, some, inserted, failed)
+    able = []
     for one, why in with_days(store, some, pool):
         if why is None:
             able.append(one)
         else:
             failed.append((title(one.task), why))
-    for group in together(able):
+    most = MOST_DAYS // pool.number
+    loaded, total = load_by_workers([one for one in able if one.size() <= LARGE and len(one.days) <= most], pool, failed)
+    for group in together([one for one in able if one.size() > LARGE or len(one.days) > most], MOST_DAYS, LARGE):
         store.make_days({place for one in group for place in one.days})
-        numbers, entries = load_those(store, group, pool, failed)
+        numbers, entries = load_those(store, group, lambda store, rest: copied(store, rest, pool), failed)
         loaded, total = loaded | numbers, total + entries
     return loaded, total
 
 
-def load_those(store: Store, some: Sequence[Wanted], pool: Optional[Pool], failed: List[Tuple[str, str]]) -> Tuple[Set[int], int]:
+def load_by_workers(some: Sequence[Wanted], pool: Pool, failed: List[Tuple[str, str]]) -> Tuple[Set[int], int]:
+    """Loads recordings in shares, each by a worker in a transaction of its own session. Where a worker ended, each recording of its
+    share is tried once more alone."""
+    loaded: Set[int] = set()
+    total = 0
+    shares = list(together(some, MOST_DAYS // pool.number, SHARE))
+    while shares:
+        again: List[List[Wanted]] = []
+        with closing(pool.done(map(task_of_share, range(len(shares)), shares))) as done:
+            for task, found in done:
+                share = shares[task['share']]
+                if 'error' not in found:
+                    loaded, total = loaded | set(found['loaded']), total + found['entries']
+                    failed += [(place, why) for place, why in found['failed']]
+                elif len(share) > 1:
+                    again += [[one] for one in share]
+                else:
+                    failed.append((title(share[0].task), found['error']))
+        shares = again
+    return loaded, total
+
+
+def task_of_share(number: int, share: Sequence[Wanted]) -> Task:
+    return dict(share=number, some=[sent(one) for one in share], days=sorted({place for one in share for place in one.days}),
+                mapped=any(one.task.get('mapped') for one in share))
+
+
+def sent(one: Wanted) -> List[Any]:
+    """What a worker has to know of a recording, as JSON takes it."""
+    return [one.task, one.number, one.sum, [[channel, kind, entries] for (channel, kind), entries in one.entries.items()], one.day]
+
+
+def received(task: Task, number: int, sum_: str, entries: Sequence[Sequence[int]], day: Optional[str]) -> Wanted:
+    return Wanted(task, number, sum_, {(channel, kind): many for channel, kind, many in entries}, (None, None), day=day)
+
+
+def load_those(store: Store, some: Sequence[Wanted], put: Put, failed: List[Tuple[str, str]]) -> Tuple[Set[int], int]:
     """Loads some recordings in one transaction; where one of them cannot be read, in another one without it."""
     rest = list(some)
     while rest:
         try:
-            return {one.number for one in rest}, load_once(store, rest, pool)
+            return {one.number for one in rest}, load_once(store, rest, put)
         except NotLoaded as bad:
             failed += [(title(one.task), bad.why) for one in rest if one.number == bad.number]
             rest = [one for one in rest if one.number != bad.number]
     return set(), 0
 
 
-def load_once(store: Store, some: Sequence[Wanted], pool: Optional[Pool]) -> int:
+def load_once(store: Store, some: Sequence[Wanted], put: Put) -> int:
     """Loads some recordings in one transaction, and answers how many entries."""
     total = 0
     with store.transaction():
         rest = [one for one in claimed(store, some) if one.entries]
-        counted = copied(store, rest, pool) if pool is not None else inserted(store, rest)
+        counted = put(store, rest)
         for one in rest:
             entries = sum(one.entries.values())
             if counted.get(one.number, 0) != entries:
@@ -258,21 +334,44 @@ def load_once(store: Store, some: Sequence[Wanted], pool: Optional[Pool]) -> int
 def copied(store: Any, some: Sequence[Wanted], pool: Pool) -> Dict[int, int]:
     """Loads by COPY what workers make of the parts. Answers of each recording how many entries."""
     counted: Dict[int, int] = {}
+    by_number = {one.number: one for one in some}
     with closing(pool.done(parts_of(store, some))) as done:
         for task, found in done:
             if 'error' in found:
                 raise NotLoaded(task['number'], found['error'])
             for (kind, number), part in zip(found['kinds'], found['parts']):
-                store.copy('COPY %s (%s) FROM STDIN (FORMAT binary)' % (TABLES[kind].name, ', '.join(TABLES[kind].names)),
-                           (FRONT, part, END))
+                copy(store, by_number[task['number']], kind, part)
                 counted[task['number']] = counted.get(task['number'], 0) + number
     return counted
+
+
+def copied_whole(store: Any, some: Sequence[Wanted]) -> Dict[int, int]:
+    """The same by a process that reads all of a recording by itself, part by part."""
+    counted: Dict[int, int] = {}
+    for one in some:
+        held = held_of(one, damage_in(store, one.number))
+        for cut in range(len(held.layout.cuts)):
+            with only_changed(one):
+                found = held.packed(one.number, set(one.entries), cut)
+            for kind, (number, part) in found.items():
+                copy(store, one, kind, part)
+                counted[one.number] = counted.get(one.number, 0) + number
+        with only_changed(one):
+            held.need_same()
+    return counted
+
+
+def copy(store: Any, one: Wanted, kind: int, part: bytes) -> None:
+    """Some entries of a recording into the table of their kind; where all lie on one day, into that day's."""
+    table = TABLES[kind]
+    name = partition_of(table.name, one.day) if one.day else table.name
+    store.copy('COPY %s (%s) FROM STDIN (FORMAT binary)' % (name, ', '.join(table.names)), (FRONT, part, END))
 
 
 def task_of(one: Wanted, passed: Dict[int, int]) -> Task:
     task = one.task
     return dict(path=task['path'], begin=task['begin'], end=task['end'], number=one.number, sum=one.sum, wanted=sorted(one.entries),
-                passed=sorted(passed.items()))
+                passed=sorted(passed.items()), mapped=task.get('mapped', False))
 
 
 def parts_of(store: Store, some: Sequence[Wanted]) -> Iterator[Task]:
@@ -280,18 +379,23 @@ def parts_of(store: Store, some: Sequence[Wanted]) -> Iterator[Task]:
     damage = {one.number: damage_in(store, one.number) for one in some}
     for one in some:
         made = task_of(one, damage[one.number])
-        begin, end = made['begin'], made['end']
-        cuts = len(layout_of(one, damage[one.number])[1].cuts) if end - begin > PART else 1
+        cuts = len(held_of(one, damage[one.number]).layout.cuts) if one.size() > PART else 1
         for cut in range(cuts):
             yield dict(made, cut=cut)
 
 
-def layout_of(one: Wanted, passed: Dict[int, int]) -> Tuple[Any, Layout]:
-    """The bytes of a recording's file and its layout, or why there are none."""
+def held_of(one: Wanted, passed: Dict[int, int]) -> Held:
+    with only_changed(one):
+        return Held(one.task['path'], one.task['begin'], one.task['end'], one.sum, passed)
+
+
+@contextmanager
+def only_changed(one: Wanted) -> Iterator[None]:
+    """What is wrong inside is wrong with a recording, which is left out then."""
     try:
-        data = opened(one.task['path'])
-        need_sum(data, one.task['begin'], one.task['end'], one.sum)
-        return data, Layout(data, one.task['begin'], one.task['end'], passed)
+        yield
+    except StoreError:
+        raise
     except OSError as error:
         raise NotLoaded(one.number, error.strerror or str(error))
     except (Fault, struct.error):
@@ -302,19 +406,15 @@ def inserted(store: Store, some: Sequence[Wanted]) -> Dict[int, int]:
     """Loads by INSERT, in this process. Answers of each recording how many entries."""
     counted: Dict[int, int] = {}
     for one in some:
-        begin, end = one.task['begin'], one.task['end']
-        passed = damage_in(store, one.number)
-        data, layout = layout_of(one, passed)
-        clock = layout.clock
+        held = held_of(one, damage_in(store, one.number))
+        clock = held.layout.clock
         reader = Reader(one.number, set(one.entries), None, {})
-        found = reader.columns(packets(data, begin, end, False, passed),
-                               clock.texts if clock and clock.dated else lambda counts: (None,) * len(counts))
-        try:
+        found = reader.columns(held.packets(), clock.texts if clock and clock.dated else lambda counts: (None,) * len(counts))
+        with only_changed(one):
             for kind, columns in found:
                 store.insert(TABLES[kind].name, TABLES[kind].names, zip(*flat(columns)))
                 counted[one.number] = counted.get(one.number, 0) + len(columns[0])
-        except (Fault, struct.error):
-            raise NotLoaded(one.number, CHANGED)
+            held.need_same()
     return counted
 
 
@@ -327,19 +427,20 @@ def load(asked: Any, data: None, out: Output) -> None:
     store = open_store(asked.db)
     pool = None
     try:
-        found = [(task, facts) for some in added(store, asked, failed, []) for task, facts, _ in some if task.get('fault') is None]
+        found = [(task, facts['sha256']) for some in added(store, asked, failed, []) for task, facts, _ in some
+                 if task.get('fault') is None]
         if store.engine == 'postgresql':
-            pool = Pool(asked.jobs or processors(), dict(work='load'))
+            pool = Pool(asked.jobs or processors(), dict(work='load', db=asked.db))
         total = recordings = 0
-        for batch in batches(found):
-            some = [wanted_of(store, task, facts['sha256'], asked.channel) for task, facts in batch]
+        for batch in batches(found, TOGETHER * (pool.number if pool else 1)):
+            some = [wanted_of(store, task, sum_, asked.channel) for task, sum_ in batch]
             some = list({one.number: one for one in some if one.entries}.values())
             numbers, entries = load_all(store, some, pool, failed)
             total, recordings = total + entries, recordings + len(numbers)
             ways = {id(one.task): 'loaded' if one.number in numbers else None for one in some}  # none of those that failed
-            for task, facts in batch:
+            for task, sum_ in batch:
                 if ways.get(id(task), 'known'):
-                    out.line('%s %s %s' % (ways.get(id(task), 'known'), facts['sha256'][:16], title(task)))
+                    out.line('%s %s %s' % (ways.get(id(task), 'known'), sum_[:16], title(task)))
             out.flush()
     finally:
         if pool is not None:
@@ -349,15 +450,15 @@ def load(asked: Any, data: None, out: Output) -> None:
     unread(failed, out)
 
 
-def batches(found: Sequence[Tuple[Task, Task]]) -> Iterator[List[Tuple[Task, Task]]]:
+def batches(found: Sequence[Tuple[Task, str]], most: int) -> Iterator[List[Tuple[Task, str]]]:
     """Recordings together, up to some bytes; a larger one by itself."""
-    some: List[Tuple[Task, Task]] = []
+    some: List[Tuple[Task, str]] = []
     size = 0
-    for task, facts in found:
-        if some and size + task['bytes'] > TOGETHER:
+    for task, sum_ in found:
+        if some and size + task['bytes'] > most:
             yield some
             some, size = [], 0
-        some.append((task, facts))
+        some.append((task, sum_))
         size += task['bytes']
     if some:
         yield some

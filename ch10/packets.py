@@ -5,13 +5,12 @@ import struct
 from collections import namedtuple
 from typing import Dict, Iterator, List, NamedTuple, Optional, Set, Tuple
 
-from .standard import (EVENT, INDEX, KNOWN, LOSS, MESSAGE, REPORT, SETUP, SPAN, SUMS, SYNC, TIME, UART, WIDTHS, Data, Fault, Key,
-                       Whose, find, let_go, little)
+from .standard import (EVENT, INDEX, KNOWN, LOSS, MESSAGE, PATTERN, REPORT, SETUP, SPAN, SUMS, SYNC, TIME, UART, WIDTHS, Data,
+                       Fault, Key, Whose, find, let_go, little)
 
 HEADER = struct.Struct('<HHIIBBBBIHH')
 HEADER_WORDS = struct.Struct('<11H')
 ONE_WORD = struct.Struct('<I')
-PATTERN = b'\x25\xeb'
 MOST = 524288  # bytes of a packet but one of setup
 
 Packet = namedtuple('Packet', 'offset channel kind length sequence flags counter body word')
@@ -118,7 +117,7 @@ def head_at(data: Data, at: int, end: int) -> Optional[Head]:
 
 
 ROW = 24  # packets that follow one another which are no copy within a packet
-FIRST_ROW = 8  # the same where no packet was read before
+FIRST_ROW = 8  # the same where no sequence number among them speaks against it
 MOST_ROWS = 4000  # right headers that are compared before a row that is known to be of the recording
 MORE = 64  # and after its first one
 AROUND = 20  # bytes of a packet that are neither its header nor its data: secondary header, checksum, and what fills it up
@@ -160,8 +159,8 @@ class Resync:
 
     It is a sync pattern whose header is right, and which is no copy of a packet within another's body. Packets that follow one
     another are a row. A row is of this recording where it leads to the last byte, or is long, or where its sequence numbers go on
-    from those of packets that are known to be of it. A row within the packet at fault, as far as that one's length is known, has to
-    lead over its end.
+    from those of packets that are known to be of it; or where the lengths of the packet at fault lead to it. A row within the
+    packet at fault, as far as that one's length is known, has to lead over its end.
     """
 
     def __init__(self, data: Data, begin: int, end: int) -> None:

@@ -214,7 +214,7 @@ def time_text(count: int, low: int, step: int, clock: Optional[Clock]) -> str:
         return of_day[:5]
     if step >= SECOND:
         return of_day[:8]
-    return of_day[:9] + of_day[9:].rstrip('0').ljust(1, '0')
+    return of_day[:9 + 7 - (len(str(step)) - len(str(step).rstrip('0')))]
 
 
 def as_svg(asked: Namespace, data: Data, out: Output) -> None:

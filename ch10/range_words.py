@@ -8,8 +8,6 @@ import os
 import re
 from typing import Any, Callable
 
-from .times import civil, ticks_of
-
 VERDICTS = ('strict', 'lenient', 'faulty', 'unjudged')
 
 DATABASE = """The database is a file of SQLite (--db range.sqlite) or a server of PostgreSQL (--db postgresql://user@host/range, \
@@ -34,6 +32,7 @@ class Moment:
     """A civil time as it was given: a day alone is the whole of it."""
 
     def __init__(self, word: str) -> None:
+        from .times import civil, ticks_of  # read when it is asked for
         day, _, clock = word.replace('T', ' ').partition(' ')
         try:
             if re.fullmatch(r'\d\d:\d\d', clock):
@@ -70,8 +69,14 @@ recording is faulty or damaged.
 
 
 def text(word: str) -> str:
-    """A word of a call as text, as places are kept: bytes that are no UTF-8 are escaped."""
+    """A word of a call as text: bytes that are no UTF-8 are escaped."""
     return os.fsencode(word).decode('utf-8', 'backslashreplace')
+
+
+def place(word: str) -> str:
+    """A path as text, as places are kept. No two paths have the same: a path may have what stands for a byte that is no UTF-8 in
+    its own letters."""
+    return os.fsencode(word).replace(b'\\x', b'\\x5cx').decode('utf-8', 'backslashreplace')
 
 
 def positive(word: str) -> int:
@@ -122,7 +127,7 @@ def add_words(commands: Any, Parser: Any, channel_number: Callable[[str], int]) 
                    ADD_MORE + DATABASE)
     made.add_argument('inputs', nargs='+', metavar='INPUT', help='a recording, an image, or a folder')
     with_database(made)
-    made.add_argument('--place', type=text, metavar='BASE',
+    made.add_argument('--place', type=place, metavar='BASE',
                       help='where they are said to lie: BASE/NAME, as s3://bucket/flights, in place of the path')
     judging(made)
     made.add_argument('--anew', action='store_true', help='judges and counts what is there already once more')
@@ -140,7 +145,7 @@ def add_words(commands: Any, Parser: Any, channel_number: Callable[[str], int]) 
     made.add_argument('--verdict', action='append', choices=VERDICTS, metavar='V', help='with this verdict: ' + ', '.join(VERDICTS))
     made.add_argument('--damaged', action='store_true', help='with damaged stretches')
     made.add_argument('--volume', type=text, action='append', metavar='NAME', help='from a medium of this volume name')
-    made.add_argument('--place', type=text, metavar='PATTERN', help='that lies there')
+    made.add_argument('--place', type=place, metavar='PATTERN', help='that lies there')
     made.add_argument('--attribute', type=pair, action='append', metavar='CODE=VALUE', help='with this attribute in its setup text')
     made.add_argument('--sum', type=sum_front, metavar='HEX', help='whose sum begins so')
     made.add_argument('--limit', type=positive, metavar='N', help='at most so many')
@@ -159,7 +164,7 @@ def add_words(commands: Any, Parser: Any, channel_number: Callable[[str], int]) 
     with_database(made)
     made.add_argument('--channel', type=channel_number, metavar='C', action='append',
                       help='this channel alone; may be given again for another')
-    made.add_argument('--place', type=text, metavar='BASE', help='where they are said to lie: BASE/NAME, in place of the path')
+    made.add_argument('--place', type=place, metavar='BASE', help='where they are said to lie: BASE/NAME, in place of the path')
     judging(made)
 
     made = command(commands, 'report', run_of('report', 'report'),

@@ -57,7 +57,7 @@ MOST_STRETCHES = 500
 MOST_STRIPS = 12  # of a picture
 MEANS = {'strict': 'This recorder may have written it: it keeps each of its rules.',
          'lenient': 'Any recorder may have written it: each packet is framed, checked and counted as the standard says.',
-         'faulty': 'A packet is none of any recorder\'s, first the one at this offset.',
+         'faulty': 'A packet is one that no recorder may have written: the first such is at this offset.',
          'unjudged': 'The program r10 gave no verdict: it was not here, or there was too little memory.'}
 
 

@@ -88,6 +88,7 @@ def digits(data: bytes) -> str:
 
 
 SYNC = 0xEB25
+PATTERN = b'\x25\xeb'  # its bytes
 LOSS, SETUP, EVENT, INDEX, TIME, BUS, DISCRETE, MESSAGE, ARINC, UART = 0x00, 0x01, 0x02, 0x03, 0x11, 0x19, 0x29, 0x30, 0x38, 0x50
 REPORT = bytes(4) + b'LOSS'  # what the body of a loss report begins with
 WIDTHS = (0, 1, 2, 4)

@@ -29,6 +29,7 @@ class Store:
     """One open database. Each engine has a class of its own below this one."""
 
     engine = ''
+    begin_snapshot = 'BEGIN'
     for_update = ''  # what keeps others from a row that is read, until the transaction ends
     words: dict = {}  # what stands in a schema's statements in place of {identity}, {text} and {bytes}
 
@@ -44,8 +45,9 @@ class Store:
         """Adds those rows whose first columns, so many, no row has yet, and answers what these have there. Inside a transaction."""
         raise NotImplementedError
 
-    def make_days(self, wanted: Iterable[Tuple[str, str]]) -> None:
-        """Makes room in tables for the entries of days, where an engine keeps days apart."""
+    def make_days(self, wanted: Iterable[Tuple[str, str]], first: int = 0) -> None:
+        """Makes room in tables for the entries of days, where an engine keeps days apart. Programs at a time begin with different
+        tables."""
 
     def settle(self) -> None:
         """After much was added: lets the engine look at what there is, so that it answers the next questions by the right index."""
@@ -74,12 +76,26 @@ class Store:
             raise
         self.end('COMMIT')
 
+    @contextmanager
+    def snapshot(self) -> Iterator[None]:
+        """All that is read inside is of one moment, whatever others write meanwhile."""
+        self.rows(self.begin_snapshot)
+        try:
+            yield
+        finally:
+            self.end('ROLLBACK')
+
     def end(self, how: str) -> None:
         self.rows(how)
 
     def statement(self, text: str) -> str:
         """A schema's statement in the words of this engine."""
         return re.sub(r'\{(\w+)\}\d?', lambda found: self.words[found[1]], text)
+
+
+def partition_of(table: str, day: str) -> str:
+    """The table of a day, where an engine keeps days apart."""
+    return '%s_%s' % (table, day.replace('-', ''))
 
 
 LIBPQ = (r'\s*(host|hostaddr|dbname|service|user|port|password|passfile|options|sslmode|connect_timeout|application_name|'

@@ -9,10 +9,12 @@ import sys
 from typing import Any, Dict, Iterable, Iterator, List, Sequence, Set, Tuple
 
 from .standard import Wrong
-from .store import Store, StoreError, shown_dsn
+from .store import Store, StoreError, partition_of, shown_dsn
+from .store_schema import ENTRIES
 
 SYSTEM = '/usr/bin/python3'
 LOCK = 0x63683130  # of an advisory lock: the letters ch10
+NUMBERS = {name: number for number, (name, _) in ENTRIES.items()}  # of tables, for a lock of each
 MOST_DAYS = 100  # partitions that a transaction makes, for each takes some locks
 LAST_DAY = datetime.date.max.toordinal()
 
@@ -33,6 +35,7 @@ def driver() -> Any:
 
 class Postgres(Store):
     engine = 'postgresql'
+    begin_snapshot = 'BEGIN ISOLATION LEVEL REPEATABLE READ, READ ONLY'
     for_update = ' FOR NO KEY UPDATE'  # others may still refer to the row
     words = {'identity': 'BIGINT GENERATED ALWAYS AS IDENTITY PRIMARY KEY', 'text': 'TEXT COLLATE "C"', 'bytes': 'BYTEA',
              'time': 'TIMESTAMP(6)'}
@@ -80,18 +83,21 @@ class Postgres(Store):
         except self.driver.Error as error:
             raise StoreError('the database: %s' % one_line(error))
 
-    def make_days(self, wanted: Iterable[Tuple[str, str]]) -> None:
-        """A partition for each table and day, as entry_1553_20240229. It is made by itself and then attached, which waits for no
-        reader and no writer of other days; each table's in transactions of their own, so that two programs never wait for each
-        other."""
+    def make_days(self, wanted: Iterable[Tuple[str, str]], first: int = 0) -> None:
+        """A partition for each table and day, as entry_1553_20240229. It is made by itself and then attached, which waits for
+        no reader and no writer of other days; each table's in transactions of their own, so that two programs never wait for
+        each other."""
         by_table: Dict[str, List[str]] = {}
         for table, day in sorted(wanted):
             by_table.setdefault(table, []).append(day)
-        for table, days in by_table.items():
+        tables = sorted(by_table)
+        for place in range(len(tables)):
+            table = tables[(place + first) % len(tables)]
+            days = by_table[table]
             missing = self.without(table, days)
             for at in range(0, len(missing), MOST_DAYS):
                 with self.transaction():
-                    self.lock_for_migrations()
+                    self.rows('SELECT pg_advisory_xact_lock(%d, %d)' % (LOCK, NUMBERS[table]))
                     made = [day_made(table, day) for day in self.without(table, missing[at:at + MOST_DAYS])]
                     if made:
                         self.rows(';\n'.join(made))  # all in one go: an answer for each would have to be waited for
@@ -104,7 +110,7 @@ class Postgres(Store):
         return [day for day in days if partition_of(table, day) not in there]
 
     def settle(self) -> None:
-        self.rows('ANALYZE recording, place, channel, damage, attribute')
+        self.rows('VACUUM (ANALYZE, SKIP_LOCKED) recording, place, channel, damage, attribute')  # then an index answers by itself
 
     def begin(self) -> None:
         self.rows('BEGIN')
@@ -124,10 +130,6 @@ class Postgres(Store):
 
     def close(self) -> None:
         self.base.close()
-
-
-def partition_of(table: str, day: str) -> str:
-    return '%s_%s' % (table, day.replace('-', ''))
 
 
 def day_made(table: str, day: str) -> str:

@@ -8,6 +8,14 @@ from typing import List, NamedTuple, Sequence
 
 
 MOST_NUMBER = (1 << 63) - 1  # that a BIGINT takes
+CASE = str.maketrans('ABCDEFGHIJKLMNOPQRSTUVWXYZ', 'abcdefghijklmnopqrstuvwxyz')  # as lower() of both engines, for no other letters
+
+# What is kept of a recording and of a channel, but for the recording's number.
+RECORDING_COLUMNS = ('sha256', 'kind', 'size', 'verdict', 'opaque', 'fault_offset', 'fault', 'judge', 'first_time', 'last_time',
+                     'first_count', 'last_count', 'packets', 'entries', 'losses', 'lost', 'untold', 'jumps', 'damaged',
+                     'damaged_bytes', 'added')
+CHANNEL_COLUMNS = ('channel', 'data_type', 'type', 'name', 'packets', 'entries', 'bytes', 'first_count', 'last_count', 'first_time',
+                   'last_time', 'rate', 'losses', 'lost', 'untold', 'jumps', 'opaque', 'bad')
 
 
 class Migration(NamedTuple):
@@ -165,7 +173,23 @@ def entry_tables(partitioned: bool) -> List[str]:
     return made
 
 
+# Questions are answered from the indexes alone: each has what conditions on channels ask for. Those of rows that few recordings
+# have hold these rows alone.
+QUESTIONS = (
+    'ALTER TABLE channel ADD COLUMN lower_name {text}',
+    'UPDATE channel SET lower_name = lower(name) WHERE name IS NOT NULL',
+    'DROP INDEX channel_by_number',
+    'DROP INDEX channel_by_type',
+    'DROP INDEX channel_by_name',
+    'DROP INDEX channel_by_type_and_name',
+    'CREATE INDEX channel_by_number ON channel (channel, recording, type, lower_name, first_time, last_time)',
+    'CREATE INDEX channel_by_type ON channel (type, recording, first_time, last_time)',
+    'CREATE INDEX channel_by_name ON channel (lower_name, type, recording, first_time, last_time)',
+    'CREATE INDEX channel_by_jump ON channel (recording) WHERE jumps > 0',
+)
+
 MIGRATIONS = (
     Migration(1, 'catalogue', (RECORDING, PLACE, CHANNEL, DAMAGE, ATTRIBUTE) + INDEXES),
     Migration(2, 'entries', (LOADED,), postgresql=entry_tables(True), sqlite=entry_tables(False)),
+    Migration(3, 'questions', QUESTIONS),
 )

@@ -3,13 +3,15 @@ from __future__ import annotations
 
 import os
 import sqlite3
+from time import monotonic, sleep as pause
 from typing import Any, Iterable, List, Sequence, Set, Tuple
 from urllib.parse import quote
 
 from .standard import Wrong
 from .store import Store, StoreError
 
-WAIT = 60  # seconds for another program that writes
+WAIT = 300  # seconds for another program that writes
+LAST_WAIT = 3  # and at the end, for one that reads
 FAULTS = (sqlite3.Error, OverflowError, UnicodeError)  # what sqlite3 raises of a database, and of a value that none takes
 
 
@@ -27,7 +29,7 @@ class Sqlite(Store):
         try:
             if make:
                 self.base = sqlite3.connect(path, timeout=WAIT, isolation_level=None)
-                self.base.execute('PRAGMA journal_mode = WAL')
+                self.turn_to('WAL', WAIT)
                 self.base.execute('PRAGMA synchronous = NORMAL')
                 self.base.execute('PRAGMA foreign_keys = ON')
             else:
@@ -36,6 +38,19 @@ class Sqlite(Store):
             self.tables()
         except FAULTS as error:
             raise StoreError('the database %r: %s' % (path[:200], error))
+
+    def turn_to(self, mode: str, wait: float) -> None:
+        """Makes the log beside it, or takes it away. That is refused at once while another program is at work, so it is tried
+        again."""
+        end = monotonic() + wait
+        while True:
+            try:
+                self.base.execute('PRAGMA journal_mode = ' + mode)
+                return
+            except sqlite3.OperationalError as error:
+                if 'locked' not in str(error) or monotonic() > end:
+                    raise
+            pause(0.02)
 
     def rows(self, statement: str, values: Sequence[Any] = ()) -> List[Tuple]:
         try:
@@ -76,7 +91,7 @@ class Sqlite(Store):
         if self.writes:
             try:
                 self.base.execute('PRAGMA busy_timeout = 0')
-                self.base.execute('PRAGMA journal_mode = DELETE')
+                self.turn_to('DELETE', LAST_WAIT)
             except sqlite3.Error:
-                pass  # another program is at work with it, and closes it later
+                pass  # another program adds to it, and closes it later
         self.base.close()

@@ -98,7 +98,8 @@ class Survey:
                recording's first byte
     """
 
-    def __init__(self, data: Data, begin: int, end: int, goes_on: bool = True) -> None:
+    def __init__(self, data: Data, begin: int, end: int, goes_on: bool = True, judged: bool = False) -> None:
+        self.judged = judged  # by the program: then its sums are right, but for those of opaque packets
         self.rows: List[Row] = []
         self.damage: List[Stretch] = []
         self.passed: Dict[int, int] = {}
@@ -124,7 +125,7 @@ class Survey:
         ahead = walk.Ahead(data, end) if walk.is_ready(end - begin) else walk.Alone()
         while at < end:
             try:
-                packet = packet_at(data, at, begin, end, True, goes_on, ahead.is_summed(at))
+                packet = packet_at(data, at, begin, end, not self.judged, goes_on, ahead.is_summed(at))
                 found = ahead.measure(packet, at)
                 said = time(packet.body, packet.word) if packet.kind == TIME and packet.word is not None else None
                 inner = resync.within(at, packet.length) if packet.flags & 0x83 not in (1, 2, 3) else None

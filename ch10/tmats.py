@@ -8,6 +8,9 @@ from typing import Dict, Iterator, List, Optional, Tuple
 from .standard import ARINC, BUS, DISCRETE, MESSAGE, TIME, UART
 
 MOST_NAME = 40
+ATTRIBUTE = re.compile(r'[A-Z](-[0-9]+)?\\[^\s;:]+$').match
+TRACK = re.compile(r'(R-[0-9]+)\\TK1-([0-9]+)$').match
+LINK = re.compile(r'(B-[0-9]+)\\DLN$').match
 
 # The channel data types of the recorder attributes, and the families of data types of packets that they are.
 FAMILY = {'TIMEIN': 0x10, 'PCMIN': 0x08, '1553IN': 0x18, 'ANAIN': 0x20, 'DISIN': 0x28, 'MSGIN': 0x30, '429IN': 0x38, 'VIDIN': 0x40,
@@ -22,7 +25,7 @@ def attributes(data: bytes) -> 'OrderedDict[str, str]':
     for part in data.decode('latin-1').replace('\r', '').split(';'):
         name, colon, value = part.partition(':')
         name = name.strip().upper()
-        if colon and re.match(r'[A-Z](-[0-9]+)?\\[^\s;:]+$', name):
+        if colon and ATTRIBUTE(name):
             found[name] = ' '.join(value.split())
     return found
 
@@ -39,13 +42,13 @@ class Names:
         self.channels: Dict[int, Tuple[str, str, str]] = {}  # by channel ID: name, channel data type, data link
         self.buses: Dict[str, Dict[int, str]] = {}  # of each data link the names of its buses by their numbers
         for name, value in self.attributes.items():
-            track = re.match(r'(R-[0-9]+)\\TK1-([0-9]+)$', name)
+            track = '\\TK1-' in name and TRACK(name)
             if track and value.isascii() and value.isdigit() and len(value) <= 5:
                 group, number = track.groups()
                 name_of, kind, link_of = (printable(self.attributes.get('%s\\%s-%s' % (group, key, number), ''))
                                           for key in ('DSI', 'CDT', 'CDLN'))
                 self.channels.setdefault(int(value), (name_of, kind, link_of))
-            link = re.match(r'(B-[0-9]+)\\DLN$', name)
+            link = name.endswith('DLN') and LINK(name)
             if link:
                 self.buses.setdefault(printable(value), dict(self.buses_of(link.group(1))))
 

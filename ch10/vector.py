@@ -36,7 +36,6 @@ LONGEST = 512  # bytes of a text that are taken together; longer ones go the pla
 SHORT = 64  # bytes of a text, of those that are written by themselves
 EACH = 4 << 20  # bytes of packets that a part has, or more
 TOGETHER = 40000  # entries whose lines are made at once
-NEAR = 1 << 19  # bytes of lines that are written together, so that they stay in the processor's cache
 MOST_WORDS = 40
 ROOM = bytes(4 * LONGEST)  # after bytes that pieces are parts of
 SECOND = 10 ** 7
@@ -46,6 +45,7 @@ LAST = (1 << 63) - 1
 
 # ---- pieces
 
+EVERY = slice(None)
 VOIDS: Dict[int, Any] = {}  # types of so many bytes
 
 
@@ -93,22 +93,21 @@ class Piece:
         self.room = room if int(room.min()) < self.wide else None
         return at + self.lengths
 
-    def write(self, sheet: Sheet, held: slice) -> None:
-        """Writes it for some lines.
+    def write(self, sheet: Sheet) -> None:
+        """Writes it.
 
         Bytes after its own are written too where there is room for them: what belongs there is written later.
         """
-        at = self.at[held]
         if self.room is None:
-            sheet.put(at, self.wide, self.items(self.wide, held))
+            sheet.put(self.at, self.wide, self.items(self.wide, EVERY))
             return
-        room, lengths, wide, left = self.room[held], self.lengths[held], self.wide, numpy.arange(len(at))
+        wide, left = self.wide, numpy.arange(len(self.at))
         while True:  # each time what has room for the longest of those that are left
-            fits = room[left] >= wide
+            fits = self.room[left] >= wide
             some, left = left[fits], left[~fits]
             if len(some):
-                sheet.put(at[some], wide, self.items(wide, some + held.start))
-            wide = int(lengths[left].max()) if len(left) else 0
+                sheet.put(self.at[some], wide, self.items(wide, some))
+            wide = int(self.lengths[left].max()) if len(left) else 0
             if not wide:
                 return
 
@@ -337,7 +336,7 @@ class Vector:
         fronts = [sum_of(front, len(block.count)) for block, front, _ in made]
         lengths = [front + sum_of(pieces, len(front)) for (_, _, pieces), front in zip(made, fronts)]
         lengths.append(numpy.array([len(line) for line in plain[3]], numpy.int64))
-        spill = min(int(some.min()) for some in fronts + lengths[-1:] if len(some))
+        spill = min((int(some.min()) for some in fronts + lengths[-1:] if len(some)), default=0)
         counts, channels, order = (
             numpy.concatenate(some) for some in zip(*[(block.count, block.number, block.order) for block, _, _ in made], plain[:3]))
         ranks, lengths_of = ranked(counts, channels, order), numpy.concatenate(lengths)
@@ -345,25 +344,21 @@ class Vector:
         ends[ranks] = numpy.cumsum(lengths_of[ranks])
         size = int(lengths_of.sum())
         self.sheet.need(size + spill)
-        place, rows = 0, []
-        for (_, fronts_of, pieces), front, length in zip(made, fronts, lengths):
+        place, begins = 0, []
+        for (_, _, pieces), front, length in zip(made, fronts, lengths):
             end = ends[place:place + len(length)]
             place += len(length)
             begin = end - length
+            begins.append(begin)
             at, limit = begin + front, end + spill
             for piece in pieces:
                 at = piece.place(at, limit)
-            at = begin
-            for piece in fronts_of:
+                if piece.wide:
+                    piece.write(self.sheet)
+        for (_, pieces, _), at in zip(made, begins):
+            for piece in pieces:
                 at = piece.place(at, None)
-            rows.append((fronts_of, [piece for piece in pieces if piece.wide],
-                         numpy.searchsorted(begin, numpy.arange(0, size + NEAR, NEAR)).tolist()))
-        for step in range(-(-size // NEAR)):
-            for which in (1, 0):
-                for row in rows:
-                    held = slice(row[2][step], row[2][step + 1])
-                    for piece in row[which] if held.start < held.stop else ():
-                        piece.write(self.sheet, held)
+                piece.write(self.sheet)
         out = self.sheet.octets
         for line, end in zip(plain[3], ends[place:].tolist()):
             out[end - len(line):end] = numpy.frombuffer(line, numpy.uint8)
@@ -423,7 +418,9 @@ class Vector:
         fronts = self.table(('front',), lambda key: form.front(self.channels[key]).encode('utf-8', 'replace')).pieces(block.channel)
         least, most = len(str(int(block.count.min()))), len(str(int(block.count.max())))
         digits = self.decimals.right(block.count, -(-most // 4))
-        columns = [digits[:, digits.shape[1] - most:]]
+        columns, apart = [digits[:, digits.shape[1] - most:]], [fronts]
+        if least == most and fronts.lengths is None:
+            columns, apart = [fronts.source.take(fronts.starts, 0)[:, :fronts.wide]] + columns, []
         if clock:
             second, before = block.columns['second'], form.around(True)[0]
             low = int(second.min())
@@ -440,9 +437,9 @@ class Vector:
             rows[:, at:at + column.shape[1]] = column
             at += column.shape[1]
         if least == most:
-            return [fronts, Fixed(rows)]
+            return apart + [Fixed(rows)]
         fewer = most - 1 - numpy.searchsorted(10 ** numpy.arange(1, most, dtype=numpy.int64), block.count, 'right')
-        return [fronts, Piece(padded(rows.reshape(-1), wide), numpy.arange(0, wide * len(rows), wide) + fewer, wide, wide - fewer)]
+        return apart + [Piece(padded(rows.reshape(-1), wide), numpy.arange(0, wide * len(rows), wide) + fewer, wide, wide - fewer)]
 
     def table(self, name: tuple, make: Callable[[int], bytes]) -> Table:
         found = self.tables.get(name)
@@ -730,7 +727,7 @@ class Vector:
         """What changed of eight discretes, after a space where one before these did."""
 
         def text(key: int) -> bytes:
-            said = changed_bits((key >> 8 ^ key & 0xFF) << 8 * place, (key & 0xFF) << 8 * place, 32)
+            said = changed_bits((key >> 8 & 0xFF ^ key & 0xFF) << 8 * place, (key & 0xFF) << 8 * place, 32)
             return (b' ' if key >> 16 and said else b'') + said.encode()
 
         now = differ >> 8 * place & 0xFF

@@ -53,7 +53,8 @@ class Room:
 
 
 class Worker:
-    """One process, started for its first task, and started anew if it ended."""
+    """One process, started for its first task, and started anew if it ended. It gets no Ctrl-C, also while it begins: the one that
+    started it ends it."""
 
     def __init__(self, setting: Task) -> None:
         self.setting = setting
@@ -61,7 +62,12 @@ class Worker:
 
     def do(self, task: Task) -> Task:
         if self.process is None:
-            self.process = subprocess.Popen([sys.executable, '-B', '-c', START, TOP], stdin=subprocess.PIPE, stdout=subprocess.PIPE)
+            kept = signal.pthread_sigmask(signal.SIG_BLOCK, (signal.SIGINT,))
+            try:
+                words = [sys.executable, '-B', '-c', START, TOP]
+                self.process = subprocess.Popen(words, stdin=subprocess.PIPE, stdout=subprocess.PIPE)
+            finally:
+                signal.pthread_sigmask(signal.SIG_SETMASK, kept)
             self.send(self.setting)
         self.send(task)
         said = self.process.stdout.readline()
@@ -77,7 +83,7 @@ class Worker:
 
     def ended(self) -> Task:
         self.close()
-        return {'error': 'the process that read it ended; is there enough memory?'}
+        return {'error': 'the process that read it ended: is there enough memory, or was the file cut off meanwhile?'}
 
     def send(self, task: Task) -> None:
         try:
@@ -99,15 +105,16 @@ class Worker:
 
 
 class Pool:
-    """So many workers, each started when there is a task for it; with one, this process does the work by itself. Of what is done so
-    much for each may wait to be taken: it is held in memory."""
+    """So many workers, each started when there is a task for it. Where only one is asked for, this process does the work by
+    itself, but for files that are mapped: a file that is cut off meanwhile ends who reads it. Of what is done so much for each
+    may wait to be taken: it is held in memory."""
 
     def __init__(self, number: int, setting: Task, room: Optional[Room] = None, ahead: int = 2) -> None:
         self.number, self.room, self.over, self.most = number, room, threading.Event(), ahead * number
         self.alone = work_of(setting) if number == 1 else None
         self.waiting: queue.Queue = queue.Queue()
-        self.workers = [Worker(setting) for _ in range(number)] if number > 1 else []
-        self.threads = [threading.Thread(target=self.serve, args=(worker,), daemon=True) for worker in self.workers]
+        self.workers = [Worker(setting) for _ in range(number)]
+        self.threads = [threading.Thread(target=self.serve, args=(worker,), daemon=True) for worker in self.workers if number > 1]
         for thread in self.threads:
             thread.start()
 
@@ -116,6 +123,7 @@ class Pool:
 
     def __exit__(self, *why: Any) -> None:
         self.over.set()
+        getattr(self.alone, 'close', lambda: None)()
         for _ in self.threads:
             self.waiting.put(None)
         for worker in self.workers:
@@ -124,9 +132,7 @@ class Pool:
             thread.join(1)
 
     def serve(self, worker: Worker) -> None:
-        """What a worker's thread does. A process that it starts gets no Ctrl-C, also while it begins: the one that started it ends
-        it."""
-        signal.pthread_sigmask(signal.SIG_BLOCK, (signal.SIGINT,))
+        """What a worker's thread does."""
         for task, ready in iter(self.waiting.get, None):
             if self.over.is_set():
                 break
@@ -144,7 +150,7 @@ class Pool:
         comes of the tasks of a call that is given up reaches no other one."""
         if self.alone:
             for task in tasks:
-                yield task, answer_of(self.alone, task)
+                yield task, needed(self.workers[0].do(task) if task.get('mapped') else answer_of(self.alone, task))
             return
         ready: queue.Queue = queue.Queue()
         under_way = 0
@@ -152,10 +158,19 @@ class Pool:
             self.waiting.put((task, ready))
             under_way += 1
             while under_way >= self.most or under_way and not ready.empty():
-                yield ready.get()
+                task, answer = ready.get()
+                yield task, needed(answer)
                 under_way -= 1
         for _ in range(under_way):
-            yield ready.get()
+            task, answer = ready.get()
+            yield task, needed(answer)
+
+
+def needed(answer: Task) -> Task:
+    """An answer, unless the database failed: that is an end."""
+    if 'database' in answer:
+        raise StoreError(answer['database'])
+    return answer
 
 
 def said(error: BaseException) -> str:
@@ -189,6 +204,8 @@ def main() -> None:
         try:
             work = work or work_of(setting)
             answer = work(task)
+        except StoreError as error:
+            answer = {'database': said(error)}
         except Exception as error:
             answer = {'error': said(error)}
         parts = answer.get('parts', ())

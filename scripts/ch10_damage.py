@@ -1,7 +1,8 @@
 #!/usr/bin/env python3
 """Damages recordings and sees what the filters still read of them.
 
-    scripts/ch10_damage.py [COUNT [SEED]]    # so many damaged recordings, else 10,000, from seed 1
+    scripts/ch10_damage.py [COUNT [SEED [read]]]    # so many damaged recordings, else 10,000, from seed 1; with `read` by their
+                                                    # packets alone, and not by each command too
 
 A recording of every kind, each packet with a data checksum, or one of another recorder with a copy of a recording within it, has
 bits turned, bytes changed, cut out, put in or laid over by zeros. Packets and stretches that were passed over have to fill the
@@ -134,9 +135,10 @@ def is_summed(part: bytes) -> bool:
 def alone(parts: List[bytes], places: List[int], read: set, within: set) -> set:
     """Of the packets that nothing touched those of which nothing shows that they are of this recording.
 
-    Such a packet stands in a row of fewer than 24 packets that does not lead to the recording's last byte. And of its row none has
-    the sequence number right after, or right before, the next packet that was read of its channel and type; of a row of one packet,
-    not both. What stands within the length of a packet at fault whose header is right is a row by itself, wherever it leads.
+    Such a packet stands in a row of fewer than 8 packets that does not lead to the recording's last byte. And of its row none has
+    the sequence number right after, or right before, the next packet that was read of its channel and type; of a row of one packet
+    without a data checksum, not both. What stands within the length of a packet at fault whose header is right is a row by itself,
+    wherever it leads.
     """
     found, row, rows = set(), [], []
     for place in places + [-1]:
@@ -148,7 +150,8 @@ def alone(parts: List[bytes], places: List[int], read: set, within: set) -> set:
     leads_on = places and places[-1] >= 0
     for row in rows:
         is_last = leads_on and row[-1:] == [len(parts) - 1] and row[0] not in within
-        if len(row) < 24 and not is_last and not any(sum(kin(parts, place, read)) > (len(row) == 1) for place in row):
+        least = 2 if len(row) == 1 and parts[row[0]][14] & 3 == 0 else 1
+        if len(row) < 8 and not is_last and not any(sum(kin(parts, place, read)) >= least for place in row):
             found.update(row)
     return found
 
@@ -178,7 +181,7 @@ def nested(draw: random.Random) -> List[bytes]:
     return make.parts
 
 
-def one_damaged(seed: int, which: int) -> Tuple[Dict[str, int], List[str]]:
+def one_damaged(seed: int, which: int, is_read: bool = False) -> Tuple[Dict[str, int], List[str]]:
     """What came of one damaged recording, and what is wrong of it."""
     draw, wrong, counts = random.Random('%d %d' % (seed, which)), [], collections.Counter()
     is_nested = draw.random() < 0.3
@@ -224,6 +227,8 @@ def one_damaged(seed: int, which: int) -> Tuple[Dict[str, int], List[str]]:
     counts.update(recordings=1, stretches=len(survey.damage), packets=len(found))
     counts.update({'changes that no checksum shows': unseen})
     counts.update({'untouched but alone': len(missed), 'recordings with such': bool(missed)})
+    if is_read:
+        return counts, ['recording %d: %s' % (which, one) for one in wrong]
     for words in (['csv'], ['json'], ['svg'], ['setup'], ['range', '--from', '1005'], ['summary'], ['summary', '--json']):
         for going in ([], ['--keep-going']):
             if words[0] != 'summary' or not going:
@@ -234,11 +239,11 @@ def one_damaged(seed: int, which: int) -> Tuple[Dict[str, int], List[str]]:
     return counts, ['recording %d: %s' % (which, one) for one in wrong]
 
 
-def some_damaged(seed: int, numbers: range) -> Tuple[Dict[str, int], List[str]]:
+def some_damaged(seed: int, is_read: bool, numbers: range) -> Tuple[Dict[str, int], List[str]]:
     counts, wrong = collections.Counter(), []
     for which in numbers:
         try:
-            came, bad = one_damaged(seed, which)
+            came, bad = one_damaged(seed, which, is_read)
         except Exception as fault:  # a traceback is what is looked for
             came, bad = {}, ['recording %d: %s: %s' % (which, type(fault).__name__, fault)]
         counts.update(came)
@@ -247,11 +252,11 @@ def some_damaged(seed: int, numbers: range) -> Tuple[Dict[str, int], List[str]]:
 
 
 def main(words: List[str]) -> int:
-    count, seed = (list(map(int, words)) + [10000, 1][len(words):])[:2]
-    begun, counts, wrong = time.time(), collections.Counter(), []
+    count, seed = (list(map(int, words[:2])) + [10000, 1][len(words):])[:2]
+    begun, counts, wrong, is_read = time.time(), collections.Counter(), [], words[2:] == ['read']
+    parts = [range(at, min(at + 50, count)) for at in range(0, count + 1, 50)]
     with ProcessPoolExecutor(PROCESSES) as pool:
-        for came, bad in pool.map(some_damaged, [seed] * (count // 50 + 1),
-                                  [range(at, min(at + 50, count)) for at in range(0, count + 1, 50)]):
+        for came, bad in pool.map(some_damaged, [seed] * len(parts), [is_read] * len(parts), parts):
             counts.update(came)
             wrong += bad
     for line in wrong[:40]:

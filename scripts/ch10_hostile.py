@@ -54,7 +54,9 @@ def within_another() -> Tuple[object, object]:
     for cut in (1, 2, 24, 100, 200):
         data = b''.join(parts[:3] + [parts[3][:-cut]] + parts[4:])
         found.append([row.split(',')[2] for row in run(['csv', '--keep-going'], data)[1].splitlines()[1:]])
-    make.put(22, 0x68, 9, number(1, 4) + parts[2] + parts[4][:30])
+    make.put(22, 0x68, 9, number(1, 4) + parts[2] + parts[1][:28])  # the cut copy ends where the packet after this one does
+    make.put(5, 0x50, 9, number(1 << 31, 4) + letters(9, b'ABC'), 2, filler=len(parts[1]) - 28 - len(parts[2]))
+    make.put(5, 0x50, 10, number(1 << 31, 4) + letters(10, b'ABC'), 2)
     return (found, run(['csv'], b''.join(make.parts))[0]), ([['0', '1', '2', '3', '4', '5']] * 5, 0)
 
 

@@ -22,7 +22,7 @@ import time
 from typing import Callable, Iterator, List, Optional, Sequence
 
 PARENT_DEATH = 1  # of prctl
-MOST_START = 180  # seconds until a server answers
+MOST_START = 1200  # seconds until a server answers
 
 
 class NotThere(Exception):

@@ -6,6 +6,7 @@ import ctypes
 import io
 import os
 import pathlib
+import re
 import signal
 import subprocess
 import sys
@@ -61,6 +62,11 @@ def answered(words: Sequence[str]) -> Tuple[int, str]:
     return ended, line or ''
 
 
+def settled(text: str) -> str:
+    """What a call writes, without what is of the moment."""
+    return re.sub(r'(added "?|"(?:added|seen)": ")\d{4}-\d\d-\d\d \d\d:\d\d:\d\d', r'\1MOMENT', text)
+
+
 def line_of(words: Sequence[str], status: int) -> str:
     """The line that a call ends with, which has to end so."""
     ended, line = answered(words)
@@ -113,7 +119,7 @@ def state(dsn: str) -> Dict[str, int]:
         store = open_store(dsn, make=False)
     except Wrong:
         return dict(recordings=0, halves=0, entries=0, loaded=0)
-    with contextlib.closing(store):
+    with contextlib.closing(store), store.snapshot():  # what a call that was killed has begun may yet be done, all of it
         def one(text: str) -> int:
             return int(store.rows(text)[0][0])
         agree(one('SELECT count(DISTINCT sha256) FROM recording'), one('SELECT count(*) FROM recording'), 'recordings, each once')

@@ -4,10 +4,13 @@ from __future__ import annotations
 
 import contextlib
 import datetime
+import json
+import mmap
 import os
 import pathlib
 import pwd
 import random
+import re
 import resource
 import signal
 import sqlite3
@@ -19,11 +22,13 @@ import time
 from typing import Any, Callable, Dict, Iterator, List, Sequence, Tuple
 
 import play_cases
-from ch10 import catalogue, load
-from ch10.store import open_store
+from ch10 import catalogue, find, load, store_sqlite
+from ch10 import store as stores
+from ch10.store import is_postgresql, open_store
 from ch10.store_schema import ENTRIES
+from ch10.workers import answer_of
 from postgres_server import children_of
-from range_calls import FEW, Bad, agree, answered, ch10, child, line_of, state
+from range_calls import FEW, Bad, agree, answered, ch10, child, ends_with_parent, line_of, settled, state
 from range_page import check_page
 from range_recordings import packet, recording, text_body, time_body
 
@@ -64,7 +69,7 @@ def folder_of(room: str, name: str, files: Dict[Any, bytes]) -> str:
 
 def each(dsns: Sequence[str], words: Callable[[str], List[str]], status: int = 0) -> str:
     """What a call writes, which has to be the same in each database."""
-    said = [ch10(words(dsn), status) for dsn in dsns]
+    said = [settled(ch10(words(dsn), status)) for dsn in dsns]
     for other in said[1:]:
         agree(other, said[0], 'the answer of another database to ' + ' '.join(words('DSN')))
     return said[0]
@@ -135,9 +140,9 @@ def after_adding(act: Callable[[], None]) -> Iterator[None]:
     """Does something when load has added what is not in the catalogue, and before it reads entries."""
     kept = load.batches
 
-    def batches(found: Any) -> Any:
+    def batches(*words: Any) -> Any:
         act()
-        return kept(found)
+        return kept(*words)
     load.batches = batches
     try:
         yield
@@ -178,6 +183,184 @@ def counts(dsn: str, folder: str) -> List[Tuple[str, int]]:
             'entry_time) e '
                           'ON e.recording = p.recording WHERE p.path LIKE ? GROUP BY p.path ORDER BY p.path', (folder + '/%',))
         return [(os.path.basename(path), number) for path, number in rows]
+
+
+@contextlib.contextmanager
+def in_place_of(module: Any, name: str, other: Any) -> Iterator[Any]:
+    """Another thing under a name of a module; gives the one that stood there."""
+    kept = getattr(module, name)
+    setattr(module, name, other)
+    try:
+        yield kept
+    finally:
+        setattr(module, name, kept)
+
+
+def before(module: Any, name: str, act: Callable[[], Any]) -> Any:
+    """Does something each time before a function of a module is called."""
+    kept = getattr(module, name)
+    return in_place_of(module, name, lambda *words: (act(), kept(*words))[1])
+
+
+def mapped(path: str) -> mmap.mmap:
+    with open(path, 'rb') as file:
+        return mmap.mmap(file.fileno(), 0, access=mmap.ACCESS_READ)
+
+
+def changing(room: str, dsns: Sequence[str], made: str) -> None:
+    """A file that is written to while it is read, after its sum was taken: it is named, and neither a row nor an entry is of
+    both."""
+    path = os.path.join(folder_of(room, 'changing', {'a.ch10': small(150), 'b.ch10': small(151)}), 'a.ch10')
+    whole = pathlib.Path(path).read_bytes()
+
+    def write(*parts: bytes) -> None:
+        with open(path, 'r+b') as file:
+            file.write(b''.join(parts))
+    for dsn in dsns:
+        look = catalogue.work(dict(db=dsn, program=None, judge=None, anew=True, most=0))
+        task = dict(path=path, place=path, begin=0, end=len(whole), number=-1, bytes=len(whole))
+        ways = {'another byte': lambda: write(whole[:-9], b'?'), 'more': lambda: write(whole, b'more'),
+                'less': lambda: os.truncate(path, len(whole) - 60), 'the same': lambda: write(whole)}
+        for way, change in ways.items():
+            for read in (catalogue.opened, mapped) if way != 'less' else (catalogue.opened,):
+                write(whole)
+                os.truncate(path, len(whole))
+                with in_place_of(catalogue, 'opened', read), before(catalogue, 'facts_of', change):
+                    found = answer_of(look, task)
+                wanted = None if way == 'the same' else catalogue.CHANGED
+                agree(found.get('error'), wanted, 'a file that has %s while it is added' % way)
+        write(whole)
+        os.truncate(path, len(whole))
+        ch10(['catalogue', 'add', '--db', dsn, '--unjudged', '--jobs', '1', os.path.dirname(path)])
+        with in_place_of(load, 'opened', mapped), before(load, 'Layout', ways['another byte']):
+            said = ch10(['load', '--db', dsn, '--unjudged', '--jobs', '1', os.path.dirname(path)], 3)
+        agree('unread %s: ' % path in said, True, 'a file that is written to while it is loaded')
+        agree(counts(dsn, os.path.dirname(path)), [('b.ch10', 10)], 'entries beside a file that is written to')
+
+
+def places(room: str, dsns: Sequence[str], made: str) -> None:
+    """Each place is that of one recording: also where two files of a call have one name, where a way leads by a link and back, and
+    where a name has bytes that are no text."""
+    folder = folder_of(room, 'places', {b'raw\xff.ch10': small(160), b'raw\\xff.ch10': small(161), b'raw\\x5cxff.ch10': small(162)})
+    one = folder_of(room, 'places-one', {'same.ch10': small(163)})
+    other = folder_of(room, 'places-other', {'same.ch10': small(164)})
+    deep = folder_of(room, 'places-deep/er', {})
+    os.symlink(deep, os.path.join(folder, 'link'))
+    pathlib.Path(room, 'places-deep', 'up.ch10').write_bytes(small(165))
+    paths = [os.path.join(top, 'same.ch10') for top in (one, other)]
+    for dsn in dsns:
+        words = ['catalogue', 'add', '--db', dsn, '--unjudged', '--jobs', '1']
+        ch10(words + [folder])
+        for name in (b'raw\xff', b'raw\\xff', b'raw\\x5cxff'):
+            path = os.fsdecode(os.path.join(os.fsencode(folder), name + b'.ch10'))
+            said = ch10(['catalogue', 'find', '--db', dsn, '--json', '--place', path])
+            agree([len(json.loads(line)['places']) for line in said.splitlines()], [1], 'the place %r' % name)
+        said = ch10(words + ['--place', 's3://range'] + paths, 3)
+        line = 'unread s3://range/same.ch10: another input of this call has the same place: %s' % paths[0]
+        agree(line in said.splitlines(), True, 'two files at one place')
+        ch10(words + ['--place', 's3://range'] + paths[:1] * 2)
+        ch10(words + [os.path.join(folder, 'link', '..', 'up.ch10')])
+        said = ch10(['catalogue', 'find', '--db', dsn, '--json', '--place', '*up.ch10'])
+        wanted = os.path.join(os.path.realpath(room), 'places-deep', 'up.ch10')
+        agree([place['path'] for place in json.loads(said)['places']], [wanted], 'a place by a link and back')
+
+
+def snapshots(room: str, dsns: Sequence[str], made: str) -> None:
+    """What is shown of a recording is of one moment, also where it is taken out meanwhile."""
+    folder = folder_of(room, 'snapshots', {'a.ch10': small(170)})
+    for dsn in dsns:
+        with contextlib.closing(open_store(dsn)) as other:  # so that SQLite has its log, and nobody waits
+            ch10(['catalogue', 'add', '--db', dsn, '--unjudged', '--jobs', '1', folder])
+            sum_ = json.loads(ch10(['catalogue', 'find', '--db', dsn, '--json', '--place', folder + '/*']))['sha256']
+            wanted = ch10(['catalogue', 'show', '--db', dsn, sum_])
+
+            def take_out(*words: Any) -> Any:
+                other.rows('DELETE FROM recording WHERE sha256 = ?', (sum_,))
+                return kept(*words)
+            with in_place_of(find, 'of_recordings', take_out) as kept:
+                agree(ch10(['catalogue', 'show', '--db', dsn, sum_]), wanted, 'a recording that is taken out while it is shown')
+            ch10(['catalogue', 'show', '--db', dsn, sum_], 1)
+
+
+ELSEWHERE = """
+import sqlite3, sys
+base = sqlite3.connect(sys.argv[1], isolation_level=None)
+for line in sys.stdin:
+    base.execute(line).fetchall()
+    print(flush=True)
+"""
+
+
+class Elsewhere:
+    """Another process that makes statements in a file of SQLite."""
+
+    def __init__(self, path: str) -> None:
+        words = [sys.executable, '-c', ELSEWHERE, path]
+        self.process = subprocess.Popen(words, stdin=subprocess.PIPE, stdout=subprocess.PIPE, preexec_fn=ends_with_parent)
+
+    def does(self, *statements: str) -> None:
+        for one in statements:
+            self.process.stdin.write(one.encode() + b'\n')
+            self.process.stdin.flush()
+            agree(self.process.stdout.readline(), b'\n', 'what another process answers to ' + one)
+
+    def end(self) -> None:
+        self.process.stdin.close()
+        self.process.stdout.close()
+        agree(self.process.wait(), 0, 'how another process ends')
+
+
+def beside(room: str, dsns: Sequence[str], made: str) -> None:
+    """A file of SQLite that another program writes to when a call begins, or reads when it ends: the call waits, and leaves one
+    file."""
+    folder = folder_of(room, 'beside', {'a.ch10': small(190)})
+    place = folder_of(room, 'beside-db', {})
+    path = os.path.join(place, 'range.sqlite')
+    open_store(path).close()
+    other = Elsewhere(path)
+    other.does('BEGIN IMMEDIATE')
+    with in_place_of(store_sqlite, 'pause', lambda _: other.does('ROLLBACK')):
+        one = open_store(path)
+    other.end()
+    other = Elsewhere(path)
+    other.does('BEGIN', 'SELECT count(*) FROM recording')
+    with in_place_of(store_sqlite, 'pause', lambda _: other.end()):
+        one.close()
+    agree(os.listdir(place), ['range.sqlite'], 'files that a database leaves beside who read it')
+    ch10(['catalogue', 'add', '--db', path, '--unjudged', '--jobs', '1', folder])
+    agree(os.listdir(place), ['range.sqlite'], 'files that a database leaves')
+
+
+NONE = dict.fromkeys(('losses', 'lost', 'untold'), 0)
+OLD_ROWS = {'recording': dict(NONE, sha256='0' * 64, kind='recording', size=9, verdict='strict', packets=1, entries=1, jumps=1,
+                              damaged=0, damaged_bytes=0, added='2026-01-01 00:00:00'),
+            'channel': dict(NONE, recording=1, channel=5, data_type=80, type='uart', name='NaV Übung', packets=1, bytes=9,
+                            first_count=1, last_count=1, jumps=1, opaque=0, bad=0)}
+
+
+def older(room: str, dsns: Sequence[str], made: str) -> None:
+    """A database of each older version: a question says what to do, and changes nothing; the next add brings the tables forward
+    with all that is in them."""
+    folder = folder_of(room, 'older', {'a.ch10': small(180, 'NaV Übung')})
+    for step in range(len(stores.MIGRATIONS) - 1, 0, -1):
+        for dsn in dsns:
+            is_server = is_postgresql(dsn)
+            name = 'older%d' % step
+            old = re.sub('dbname=[a-z]+', 'dbname=' + name, dsn) if is_server else os.path.join(room, name + '.sqlite')
+            if is_server:
+                with contextlib.closing(open_raw(dsn)) as base:
+                    base.rows('CREATE DATABASE ' + name)
+            with in_place_of(stores, 'MIGRATIONS', stores.MIGRATIONS[:step]), contextlib.closing(open_store(old)) as base:
+                for table, row in OLD_ROWS.items():
+                    base.insert(table, tuple(row), [tuple(row.values())])
+            line = line_of(['catalogue', 'find', '--db', old], 2)
+            agree('no catalogue of this version' in line, True, 'a question to an older version')
+            ch10(['load', '--db', old, '--unjudged', '--jobs', '1', folder])
+            for words in (['--name', 'nav*'], ['--name', 'NAV Übung', '--type', 'uart'], ['--channel', '5', '--name', '*Übung']):
+                said = ch10(['catalogue', 'find', '--db', old, '--json', '--channels'] + words).splitlines()
+                names = [json.loads(line)['channels'][0]['name'] for line in said]
+                agree(names, ['NaV Übung'] * 2, 'what %r finds in a database of step %d' % (words, step))
+            agree(len(ch10(['catalogue', 'find', '--db', old, '--jumps', '1']).splitlines()), 2, 'jumps of an older version')
 
 
 def newer(room: str, dsns: Sequence[str], made: str) -> None:
@@ -231,7 +414,6 @@ def taken_out(room: str, dsns: Sequence[str], made: str) -> None:
 
 def open_raw(dsn: str) -> Any:
     """A database as it is, of whatever version."""
-    from ch10.store import is_postgresql
     if is_postgresql(dsn):
         from ch10.store_postgres import Postgres
         return Postgres(dsn)
@@ -373,11 +555,12 @@ def interrupts(room: str, dsns: Sequence[str], made: str, number: int = 1, seed:
             while made_.poll() is None and not children_of(made_.pid):  # until it has read its modules and begun
                 time.sleep(0.01)
             time.sleep(draw.random())
-            os.killpg(made_.pid, signal.SIGINT)
+            with contextlib.suppress(ProcessLookupError):  # it has ended by itself
+                os.killpg(made_.pid, signal.SIGINT)
             said = made_.communicate()[1]
             ended.append(made_.returncode)
             agree((said, made_.returncode in (0, 130, -signal.SIGINT)), (b'', True), 'a call that is interrupted')
-            end = time.monotonic() + 20
+            end = time.monotonic() + 600
             while time.monotonic() < end and alive_in(made_.pid):
                 time.sleep(0.05)
             agree(alive_in(made_.pid), [], 'processes that an interrupted call leaves')
@@ -499,7 +682,8 @@ def mutants(room: str, dsns: Sequence[str], made: str, number: int = 16, seed: i
     agree(status in (0, 1), True, 'the status of a report on mutants')
 
 
-TRIALS = (names, numbers, inputs, vanishing, taken_out, newer, rights, full, wrong, interrupts, against, mutants)
+TRIALS = (names, numbers, inputs, vanishing, changing, places, snapshots, beside, taken_out, newer, older, rights, full, wrong,
+          interrupts, against, mutants)
 
 
 def many(room: str, dsns: Sequence[str], made: str, number: int = 10000) -> None:

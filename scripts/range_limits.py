@@ -3,9 +3,9 @@
     with bounded('two calls at a time', dsn):
         ..
 
-A trial may use so many seconds of processors, in this process and all below it, a server's too; and so many seconds may pass. The
-first bound finds a loop. The second finds a wait for something that never comes, and is wide: on a machine with much else to do, a
-trial that needs few seconds of a processor takes long.
+A trial may use so many seconds of processors, in this process and all below it, a server's too. That finds a loop. And it may
+use next to nothing of them for so many seconds. That finds a wait for something that never comes. How long a trial takes is no
+bound: on a slow machine, or one with much else to do, it takes long.
 """
 from __future__ import annotations
 
@@ -19,7 +19,8 @@ import threading
 import time
 from typing import Any, Callable, Dict, Iterator, List, NamedTuple, Optional
 
-WORK, PASSED = 60.0, 600.0  # seconds of processors, and seconds, that a trial may take
+WORK, PASSED = 120.0, 600.0  # seconds of processors that a trial may take, and seconds in which it has to take
+LEAST = 0.005  # of a processor
 TICK = os.sysconf('SC_CLK_TCK')
 
 
@@ -115,13 +116,17 @@ def bounded(what: str, dsn: Optional[str] = None, work: float = WORK, passed: fl
     start, before, over, found = time.monotonic(), work_so_far(), threading.Event(), []
 
     def watch() -> None:
+        since, then = start, 0.0
         while not over.wait(0.5):
-            used, gone = work_so_far() - before, time.monotonic() - start
-            if used > work or gone > passed:
-                found.append(report(what, used, gone, dsn))
+            used, now = work_so_far() - before - time.thread_time(), time.monotonic()
+            is_quiet = now - since > passed and used - then < LEAST * (now - since)
+            if used > work or is_quiet:
+                found.append(report(what, used, now - start, dsn))
                 end_all()
                 signal.pthread_kill(threading.main_thread().ident, signal.SIGALRM)
                 return
+            if now - since > passed:
+                since, then = now, used
 
     def ring(*_: Any) -> None:
         if not over.is_set():

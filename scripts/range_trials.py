@@ -51,7 +51,7 @@ from ch10.store import StoreError, open_store  # noqa: E402
 from ch10.store_schema import ENTRIES  # noqa: E402
 from ch10.survey import Row, Survey  # noqa: E402
 from postgres_server import NotThere, running_server, server  # noqa: E402
-from range_calls import FEW, Bad, Stream, agree, ch10, child, program, state  # noqa: E402
+from range_calls import FEW, Bad, Stream, agree, ch10, child, program, settled, state  # noqa: E402
 from range_limits import Hung, bounded, ends_on_term  # noqa: E402
 from range_page import check_report  # noqa: E402
 from range_recordings import packet, recording, text_body, time_body  # noqa: E402
@@ -106,10 +106,6 @@ def answers(dsn: str) -> List[str]:
         made += [settled(ch10(['catalogue', 'show', '--db', dsn, sum_])),
                  settled(ch10(['catalogue', 'show', '--db', dsn, '--json', sum_[:20]]))]
     return made
-
-
-def settled(text: str) -> str:
-    return re.sub(r'(added "?|"(?:added|seen)": ")\d{4}-\d\d-\d\d \d\d:\d\d:\d\d', r'\1MOMENT', text)
 
 
 def check_facts(folder: str, dsn: str, made: str) -> None:
@@ -395,7 +391,7 @@ def empty(dsn: str, name: str) -> None:
 # ---- all of it, small
 
 # A statement that takes longer, or waits longer for others, is ended by the server, and the trial with it.
-BOUNDS = ['statement_timeout=120s', 'lock_timeout=120s', 'idle_in_transaction_session_timeout=300s']
+BOUNDS = ['statement_timeout=1200s', 'lock_timeout=1200s', 'idle_in_transaction_session_timeout=1200s']
 
 
 @contextlib.contextmanager
@@ -432,6 +428,8 @@ def check(say: Callable[[str], Any]) -> int:
                 check_again(folder, dsn, made, count)
                 total = check_entries(folder, dsn, made, ['r001.ch10', 'r007.ch10'])
                 found[dsn] = answers(dsn)
+        with trial('answers by the other way'), range_hostile.in_place_of(find, 'MANY', 1):
+            agree(answers(lite), found[lite], 'what SQLite answers where many channels fit')
         with trial('facts'):
             check_facts(folder, lite, made)
         if postgres:
@@ -529,7 +527,7 @@ def kills(number: int, seed: int) -> int:
         for place in range(MANY):
             pathlib.Path(folder, 'r%03d.ch10' % place).write_bytes(recording(seed, place, 20000, FEW))
         each = {dsn: kill_each(few, dsn, 1, 3) for dsn in (lite, postgres) if dsn}
-        catalogue.MOST_TOGETHER, load.TOGETHER = 16, 1 << 19
+        catalogue.MOST_TOGETHER, load.TOGETHER, load.SHARE = 16, 1 << 19, 1 << 17
         for dsn in each:
             name = 'SQLite' if dsn == lite else 'PostgreSQL'
             empty(dsn, 'add')
@@ -631,7 +629,7 @@ def print_finds(name: str, dsn: str) -> None:
         passed, work = [], worked(server_id)
         for _ in range(5):
             start = time.perf_counter()
-            answer = find.found(store, question, None)
+            answer = find.found(store, question, None, False)
             passed.append(time.perf_counter() - start)
         taken.append((min(passed) * 1000, (worked(server_id) - work) * 200, ' '.join(one + other), len(answer)))
     store.close()
