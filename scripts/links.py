@@ -11,6 +11,7 @@ are passed over, as are those in PASSED. Status 1 where one leads nowhere.
 In a crate's README, and in the documents of NAMING, a word in backquotes has to be something of the sources: a function, a clause,
 a type, a definition, a field, a file, a crate, or a word of WORDS. Where a README says what is proved, it has to be of its own
 crate, or named there. `r10_..` has to be a crate, or of this crate. "`FUNCTION`, clause `NAME`" has to be one of that function.
+In a table whose last columns are functions and files, a file of the row has to have each of its functions.
 """
 from __future__ import annotations
 
@@ -120,18 +121,34 @@ class Sources:
         return None
 
 
+def faults_of_row(functions: str, files: str) -> list[str]:
+    """Which functions of a row are in none of its files; a file without a folder is in the one before it."""
+    there, folder = set(), ''
+    for name in re.findall(r'`([^`]+\.rt)`', files):
+        folder = name.rpartition('/')[0] or folder
+        path = TOP / 'crates' / folder / name.rpartition('/')[2]
+        text = path.read_text(encoding='utf-8') if path.is_file() else ''
+        there.update(re.findall(r'\b(?:fn|struct|ensures|requires) (\w+)', text))
+    names = [name.rsplit('::', 1)[-1] for name in re.findall(r'`([\w:]+)`', functions)]
+    return [f'no file of its row has {name}' for name in names if name not in there]
+
+
 def faults_of_names(path: pathlib.Path, sources: Sources) -> list[str]:
     """Which functions, clauses and definitions are not there that a document names."""
     crate = path.parent.name if path.parent.parent.name == 'crates' else None
     if not crate and str(path.relative_to(TOP)) not in NAMING:
         return []
-    found, section = [], ''
+    found, section, is_headed = [], '', False
     for number, line in enumerate(path.read_text(encoding='utf-8').split('\n'), 1):
         section = line if line.startswith('## ') else section
         faults = []
         for code in re.findall(r'`((?:\w+::)*\w+)`', line):
             if crate or re.search(r'_|::|^[A-Z][a-z]', code):
                 faults += [sources.fault_of(name, crate, section.startswith('## Proved')) for name in code.split('::')]
+        cells = line.split(' | ')
+        is_headed = is_headed and line.startswith('|') or line.endswith('| Function | File below `crates/` |')
+        if is_headed and len(cells) > 3:
+            faults += faults_of_row(cells[-2], cells[-1])
         for function, *clauses in CLAUSES.findall(line):
             there = sources.clauses[function.rsplit('::', 1)[-1]]
             faults += [f'{function} has no clause {clause}' for clause in clauses if clause and clause not in there]

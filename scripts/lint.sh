@@ -11,8 +11,8 @@
 set -u
 cd "$(dirname "${BASH_SOURCE[0]}")/.." || exit 1
 
-readonly shells=(r10 .ci/run scripts/*.sh scripts/tests/*.sh) pythons=(scripts/*.py ch10/*.py recorder/tests/*.py) \
-    sources=(ffi/*.[ch] scripts/*.c bench/*.c recorder/tests/*.c)
+readonly shells=(r10 .ci/run scripts/*.sh scripts/tests/*.sh recorder/tests/*.sh)
+readonly pythons=(scripts/*.py ch10/*.py recorder/tests/*.py) sources=(ffi/*.[ch] scripts/*.c bench/*.c recorder/tests/*.c)
 bad=0
 
 for script in "${shells[@]}"; do

@@ -4,14 +4,15 @@
     scripts/proofs.py            writes docs/PROOFS.md and those lines, of the crates that have a README.md
     scripts/proofs.py --check    fails if one is not what would be written, if a crate has no README.md, or if one has over 40 lines
 
-A crate's promise is the first paragraph of its README.md after the title. The line after it names the crates right below and right
-above: those of crates.txt, without what follows from others.
+A crate's promise is the first paragraph of its README.md after the title: one sentence or two. The line after it names the crates
+right below and right above: those of crates.txt, without what follows from others.
 """
 import re
 import sys
 from pathlib import Path
 
 import pictures
+import plain
 
 TOP = Path(__file__).resolve().parent.parent
 PAGE = TOP / "docs" / "PROOFS.md"
@@ -47,7 +48,10 @@ def readme_of(name):
 
 def promise_of(name):
     """The first paragraph of the crate's README.md after its title, in one line."""
-    return " ".join(readme_of(name)[1].split()).replace("|", "\\|")
+    promise = " ".join(readme_of(name)[1].split())
+    if len(plain.ENDS.split(plain.readable(promise))) > 2:
+        raise Fault(f"crates/{name}/README.md has a promise of more than two sentences")
+    return promise.replace("|", "\\|")
 
 
 def with_neighbours(name, edges):

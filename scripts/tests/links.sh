@@ -31,6 +31,11 @@ check "what only begins like a file's name" is "$(of '`recorder.committed` `FLIG
 check "names of the sources" is "$(of 'By `go`, clause `comes`: `Kind::Small`, `Run`, `R10`, `lower`, `r10_two`, and `r10_one`.')" 0
 check "a name of nothing" is "$(of '`Kind::Large` `Walk`')" 2
 check "a clause that the function has not" is "$(of '`go`, clause `Run`')" 1
+row() { of "| Promise | Function | File below \`crates/\` |
+|---|---|---|
+| one | two | $1 |" | tail -n 1; "$room/scripts/links.py" | grep -c '^README.md:3: '; }
+check "a function in a file of its row" is "$(row '`go`, clause `comes` | `r10_one/src/other.rt`, `lib.rt`' | tail -n 1)" 0
+check "a function in another file" is "$(row '`go`, clause `comes` | `r10_one/src/other.rt`' | tail -n 1)" 2
 echo >"$room/README.md"
 in_crate() {
     printf '# r10_one\n\n## %s\n\n%s\n' "${2:-Proved}" "$1" >"$room/crates/r10_one/README.md"

@@ -4,7 +4,7 @@ set -u
 # shellcheck disable=SC2016,SC2317 source=scripts/tests/kit.sh
 . "$(dirname "$(readlink -f "${BASH_SOURCE[0]}")")/kit.sh"
 mkdir -p "$room/scripts" "$room/docs"
-cp "$top/scripts/proofs.py" "$top/scripts/pictures.py" "$room/scripts"
+cp "$top/scripts/proofs.py" "$top/scripts/pictures.py" "$top/scripts/plain.py" "$room/scripts"
 printf '# Lowest first.\nr10_low: thiserror\nr10_mid: r10_low\nr10_top: r10_low r10_mid\n' >"$room/crates.txt"
 for crate in low mid top; do
     mkdir -p "$room/crates/r10_$crate/src" "$room/crates/r10_$crate/must-fail"
@@ -33,6 +33,9 @@ check "written twice it is the same" says 0 ""
 sed -i 's/^mid\./more./' "$room/crates/r10_mid/README.md"
 check "a promise that the page has not" says 1 "proofs: docs/PROOFS.md is not what scripts/proofs.py writes: run it"
 sed -i 's/^more\./mid./' "$room/crates/r10_mid/README.md"
+sed -i 's/^mid\./mid. Twice. Thrice./' "$room/crates/r10_mid/README.md"
+check "a promise of three sentences" says 1 "proofs: crates/r10_mid/README.md has a promise of more than two sentences"
+sed -i 's/^mid\..*/mid./' "$room/crates/r10_mid/README.md"
 sed -i 's/r10_top: r10_low r10_mid/r10_top: r10_low/' "$room/crates.txt"
 check "a crate that stands elsewhere" says 1 \
     "proofs: crates/r10_low/README.md does not name its neighbours as scripts/proofs.py does: run it"
