@@ -21,8 +21,8 @@
  *
  * What the program owes, and what nothing checks
  *  - A recorder is given to one call at a time. It may go from one thread to another between calls. Two recorders may run in two threads.
- *  - A pointer with a count leads to that many; an out pointer leads to one. Where the count is 0 it may lead anywhere. A bool is 0 or
- *    1. Memory that is lent is lent for the call alone, but for the region.
+ *  - A pointer with a count leads to that many; an out pointer leads to one. Where the count is 0 it may lead anywhere. A bool is 0
+ *    or 1. Memory that is lent is lent for the call alone, but for the region.
  *  - Null pointers are found by this header, and not by the library. A null recorder is answered R10_CLOSED, any other null pointer
  *    R10_ROOM, with nothing changed. Where R10_UNCHECKED is defined, or the calls are declared elsewhere, no pointer may be null.
  *  - An `r10` is all zeros before r10_open or r10_format, and is not copied while it is open. One that is not open is answered R10_CLOSED.
@@ -34,8 +34,9 @@
  * Memory
  *  - Each block that is written becomes a page of the program's own under MAP_PRIVATE. Once no operation waits, the file holds what the region holds.
  *    So the pages may be given back (madvise with MADV_DONTNEED): a later read takes the same bytes from the file. r10_disk_give_back does it.
- *  - The queue of operations takes 528 bytes a place. `room` places are there from the start; where more wait it grows. A stop or a seal puts the whole index into it:
- *    20.4 bytes a packet. A recorder keeps 32 bytes for each packet of the file that is recorded.
+ *  - The queue of operations takes 528 bytes a place. `room` places are there from the start, and when each call begins. Where more
+ *    wait it grows. A stop or a seal puts the whole index into it: 20.4 bytes a packet. A recorder keeps 32 bytes for each packet of
+ *    the file that is recorded.
  *  - r10_advance queues all that was shown since the last call. A long file is read in parts by r10_part.
  *
  * Time
@@ -94,8 +95,9 @@ enum {
     R10_DIRECTORY_FULL = 23,
     R10_MEDIUM_FULL = 25,
     R10_BAD_DIRECTORY = 26,
-    R10_BAD_FILE = 27,  /* the file is not one that this recorder wrote, or does not fit its directory entry */
-    R10_MEDIUM = 28,    /* the medium failed in this call: the program said so (r10_disk_failed), or memory for one operation more was refused */
+    R10_BAD_FILE = 27, /* the file is not one that this recorder wrote, or does not fit its directory entry */
+    /* the medium failed in this call: the program said so (r10_disk_failed), or memory for one operation more was refused */
+    R10_MEDIUM = 28,
     R10_NO_MEMORY = 30, /* memory was refused */
     R10_SCRIPT = 40,    /* the script can't be taken */
     R10_BLOCKS = 41,    /* the region has another number of blocks than the script says */
@@ -230,9 +232,13 @@ typedef struct r10_script_info {
 
 /* ---- a medium and a recorder over it
  *
- * `script` is the text of a script in TOML (docs/FORMAT.md): its settings and channels are taken, its steps are not done. `room` is how many operations
- * may wait before the library asks for more memory: it asks for 528 bytes for each at the start. A call comes to about one for each 512 bytes that it adds to a file, and to
- * some twenty more; r10_stop takes in all that waits. Only where memory for more is refused amid a call it answers R10_MEDIUM. */
+ * `script` is the text of a script in TOML (docs/FORMAT.md): its settings and channels are taken, its steps are not done.
+ *
+ * `room` is how many operations have a place when a call begins, 528 bytes for each: the library asks for them at the start, and for as
+ * many again where operations of earlier calls wait. Where that memory is refused, the call answers R10_NO_MEMORY, and nothing is
+ * changed. A call comes to about one operation for each 512 bytes that it adds to a file, and to some twenty more; r10_stop takes in
+ * all that waits. One that comes to more than `room` asks for memory amid its work. Only where that is refused it answers
+ * R10_MEDIUM. */
 
 /* The version of the library, as R10_VERSION. */
 uint32_t r10_version(void);

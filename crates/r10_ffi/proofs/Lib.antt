@@ -2,3 +2,4 @@ pub mod Words
 mod Handles
 mod Between
 mod There
+mod Rooms

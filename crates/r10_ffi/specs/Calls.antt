@@ -1,5 +1,5 @@
 -- What a call makes of what a handle holds.
-use Rattle.std.specs.Prelude.{◌≡◌, ℕ, List, [], map, Option, None, Some, true, false}
+use Rattle.std.specs.Prelude.{◌≡◌, ℕ, List, [], map, Option, None, Some, Bool, true, false}
 use Rattle.r10_medium.specs.Disk.{Image}
 use Rattle.r10_machine.specs.declared.event.Event.TheVariants.{Status}
 use Rattle.r10_desk.specs.Accounts.{account_given, counted, not_yet}
@@ -8,7 +8,7 @@ use Rattle.r10_desk.specs.Told.{DoesEvent}
 use Rattle.r10_desk.specs.declared.accounts.AccountOut.{AccountOut}
 use Rattle.r10_desk.specs.declared.desk.Desk.{Desk as DeskValue}
 use Rattle.r10_desk.specs.Opening.{FormatsByScript, FormatsOver, OpensRecorder}
-use Rattle.r10_region.specs.Orders.{IsOtherEnd}
+use Rattle.r10_region.specs.Orders.{IsOtherEnd, MakesRoom}
 use Rattle.r10_region.specs.Queue.{queue_room, places_known}
 use Rattle.r10_region.specs.RegionDisk.{region_disk, lent_to, asked}
 use Rattle.r10_region.specs.declared.region.Region.{Region}
@@ -41,6 +41,17 @@ Accounts answer place before_out out before behind = Goes before behind
     (λ old new. DoesEvent region_disk old.desk Status (λ reply. (answer ≡ lane_place reply place) × (out ≡ account_given reply place old.accepted.items new.desk.world.recorder.kept before_out)) new.desk
     × (new.orders ≡ old.orders))
 
+-- A call that may write. There was room for its operations, or memory for them was refused before it did anything: then the answer is 30, and nothing was done.
+pub record WritesHeld (answer : ℕ) (old new : Held) (is : DeskValue Region → DeskValue Region → Type 0) : Type 0 where
+  pub has : Bool
+  pub room : MakesRoom has old.orders new.orders
+  pub does : is old.desk new.desk
+  pub accepted : new.accepted ≡ old.accepted
+  pub refused : has ≡ false → (answer ≡ 30) × (new.desk ≡ old.desk)
+
+abbrev pub DoesWriting : Recorder → Recorder → ℕ → (DeskValue Region → DeskValue Region → Type 0) → Type 0
+DoesWriting before behind answer is = Goes before behind (λ old new. WritesHeld answer old new is)
+
 -- A recorder by the script over memory that held this, of whose disk nothing was asked yet, and of whose channels no message was accepted; and beside it the other end of its disk's queue,
 -- out of which nothing was handed yet. So many operations may wait in it, and it is known that there is a place for each.
 pub record OpensOver (text : List ℕ) (image : Image) (room : ℕ) (h : Held) : Type 0 where
@@ -50,6 +61,7 @@ pub record OpensOver (text : List ℕ) (image : Image) (room : ℕ) (h : Held) :
   pub queue : IsOtherEnd medium h.orders
   pub room_is : queue_room medium ≡ room
   pub places : places_known medium ≡ room
+  pub each_call : h.orders.room ≡ room
   pub opens : OpensRecorder region_disk text medium h.desk.world
   pub accepted : h.accepted.items ≡ map not_yet h.desk.world.recorder.kept.config.channels
 

@@ -15,7 +15,7 @@ ghost use Rattle.r10_desk.specs.Reading.{count_in, found_in, is_count_in, lent, 
 ghost use Rattle.r10_desk.specs.Told.{DoesEvent, number_of};
 ghost use Rattle.r10_region.specs.Orders.{CountsQueue, HandsOrderOut, HandsRunOut, HasTold};
 ghost use Rattle.r10_region.specs.RegionDisk.{region_disk};
-ghost use Rattle.r10_ffi.specs.Calls.{Accounts, Does, Goes, IsClosed, IsFormattedRegion, IsOpen, IsOpened, Offers};
+ghost use Rattle.r10_ffi.specs.Calls.{Accounts, Does, DoesWriting, Goes, IsClosed, IsFormattedRegion, IsOpen, IsOpened, Offers};
 ghost use Rattle.r10_ffi.specs.Civil.{parts_of};
 
 use crate::civil::{Civil, parts_of};
@@ -240,14 +240,14 @@ pub extern "C" fn r10_close(alloc: Global, recorder: &mut Recorder)
 /// Begins to use the medium. 0, or 1, 3, 26, 28, 30.
 #[unsafe(no_mangle)]
 pub extern "C" fn r10_mount(alloc: Global, recorder: &mut Recorder) -> u32
-    ensures does { IsOpen recorder.old → Does recorder.old recorder.new (λ old new. DoesEvent region_disk old events.Mount (λ reply. result ≡ number_of reply) new) }
+    ensures does { IsOpen recorder.old → DoesWriting recorder.old recorder.new result (λ old new. DoesEvent region_disk old events.Mount (λ reply. result ≡ number_of reply) new) }
     ensures closed { IsClosed recorder.old → (result ≡ 44) × (recorder.new ≡ recorder.old) }
 {
     if !recorder.is_open() {
         return CLOSED;
     }
     let mut held = recorder.take(alloc);
-    let answer = held.desk.mount();
+    let answer = held.mount(alloc);
     recorder.put(held);
     answer
 }
@@ -255,14 +255,14 @@ pub extern "C" fn r10_mount(alloc: Global, recorder: &mut Recorder) -> u32
 /// Ends the use of the medium. 0, or 1, 2, 4, 28, 30.
 #[unsafe(no_mangle)]
 pub extern "C" fn r10_dismount(alloc: Global, recorder: &mut Recorder) -> u32
-    ensures does { IsOpen recorder.old → Does recorder.old recorder.new (λ old new. DoesEvent region_disk old events.Dismount (λ reply. result ≡ number_of reply) new) }
+    ensures does { IsOpen recorder.old → DoesWriting recorder.old recorder.new result (λ old new. DoesEvent region_disk old events.Dismount (λ reply. result ≡ number_of reply) new) }
     ensures closed { IsClosed recorder.old → (result ≡ 44) × (recorder.new ≡ recorder.old) }
 {
     if !recorder.is_open() {
         return CLOSED;
     }
     let mut held = recorder.take(alloc);
-    let answer = held.desk.dismount();
+    let answer = held.dismount(alloc);
     recorder.put(held);
     answer
 }
@@ -270,14 +270,14 @@ pub extern "C" fn r10_dismount(alloc: Global, recorder: &mut Recorder) -> u32
 /// The clock: a count and the civil time at it. 0, or 1, 2, 10, 11, 13, 25, 28, 30.
 #[unsafe(no_mangle)]
 pub extern "C" fn r10_tick(alloc: Global, recorder: &mut Recorder, count: u64, civil: &Civil) -> u32
-    ensures does { IsOpen recorder.old → Does recorder.old recorder.new (λ old new. DoesEvent region_disk old (events.Tick count (parts_of civil.now)) (λ reply. result ≡ number_of reply) new) }
+    ensures does { IsOpen recorder.old → DoesWriting recorder.old recorder.new result (λ old new. DoesEvent region_disk old (events.Tick count (parts_of civil.now)) (λ reply. result ≡ number_of reply) new) }
     ensures closed { IsClosed recorder.old → (result ≡ 44) × (recorder.new ≡ recorder.old) }
 {
     if !recorder.is_open() {
         return CLOSED;
     }
     let mut held = recorder.take(alloc);
-    let answer = held.desk.tick(count, parts_of(civil));
+    let answer = held.tick(alloc, count, parts_of(civil));
     recorder.put(held);
     answer
 }
@@ -290,14 +290,14 @@ pub extern "C" fn r10_start(
     name: &[u8],
     setup: &[u8],
 ) -> u32
-    ensures does { IsOpen recorder.old → Does recorder.old recorder.new (λ old new. DoesEvent region_disk old (events.Start name.now setup.now) (λ reply. result ≡ number_of reply) new) }
+    ensures does { IsOpen recorder.old → DoesWriting recorder.old recorder.new result (λ old new. DoesEvent region_disk old (events.Start name.now setup.now) (λ reply. result ≡ number_of reply) new) }
     ensures closed { IsClosed recorder.old → (result ≡ 44) × (recorder.new ≡ recorder.old) }
 {
     if !recorder.is_open() {
         return CLOSED;
     }
     let mut held = recorder.take(alloc);
-    let answer = held.desk.start(name, setup);
+    let answer = held.start(alloc, name, setup);
     recorder.put(held);
     answer
 }
@@ -456,14 +456,14 @@ pub extern "C" fn r10_pump(
     most: usize,
     moved: &mut usize,
 ) -> u32
-    ensures does { IsOpen recorder.old → Does recorder.old recorder.new (λ old new. DoesEvent region_disk old (events.Pump channel most) (λ reply. (result ≡ number_of reply) × (moved.new ≡ moved_in reply moved.old)) new) }
+    ensures does { IsOpen recorder.old → DoesWriting recorder.old recorder.new result (λ old new. DoesEvent region_disk old (events.Pump channel most) (λ reply. (result ≡ number_of reply) × (moved.new ≡ moved_in reply moved.old)) new) }
     ensures closed { IsClosed recorder.old → (result ≡ 44) × (recorder.new ≡ recorder.old) × (moved.new ≡ moved.old) }
 {
     if !recorder.is_open() {
         return CLOSED;
     }
     let mut held = recorder.take(alloc);
-    let answer = held.desk.pump(channel, most, moved);
+    let answer = held.pump(alloc, channel, most, moved);
     recorder.put(held);
     answer
 }
@@ -471,14 +471,14 @@ pub extern "C" fn r10_pump(
 /// A recording event. 0, or 1, 2, 5, 10, 11, 17, 25, 28, 30.
 #[unsafe(no_mangle)]
 pub extern "C" fn r10_event(alloc: Global, recorder: &mut Recorder, number: u16, count: u64) -> u32
-    ensures does { IsOpen recorder.old → Does recorder.old recorder.new (λ old new. DoesEvent region_disk old (events.Event number count) (λ reply. result ≡ number_of reply) new) }
+    ensures does { IsOpen recorder.old → DoesWriting recorder.old recorder.new result (λ old new. DoesEvent region_disk old (events.Event number count) (λ reply. result ≡ number_of reply) new) }
     ensures closed { IsClosed recorder.old → (result ≡ 44) × (recorder.new ≡ recorder.old) }
 {
     if !recorder.is_open() {
         return CLOSED;
     }
     let mut held = recorder.take(alloc);
-    let answer = held.desk.event(number, count);
+    let answer = held.event(alloc, number, count);
     recorder.put(held);
     answer
 }
@@ -486,14 +486,14 @@ pub extern "C" fn r10_event(alloc: Global, recorder: &mut Recorder, number: u16,
 /// Shows on the medium all that the file has. 0, or 1, 2, 5, 28, 30.
 #[unsafe(no_mangle)]
 pub extern "C" fn r10_commit(alloc: Global, recorder: &mut Recorder) -> u32
-    ensures does { IsOpen recorder.old → Does recorder.old recorder.new (λ old new. DoesEvent region_disk old events.Commit (λ reply. result ≡ number_of reply) new) }
+    ensures does { IsOpen recorder.old → DoesWriting recorder.old recorder.new result (λ old new. DoesEvent region_disk old events.Commit (λ reply. result ≡ number_of reply) new) }
     ensures closed { IsClosed recorder.old → (result ≡ 44) × (recorder.new ≡ recorder.old) }
 {
     if !recorder.is_open() {
         return CLOSED;
     }
     let mut held = recorder.take(alloc);
-    let answer = held.desk.commit();
+    let answer = held.commit(alloc);
     recorder.put(held);
     answer
 }
@@ -506,14 +506,14 @@ pub extern "C" fn r10_stop(
     taken: &mut usize,
     left: &mut usize,
 ) -> u32
-    ensures does { IsOpen recorder.old → Does recorder.old recorder.new (λ old new. DoesEvent region_disk old events.Stop (λ reply. (result ≡ number_of reply) × (taken.new ≡ taken_out reply taken.old) × (left.new ≡ left_out reply left.old)) new) }
+    ensures does { IsOpen recorder.old → DoesWriting recorder.old recorder.new result (λ old new. DoesEvent region_disk old events.Stop (λ reply. (result ≡ number_of reply) × (taken.new ≡ taken_out reply taken.old) × (left.new ≡ left_out reply left.old)) new) }
     ensures closed { IsClosed recorder.old → (result ≡ 44) × (recorder.new ≡ recorder.old) × (taken.new ≡ taken.old) × (left.new ≡ left.old) }
 {
     if !recorder.is_open() {
         return CLOSED;
     }
     let mut held = recorder.take(alloc);
-    let answer = held.desk.stop(taken, left);
+    let answer = held.stop(alloc, taken, left);
     recorder.put(held);
     answer
 }
@@ -521,14 +521,14 @@ pub extern "C" fn r10_stop(
 /// Closes the last file, which was left open. 0, or 1, 2, 4, 19, 25, 27, 28, 30.
 #[unsafe(no_mangle)]
 pub extern "C" fn r10_seal(alloc: Global, recorder: &mut Recorder) -> u32
-    ensures does { IsOpen recorder.old → Does recorder.old recorder.new (λ old new. DoesEvent region_disk old events.Seal (λ reply. result ≡ number_of reply) new) }
+    ensures does { IsOpen recorder.old → DoesWriting recorder.old recorder.new result (λ old new. DoesEvent region_disk old events.Seal (λ reply. result ≡ number_of reply) new) }
     ensures closed { IsClosed recorder.old → (result ≡ 44) × (recorder.new ≡ recorder.old) }
 {
     if !recorder.is_open() {
         return CLOSED;
     }
     let mut held = recorder.take(alloc);
-    let answer = held.desk.seal();
+    let answer = held.seal(alloc);
     recorder.put(held);
     answer
 }
@@ -536,14 +536,14 @@ pub extern "C" fn r10_seal(alloc: Global, recorder: &mut Recorder) -> u32
 /// Takes all files from the medium. 0, or 1, 2, 4, 20, 28, 30.
 #[unsafe(no_mangle)]
 pub extern "C" fn r10_erase(alloc: Global, recorder: &mut Recorder) -> u32
-    ensures does { IsOpen recorder.old → Does recorder.old recorder.new (λ old new. DoesEvent region_disk old events.Erase (λ reply. result ≡ number_of reply) new) }
+    ensures does { IsOpen recorder.old → DoesWriting recorder.old recorder.new result (λ old new. DoesEvent region_disk old events.Erase (λ reply. result ≡ number_of reply) new) }
     ensures closed { IsClosed recorder.old → (result ≡ 44) × (recorder.new ≡ recorder.old) }
 {
     if !recorder.is_open() {
         return CLOSED;
     }
     let mut held = recorder.take(alloc);
-    let answer = held.desk.erase();
+    let answer = held.erase(alloc);
     recorder.put(held);
     answer
 }

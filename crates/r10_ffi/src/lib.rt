@@ -7,6 +7,7 @@ mod handle;
 mod held;
 mod loose;
 mod recorder;
+mod writing;
 
 pub use calls::{
     r10_account, r10_advance, r10_channel, r10_check_script, r10_close, r10_close_cursor,

@@ -3,7 +3,7 @@ use Rattle.std.proofs.Common.{◌≡◌, ◌⊎◌, ℕ, ◌+◌, ◌≤◌, Boo
 use Rattle.std.proofs.lemmas.List.{append-nil, append_assoc}
 use Rattle.std.proofs.lemmas.Bool.{cases_lt}
 use Rattle.rtrb.specs.Ends.{SameRing}
-use Rattle.rtrb.specs.Ring.{sent, received, known_free, IsPair, SameProducer}
+use Rattle.rtrb.specs.Ring.{sent, received, known_free, IsPair, SameProducer, SameConsumer}
 use Rattle.rtrb.specs.declared.end.End.{End}
 use Rattle.rtrb.specs.declared.producer.Producer.{Producer}
 use Rattle.r10_region.specs.Line.{told_before, told_by, sent_links, KeepsLine, KeepsRing, BeginsRing}
@@ -35,9 +35,9 @@ module _ {T A P : Type 0} where
   producer_on a b c p q = (ring_on a.end b.end c.end p.0 q.0, q.1 ∙ p.1)
 
 -- the ring in use was looked at, and has no place
-pub keeps_behind : (told : Bool) (old mid new : LineValue) → mid.links ≡ old.links → SameProducer old.ring mid.ring → sent mid.ring ≡ sent old.ring → known_free old.ring ≡ 0
+pub keeps_behind : (told : Bool) (old mid new : LineValue) → mid.links ≡ old.links → mid.spares ≡ old.spares → SameProducer old.ring mid.ring → sent mid.ring ≡ sent old.ring → known_free old.ring ≡ 0
     → KeepsLine told mid new → KeepsLine told old new
-keeps_behind told old mid new links ring same none k = record {
+keeps_behind told old mid new links spares ring same none k = record {
   links = subst (λ (p : _). SameProducer p new.links) links k.links;
   ring = elim k.ring [
     | inl keeps ↦ inl (record { out = keeps.out ∙ ap sent links; ring = producer_on old.ring mid.ring new.ring ring keeps.ring })
@@ -51,6 +51,8 @@ keeps_behind told old mid new links ring same none k = record {
   ];
   places = omega (arith, none);
   full = λ e. (none, (k.full e).1);
+  spares = subst (λ (c : _). SameConsumer c new.spares) spares k.spares;
+  no_spare = k.no_spare;
 }
 
 pub not_true : true ≡ false → ⊥

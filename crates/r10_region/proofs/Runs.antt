@@ -15,7 +15,7 @@ pub consumer_on : {T A P : Type 0} (a b c : Consumer T A P) → SameConsumer a b
 consumer_on a b c p q = (ring_on a.end b.end c.end p.0 q.0, q.1 ∙ p.1)
 
 pub end_on : (a b c : OrdersValue) → IsSameEnd a b → IsSameEnd b c → IsSameEnd a c
-end_on a b c p q = record { ring = consumer_on a.ring b.ring c.ring p.ring q.ring; links = q.links ∙ p.links; news = q.news ∙ p.news }
+end_on a b c p q = record { ring = consumer_on a.ring b.ring c.ring p.ring q.ring; links = q.links ∙ p.links; news = q.news ∙ p.news; spares = q.spares ∙ p.spares; room = q.room ∙ p.room }
 
 pub all_join_more : (first count most : ℕ) (ops : List OperationValue) (op : OperationValue) → AllJoin first count most ops → joins first (grown_by_all first ops count) most op ≡ true
     → AllJoin first count most (ops ++ op ∷ [])

@@ -1,6 +1,6 @@
 -- A line of rings: what was told through it, and how it goes on.
 use Rattle.std.specs.Prelude.{◌≡◌, ◌⊎◌, ℕ, ◌+◌, ◌≤◌, Bool, false, List, [], ◌∷◌, ◌++◌}
-use Rattle.rtrb.specs.Ring.{sent, received, known_free, IsPair, SameProducer}
+use Rattle.rtrb.specs.Ring.{sent, received, known_free, known_items, IsPair, SameProducer, SameConsumer}
 use Rattle.r10_region.specs.declared.operation.Operation.{Operation as OperationValue}
 use Rattle.r10_region.specs.declared.line.Link.{Link}
 use Rattle.r10_region.specs.declared.line.Line.{Line as LineValue}
@@ -32,9 +32,11 @@ pub record KeepsRing (old new : LineValue) : Type 0 where
   pub ring : SameProducer old.ring new.ring
 
 -- Behind an operation that was told, which took a place at most of those known to be free, or began a further ring where there was none; it was not told only where no place
--- was known to be free, and none is.
+-- was known to be free, and none is, and where there is no spare ring, or as many rings wait as may.
 pub record KeepsLine (told : Bool) (old new : LineValue) : Type 0 where
   pub links : SameProducer old.links new.links
   pub ring : KeepsRing old new ⊎ BeginsRing old new
   pub places : known_free old.ring ≤ known_free new.ring + 1
   pub full : told ≡ false → (known_free old.ring ≡ 0) × (known_free new.ring ≡ 0)
+  pub spares : SameConsumer old.spares new.spares
+  pub no_spare : told ≡ false → (known_free new.links ≡ 0) ⊎ (known_items new.spares ≡ [])

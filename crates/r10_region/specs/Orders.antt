@@ -1,6 +1,6 @@
 -- What is handed out of the operations that a disk has to do.
-use Rattle.std.specs.Prelude.{◌≡◌, ◌⊎◌, ℕ, ◌/◌, true, List, [], ◌∷◌, ◌++◌, drop, length}
-use Rattle.rtrb.specs.Ring.{sent, received, known_items, known_free, consumer_capacity, IsPair, SameConsumer, SameProducer, ConsumerLooked}
+use Rattle.std.specs.Prelude.{◌≡◌, ◌⊎◌, ℕ, ◌/◌, ◌-◌, ◌≤◌, Bool, true, false, List, [], ◌∷◌, ◌++◌, drop, length, max}
+use Rattle.rtrb.specs.Ring.{sent, received, known_items, known_free, consumer_capacity, producer_capacity, IsPair, SameConsumer, SameProducer, ConsumerLooked}
 use Rattle.r10_region.specs.Runs.{AllJoin, grown_by_all, put_all_in_run}
 use Rattle.r10_region.specs.declared.line.Link.{Link}
 use Rattle.r10_region.specs.declared.operation.Operation.{Operation as OperationValue}
@@ -10,6 +10,7 @@ use Rattle.r10_region.specs.declared.orders.QueueOut.{QueueOut}
 use Rattle.r10_region.specs.declared.orders.RunOut.{RunOut}
 use Rattle.r10_region.specs.declared.orders.Orders.{Orders as OrdersValue}
 use Rattle.r10_region.specs.declared.region.Region.{Region}
+use Rattle.r10_region.specs.declared.spare.Spare.{Spare}
 
 -- nothing was handed out yet of what the region asks its disk, and all comes out here
 pub record IsOtherEnd (r : Region) (o : OrdersValue) : Type 0 where
@@ -17,6 +18,8 @@ pub record IsOtherEnd (r : Region) (o : OrdersValue) : Type 0 where
   pub links : IsPair r.line.links o.links
   pub news : IsPair o.news r.news
   pub none_told : sent o.news ≡ []
+  pub spares : IsPair o.spares r.line.spares
+  pub no_spares : sent o.spares ≡ []
   pub none_out : received o.ring ≡ []
   pub no_links : received o.links ≡ []
 
@@ -31,6 +34,8 @@ pub record StaysAtRing (old new : OrdersValue) : Type 0 where
   pub ring : ConsumerLooked old.ring new.ring
   pub links : ConsumerLooked old.links new.links
   pub news : new.news ≡ old.news
+  pub spares : new.spares ≡ old.spares
+  pub room : new.room ≡ old.room
 
 -- the next: the one in hand had nothing more
 pub record TakesRing (old new : OrdersValue) : Type 0 where
@@ -40,6 +45,8 @@ pub record TakesRing (old new : OrdersValue) : Type 0 where
   pub links : SameConsumer old.links new.links
   pub ring : new.ring ≡ link.next
   pub news : new.news ≡ old.news
+  pub spares : new.spares ≡ old.spares
+  pub room : new.room ≡ old.room
 
 abbrev pub MovesOn : OrdersValue → OrdersValue → Type 0
 MovesOn old new = StaysAtRing old new ⊎ TakesRing old new
@@ -81,6 +88,8 @@ pub record IsSameEnd (old new : OrdersValue) : Type 0 where
   pub ring : SameConsumer old.ring new.ring
   pub links : new.links ≡ old.links
   pub news : new.news ≡ old.news
+  pub spares : new.spares ≡ old.spares
+  pub room : new.room ≡ old.room
 
 -- of those that the ring in hand was given the next was handed out, or there was none
 pub record HandsOne (old new : OrdersValue) (out : OrderOut) (before after : List ℕ) : Type 0 where
@@ -137,11 +146,51 @@ pub record CountsQueue (old new : OrdersValue) (out : QueueOut) : Type 0 where
   pub ring : ConsumerLooked old.ring new.ring
   pub links : ConsumerLooked old.links new.links
   pub news : new.news ≡ old.news
+  pub spares : new.spares ≡ old.spares
+  pub room : new.room ≡ old.room
   pub told : out ≡ record { waiting = length (known_items new.ring); places = consumer_capacity new.ring; rings = length (known_items new.links) }
 
 -- a failure was told to the region, or one was told before and is not yet heard
 pub record HasTold (old new : OrdersValue) : Type 0 where
   pub ring : new.ring ≡ old.ring
   pub links : new.links ≡ old.links
+  pub spares : new.spares ≡ old.spares
+  pub room : new.room ≡ old.room
   pub news : SameProducer old.news new.news
   pub told : (sent new.news ≡ sent old.news ++ true ∷ []) ⊎ ((sent new.news ≡ sent old.news) × (known_free new.news ≡ 0))
+
+-- ---- room for a call
+
+-- A spare ring was sent to the region: it has a place for each of so many operations.
+pub record SendsSpare (old new : OrdersValue) : Type 0 where
+  pub spare : Spare
+  pub sends : sent new.spares ≡ sent old.spares ++ spare ∷ []
+  pub places : producer_capacity spare.ring ≡ max old.room 1
+
+-- Before memory is asked for there is a place for each of so many operations: in the spare ring that was sent before and is there, in the ring in hand, behind which none waits, or in
+-- a spare ring that is sent now.
+pub data HasRoom (old new : OrdersValue) : Type 0 where
+  waits : known_free new.spares ≡ 0 → sent new.spares ≡ sent old.spares → HasRoom old new
+  in_hand : known_items new.links ≡ [] → old.room ≤ consumer_capacity new.ring - length (known_items new.ring) → sent new.spares ≡ sent old.spares → HasRoom old new
+  sends : SendsSpare old new → HasRoom old new
+
+abbrev pub HasRoomIf : Bool → OrdersValue → OrdersValue → Type 0
+HasRoomIf true old new = HasRoom old new
+HasRoomIf false old new = sent new.spares ≡ sent old.spares
+
+-- the ring in hand was looked at, and whether another one waits
+pub record LooksAhead (old new : OrdersValue) : Type 0 where
+  pub ring : ConsumerLooked old.ring new.ring
+  pub links : ConsumerLooked old.links new.links
+  pub news : new.news ≡ old.news
+  pub spares : new.spares ≡ old.spares
+  pub room : new.room ≡ old.room
+
+-- there is room, or memory for it was refused, and then no spare ring was sent
+pub record MakesRoom (has : Bool) (old new : OrdersValue) : Type 0 where
+  pub ring : ConsumerLooked old.ring new.ring
+  pub links : ConsumerLooked old.links new.links
+  pub news : new.news ≡ old.news
+  pub spares : SameProducer old.spares new.spares
+  pub room : new.room ≡ old.room
+  pub places : HasRoomIf has old new

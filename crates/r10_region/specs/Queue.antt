@@ -1,6 +1,6 @@
 -- The queue from a region to its disk: how much may wait in it, and what a call of the medium does to it.
 use Rattle.std.specs.Prelude.{◌≡◌, ◌⊎◌, ℕ, ◌+◌, ◌≤◌, ◌<◌, length, [], ◌∷◌, ◌++◌}
-use Rattle.rtrb.specs.Ring.{known_free, known_items, producer_capacity, SameProducer}
+use Rattle.rtrb.specs.Ring.{known_free, known_items, producer_capacity, SameProducer, SameConsumer}
 use Rattle.r10_region.specs.Line.{KeepsRing, BeginsRing}
 use Rattle.r10_region.specs.RegionDisk.{region_disk, lent_to, asked}
 use Rattle.r10_region.specs.declared.operation.Operation.{Operation as OperationValue}
@@ -17,6 +17,7 @@ places_known r = known_free r.line.ring
 -- it is the same queue, in the ring in use or in a further one
 pub record IsSameQueue (old new : Region) : Type 0 where
   pub links : SameProducer old.line.links new.line.links
+  pub spares : SameConsumer old.line.spares new.line.spares
   pub ring : KeepsRing old.line new.line ⊎ BeginsRing old.line new.line
 
 -- The disk was asked this, behind what it was asked before, and it took a place at most of those known.
@@ -27,10 +28,11 @@ pub record AsksDisk (op : OperationValue) (old new : Region) : Type 0 where
   pub places : places_known old ≤ places_known new + 1
   pub failures : (region_disk new).failures ≡ (region_disk old).failures
 
--- There was no place known to be free, and none is: nothing was written, and the disk was asked nothing.
+-- There was no place known to be free, and none is, and no spare ring is there, or as many rings wait as may: nothing was written, and the disk was asked nothing.
 pub record FindsNoPlace (old new : Region) : Type 0 where
   pub none_known : places_known old ≡ 0
   pub none_left : places_known new ≡ 0
+  pub no_spare : (known_free new.line.links ≡ 0) ⊎ (known_items new.line.spares ≡ [])
   pub lent : lent_to new ≡ lent_to old
   pub queue : IsSameQueue old new
   pub no_more : asked new ≡ asked old

@@ -5,6 +5,7 @@ mod line;
 mod operation;
 mod orders;
 mod region;
+mod spare;
 mod strip;
 mod telling;
 
@@ -12,4 +13,5 @@ pub use line::{Line, Link};
 pub use operation::Operation;
 pub use orders::{OrderOut, Orders, QueueOut, RunOut};
 pub use region::Region;
+pub use spare::Spare;
 pub use strip::Strip;

@@ -1,11 +1,12 @@
 //! Where the operations for a disk go in: rings, one after the other, as many as are wanted.
 
-ghost use Rattle.std.specs.Prelude.{◌≡◌, ◌<◌};
-ghost use Rattle.rtrb.specs.Ring.{known_free};
+ghost use Rattle.std.specs.Prelude.{◌≡◌, ◌<◌, [], IfNone};
+ghost use Rattle.rtrb.specs.Ring.{known_free, known_items, SameConsumer};
 ghost use Rattle.r10_region.specs.Device.{told_if};
 ghost use Rattle.r10_region.specs.Line.{told_by, KeepsLine};
 
 use crate::operation::Operation;
+use crate::spare::Spare;
 use rtrb::{Consumer, Producer, PushError, RingBuffer};
 use std::alloc::{AllocError, Global};
 use std::snapshot::Snapshot;
@@ -31,6 +32,8 @@ pub struct Line {
     alloc: Global,
     pub(crate) ring: Producer<Operation, Global>,
     pub(crate) links: Producer<Link, Global>,
+    // a ring that was made before it is wanted comes out here
+    pub(crate) spares: Consumer<Spare, Global>,
 }
 
 /// How many places the ring behind one of so many has.
@@ -43,25 +46,52 @@ fn larger(places: usize) -> usize
     (places * 2).max(FEWEST)
 }
 
+/// The spare ring, or a new one of so many places.
+fn further(alloc: Global, spares: &mut Consumer<Spare, Global>, places: usize) -> Option<Spare>
+    requires { 0 < places }
+    ensures spares { SameConsumer spares.old spares.new }
+    ensures none { IfNone result (known_items spares.new ≡ []) }
+{
+    match spares.pop() {
+        Ok(spare) => Some(spare),
+        Err(_) => Spare::new(alloc, places),
+    }
+}
+
 impl Line {
-    ghost use Rattle.std.specs.Prelude.{[], IfOk};
-    ghost use Rattle.rtrb.specs.Ring.{received, known_items, IsPair, producer_capacity};
+    ghost use Rattle.std.specs.Prelude.{IfOk};
+    ghost use Rattle.rtrb.specs.Ring.{received, sent, IsPair, producer_capacity};
     ghost use Rattle.r10_region.specs.Line.{sent_links};
 
-    /// A line, and the two ends at which its operations come out, of which as many as `room` may wait before more memory is asked for.
+    /// A line, the two ends at which its operations come out, of which as many as `room` may wait before more memory is asked for, and where a spare ring goes in.
     pub(crate) fn new(
         alloc: Global,
         room: usize,
-    ) -> Result<(Line, Consumer<Operation, Global>, Consumer<Link, Global>), AllocError>
+    ) -> Result<
+        (
+            Line,
+            Consumer<Operation, Global>,
+            Consumer<Link, Global>,
+            Producer<Spare, Global>,
+        ),
+        AllocError,
+    >
         ensures none_yet { IfOk result (λ r. (told_by r.0 ≡ []) × (received r.1 ≡ []) × (received r.2 ≡ [])) }
         ensures ring { IfOk result (λ r. IsPair r.0.ring r.1) }
         ensures links { IfOk result (λ r. IsPair r.0.links r.2 × (sent_links r.0 ≡ [])) }
+        ensures spares { IfOk result (λ r. IsPair r.3 r.0.spares × (sent r.3 ≡ [])) }
         ensures room { IfOk result (λ r. (producer_capacity r.0.ring ≡ room) × (known_free r.0.ring ≡ room)) }
     {
         let (ring, orders) = RingBuffer::new(alloc, room)?;
         let (links, later) = RingBuffer::new(alloc, LINKS)?;
-        let line = Line { alloc, ring, links };
-        Ok((line, orders, later))
+        let (spare, spares) = RingBuffer::new(alloc, 1)?;
+        let line = Line {
+            alloc,
+            ring,
+            links,
+            spares,
+        };
+        Ok((line, orders, later, spare))
     }
 
     /// Puts an operation behind the others. It is not put where there is no place for it and memory for more is refused.
@@ -85,9 +115,11 @@ impl Line {
         if self.links.is_full() {
             return false;
         }
-        let Ok((mut ring, next)) = RingBuffer::new(self.alloc, larger(self.ring.capacity())) else {
+        let places = larger(self.ring.capacity());
+        let Some(spare) = further(self.alloc, &mut self.spares, places) else {
             return false;
         };
+        let Spare { mut ring, next } = spare;
         ring.push_reserved(operation);
         let before = Snapshot::of(&self.ring);
         self.links.push_reserved(Link { next, before });

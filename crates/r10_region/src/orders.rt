@@ -5,6 +5,7 @@ ghost use Rattle.r10_region.specs.Runs.{grown_by, joins, put_in_run};
 
 use crate::line::Link;
 use crate::operation::{Operation, has_its_bytes};
+use crate::spare::Spare;
 use rtrb::{Consumer, Producer};
 use std::alloc::Global;
 
@@ -36,6 +37,10 @@ pub struct Orders {
     pub(crate) ring: Consumer<Operation, Global>,
     pub(crate) links: Consumer<Link, Global>,
     pub(crate) news: Producer<bool, Global>,
+    // where a ring goes in that is made before it is wanted
+    pub(crate) spares: Producer<Spare, Global>,
+    // how many operations have a place when a call begins
+    pub(crate) room: usize,
 }
 
 /// How many operations wait, and how many have a place.
@@ -84,9 +89,10 @@ fn put_in_run(operation: &Operation, first: usize, count: usize, bytes: &mut [u8
 }
 
 impl Orders {
-    ghost use Rattle.std.specs.Prelude.{◌/◌, [], ◌∷◌, ◌++◌, MatchOption};
+    ghost use Rattle.std.specs.Prelude.{◌/◌, ◌-◌, [], ◌∷◌, ◌++◌, MatchOption};
+    ghost use Rattle.rtrb.specs.Ring.{consumer_capacity, known_items};
     ghost use Rattle.r10_region.specs.Joining.{JoinsMore, JoinsOne};
-    ghost use Rattle.r10_region.specs.Orders.{taken, CountsQueue, HandsOne, HandsOrderOut, HandsRunOut, HandsSome, HasNone, HasTold, IsSameEnd, MovesOn};
+    ghost use Rattle.r10_region.specs.Orders.{taken, CountsQueue, HandsOne, HandsOrderOut, HandsRunOut, HandsSome, HasNone, HasTold, IsSameEnd, LooksAhead, MakesRoom, MovesOn};
 
     /// Takes the next ring in hand where the one in hand has nothing more.
     fn move_on(&mut self)
@@ -236,6 +242,35 @@ impl Orders {
     {
         // What was told before still holds.
         let _told = self.news.push(true);
+    }
+
+    /// Sees to a place for each of `room` operations more, so many as the region was opened with, before memory is asked for. False where memory for them is refused.
+    pub fn make_room(&mut self, alloc: Global) -> bool
+        ensures { MakesRoom result self.old self.new }
+    {
+        if self.spares.is_full() {
+            return true;
+        }
+        if self.has_places() {
+            return true;
+        }
+        let Some(spare) = Spare::new(alloc, self.room.max(1)) else {
+            return false;
+        };
+        self.spares.push_reserved(spare);
+        true
+    }
+
+    // Whether the ring in hand has them, and none waits after it.
+    fn has_places(&mut self) -> bool
+        ensures looked { LooksAhead self.old self.new }
+        ensures value { result ≡ true → (known_items self.new.links ≡ []) × (self.old.room ≤ consumer_capacity self.new.ring - length (known_items self.new.ring)) }
+    {
+        if !self.links.is_empty() {
+            return false;
+        }
+        let waiting = self.ring.slots();
+        self.room <= self.ring.capacity().saturating_sub(waiting)
     }
 
     /// How much waits.

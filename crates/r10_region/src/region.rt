@@ -59,8 +59,9 @@ impl Region {
         ensures none_yet { IfOk result (λ r. asked r.0 ≡ []) }
         ensures other_end { IfOk result (λ r. IsOtherEnd r.0 r.1) }
         ensures room { IfOk result (λ r. (queue_room r.0 ≡ room) × (places_known r.0 ≡ room)) }
+        ensures each_call { IfOk result (λ r. r.1.room ≡ room) }
     {
-        let (line, ring, links) = Line::new(alloc, room)?;
+        let (line, ring, links, spares) = Line::new(alloc, room)?;
         let (tell, news) = RingBuffer::new(alloc, 1)?;
         let was = Snapshot::of(&strip);
         let blocks = strip.lent();
@@ -77,6 +78,8 @@ impl Region {
             ring,
             links,
             news: tell,
+            spares,
+            room,
         };
         Ok((region, orders))
     }

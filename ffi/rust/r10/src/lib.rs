@@ -223,7 +223,8 @@ impl Recorder {
         }
     }
 
-    /// Opens a recorder by the settings of a script, not mounted. As many operations as `room` may wait before it asks for more memory.
+    /// Opens a recorder by the settings of a script, not mounted. When a call begins, `room` operations have a place: one that comes to
+    /// no more is never refused memory amid its work.
     pub fn open(region: Region, room: usize, script: &str) -> Result<Recorder, (Error, Region)> {
         Recorder::make(region, script, |at, script, raw| unsafe { sys::r10_open(at, room, script.as_ptr(), script.len(), raw) })
     }

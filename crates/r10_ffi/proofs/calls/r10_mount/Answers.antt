@@ -1,6 +1,5 @@
-use Rattle.std.proofs.Common.{refl}
 use Rattle.r10_ffi.proofs.Between.{between}
 use Rattle.r10_ffi.proofs.calls.r10_mount.Goals as goal
 
 pub returns-clause-does : goal.returns-clause-does
-returns-clause-does c = λ is. (c.put.ensures.1, between _ _ _ _ _ _ c.take-held.ensures.taken c.deref_mut.ensures.value c.put.ensures.0 ((c.mount-answer.ensures, refl), refl))
+returns-clause-does c = λ is. (c.put.ensures.1, between _ _ _ _ _ _ c.take-held.ensures.taken c.deref_mut.ensures.value c.put.ensures.0 (c.mount-answer.ensures, c.mount-answer.ensures.accepted))

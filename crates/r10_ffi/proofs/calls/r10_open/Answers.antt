@@ -11,6 +11,7 @@ returns-in-Ok-new-clause-opens c zero = (
     queue = c.in-Ok.ensures.other_end;
     room_is = c.in-Ok.ensures.room.0;
     places = c.in-Ok.ensures.room.1;
+    each_call = c.in-Ok.ensures.each_call;
     opens = c.in-Ok-open.ensures.opens;
     accepted = c.in-Ok-open.ensures.accepted;
   }),

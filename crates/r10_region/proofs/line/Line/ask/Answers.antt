@@ -4,5 +4,5 @@ use Rattle.r10_region.proofs.line.Line.ask.Goals as goal
 
 pub returns-in-Err-Full-clause-keeps : goal.returns-in-Err-Full-clause-keeps
 returns-in-Err-Full-clause-keeps c =
-    keeps_behind c.ask_anew.result c.args.self.now (record c.args.self.now { ring = c.push.new.self }) c.ask_anew.new.self refl c.push.ensures.ring c.in-Err-Full.ensures.full.1
+    keeps_behind c.ask_anew.result c.args.self.now (record c.args.self.now { ring = c.push.new.self }) c.ask_anew.new.self refl refl c.push.ensures.ring c.in-Err-Full.ensures.full.1
     (none_of _ (λ lt. not_true (sym (c.in-Err-Full.ensures.succeeds lt)))) c.ask_anew.ensures.keeps

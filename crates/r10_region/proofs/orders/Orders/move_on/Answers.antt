@@ -12,4 +12,6 @@ returns-in-Ok c = inr (record {
   links = consumer_on c.args.self.now.links c.is_empty.new.self c.pop.new.self c.is_empty.ensures.looked.0 c.pop.ensures.ring;
   ring = refl;
   news = refl;
+  spares = refl;
+  room = refl;
 })

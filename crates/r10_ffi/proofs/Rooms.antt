@@ -1,0 +1,36 @@
+-- A call that may write, behind its look for room.
+use Rattle.std.proofs.Common.{◌≡◌, ℕ, Bool, true, false, refl, sym, inr, ◌∙◌, true≢false}
+use Rattle.r10_body.specs.declared.refusal.Refusal.TheVariants.{OutOfMemory}
+use Rattle.r10_desk.specs.Told.{DoesEvent}
+use Rattle.r10_desk.specs.declared.desk.Desk.{Desk as DeskValue}
+use Rattle.r10_machine.specs.declared.event.Event.{Event as EventValue}
+use Rattle.r10_machine.specs.declared.reply.Reply.{Reply as ReplyValue}
+use Rattle.r10_machine.specs.declared.reply.Reply.TheVariants.{Refused}
+use Rattle.r10_region.specs.Orders.{MakesRoom}
+use Rattle.r10_region.specs.RegionDisk.{region_disk}
+use Rattle.r10_region.specs.declared.orders.Orders.{Orders as OrdersValue}
+use Rattle.r10_region.specs.declared.region.Region.{Region}
+use Rattle.r10_ffi.specs.Calls.{WritesHeld}
+use Rattle.r10_ffi.specs.declared.held.Held.{Held}
+
+-- memory for room was refused
+pub refused : (old : Held) (orders : OrdersValue) (has : Bool) (event : EventValue) (tells : ReplyValue → Type 0) → MakesRoom has old.orders orders → has ≡ false → tells (Refused OutOfMemory)
+    → WritesHeld 30 old (record old { orders = orders }) (λ before new. DoesEvent region_disk before event tells new)
+refused old orders has event tells room none says = record {
+  has = has;
+  room = room;
+  does = record { reply = Refused OutOfMemory; told = inr (refl, refl); says = says; config = refl; fault = refl; hand = refl };
+  accepted = refl;
+  refused = λ e. (refl, refl);
+}
+
+-- there was room
+pub wrote : (old new : Held) (answer : ℕ) (has : Bool) (is : DeskValue Region → DeskValue Region → Type 0) → MakesRoom has old.orders new.orders → has ≡ true → is old.desk new.desk
+    → new.accepted ≡ old.accepted → WritesHeld answer old new is
+wrote old new answer has is room some does same = record {
+  has = has;
+  room = room;
+  does = does;
+  accepted = same;
+  refused = λ e. absurd (true≢false (sym some ∙ e));
+}

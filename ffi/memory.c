@@ -1,0 +1,163 @@
+/* Refuses each allocation of each call in turn. With room for the operations of a call, one that lacks memory answers R10_NO_MEMORY
+ * with nothing changed, also where operations of earlier calls wait: R10_MEDIUM is left to a disk that failed. */
+#include <inttypes.h>
+#include <stdio.h>
+#include <stdlib.h>
+#include <string.h>
+
+#include "r10.h"
+
+enum { BLOCKS = 512, ROOM = 40, ROUNDS = 60 };
+
+static const char script[] = "blocks = 512\n"
+                             "directory = 2\n"
+                             "volume = \"VOL\"\n"
+                             "nodes = 100\n"
+                             "time = 1\n"
+                             "event = 2\n"
+                             "[[channel]]\nid = 3\nkind = \"message\"\ncapacity = 64\ncheck = 16\nbytes = 4096\nnumber = 100\n";
+
+extern void *__libc_malloc(size_t size);
+extern void *__libc_realloc(void *at, size_t size);
+
+/* how many allocations are granted before one is refused; below 0 all are */
+static long granted = -1;
+static unsigned long refusals;
+
+static bool is_refused(void) {
+    if (granted < 0 || granted-- > 0)
+        return false;
+    refusals++;
+    return true;
+}
+
+void *malloc(size_t size) { return is_refused() ? NULL : __libc_malloc(size); }
+void *realloc(void *at, size_t size) { return is_refused() ? NULL : __libc_realloc(at, size); }
+
+static unsigned char memory[BLOCKS * 512], before[sizeof memory];
+static r10 recorder;
+static uint64_t count = 1000;
+static unsigned long mediums, changes, wrongs;
+static size_t moved, taken, left;
+static size_t room = ROOM;
+
+typedef uint32_t call(void);
+
+static uint32_t mount(void) { return r10_mount(&recorder); }
+
+static uint32_t tick(void) {
+    const r10_civil civil = {2024, 2, 29, 12, 34, 56, 78};
+    return r10_tick(&recorder, count, &civil);
+}
+
+static uint32_t start(void) { return r10_start(&recorder, "FLT1", 4, "ABCD", 4); }
+
+static uint32_t offer(void) {
+    static const uint8_t bytes[1000];
+    return r10_offer_message(&recorder, 3, count, false, false, 0, bytes, sizeof bytes);
+}
+
+static uint32_t pump(void) { return r10_pump(&recorder, 3, 1, &moved); }
+
+static uint32_t event(void) { return r10_event(&recorder, 7, count); }
+
+static uint32_t commit(void) { return r10_commit(&recorder); }
+
+static uint32_t stop(void) { return r10_stop(&recorder, &taken, &left); }
+
+static uint32_t seal(void) { return r10_seal(&recorder); }
+
+static uint32_t erase(void) { return r10_erase(&recorder); }
+
+static uint32_t dismount(void) { return r10_dismount(&recorder); }
+
+static uint32_t status(r10_status_info *info) {
+    memset(info, 0, sizeof *info);
+    return r10_status(&recorder, info);
+}
+
+/* Does a call with its first allocation refused, then with its second, and so on, until none is refused. */
+static void each(const char *what, call *it, uint32_t wanted) {
+    for (long n = 0;; n++) {
+        r10_status_info was, is;
+        memcpy(before, memory, sizeof memory);
+        status(&was);
+        unsigned long then = refusals;
+        granted = n;
+        uint32_t answer = it();
+        granted = -1;
+        if (refusals == then || answer == wanted) {
+            if (answer != wanted) {
+                printf("%s: %" PRIu32 ", and not %" PRIu32 "\n", what, answer, wanted);
+                wrongs++;
+            }
+            return;
+        }
+        status(&is);
+        if (answer == R10_MEDIUM || answer == R10_FAILED) {
+            mediums++;
+            return;
+        }
+        if (answer != R10_NO_MEMORY) {
+            printf("%s: %" PRIu32 " where memory was refused\n", what, answer);
+            wrongs++;
+            return;
+        }
+        if (memcmp(before, memory, sizeof memory) != 0 || memcmp(&was, &is, sizeof is) != 0) {
+            printf("%s: 30, and something changed\n", what);
+            changes++;
+        }
+    }
+}
+
+static void settle(void) {
+    uint8_t bytes[512 * 16];
+    r10_run_info run;
+    while (r10_orders(&recorder, &run, bytes, sizeof bytes) == R10_OK && run.kind != R10_NOTHING)
+        ;
+}
+
+/* A recording whose operations are handed out after so many rounds, or never. */
+static void flight(unsigned rounds) {
+    each("mount", mount, R10_OK);
+    each("tick", tick, R10_OK);
+    each("start", start, R10_OK);
+    for (unsigned n = 0; n < ROUNDS; n++) {
+        count += 1000;
+        each("offer", offer, R10_OK);
+        each("pump", pump, R10_OK);
+        if (n % 10 == 9) {
+            each("tick", tick, R10_OK);
+            each("event", event, R10_OK);
+            each("commit", commit, R10_OK);
+        }
+        if (rounds > 0 && n % rounds == 0)
+            settle();
+    }
+    each("stop", stop, R10_OK);
+    each("seal", seal, R10_NO_FILE);
+    each("erase", erase, R10_OK);
+    each("dismount", dismount, R10_OK);
+}
+
+static void try(const char *what, size_t places, unsigned rounds) {
+    r10_queue_info queue;
+    refusals = mediums = changes = wrongs = 0;
+    room = places;
+    if (r10_format((r10_region){memory, BLOCKS}, room, script, strlen(script), &recorder) != R10_OK)
+        exit(1);
+    flight(rounds);
+    if (r10_queue(&recorder, &queue) != R10_OK)
+        exit(1);
+    r10_close(&recorder);
+    printf("%s: %s refused, %lu answered as a failed disk", what, refusals > 50 ? "many were" : "few were", mediums);
+    printf(", %lu changed something, %lu wrong\n", changes, wrongs);
+}
+
+int main(void) {
+    setvbuf(stdout, NULL, _IONBF, 0);
+    try("settled after each round", ROOM, 1);
+    try("settled after ten rounds", ROOM, 10);
+    try("never settled", ROOM, 0);
+    return 0;
+}
