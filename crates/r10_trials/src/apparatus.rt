@@ -43,8 +43,8 @@ const FIVE: ChannelSpec = ChannelSpec {
 
 /// The recorder, and the sending ends of its lanes.
 #[derive(Drop)]
-pub struct Apparatus {
-    pub recorder: Recorder<Memory, Outlet>,
+pub struct Apparatus<M: BlockMedium> {
+    pub recorder: Recorder<M, Outlet>,
     pub five: Port,
     pub six: Port,
 }
@@ -71,13 +71,12 @@ fn both(alloc: Global, five: Outlet, six: Outlet) -> Result<Vec<Outlet>, AllocEr
     Ok(lanes)
 }
 
-/// A new recorder over a medium that reads as these bytes.
-pub fn over_image(alloc: Global, image: &[u8]) -> Result<Apparatus, TrialFault>
-    ensures new { IfOk result (λ a. IsNew memory_disk outlet_spec outlet_received a.recorder) }
+/// A new recorder over a medium.
+pub fn over<M: BlockMedium + Drop>(alloc: Global, medium: M) -> Result<Apparatus<M>, TrialFault>
+    ensures new { IfOk result (λ a. IsNew M.disk outlet_spec outlet_received a.recorder) }
     ensures named { IfOk result (λ a. AreNamed (record { channel = 5; ring = a.five.ring } ∷ record { channel = 6; ring = a.six.ring } ∷ []) a.recorder.lanes) }
 {
     let at_six = ChannelSpec { id: 6, ..FIVE };
-    let medium = medium_of(alloc, image)?;
     let settings = settings_for(alloc, FIVE, at_six)?;
     if medium.blocks() != settings.blocks() {
         return Err(TrialFault::Settings);
@@ -95,14 +94,22 @@ pub fn over_image(alloc: Global, image: &[u8]) -> Result<Apparatus, TrialFault>
     }
 }
 
+/// A new recorder over a medium that reads as these bytes.
+pub fn over_image(alloc: Global, image: &[u8]) -> Result<Apparatus<Memory>, TrialFault>
+    ensures new { IfOk result (λ a. IsNew memory_disk outlet_spec outlet_received a.recorder) }
+    ensures named { IfOk result (λ a. AreNamed (record { channel = 5; ring = a.five.ring } ∷ record { channel = 6; ring = a.six.ring } ∷ []) a.recorder.lanes) }
+{
+    over(alloc, medium_of(alloc, image)?)
+}
+
 /// The bytes of a medium that was formatted for such a recorder.
-fn formatted_image(alloc: Global) -> Result<Vec<u8>, TrialFault> {
+pub fn formatted_image(alloc: Global) -> Result<Vec<u8>, TrialFault> {
     let settings = settings_for(alloc, FIVE, ChannelSpec { id: 6, ..FIVE })?;
     formatted(alloc, &settings)
 }
 
 /// A new recorder over a medium that was formatted for it.
-pub fn over_formatted(alloc: Global) -> Result<Apparatus, TrialFault>
+pub fn over_formatted(alloc: Global) -> Result<Apparatus<Memory>, TrialFault>
     ensures new { IfOk result (λ a. IsNew memory_disk outlet_spec outlet_received a.recorder) }
     ensures named { IfOk result (λ a. AreNamed (record { channel = 5; ring = a.five.ring } ∷ record { channel = 6; ring = a.six.ring } ∷ []) a.recorder.lanes) }
 {

@@ -9,6 +9,7 @@ mod apparatus;
 mod asks;
 mod course;
 mod each;
+mod failing;
 mod fault;
 mod listed;
 mod named;

@@ -17,7 +17,7 @@ use r10_count::Items;
 use r10_cursor::Cursor;
 use r10_gauge::Pass;
 use r10_held::{Cabinet, Held, Player, Rings, new_recorders_account_for_their_lanes};
-use r10_medium::Memory;
+use r10_medium::{BlockMedium, Memory};
 use r10_port::{Outlet, Port};
 use r10_shared::{AnySource, Feed, Order, Session, SessionReport, end_session, run_session};
 use std::alloc::{AllocError, Global};
@@ -114,7 +114,10 @@ fn begin<N: Rings, R: Wait>(
 }
 
 /// A cursor on both channels in the first file.
-fn open<N: Rings>(alloc: Global, held: &mut Held<Memory, N>) -> Result<Cursor, Refusal> {
+pub fn open<M: BlockMedium, N: Rings>(
+    alloc: Global,
+    held: &mut Held<M, N>,
+) -> Result<Cursor, Refusal> {
     let Ok(channels) = Vec::from_slice(alloc, &CHANNELS) else {
         return Err(Refusal::OutOfMemory);
     };
@@ -164,7 +167,7 @@ fn begun<N: Rings, R: Wait>(
 }
 
 /// A player alone.
-fn alone(alloc: Global, player: Player) -> Result<Vec<Player>, AllocError>
+pub fn alone(alloc: Global, player: Player) -> Result<Vec<Player>, AllocError>
     ensures { IfOk result (λ players. players.items ≡ player ∷ []) }
 {
     let mut players = Vec::with_capacity(alloc, 1)?;
@@ -173,7 +176,7 @@ fn alone(alloc: Global, player: Player) -> Result<Vec<Player>, AllocError>
 }
 
 /// Feeds of both channels.
-fn two_feeds<N: Rings>(
+pub fn two_feeds<N: Rings>(
     alloc: Global,
     five: Port,
     six: Port,
@@ -306,7 +309,7 @@ fn run_in<N: Rings + Send + Sync, R: Threads + Wait + Sync>(
 pub fn run_over<N: Rings + Send + Sync, R: Threads + Wait + Sync>(
     rt: &R,
     alloc: Global,
-    made: Apparatus,
+    made: Apparatus<Memory>,
     first: AnySource,
     second: AnySource,
     plan: Plan,

@@ -2,6 +2,7 @@
 
 use crate::apparatus::over_formatted;
 use crate::asks::{ask, ask_behind, push_refused};
+use crate::failing::try_calls;
 use crate::fault::TrialFault;
 use crate::listed::{Listed, source};
 use crate::notes::Notes;
@@ -105,6 +106,31 @@ fn try_behind<R: Threads + Wait + Sync>(
     Ok(Asked { before, behind })
 }
 
+/// Runs the sessions of a plan over media that fail, and writes the line and what came of them.
+fn try_failing<R: Threads + Wait + Sync, W: Write>(
+    rt: &R,
+    alloc: Global,
+    line: &str,
+    plan: Plan,
+    writer: &mut W,
+) -> Result<(), TrialFault> {
+    let mut notes = Notes::default();
+    try_calls(rt, alloc, plan, &mut notes)?;
+    let none = Asked {
+        before: None,
+        behind: None,
+    };
+    let mut text = String::new(alloc);
+    push_lines(alloc, line, notes, none, &mut text)?;
+    writer.write_all(text.as_bytes())?;
+    Ok(())
+}
+
+/// The plan of a line `each-call-fails NAME`.
+fn failing_of(line: &str) -> Option<Plan> {
+    Plan::of(line.strip_prefix("each-call-fails ")?)
+}
+
 /// Runs the session of the line in this place, from 1, and writes the line and what came of it.
 fn try_line<R: Threads + Wait + Sync, W: Write>(
     rt: &R,
@@ -113,6 +139,9 @@ fn try_line<R: Threads + Wait + Sync, W: Write>(
     line: &str,
     writer: &mut W,
 ) -> Result<(), TrialFault> {
+    if let Some(plan) = failing_of(line) {
+        return try_failing(rt, alloc, line, plan, writer);
+    }
     let Some((plan, asks)) = task_of(line) else {
         return Err(TrialFault::NoTrial { place });
     };

@@ -15,7 +15,7 @@ use std::alloc::Global;
 
 /// The messages of a channel among those that were found are these of its source, each once and in order, from this number on. It answers
 /// how many there are, or None where one is another.
-fn filed_from(entries: &[Entry], channel: u16, from: u64) -> Option<u64> {
+pub fn filed_from(entries: &[Entry], channel: u16, from: u64) -> Option<u64> {
     let mut filed = 0u64;
     for entry in entries {
         if entry.channel == channel {
@@ -30,7 +30,7 @@ fn filed_from(entries: &[Entry], channel: u16, from: u64) -> Option<u64> {
 }
 
 /// Whether what is left are the messages of the source from this number on.
-fn is_rest(report: &FeedReport, from: u64) -> bool {
+pub fn is_rest(report: &FeedReport, from: u64) -> bool {
     let mut number = from;
     for sample in &report.rest {
         if !is_message(number, sample.count, &sample.message, sample.gap) {
@@ -99,7 +99,7 @@ fn settle_messages(report: &FeedReport, found: &Recovered, notes: &mut Notes) {
 }
 
 /// How many messages the reader wrote down.
-fn read_in(report: &SessionReport<Memory>) -> u64 {
+pub fn read_in<M: BlockMedium>(report: &SessionReport<M>) -> u64 {
     let mut read = 0u64;
     for transcript in &report.transcripts {
         for instalment in &transcript.instalments {
