@@ -3,6 +3,8 @@
 ghost use Rattle.std.specs.Prelude.{◌≡◌, ◌⊎◌, IfErr, IfOk, length, map};
 ghost use Rattle.r10_medium.specs.Disk.{Rose};
 ghost use Rattle.r10_desk.specs.Accounts.{not_yet};
+ghost use Rattle.r10_desk.specs.Faults.{no_fault};
+ghost use Rattle.r10_machine.specs.declared.reply.Reply.TheVariants as replies;
 ghost use Rattle.r10_desk.specs.Opening.{FormatsByScript, FormatsOver, HasOtherBlocks, IsSettings, OpensRecorder};
 
 use crate::accounts::{Accepted, none_accepted};
@@ -63,6 +65,7 @@ pub fn open<M: BlockMedium + Drop>(
 ) -> Result<(Desk<M>, Vec<Accepted>), u32>
     ensures opens { IfOk result (λ r. OpensRecorder M.disk script.now medium r.0.world) }
     ensures accepted { IfOk result (λ r. r.1.items ≡ map not_yet r.0.world.recorder.kept.config.channels) }
+    ensures empty { IfOk result (λ r. (r.0.fault ≡ no_fault) × (r.0.hand ≡ replies.Done)) }
     ensures refused { IfErr result (λ n. (n ≡ 30) ⊎ (n ≡ 40) ⊎ (n ≡ 41)) }
     ensures other { IfErr result (λ n. n ≡ 41 → HasOtherBlocks script.now (length (M.disk medium).blocks)) }
 {

@@ -2,7 +2,9 @@
 use Rattle.std.specs.Prelude.{◌≡◌, ℕ, List, [], map, Option, None, Some, Bool, true, false}
 use Rattle.r10_medium.specs.Disk.{Image}
 use Rattle.r10_machine.specs.declared.event.Event.TheVariants.{Status}
+use Rattle.r10_machine.specs.declared.reply.Reply.TheVariants.{Done}
 use Rattle.r10_desk.specs.Accounts.{account_given, counted, not_yet}
+use Rattle.r10_desk.specs.Faults.{no_fault}
 use Rattle.r10_desk.specs.Listing.{lane_place}
 use Rattle.r10_desk.specs.Told.{DoesEvent}
 use Rattle.r10_desk.specs.declared.accounts.AccountOut.{AccountOut}
@@ -52,6 +54,10 @@ pub record WritesHeld (answer : ℕ) (old new : Held) (is : DeskValue Region →
 abbrev pub DoesWriting : Recorder → Recorder → ℕ → (DeskValue Region → DeskValue Region → Type 0) → Type 0
 DoesWriting before behind answer is = Goes before behind (λ old new. WritesHeld answer old new is)
 
+-- no refusal of it carried anything yet, and no entry is in hand
+abbrev pub HasNothingYet : DeskValue Region → Type 0
+HasNothingYet desk = (desk.fault ≡ no_fault) × (desk.hand ≡ Done)
+
 -- A recorder by the script over memory that held this, of whose disk nothing was asked yet, and of whose channels no message was accepted; and beside it the other end of its disk's queue,
 -- out of which nothing was handed yet. So many operations may wait in it, and it is known that there is a place for each.
 pub record OpensOver (text : List ℕ) (image : Image) (room : ℕ) (h : Held) : Type 0 where
@@ -64,6 +70,7 @@ pub record OpensOver (text : List ℕ) (image : Image) (room : ℕ) (h : Held) :
   pub each_call : h.orders.room ≡ room
   pub opens : OpensRecorder region_disk text medium h.desk.world
   pub accepted : h.accepted.items ≡ map not_yet h.desk.world.recorder.kept.config.channels
+  pub empty : HasNothingYet h.desk
 
 abbrev pub IsOpened : List ℕ → Image → ℕ → Option Held → Type 0
 IsOpened text image room None = ⊥
@@ -76,6 +83,7 @@ pub record FormatsHeld (text : List ℕ) (image : Image) (h : Held) : Type 0 whe
   pub over : FormatsOver text image (region_disk medium)
   pub opens : OpensRecorder region_disk text medium h.desk.world
   pub accepted : h.accepted.items ≡ map not_yet h.desk.world.recorder.kept.config.channels
+  pub empty : HasNothingYet h.desk
 
 abbrev pub IsFormattedRegion : List ℕ → Image → Option Held → Type 0
 IsFormattedRegion text image None = ⊥

@@ -15,5 +15,6 @@ returns-in-Ok-new-clause-formats c zero =
         over = subst (λ (image : Image). FormatsOver c.args.script.now image (region_disk c.format-number.new.medium)) c.in-Ok.ensures.blocks (c.format-number.ensures.over done);
         opens = c.in-Ok-open.ensures.opens;
         accepted = c.in-Ok-open.ensures.accepted;
+        empty = c.in-Ok-open.ensures.empty;
       }),
     )

@@ -14,5 +14,6 @@ returns-in-Ok-new-clause-opens c zero = (
     each_call = c.in-Ok.ensures.each_call;
     opens = c.in-Ok-open.ensures.opens;
     accepted = c.in-Ok-open.ensures.accepted;
+    empty = c.in-Ok-open.ensures.empty;
   }),
 )
