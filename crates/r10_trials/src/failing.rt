@@ -228,13 +228,23 @@ fn settle_feed(report: &FeedReport, found: &Recovered, notes: &mut Notes) {
     );
 }
 
-/// Compares the account of a session that failed with the files that a new recorder finds.
-fn settle(alloc: Global, left: &Broken, plan: Plan, notes: &mut Notes) -> Result<(), TrialFault> {
+/// Compares the account of a session whose medium failed at this call with the files that a new recorder finds.
+fn settle(
+    alloc: Global,
+    left: &Broken,
+    plan: Plan,
+    call: u64,
+    notes: &mut Notes,
+) -> Result<(), TrialFault> {
     let found = found_on(alloc, &left.medium)?;
     notes.want(found.strict, "a file is not strict");
     notes.want(left.feeds.len() == 2, "there are not two reports");
     for report in &left.feeds {
         settle_feed(report, &found, notes);
+        notes.want(
+            call > 1 || report.taken() == 0,
+            "a recorder that failed at its first call took messages",
+        );
     }
     notes.want(
         plan == Plan::Erased || left.read <= found.entries.len() as u64,
@@ -252,7 +262,7 @@ pub fn try_calls<R: Threads + Wait + Sync>(
 ) -> Result<(), TrialFault> {
     for call in 1..MOST {
         match try_call(rt, alloc, plan, call)? {
-            Some(left) => settle(alloc, &left, plan, notes)?,
+            Some(left) => settle(alloc, &left, plan, call, notes)?,
             None => {
                 notes.want(call > FEWEST, "a session passed over a failed call");
                 return Ok(());
