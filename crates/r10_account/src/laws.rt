@@ -64,12 +64,16 @@ pub fn losses_add_up()
         → all_told (accepted_entries channel 0 events replies) + lost_since channel 0 (zip events replies) ≡ all_lost channel (zip events replies) }
 {}
 
-/// Where the medium did not fail, the gaps of what was erased, of what own files have and of what waits add up to all that the channel lost before
-/// its last accepted message. So where nothing was erased and nothing waits, the loss reports of the recorder's own files do.
+/// Where the medium did not fail, the gaps of what was erased, of what own files have and of what waits add up to all that the
+/// channel lost before its last accepted message. So where nothing was erased and nothing waits, the loss reports of the recorder's own
+/// files do.
 pub fn files_tell_losses()
-    ensures { (s : Config) (channel : ℕ) (files : List File) (failures : ℕ) (events : List EventValue) (replies : List ReplyValue) (images : List Image) (new : Machine)
-        → IsConfig s → AllByRecursion IsFoundFile files → length files ≤ most_files s → IsSome (spec_of s.channels channel) → Run s (fresh s.channels files failures) events replies images new
-        → is_working new.mode ≡ true → all_lost channel (zip events replies) ≤ 2 ^ 64 - 1 → TellLosses channel new (zip events replies) }
+    ensures { (s : Config) (channel : ℕ) (files : List File) (failures : ℕ) (events : List EventValue) (replies : List ReplyValue)
+        (images : List Image) (new : Machine)
+        → IsConfig s → AllByRecursion IsFoundFile files → length files ≤ most_files s → IsSome (spec_of s.channels channel)
+        → Run s (fresh s.channels files failures) events replies images new
+        → is_working new.mode ≡ true → all_lost channel (zip events replies) ≤ 2 ^ 64 - 1
+        → TellLosses channel new (zip events replies) }
 {
     a_recording_accounts();
 }

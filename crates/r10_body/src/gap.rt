@@ -3,7 +3,8 @@
 ghost use Rattle.std.specs.Prelude.{◌≡◌, ◌↔◌, IsTrue};
 ghost use Rattle.r10_body.specs.Gaps.{IsSoundGap, gap_after, is_gap};
 
-/// Whether messages of a channel were lost between a message and the one before it: its lane was full, or they were lost before they were offered.
+/// Whether messages of a channel were lost between a message and the one before it: its lane was full, or they were lost before
+/// they were offered.
 #[derive(Clone, Copy, Debug, PartialEq, Eq)]
 pub enum Gap {
     /// None were.

@@ -140,10 +140,11 @@ fn put_account<M: BlockMedium>(
 }
 
 impl<M: BlockMedium> Desk<M> {
-    /// What became of the messages of the channel at this place of the settings, from 0, of which so many were accepted: in every mode. 0, or
-    /// 30, or 43 where there are fewer.
+    /// What became of the messages of the channel at this place of the settings, from 0, of which so many were accepted: in every
+    /// mode. 0, or 30, or 43 where there are fewer.
     pub fn account(&mut self, place: usize, accepted: &[Accepted], out: &mut AccountOut) -> u32
-        ensures { DoesEvent M.disk self.old events.Status (λ reply. (result ≡ lane_place reply place) × (out.new ≡ account_given reply place accepted.now self.new.world.recorder.kept out.old)) self.new }
+        ensures { DoesEvent M.disk self.old events.Status (λ reply. (result ≡ lane_place reply place)
+            × (out.new ≡ account_given reply place accepted.now self.new.world.recorder.kept out.old)) self.new }
     {
         let reply = self.tell(Event::Status);
         put_account(&reply, place, accepted, &self.world, out)

@@ -63,7 +63,8 @@ impl<M: BlockMedium> Desk<M> {
 
     /// Takes at most so many waiting messages of a channel into the file, and says how many: 0, or 1, 2, 5, 6, 25, 28, 30.
     pub fn pump(&mut self, channel: u16, most: usize, moved: &mut usize) -> u32
-        ensures { DoesEvent M.disk self.old (events.Pump channel most) (λ reply. (result ≡ number_of reply) × (moved.new ≡ moved_in reply moved.old)) self.new }
+        ensures { DoesEvent M.disk self.old (events.Pump channel most)
+            (λ reply. (result ≡ number_of reply) × (moved.new ≡ moved_in reply moved.old)) self.new }
     {
         let reply = self.tell(Event::Pump { channel, most });
         *moved = moved_in(&reply, *moved);
@@ -88,7 +89,8 @@ impl<M: BlockMedium> Desk<M> {
 
     /// Takes in what waits and ends the file, and says how many messages it took and left: 0, or 1, 2, 5, 28, 30.
     pub fn stop(&mut self, taken: &mut usize, left: &mut usize) -> u32
-        ensures { DoesEvent M.disk self.old events.Stop (λ reply. (result ≡ number_of reply) × (taken.new ≡ taken_out reply taken.old) × (left.new ≡ left_out reply left.old)) self.new }
+        ensures { DoesEvent M.disk self.old events.Stop (λ reply. (result ≡ number_of reply)
+            × (taken.new ≡ taken_out reply taken.old) × (left.new ≡ left_out reply left.old)) self.new }
     {
         let reply = self.tell(Event::Stop);
         *taken = taken_in(&reply, *taken);
