@@ -1,4 +1,5 @@
 /* A long file in parts: what they give, one after the other, is what one cursor gives at once.
+ * A file that grows in parts: the program keeps each part's cursor and advances it again, so that what comes late is given too.
  * The entries are taken in two calls, into memory of their own length. */
 #include <inttypes.h>
 #include <stdio.h>
@@ -141,6 +142,112 @@ static void in_parts(const char *what, const uint16_t *ids, size_t id_count, uin
     printf(": %s\n", same ? "as at once" : "NOT as at once");
 }
 
+/* ---- a file that grows */
+
+enum { ROUNDS = 40, EACH = 60, KEPT = 400 };
+
+/* Entries by count, channel, length and content. */
+static int compare(const void *one, const void *other) {
+    const taken *a = one, *b = other;
+    if (a->count != b->count)
+        return a->count < b->count ? -1 : 1;
+    if (a->channel != b->channel)
+        return a->channel < b->channel ? -1 : 1;
+    if (a->length != b->length)
+        return a->length < b->length ? -1 : 1;
+    return a->sum < b->sum ? -1 : a->sum > b->sum;
+}
+
+/* Takes all that a cursor has, which are counts of a part in order, and says how many that was. */
+static size_t take_part(size_t cursor, uint64_t first, uint64_t last, size_t *count) {
+    size_t got = 0;
+    while (*count < ALL && next(cursor, &again[*count])) {
+        const taken *it = &again[*count];
+        if (it->count < first || it->count > last || (got > 0 && it->count < it[-1].count))
+            printf("an entry of another part, or out of order\n");
+        got++;
+        ++*count;
+    }
+    return got;
+}
+
+/* A round of the recording: channel 3 keeps up, and channel 4 comes three seconds late. A tick ends the round, and all is shown. */
+static void record_round(unsigned round) {
+    const r10_civil civil = {2024, 2, 29, 12, 34, 56, 78};
+    const uint64_t second = 10000000, late = 3 * second;
+    uint8_t bytes[8];
+    uint16_t words[3] = {0};
+    size_t moved;
+    for (unsigned n = 0; n < EACH; n++) {
+        uint64_t count = (round + 4) * second + n * (second / EACH);
+        memcpy(bytes, &count, sizeof bytes);
+        words[1] = (uint16_t)n;
+        must("offer", r10_offer_uart(&recorder, 3, count, false, 0, bytes, sizeof bytes));
+        if (n % 4 == 0)
+            must("offer", r10_offer_1553(&recorder, 4, count - late, 0, 0, words, 3));
+    }
+    must("pump", r10_pump(&recorder, 3, EACH, &moved));
+    must("pump", r10_pump(&recorder, 4, EACH, &moved));
+    must("tick", r10_tick(&recorder, (round + 5) * second, &civil));
+    must("commit", r10_commit(&recorder));
+}
+
+/* Reads while it records, at most so many entries of a part at a time: new parts up to the last tick, and what came late to those of before. */
+static void while_it_grows(size_t most) {
+    const r10_civil civil = {2024, 2, 29, 12, 34, 56, 78};
+    static struct {
+        size_t cursor;
+        uint64_t first, last;
+    } kept[KEPT];
+    size_t kept_count = 0, count = 0, queued, late = 0, largest = 0, took, left;
+    r10_parts parts = {0, 0, 0};
+    must("format", r10_format((r10_region){memory, BLOCKS}, 64, script, strlen(script), &recorder));
+    must("mount", r10_mount(&recorder));
+    must("tick", r10_tick(&recorder, 1000, &civil));
+    must("start", r10_start(&recorder, "GROWS", 5, "", 0));
+    for (unsigned round = 0; round <= ROUNDS; round++) {
+        if (round < ROUNDS)
+            record_round(round);
+        else
+            must("stop", r10_stop(&recorder, &took, &left));
+        for (size_t n = 0; n < kept_count; n++) {
+            must("advance", r10_advance(&recorder, kept[n].cursor, &queued));
+            late += take_part(kept[n].cursor, kept[n].first, kept[n].last, &count);
+        }
+        /* (not every round, so that there is more than one part) */
+        if (round % 8 != 7 && round != ROUNDS)
+            continue;
+        parts.to = (round + 5) * (uint64_t)10000000;
+        for (;;) {
+            bool there;
+            uint64_t first = parts.from;
+            size_t cursor;
+            must("part", r10_part(&recorder, &parts, 0, NULL, 0, most, &there, &cursor, &queued));
+            if (!there)
+                break;
+            if (kept_count == KEPT) {
+                printf("more parts than there is room for\n");
+                exit(1);
+            }
+            kept[kept_count].cursor = cursor;
+            kept[kept_count].first = first;
+            kept[kept_count++].last = parts.from - 1;
+            if (queued > largest)
+                largest = queued;
+            take_part(cursor, first, parts.from - 1, &count);
+        }
+    }
+    size_t wanted = at_once(NULL, 0, 0, ((uint64_t)1 << 48) - 1);
+    qsort(whole, wanted, sizeof *whole, compare);
+    qsort(again, count, sizeof *again, compare);
+    bool same = count == wanted;
+    for (size_t n = 0; n < count && same; n++)
+        same = compare(&whole[n], &again[n]) == 0 && whole[n].kind == again[n].kind;
+    printf("while it grows, at most %zu: %zu entries in %zu parts, at most %zu in a new one, %zu late", most, count, kept_count, largest, late);
+    printf(": %s\n", same ? "each once" : "NOT each once");
+    r10_close(&recorder);
+}
+
 int main(void) {
     const uint16_t one[1] = {4};
     const uint64_t end = ((uint64_t)1 << 48) - 1;
@@ -167,6 +274,8 @@ int main(void) {
     r10_close(&recorder);
     printf("take, closed: %u\n", r10_take(&recorder, 0, &there, &entry));
     printf("taken, closed: %u\n", r10_taken(&recorder, NULL, 0, NULL, 0));
+    while_it_grows(50);
+    while_it_grows(1000000);
     free(memory);
     return 0;
 }

@@ -37,7 +37,7 @@
  *  - The queue of operations takes 528 bytes a place. `room` places are there from the start, and when each call begins. Where more
  *    wait it grows. A stop or a seal puts the whole index into it: 20.4 bytes a packet. A recorder keeps 32 bytes for each packet of
  *    the file that is recorded.
- *  - r10_advance queues all that was shown since the last call. A long file is read in parts by r10_part.
+ *  - r10_advance queues all that was shown since the last call. A long file is read in parts by r10_part, also one that grows.
  *
  * Time
  *  - A pump is refused R10_MEDIUM_FULL by the most that its entries may need, which is 104 bytes and more each: see docs/USING.md for how full a medium gets. Stop
@@ -534,8 +534,11 @@ typedef struct r10_parts {
  * on, as far as at most `most` entries are queued, or all of one count. Then parts->from is the first count that is not read yet, and
  * above parts->to once all is read. `there` says whether there was a part; one may have no entries. The program takes the entries,
  * and closes the cursor. Of a file that does not grow, the parts one after the other are what one cursor over all counts gives at
- * once. Of a file that is recorded, what is shown later with a count below parts->from is not given. Numbers as r10_cursor and
- * r10_advance. */
+ * once.
+ *
+ * A file that is recorded may show entries later whose counts were read already. So a program that follows it sets parts->to to a
+ * count that the recording has reached, and keeps the cursor of each part. After later commits it advances these again, which gives
+ * what came late, and raises parts->to for new parts. So each entry is given once. Numbers as r10_cursor and r10_advance. */
 static inline uint32_t r10_part(r10 *recorder, r10_parts *parts, size_t file, const uint16_t *ids, size_t id_count, size_t most,
                                 /* out */ bool *there, size_t *cursor, size_t *queued) {
     if (recorder == NULL)

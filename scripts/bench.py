@@ -4,11 +4,13 @@
     scripts/bench.py [MESSAGES]                    three runs of each, in turn; of each measure the middle one
     scripts/bench.py [MESSAGES] --instructions     instructions a message too, by valgrind, of smaller runs
     scripts/bench.py [MESSAGES] --memory           the memory that a replay takes too, by bench/count_malloc.c
+    scripts/bench.py [MESSAGES] --lengths          recording alone, by the length of its messages
 
 MESSAGES is 1,000,000 where no number is given. The proved program is crates/r10_bench/out/r10_bench, or that of --proved. The plain
 one is built by cargo where it is not there or older than its source, without a registry; --plain names another. Both measure the
-processor time of their thread. A ratio is how fast the proved program is, of the plain one: at 0.50 it takes twice as long. Status
-1 where the file of one, its index or its replay has another size than that of the other.
+processor time of their thread. A ratio is how fast the proved program is, of the plain one: at 0.50 it takes twice as long. How
+quick the machine was, by sums and by jumps through a table, is measured before and after. Status 1 where the file of one, its index
+or its replay has another size than that of the other.
 """
 import argparse
 import os
@@ -71,6 +73,9 @@ LINES = (
 )
 
 
+# Messages of several lengths, in bytes, which both programs measure.
+LENGTH_LINE = r'recorder: (\d+) messages of (\d+) bytes, .* us +(\d+) messages/s'
+
 # The numbers of messages of which instructions are counted.
 COUNTED = (65536, 131072)
 
@@ -97,6 +102,22 @@ def proved_figures(text):
     if 'check-time' in found:
         found['check'] = found['recorder-file'] * 1000000 // max(1, found['check-time'])
     return found
+
+
+def figures_by_length(text):
+    """What the proved program printed of messages of several lengths: messages a second."""
+    found = {}
+    for line in text.splitlines():
+        seen = re.match(LENGTH_LINE, line)
+        if seen:
+            found['length-%s' % seen.group(2)] = int(seen.group(3))
+    return found
+
+
+def state_of(plain):
+    """How quick the machine is now."""
+    found = plain_figures(output([plain, 1, 'state']))
+    return '%.2f billion sums and %.0f million jumps' % (found['state-sums'] / 1e9, found['state-jumps'] / 1e6)
 
 
 def plain_figures(text):
@@ -150,6 +171,15 @@ def print_table(proved, plain):
     print('\nThe runs of a measure lie up to %d of 100 apart.' % widest)
 
 
+def print_lengths(proved, plain):
+    """The table of recording by the length of messages."""
+    print('| Bytes of a message | Proved | Plain | Ratio |\n|---|---|---|---|')
+    for name in sorted(plain[0], key=lambda it: int(it.partition('-')[2])):
+        (ours, _), (theirs, _) = middle(proved, name), middle(plain, name)
+        print('| %s | %s | %s | %s |' % (name.partition('-')[2], told(ours, 'messages/s'), told(theirs, 'messages/s'),
+                                         ratio(ours, theirs, 'messages/s')))
+
+
 def differing(proved, plain):
     """What the programs do not agree on."""
     for name, words in SAME:
@@ -171,7 +201,7 @@ def print_machine(words, before):
     """Where, when and of what the figures are."""
     lines = pathlib.Path('/proc/cpuinfo').read_text(encoding='utf-8').splitlines()
     model = next((line.partition(':')[2].strip() for line in lines if line.startswith('model name')), 'unknown')
-    load = 'load %.1f before, %.1f behind' % (before, os.getloadavg()[0])
+    load = 'load %.1f before, %.1f after' % (before, os.getloadavg()[0])
     commit = first_line(['git', 'rev-parse', '--short', 'HEAD'])
     print('%s, %d processors, %s; %s; commit %s; %s.' % (model, os.cpu_count(), load,
                                                          time.strftime('%d %B %Y, %H:%M UTC', time.gmtime()), commit,
@@ -260,16 +290,25 @@ def main(words):
     parser.add_argument('--runs', type=int, default=3)
     parser.add_argument('--instructions', action='store_true')
     parser.add_argument('--memory', action='store_true')
+    parser.add_argument('--lengths', action='store_true')
     words = parser.parse_args(words)
     if not words.proved.is_file():
         sys.exit('bench: there is no %s: rt run in crates/r10_bench makes it' % words.proved)
     if words.plain == PLAIN:
         subprocess.run(['cargo', 'build', '--release', '--offline', '--quiet'], cwd=TOP / 'bench', check=True)
-    before, proved, plain = os.getloadavg()[0], [], []
+    before, proved, plain, first = os.getloadavg()[0], [], [], state_of(words.plain)
     for _ in range(words.runs):
-        proved.append(proved_figures(output([words.proved, words.messages])))
-        plain.append(plain_figures(output([words.plain, words.messages])))
+        if words.lengths:
+            proved.append(figures_by_length(output([words.proved, 'lengths', words.messages])))
+            plain.append(plain_figures(output([words.plain, words.messages, 'lengths'])))
+        else:
+            proved.append(proved_figures(output([words.proved, words.messages])))
+            plain.append(plain_figures(output([words.plain, words.messages])))
     print_machine(words, before)
+    print('The machine, a second: %s before, %s after.\n' % (first, state_of(words.plain)))
+    if words.lengths:
+        print_lengths(proved, plain)
+        return 0
     print_table(proved, plain)
     wrong = list(differing(proved, plain))
     for line in wrong:

@@ -220,7 +220,7 @@ class Build:
         (folder / 'out').mkdir(exist_ok=True)
         crate = self.crates.of[name]
         words = ['setpriv', '--pdeathsig', 'TERM'] if shutil.which('setpriv') else []
-        words += ['rt', 'run' if crate.is_program else 'lib', '--jobs', str(jobs)]
+        words += [sys.executable, str(TOP / 'scripts' / 'rt_once.py'), 'run' if crate.is_program else 'lib', '--jobs', str(jobs)]
         given = folder / 'stdin'
         with open(given if crate.is_program and given.is_file() else os.devnull, 'rb') as stdin, open(self.log(name), 'wb') as log:
             # (in a session of its own, so that all that it started can be ended)

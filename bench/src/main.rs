@@ -16,12 +16,12 @@ mod tests;
 use fault::Fault;
 use std::process::ExitCode;
 
-const USAGE: &str =
-    "usage: r10_plain MESSAGES [channel|record|replay|follow|find|close|judge|write]..";
+const USAGE: &str = "usage: r10_plain MESSAGES [channel|record|replay|follow|find|close|judge|lengths|state|write]..";
 
-/// The parts that are run where none is named. Of the others, `record` is `replay` without the replay, and `write` writes the file that is recorded.
+/// The parts that are run where none is named. Of the others, `record` is `replay` without the replay, `lengths` is `record` with
+/// messages of several lengths, `state` says how quick the machine is, and `write` writes the file that is recorded.
 const ALL: [&str; 6] = ["channel", "replay", "follow", "find", "close", "judge"];
-const OTHERS: [&str; 2] = ["record", "write"];
+const OTHERS: [&str; 4] = ["record", "lengths", "state", "write"];
 
 fn run(part: &str, number: u32) -> Result<(), Fault> {
     match part {
@@ -31,6 +31,8 @@ fn run(part: &str, number: u32) -> Result<(), Fault> {
         "follow" => measures::follow(number),
         "find" => measures::find(number),
         "close" => measures::close(number),
+        "lengths" => measures::lengths(number),
+        "state" => measures::state(),
         "write" => measures::write(number),
         _ => measures::judge(number),
     }

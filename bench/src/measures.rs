@@ -29,6 +29,13 @@ const INSTALMENT: u32 = 4;
 /// The greatest number of entries in a packet.
 const NUMBER: usize = 65_535;
 
+/// The bytes of each message, unless a measure is of other lengths.
+const TEXT: [u8; 32] = [0x55; 32];
+
+/// The lengths of messages that are measured by themselves, and the least number of messages of one.
+const LENGTHS: [usize; 9] = [8, 16, 32, 39, 64, 255, 256, 1000, 60_000];
+const LEAST: u64 = 1024;
+
 /// How often an entry is looked for.
 const SEARCHES: u32 = 10_000;
 
@@ -67,10 +74,15 @@ fn make(numbers: Range<u32>, text: &[u8]) -> Vec<Timed> {
     numbers.map(one).collect()
 }
 
+/// The messages of a round, before a number, with these bytes each.
+fn make_round_of(round: u32, number: u32, text: &[u8]) -> Vec<Timed> {
+    let first = round * ROUND;
+    make(first..number.min(first + ROUND), text)
+}
+
 /// The messages of a round, before a number.
 fn make_round(round: u32, number: u32) -> Vec<Timed> {
-    let first = round * ROUND;
-    make(first..number.min(first + ROUND), &[0x55; 32])
+    make_round_of(round, number, &TEXT)
 }
 
 fn spec(id: u16, capacity: usize, check: usize, number: usize) -> Spec {
@@ -89,7 +101,12 @@ type InMemory = Recorder<Memory>;
 
 /// A recorder that records a file, with room for so many messages, of which so many stand in a packet at most.
 fn begin(messages: u32, number: usize) -> Result<InMemory, Refusal> {
-    let medium = Memory::new((148 * u64::from(messages) / 512 + 64) as usize);
+    begin_with(messages, TEXT.len(), number)
+}
+
+/// The same for messages of so many bytes each.
+fn begin_with(messages: u32, bytes: usize, number: usize) -> Result<InMemory, Refusal> {
+    let medium = Memory::new(((117 + bytes as u64) * u64::from(messages) / 512 + 64) as usize);
     let specs = CHANNELS.map(|id| spec(id, WAITING, 2, number));
     Recorder::begin(
         medium,
@@ -175,11 +192,11 @@ fn record_round(recorder: &mut InMemory, messages: Vec<Timed>, round: u32) -> Re
 }
 
 /// Records a file and closes it.
-fn record_all(number: u32) -> Result<(InMemory, Duration), Fault> {
-    let mut recorder = begin(number, NUMBER)?;
+fn record_all(number: u32, text: &[u8]) -> Result<(InMemory, Duration), Fault> {
+    let mut recorder = begin_with(number, text.len(), NUMBER)?;
     let mut recording = Duration::ZERO;
     for round in 0..number.div_ceil(ROUND) {
-        let messages = make_round(round, number);
+        let messages = make_round_of(round, number, text);
         timed(&mut recording, || {
             record_round(&mut recorder, messages, round)
         })??;
@@ -188,6 +205,61 @@ fn record_all(number: u32) -> Result<(InMemory, Duration), Fault> {
         return Err(Fault::Lost);
     }
     Ok((recorder, recording))
+}
+
+/// What one step of the machine's state is measured by: sums over 32 KiB, and calls through a table of functions.
+const SUMMED: usize = 4096;
+const ROUNDS_OF_SUMS: u32 = 20_000;
+const JUMPS: u32 = 50_000_000;
+
+type Step = fn(u64) -> u64;
+
+const STEPS_BY_TABLE: [Step; 4] = [
+    |n| n.wrapping_mul(5).wrapping_add(1),
+    |n| n ^ (n >> 3),
+    |n| n.rotate_left(7).wrapping_add(3),
+    |n| n.wrapping_sub(11),
+];
+
+/// How quick the machine is now: a loop of sums, and calls whose place in a table no processor foresees. Others that share a
+/// machine change both, so each table of figures has them before and after.
+pub fn state() -> Result<(), Fault> {
+    let numbers: Vec<u64> = (0..SUMMED as u64).collect();
+    let (mut summing, mut jumping) = (Duration::ZERO, Duration::ZERO);
+    let mut sum = 0u64;
+    timed(&mut summing, || {
+        for _ in 0..ROUNDS_OF_SUMS {
+            for &number in black_box(&numbers) {
+                sum = sum.wrapping_add(black_box(number));
+            }
+        }
+    })?;
+    let mut at = black_box(sum);
+    timed(&mut jumping, || {
+        for _ in 0..JUMPS {
+            at = black_box(STEPS_BY_TABLE)[(at % 4) as usize](at);
+        }
+    })?;
+    black_box(at);
+    let sums = u64::from(ROUNDS_OF_SUMS) * SUMMED as u64;
+    say("state-sums", a_second(sums, summing), "sums/s");
+    say("state-jumps", a_second(JUMPS.into(), jumping), "jumps/s");
+    Ok(())
+}
+
+/// The whole recorder with messages of several lengths: so many of up to 64 bytes, of longer ones as many bytes together.
+pub fn lengths(number: u32) -> Result<(), Fault> {
+    for length in LENGTHS {
+        let messages =
+            (u64::from(number) * 64 / length.max(64) as u64).clamp(LEAST, u32::MAX.into()) as u32;
+        let (_, recording) = record_all(messages, &vec![0x55; length])?;
+        say(
+            &format!("length-{length}"),
+            a_second(messages.into(), recording),
+            "messages/s",
+        );
+    }
+    Ok(())
 }
 
 fn take_all(cursor: &mut Cursor) -> u64 {
@@ -208,14 +280,14 @@ fn take_instalment(recorder: &mut InMemory, cursor: &mut Cursor) -> Result<u64, 
 
 /// Writes the file that is recorded to standard output.
 pub fn write(number: u32) -> Result<(), Fault> {
-    let (mut recorder, _) = record_all(number)?;
+    let (mut recorder, _) = record_all(number, &TEXT)?;
     io::stdout().write_all(recorder.bytes()?)?;
     Ok(())
 }
 
 /// The whole recorder, and where it is asked for the replay of what it recorded.
 pub fn recorder(number: u32, replays: bool) -> Result<(), Fault> {
-    let (mut recorder, recording) = record_all(number)?;
+    let (mut recorder, recording) = record_all(number, &TEXT)?;
     say("recorder", a_second(number.into(), recording), "messages/s");
     say("recorder-file", recorder.size().into(), "bytes");
     if !replays {

@@ -4,7 +4,7 @@ use crate::fault::Fault;
 use crate::figures::a_second;
 use crate::finding::fill;
 use crate::mounted::{InMemory, begin};
-use crate::whole::size_of_file;
+use crate::whole::{LENGTH, size_of_file};
 use std::alloc::Global;
 use std::fmt;
 use std::time::{CpuClock, Duration};
@@ -41,7 +41,7 @@ fn close<R: CpuClock>(rt: &R, recorder: &mut InMemory) -> Result<Duration, Fault
 /// index.
 pub fn run<R: CpuClock>(rt: &R, alloc: Global, number: u32) -> Result<CloseFigures, Fault> {
     let packets = number.min(MOST);
-    let mut recorder = begin(alloc, packets, 1)?;
+    let mut recorder = begin(alloc, packets, LENGTH, 1)?;
     fill(rt, alloc, &mut recorder, packets, STEP)?;
     let shown = size_of_file(&recorder)?;
     let closing = close(rt, &mut recorder)?;

@@ -3,7 +3,7 @@
 use crate::fault::Fault;
 use crate::figures::a_second;
 use crate::mounted::{InMemory, begin, channel_of};
-use crate::whole::{make_round, record, rounds};
+use crate::whole::{LENGTH, TEXT, make_round, record, rounds};
 use r10_body::Refusal;
 use r10_machine::Found;
 use std::alloc::Global;
@@ -44,7 +44,7 @@ pub(crate) fn fill<R: CpuClock>(
 ) -> Result<Duration, Fault> {
     let mut recording = Duration::default();
     for round in 0..rounds(packets) {
-        let messages = make_round(alloc, round, packets)?;
+        let messages = make_round(alloc, round, packets, &TEXT)?;
         let start = rt.thread_cpu_time()?;
         record(recorder, messages, step)?;
         let time = rt.thread_cpu_time()?.saturating_sub(start);
@@ -91,7 +91,7 @@ pub fn run<R: CpuClock>(
     number: u32,
 ) -> Result<FindFigures, Fault> {
     let packets = number.clamp(1, MOST);
-    let mut recorder = begin(alloc, packets, 1)?;
+    let mut recorder = begin(alloc, packets, LENGTH, 1)?;
     let recording = fill(rt, alloc, &mut recorder, packets, step)?;
     let start = rt.thread_cpu_time()?;
     let found = find_all(&mut recorder, packets, step)?;

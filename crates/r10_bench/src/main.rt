@@ -13,6 +13,7 @@ mod fault;
 mod figures;
 mod finding;
 mod lanes;
+mod lengths;
 mod messages;
 mod mounted;
 mod path;
@@ -31,6 +32,8 @@ enum Asked {
     All(u32),
     /// Only the part that closes a file, of so many packets.
     Close(u32),
+    /// Only the whole recorder, with messages of several lengths: so many of 64 bytes, of others as many bytes together.
+    Lengths(u32),
 }
 
 fn read_words<R: Env + AllocGlobal>(rt: &R) -> io::Result<Option<Asked>> {
@@ -38,7 +41,8 @@ fn read_words<R: Env + AllocGlobal>(rt: &R) -> io::Result<Option<Asked>> {
     let Some(first) = words.nth(1) else {
         return Ok(None);
     };
-    if first.as_str() != "close" {
+    let closes = first.as_str() == "close";
+    if !closes && first.as_str() != "lengths" {
         let Ok(number) = first.parse() else {
             return Ok(None);
         };
@@ -50,7 +54,10 @@ fn read_words<R: Env + AllocGlobal>(rt: &R) -> io::Result<Option<Asked>> {
     let Ok(number) = second.parse() else {
         return Ok(None);
     };
-    Ok(Some(Asked::Close(number)))
+    if closes {
+        return Ok(Some(Asked::Close(number)));
+    }
+    Ok(Some(Asked::Lengths(number)))
 }
 
 fn main(rt: HostRuntime) -> Result<ExitCode, Fault> {
@@ -61,8 +68,17 @@ fn main(rt: HostRuntime) -> Result<ExitCode, Fault> {
             print!(rt; "{figures}")?;
             return Ok(ExitCode::SUCCESS);
         }
+        Some(Asked::Lengths(number)) => {
+            for length in &lengths::LENGTHS {
+                let figures = lengths::run(&rt, rt.alloc(), *length, number)?;
+                print!(rt; "{figures}")?;
+            }
+            return Ok(ExitCode::SUCCESS);
+        }
         None => {
-            println!(rt; "usage: r10_bench MESSAGES, or r10_bench close PACKETS")?;
+            println!(rt;
+                "usage: r10_bench MESSAGES, or r10_bench close PACKETS, or r10_bench lengths MESSAGES"
+            )?;
             return Ok(ExitCode::from(2));
         }
     };
@@ -70,7 +86,7 @@ fn main(rt: HostRuntime) -> Result<ExitCode, Fault> {
     print!(rt; "{figures}")?;
     let book = book::run(&rt, rt.alloc(), number)?;
     print!(rt; "{book}")?;
-    let (figures, recorder) = whole::run(&rt, rt.alloc(), number)?;
+    let (figures, recorder) = whole::run(&rt, rt.alloc(), number, whole::LENGTH, &whole::TEXT)?;
     print!(rt; "{figures}")?;
     let figures = replay::run(&rt, rt.alloc(), recorder, figures.messages)?;
     print!(rt; "{figures}")?;

@@ -23,8 +23,8 @@ pub(crate) const CHANNELS: [u16; 4] = [3, 4, 5, 6];
 /// How many messages may wait on a channel.
 pub(crate) const WAITING: usize = 256;
 
-/// What a recorder counts at most for a message of 32 bytes in a packet of its own, in bytes of the medium.
-const COST: u64 = 148;
+/// What a recorder counts at most for a message in a packet of its own, in bytes of the medium, beside the message's own.
+const COST: u64 = 117;
 
 /// How many blocks a medium may have.
 const MOST_BLOCKS: u64 = 16_777_216;
@@ -67,17 +67,22 @@ fn channels_for(alloc: Global, number: usize) -> Result<Vec<ChannelSpec>, AllocE
     Ok(channels)
 }
 
-/// The blocks of a medium with room for so many messages.
-fn blocks_for(messages: u32) -> usize {
-    let blocks = COST * u64::from(messages) / 512 + 64;
+/// The blocks of a medium with room for so many messages of so many bytes each.
+fn blocks_for(messages: u32, bytes: u16) -> usize {
+    let blocks = (COST + u64::from(bytes)) * u64::from(messages) / 512 + 64;
     blocks.min(MOST_BLOCKS) as usize
 }
 
-/// Settings for so many messages, of which so many stand in a packet at most.
-fn settings_for(alloc: Global, messages: u32, number: usize) -> Result<Settings, Fault> {
+/// Settings for so many messages of so many bytes each, of which so many stand in a packet at most.
+fn settings_for(
+    alloc: Global,
+    messages: u32,
+    bytes: u16,
+    number: usize,
+) -> Result<Settings, Fault> {
     let channels = channels_for(alloc, number)?;
     let volume = Vec::from_slice(alloc, b"BENCH")?;
-    let blocks = blocks_for(messages);
+    let blocks = blocks_for(messages, bytes);
     let Ok(settings) = Settings::of(blocks, 2, volume, 32_765, 1, 2, channels) else {
         return Err(Fault::Settings);
     };
@@ -117,9 +122,14 @@ fn make_recorder(alloc: Global, settings: Settings) -> Result<InMemory, Fault> {
     }
 }
 
-/// A recorder that records a file, with room for so many messages, of which so many stand in a packet at most.
-pub(crate) fn begin(alloc: Global, messages: u32, number: usize) -> Result<InMemory, Fault> {
-    let settings = settings_for(alloc, messages, number)?;
+/// A recorder that records a file, with room for so many messages of so many bytes each, of which so many stand in a packet at most.
+pub(crate) fn begin(
+    alloc: Global,
+    messages: u32,
+    bytes: u16,
+    number: usize,
+) -> Result<InMemory, Fault> {
+    let settings = settings_for(alloc, messages, bytes, number)?;
     let mut recorder = make_recorder(alloc, settings)?;
     recorder.mount()?;
     recorder.tick(0, START)?;

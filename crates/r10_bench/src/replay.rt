@@ -5,7 +5,7 @@
 use crate::fault::Fault;
 use crate::figures::a_second;
 use crate::mounted::{InMemory, begin};
-use crate::whole::{NUMBER, make_round, record, rounds};
+use crate::whole::{LENGTH, NUMBER, TEXT, make_round, record, rounds};
 use r10_body::Refusal;
 use r10_count::Items;
 use r10_cursor::Cursor;
@@ -100,10 +100,10 @@ pub(crate) fn follow<R: CpuClock>(
     number: u32,
 ) -> Result<ReplayFigures, Fault> {
     let mut figures = ReplayFigures::default();
-    let mut recorder = begin(alloc, number, NUMBER)?;
+    let mut recorder = begin(alloc, number, LENGTH, NUMBER)?;
     let mut cursor = open(alloc, &mut recorder)?;
     for round in 0..rounds(number) {
-        record(&mut recorder, make_round(alloc, round, number)?, 1)?;
+        record(&mut recorder, make_round(alloc, round, number, &TEXT)?, 1)?;
         if round % ROUNDS == ROUNDS - 1 {
             recorder.commit()?;
             take_instalment(rt, &mut recorder, &mut cursor, &mut figures)?;

@@ -19,13 +19,18 @@ const ROUNDS: u32 = 64;
 /// The most entries of a packet that a channel may ask for.
 pub(crate) const NUMBER: usize = 65_535;
 
-/// The bytes of each message.
-const TEXT: [u8; 32] = [0x55; 32];
+/// The bytes of each message, unless a measure is of other lengths.
+pub(crate) const TEXT: [u8; 32] = [0x55; 32];
+
+/// How many these are.
+pub(crate) const LENGTH: u16 = 32;
 
 /// What was measured.
 #[derive(Clone, Copy, Default)]
 pub struct WholeFigures {
     pub messages: u64,
+    /// The bytes of each message.
+    pub length: u16,
     pub commits: u64,
     /// The bytes of the file.
     pub bytes: u64,
@@ -33,10 +38,15 @@ pub struct WholeFigures {
     pub recording: Duration,
 }
 
-/// The messages of a round, by number, before this one.
-pub(crate) fn make_round(alloc: Global, round: u32, number: u32) -> Result<Vec<Timed>, AllocError> {
+/// The messages of a round, by number, before this one, each with these bytes.
+pub(crate) fn make_round(
+    alloc: Global,
+    round: u32,
+    number: u32,
+    text: &[u8],
+) -> Result<Vec<Timed>, AllocError> {
     let first = round.saturating_mul(ROUND);
-    make(alloc, first..number.min(first.saturating_add(ROUND)), &TEXT)
+    make(alloc, first..number.min(first.saturating_add(ROUND)), text)
 }
 
 /// How many rounds so many messages are.
@@ -89,16 +99,21 @@ pub(crate) fn size_of_file(recorder: &InMemory) -> Result<u64, Refusal> {
     }
 }
 
-/// Records so many messages in a file, which is closed then.
+/// Records so many messages of so many bytes each in a file, which is closed then. The bytes are the front of this text.
 pub(crate) fn run<R: CpuClock>(
     rt: &R,
     alloc: Global,
     number: u32,
+    length: u16,
+    text: &[u8],
 ) -> Result<(WholeFigures, InMemory), Fault> {
-    let mut figures = WholeFigures::default();
-    let mut recorder = begin(alloc, number, NUMBER)?;
+    let mut figures = WholeFigures {
+        length,
+        ..WholeFigures::default()
+    };
+    let mut recorder = begin(alloc, number, length, NUMBER)?;
     for round in 0..rounds(number) {
-        let messages = make_round(alloc, round, number)?;
+        let messages = make_round(alloc, round, number, text)?;
         let many = messages.len() as u64;
         let start = rt.thread_cpu_time()?;
         record(&mut recorder, messages, 1)?;
@@ -122,11 +137,12 @@ pub(crate) fn run<R: CpuClock>(
 impl fmt::Display for WholeFigures {
     fn fmt<W: fmt::Write>(&self, f: &mut fmt::Formatter<W>) -> fmt::Result {
         let (messages, commits, bytes) = (self.messages, self.commits, self.bytes);
+        let length = self.length;
         let micros = self.recording.as_micros();
         let rate = a_second(messages, self.recording);
         writeln!(
             f,
-            "recorder: {messages} messages of 32 bytes, checksum 16, {commits} commits: a file of {bytes} bytes, {micros} us {rate:>12} messages/s"
+            "recorder: {messages} messages of {length} bytes, checksum 16, {commits} commits: a file of {bytes} bytes, {micros} us {rate:>12} messages/s"
         )
     }
 }

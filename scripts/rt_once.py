@@ -1,0 +1,64 @@
+#!/usr/bin/env python3
+"""The tool `rt`, with one thing done once that it does along every path: summing up what a crate is made from.
+
+    scripts/rt_once.py WORDS..     as rt WORDS..
+
+The sum of a crate near the top takes the tool a minute or two, before it proves anything. Here each crate is summed up once in a
+run, in which no source may change. What is proved, and how, is the tool's own. scripts/build.py calls this, and so may who works
+by hand; no verdict of `rt ci` rests on it. A tool of another kind than the one that this knows is called as it is.
+"""
+from __future__ import annotations
+
+import importlib.machinery
+import importlib.util
+import os
+import shutil
+import sys
+from types import ModuleType
+
+sys.dont_write_bytecode = True
+
+
+def loaded(path: str) -> ModuleType | None:
+    """The tool as a module, or none where it is no script of Python that has what is changed here."""
+    with open(path, 'rb') as it:
+        first = it.readline()
+    if b'python' not in first or not os.path.isfile(os.path.join(os.path.dirname(path), 'rtlib.py')):
+        return None
+    loader = importlib.machinery.SourceFileLoader('rt_tool', path)
+    made = importlib.util.module_from_spec(importlib.util.spec_from_loader('rt_tool', loader))
+    sys.modules['rt_tool'] = made
+    loader.exec_module(made)
+    crate = getattr(getattr(made, 'rtlib', None), 'Crate', None)
+    return made if crate and hasattr(crate, 'stamp') and hasattr(crate, 'below') and hasattr(made, 'main') else None
+
+
+def keep(crate: type, name: str) -> None:
+    """Has a method without arguments answer the second call for a crate as it did the first."""
+    made, seen = getattr(crate, name), {}
+
+    def call(self):
+        if self.folder not in seen:
+            seen[self.folder] = made(self)
+        it = seen[self.folder]
+        return list(it) if isinstance(it, list) else it
+
+    setattr(crate, name, call)
+
+
+def main(words: list[str]) -> int:
+    """Runs the tool."""
+    found = shutil.which('rt')
+    if not found:
+        print('rt_once: there is no rt', file=sys.stderr)
+        return 3
+    tool = loaded(os.path.realpath(found)) if words[:1] and words[0] in ('check', 'lib', 'run', 'test') else None
+    if tool is None:
+        os.execv(found, [found, *words])
+    keep(tool.rtlib.Crate, 'stamp')
+    keep(tool.rtlib.Crate, 'below')
+    return tool.main(words)
+
+
+if __name__ == '__main__':
+    sys.exit(main(sys.argv[1:]))
