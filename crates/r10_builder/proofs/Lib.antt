@@ -13,4 +13,5 @@ pub mod Places
 pub mod Taking
 pub mod First
 pub mod EachSteps
+pub mod Leaving
 mod Ready

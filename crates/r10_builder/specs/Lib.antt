@@ -10,3 +10,4 @@ pub mod Losses
 pub mod Settings
 pub mod Packed
 pub mod ManyVectors
+pub mod LeftOpen

@@ -1,5 +1,5 @@
 -- Channels and their builders, written out.
-use Rattle.std.specs.Prelude.{◌≡◌, ℕ, true, false, List, [], ◌∷◌, find, None, Some, refl}
+use Rattle.std.specs.Prelude.{◌≡◌, ℕ, true, false, List, [], ◌∷◌, find, map, None, Some, refl}
 use Rattle.r10_body.specs.Vectors.{channel_of}
 use Rattle.r10_body.specs.declared.entry.Sample.{Sample}
 use Rattle.r10_body.specs.declared.gap.Gap.TheVariants.{Whole}
@@ -8,6 +8,8 @@ use Rattle.r10_body.specs.declared.message.Message.TheVariants.{Uart}
 use Rattle.r10_body.specs.declared.spec.ChannelSpec.{ChannelSpec}
 use Rattle.r10_builder.specs.State.{BuilderState}
 use Rattle.r10_builder.specs.Grows.{is_open_builder}
+use Rattle.r10_builder.specs.LeftOpen.{closing, with_taken}
+use Rattle.r10_builder.specs.Packing.{entry_on}
 use Rattle.r10_builder.specs.Settings.{is_of, is_old}
 
 abbrev line : ℕ → ChannelSpec
@@ -45,3 +47,18 @@ nothing-open = refl
 -- at one moment the later channel's packet has aged alone
 pub first-old : find (is_old 1000501) three ≡ Some (holding 9 (text_at 500 ∷ []))
 first-old = refl
+
+-- there it is closed, and nothing else; a count earlier nothing is
+pub closes-old : map (closing (is_old 1000501)) three ≡ [] ∷ (text_at 1000 ∷ text_at 2000 ∷ []) ∷ [] ∷ []
+closes-old = refl
+
+pub closes-none : map (closing (is_old 1000500)) three ≡ [] ∷ (text_at 1000 ∷ text_at 2000 ∷ []) ∷ (text_at 500 ∷ []) ∷ []
+closes-none = refl
+
+-- a sample joins its channel's packet; a late one closes it and begins the next; the others stay
+pub joins-its-packet : map (with_taken (entry_on 9 (text_at 3000) ∷ [])) three ≡ [] ∷ (text_at 1000 ∷ text_at 2000 ∷ []) ∷ (text_at 500 ∷ text_at 3000 ∷ []) ∷ []
+joins-its-packet = refl
+
+pub begins-the-next : map (with_taken (entry_on 6 (text_at 1001001) ∷ entry_on 9 (text_at 3000) ∷ entry_on 6 (text_at 1001002) ∷ [])) three
+    ≡ [] ∷ (text_at 1001001 ∷ text_at 1001002 ∷ []) ∷ (text_at 500 ∷ text_at 3000 ∷ []) ∷ []
+begins-the-next = refl
