@@ -2,3 +2,4 @@ pub mod Writing
 pub mod Putting
 mod Ours
 mod Beginning
+mod Due
