@@ -25,6 +25,9 @@ use Rattle.r10_control.specs.Owns.{OwnsWork}
 use Rattle.r10_volume.specs.Front.{KeepsFront}
 use Rattle.r10_volume.specs.Listing.{block_behind}
 use Rattle.r10_volume.specs.Mounting.{IsMounted, IsUsable}
+use Rattle.r10_builder.specs.Grows.{all_held}
+use Rattle.r10_builder.specs.LeftOpen.{LeavesOpen, closing, still_open}
+use Rattle.r10_builder.specs.Settings.{is_old}
 
 -- of a directory that is used some block is reserved
 pub some_reserved : (reserved : ℕ) (image : Image) (chain : List ChainBlock) → IsUsable reserved image chain → 1 ≤ reserved
@@ -103,14 +106,15 @@ start_effect k old new chain made o tick name setup at ticked first is front pub
 
 pub commit_effect : (k : Kept) (old new : Disk) (chain made : List ChainBlock) (o p : Open) → k.work ≡ recording chain o
     → made ≡ updated (sized (size_of p.recording.out.blocks) (last_listed chain)) chain → KeepsFront k.config.directory (first_of o.recording.out.blocks) old.blocks new.blocks → IsPublished made new
-    → ((text : List ℕ) (entries : List Entry) (n : ℕ) → IsShown old.blocks o text entries n → IsShown new.blocks p text entries (length entries)) → CommitEffect k old (record k { work = recording made p }) new
-commit_effect k old new chain made o p at is front published shows = rw at (record {
+    → ((text : List ℕ) (entries : List Entry) (n : ℕ) → IsShown old.blocks o text entries n → IsShown new.blocks p text entries (length entries)) → all_held p.recording.builders ≡ [] → CommitEffect k old (record k { work = recording made p }) new
+commit_effect k old new chain made o p at is front published shows none = rw at (record {
   effect = record {
     kept = ap (λ (l : List ChainBlock). record k { work = recording l p }) is;
     front = front;
     directory = subst (λ (l : List ChainBlock). IsPublished l new) is published;
   };
   shows = shows;
+  none = none;
 })
 
 pub stop_effect : (k : Kept) (old new : Disk) (chain made : List ChainBlock) (o : Open) (tick : Tick) (taken : List ℕ) → k.work ≡ recording chain o → k.tick ≡ Some tick → IsListedClosed tick.civil chain made new
@@ -138,13 +142,13 @@ idle_tick_effect k disk chain tick at is = rw at (record { kept = refl; front = 
 
 pub tick_effect : (k : Kept) (old new : Disk) (chain : List ChainBlock) (o p : Open) (tick : Tick) → k.work ≡ recording chain o → KeepsFront k.config.directory (first_of o.recording.out.blocks) old.blocks new.blocks → IsDirectory new.blocks chain
     → ((text : List ℕ) (entries : List Entry) (n : ℕ) → IsShown old.blocks o text entries n → IsShown new.blocks p text (entries ++ time_entry_at k.config.time tick.count tick.civil ∷ []) n)
-    → TickEffect tick k old (record k { work = recording chain p; tick = Some tick }) new
-tick_effect k old new chain o p tick at front is takes = rw at (record { effect = record { kept = refl; front = front; directory = is }; takes = takes })
+    → LeavesOpen (closing (is_old tick.count)) o.recording.builders p.recording.builders → TickEffect tick k old (record k { work = recording chain p; tick = Some tick }) new
+tick_effect k old new chain o p tick at front is takes closes = rw at (record { effect = record { kept = refl; front = front; directory = is }; takes = takes; closes = closes })
 
 pub event_effect : (k : Kept) (old new : Disk) (chain : List ChainBlock) (o p : Open) (number count : ℕ) → k.work ≡ recording chain o → KeepsFront k.config.directory (first_of o.recording.out.blocks) old.blocks new.blocks → IsDirectory new.blocks chain
     → ((text : List ℕ) (entries : List Entry) (n : ℕ) → IsShown old.blocks o text entries n → IsShown new.blocks p text (entries ++ next_event o.recording number count ∷ []) n)
-    → EventEffect number count k old (record k { work = recording chain p; last_event = Some count }) new
-event_effect k old new chain o p number count at front is takes = rw at (record { effect = record { kept = refl; front = front; directory = is }; takes = takes })
+    → LeavesOpen still_open o.recording.builders p.recording.builders → EventEffect number count k old (record k { work = recording chain p; last_event = Some count }) new
+event_effect k old new chain o p number count at front is takes closes = rw at (record { effect = record { kept = refl; front = front; directory = is }; takes = takes; closes = closes })
 
 pub pump_effect : (k : Kept) (old new : Disk) (chain : List ChainBlock) (o p : Open) (taken : List ℕ) → k.work ≡ recording chain o → KeepsFront k.config.directory (first_of o.recording.out.blocks) old.blocks new.blocks → IsDirectory new.blocks chain
     → PumpEffect k old (record k { work = recording chain p; taken = taken }) new

@@ -11,6 +11,11 @@ use Rattle.r10_dirchain.specs.declared.chain.ChainBlock.{ChainBlock}
 use Rattle.r10_openfile.specs.Carrying.{EndsIndexed, IsShown}
 use Rattle.r10_packetout.specs.Carries.{time_entry_at}
 use Rattle.r10_body.specs.declared.entry.Entry.{Entry}
+use Rattle.r10_body.specs.declared.entry.Sample.{Sample}
+use Rattle.r10_builder.specs.Grows.{all_held}
+use Rattle.r10_builder.specs.LeftOpen.{LeavesOpen, closing, still_open}
+use Rattle.r10_builder.specs.Settings.{is_old}
+use Rattle.r10_builder.specs.State.{BuilderState}
 use Rattle.r10_volume.specs.Holding.{Open}
 use Rattle.r10_machine.specs.Machine.{Tick}
 use Rattle.r10_means.specs.Kept.{Kept, Work, unmounted, idle, recording, failed}
@@ -71,11 +76,12 @@ abbrev pub StartEffect : List ℕ → List ℕ → Kept → Disk → Kept → Di
 StartEffect name setup k old later new =
     WhereIdle k.work (λ chain. WhereRecording later.work (λ made o. IsSomeAnd k.tick (λ (tick : Tick). StartEffectAt name setup tick chain o k old later new)))
 
--- a commit: the last file is listed with its bytes, and as many blocks as they need; whatever it carried, it shows all of that
+-- a commit: the last file is listed with its bytes, and as many blocks as they need; whatever it carried, it shows all of that, and nothing is open
 pub record CommitEffectAt (chain : List ChainBlock) (o p : Open) (k : Kept) (old : Disk) (later : Kept) (new : Disk) : Type 0 where
   pub effect : Effect (first_of o.recording.out.blocks) (record k { work = recording (updated (sized (size_of p.recording.out.blocks) (last_listed chain)) chain) p })
       (IsPublished (updated (sized (size_of p.recording.out.blocks) (last_listed chain)) chain)) old.blocks later new
   pub shows : (text : List ℕ) (entries : List Entry) (n : ℕ) → IsShown old.blocks o text entries n → IsShown new.blocks p text entries (length entries)
+  pub none : all_held p.recording.builders ≡ []
 
 abbrev pub CommitEffect : Kept → Disk → Kept → Disk → Type 0
 CommitEffect k old later new = WhereRecording k.work (λ chain o. WhereRecording later.work (λ made p. CommitEffectAt chain o p k old later new))
@@ -96,26 +102,27 @@ StopEffect k old later new = WhereRecording k.work (λ chain o. IsSomeAnd k.tick
 
 -- ---- what is put into the file that is recorded, and not shown yet
 
--- the file that is recorded goes on with this entry behind all that it carried, and shows what it showed
-pub record EntryEffect (entry : Entry) (chain : List ChainBlock) (o p : Open) (made : Kept) (old : Image) (later : Kept) (new : Disk) : Type 0 where
+-- the file that is recorded goes on with this entry behind all that it carried, and shows what it showed; this is left in the open packet of each channel
+pub record EntryEffect (entry : Entry) (left : BuilderState → List Sample) (chain : List ChainBlock) (o p : Open) (made : Kept) (old : Image) (later : Kept) (new : Disk) : Type 0 where
   pub effect : Effect (first_of o.recording.out.blocks) made (HasDirectory chain) old later new
   pub takes : (text : List ℕ) (entries : List Entry) (n : ℕ) → IsShown old o text entries n → IsShown new.blocks p text (entries ++ entry ∷ []) n
+  pub closes : LeavesOpen left o.recording.builders p.recording.builders
 
--- a tick: the clock is set; while a file is recorded, it takes in the time
+-- a tick: the clock is set; while a file is recorded, it takes in the time, and of the open packets it closes those that are old
 abbrev pub TickEffectIn : Work → Work → Tick → Kept → Disk → Kept → Disk → Type 0
 TickEffectIn (idle chain) now tick k old later new = Effect (length old.blocks) (record k { tick = Some tick }) (HasDirectory chain) old.blocks later new
 TickEffectIn (recording chain o) (recording made p) tick k old later new =
-    EntryEffect (time_entry_at k.config.time tick.count tick.civil) chain o p (record k { work = recording chain p; tick = Some tick }) old.blocks later new
+    EntryEffect (time_entry_at k.config.time tick.count tick.civil) (closing (is_old tick.count)) chain o p (record k { work = recording chain p; tick = Some tick }) old.blocks later new
 TickEffectIn was now tick k old later new = ⊥
 
 abbrev pub TickEffect : Tick → Kept → Disk → Kept → Disk → Type 0
 TickEffect tick k old later new = TickEffectIn k.work later.work tick k old later new
 
--- an event: the last event's count is set, and the file takes in the event, which tells how many of its number came before it
+-- an event: the last event's count is set, and the file takes in the event, which tells how many of its number came before it; no packet is closed
 abbrev pub EventEffect : ℕ → ℕ → Kept → Disk → Kept → Disk → Type 0
 EventEffect number count k old later new =
     WhereRecording k.work (λ chain o. WhereRecording later.work (λ made p.
-    EntryEffect (next_event o.recording number count) chain o p (record k { work = recording chain p; last_event = Some count }) old.blocks later new))
+    EntryEffect (next_event o.recording number count) still_open chain o p (record k { work = recording chain p; last_event = Some count }) old.blocks later new))
 
 -- a pump: the channel's number of what was taken in rises
 abbrev pub PumpEffect : Kept → Disk → Kept → Disk → Type 0

@@ -11,6 +11,7 @@ use Rattle.r10_body.specs.declared.entry.Sample.{Sample}
 use Rattle.r10_body.specs.declared.refusal.Refusal.{Refusal}
 use Rattle.r10_body.specs.declared.refusal.Refusal.TheVariants.{Medium, MediumFull, OutOfMemory}
 use Rattle.r10_body.specs.declared.spec.ChannelSpec.{ChannelSpec}
+use Rattle.r10_builder.specs.LeftOpen.{LeavesOpen, with_taken}
 use Rattle.r10_builder.specs.State.{HasRoomForTwo}
 use Rattle.r10_dirblock.specs.declared.entry.Entry.{Entry as DirectoryEntry}
 use Rattle.r10_dirchain.specs.declared.chain.ChainBlock.{ChainBlock}
@@ -68,6 +69,11 @@ abbrev pub GoesInto : (ℕ → ℕ) → Config → Work → List Part → Type 0
 GoesInto most s (recording chain o) parts = WentThrough most s o parts
 GoesInto most s work parts = ⊥
 
+-- of a file that is recorded then as before, these entries went into the packets of their channels, and no other packet was closed
+abbrev pub ClosesFor : List Entry → Work → Work → Type 0
+ClosesFor more (recording chain o) (recording made p) = LeavesOpen (with_taken more) o.recording.builders p.recording.builders
+ClosesFor more was now = Unit {0}
+
 -- Channel by channel in this order, up to some, a call took these parts from the lanes, no more of a channel than may be; of a lane that is quiet, a part and its rest are all that waited. Where the medium failed while they were taken, nothing is told of the rests.
 -- Where the call succeeds, each channel has its part, and all went in that may, up to the first sample that has no room.
 -- No part is more than its lane has room for. Where the answer says that nothing was left, none is told to wait behind what was taken of a lane that isn't quiet.
@@ -89,6 +95,7 @@ pub record StepsByTaking {L T : Type 0} (took : L → List Sample → L → Type
   pub tells : IfOk result (λ v. says v parts)
   pub counts : OnOk result (AreGrown (entries_of parts) k.config.channels k.taken later.taken)
   pub none : IfErr result (λ r. (r ≡ Medium) ⊎ AllByRecursion (λ (p : Part). p.samples ≡ []) parts)
+  pub closes : OnOk result (ClosesFor (entries_of parts) k.work later.work)
   pub numbers : OnOk result (later ≡ record k { work = later.work; taken = later.taken })
   pub own : OwnGrow k old later new (entries_of parts)
   pub steps : (m : Machine) → KeptStandsFor k old before m → AllByRecursion (HasWaiting m.lanes) known
@@ -124,6 +131,7 @@ pub record WentOn (area : ℕ) (ends ends' : List Entry → Type 0) (more : List
   pub carries : (text : List ℕ) (entries : List Entry) (n : ℕ) → IsShown before old text entries n → ends entries → IsShown after new text (entries ++ more) n
   pub follows : (entries : List Entry) → ends entries → ends' (entries ++ more)
   pub file : IsSameFile old.recording new.recording
+  pub closes : LeavesOpen (with_taken more) old.recording.builders new.recording.builders
   pub counts : length new.recording.counts ≡ length old.recording.counts
   pub again : AllByRecursion HasRoomForTwo new.recording.builders
   pub cost : old.recording.cost ≤ area → new.recording.cost ≤ area

@@ -117,7 +117,7 @@ refused_call disk None lacks old new slots event r refuses lanes counted more me
 same_work : (work : Work) → IsSameWork work work
 same_work unmounted = refl
 same_work (idle chain) = refl
-same_work (recording chain o) = (refl, record { rest = refl; out = refl; held = refl; specs = refl }, refl)
+same_work (recording chain o) = (refl, record { rest = refl; out = refl; left = refl; held = refl; specs = refl }, refl)
 same_work failed = refl
 
 same_kept : (old new : Kept) → new ≡ old → IsSameKept old new
