@@ -4,3 +4,5 @@ pub mod Carrying
 pub mod Joining
 pub mod Resuming
 pub mod Runs
+pub mod Parting
+pub mod Across
