@@ -1,15 +1,10 @@
 -- A strict body is a foreign one, and each body has one reading.
-use Rattle.std.proofs.Common.{◌≡◌, ℕ, ◌^◌, ◌<◌, true, false, suc, List, [], ◌∷◌, ◌++◌, length, drop, refl, sym, ap, ◌∙◌, arith, length-append}
+use Rattle.std.proofs.Common.{◌≡◌, ℕ, ◌^◌, ◌<◌, true, false, suc, List, [], ◌∷◌, ◌++◌, length, refl, sym, ap, ◌∙◌, arith, length-append}
 use Rattle.std.specs.List.{concat}
 use Rattle.r10_count.specs.Bytes.{le_bytes}
 use Rattle.r10_count.proofs.Fronts.{same_u32}
 use Rattle.r10_count.specs.Form.{Form, IsSplit, IsSpelled, IsBody, IsForeign, FitsAll, OpensAll, SuitsAll, spelled_all}
 use Rattle.r10_count.proofs.BodyParts.{entry_some, first_is}
-
--- the bytes of each entry
-parts_of : {E : Type 0} (form : Form E) → ℕ → List E → List (List ℕ)
-parts_of form before [] = []
-parts_of form before (e ∷ es) = form.spelled before e ∷ parts_of form (form.count e) es
 
 pub split_of : {E : Type 0} (form : Form E) (before : ℕ) (es : List E) → FitsAll form before es → (parts : List (List ℕ)) × IsSplit form parts (spelled_all form before es) × (length parts ≡ length es)
 split_of form before [] fits = ([], (tt, refl), refl)
@@ -34,10 +29,6 @@ one_spelled form before (e ∷ es) (d ∷ ds) fe fd q =
     let fits : FitsAll form (form.count e) ds = rw is fd.1 in
     let left : es ≡ ds = one_spelled form (form.count e) es ds fe.1 fits (same.1 ∙ ap (λ t. spelled_all form (form.count t) ds) (sym is)) in
     rw (is, left) refl
-
--- a body is made of one list of entries
-pub one_body : {E : Type 0} (form : Form E) (setting counter : ℕ) (es ds : List E) (body : List ℕ) → IsBody form setting counter es body → IsBody form setting counter ds body → es ≡ ds
-one_body form setting counter es ds body e d = one_spelled form counter es ds e.fits d.fits (ap (drop 4) (sym e.spelled ∙ d.spelled))
 
 -- a body of the writer's is one that another writer may have made
 pub body_is_foreign : {E : Type 0} (form : Form E) (setting counter : ℕ) (es : List E) (body : List ℕ) → IsBody form setting counter es body → IsForeign form body

@@ -24,13 +24,6 @@ pub record Counted {E : Type 0} (form : Form E) (bytes rest : List ℕ) (count :
   pub some : (parts : List (List ℕ)) → IsSplit form parts rest → (all : List (List ℕ)) × IsSplit form all bytes × (length all ≡ count + length parts)
   pub only : (all : List (List ℕ)) → IsSplit form all bytes → (parts : List (List ℕ)) × IsSplit form parts rest × (length all ≡ count + length parts)
 
-pub counted_none : {E : Type 0} (form : Form E) (bytes : List ℕ) → Counted form bytes bytes 0
-counted_none form bytes = record {
-  room = omega arith;
-  some = λ parts h. (parts, h, omega arith);
-  only = λ all h. (all, h, omega arith);
-}
-
 -- an entry has a byte
 pub entry_some : {E : Type 0} (form : Form E) (entry : List ℕ) → IsEntryBytes form.front form.told entry → 0 < length entry
 entry_some form entry h = omega (arith, form.some, h.0)

@@ -46,7 +46,7 @@ clock_of_centi h m s c i j k l hm hs hc hj hk hl e = omega arith
 centi_bound : (h m s c : ℕ) → h < 24 → m < 60 → s < 60 → c < 100 → ((h * 60 + m) * 60 + s) * 100 + c < 8_640_000
 centi_bound h m s c hh hm hs hc = omega arith
 
-same_parts : (p q : Parts) → p.year ≡ q.year → p.month ≡ q.month → p.day ≡ q.day → p.hour ≡ q.hour → p.minute ≡ q.minute → p.second ≡ q.second → p.centi ≡ q.centi → p ≡ q
+pub same_parts : (p q : Parts) → p.year ≡ q.year → p.month ≡ q.month → p.day ≡ q.day → p.hour ≡ q.hour → p.minute ≡ q.minute → p.second ≡ q.second → p.centi ≡ q.centi → p ≡ q
 same_parts p q y m d h n s c i = record { year = y i; month = m i; day = d i; hour = h i; minute = n i; second = s i; centi = c i }
 
 -- the hundredths tell the civil time

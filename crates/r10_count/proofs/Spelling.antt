@@ -1,5 +1,5 @@
 -- Bytes are read as the entries that the writer spells with them, and as no others.
-use Rattle.std.proofs.Common.{◌≡◌, ℕ, ◌<◌, List, [], ◌∷◌, ◌++◌, length, refl, sym, ap, ◌∙◌, arith, append_assoc, length-append}
+use Rattle.std.proofs.Common.{◌≡◌, ℕ, ◌<◌, List, [], ◌∷◌, ◌++◌, length, sym, ap, ◌∙◌, arith, append_assoc, length-append}
 use Rattle.std.proofs.lemmas.List.{append-nil}
 use Rattle.r10_count.specs.Form.{Form, IsEntryBytes, IsSpelled, spelled_all}
 use Rattle.r10_count.proofs.BodyParts.{first_is, entry_some}
@@ -8,12 +8,6 @@ use Rattle.r10_count.proofs.BodyParts.{first_is, entry_some}
 pub record ReadSoFar {E : Type 0} (form : Form E) (before : ℕ) (bytes : List ℕ) (entries : List E) (count : ℕ) (rest : List ℕ) : Type 0 where
   pub some : (tail : List E) → IsSpelled form count tail rest → IsSpelled form before (entries ++ tail) bytes
   pub only : (all : List E) → IsSpelled form before all bytes → (tail : List E) × (all ≡ entries ++ tail) × IsSpelled form count tail rest
-
-pub read_none : {E : Type 0} (form : Form E) (before : ℕ) (bytes : List ℕ) → ReadSoFar form before bytes [] before bytes
-read_none form before bytes = record {
-  some = λ tail s. s;
-  only = λ all s. (all, refl, s);
-}
 
 pub behind_first : {E : Type 0} (form : Form E) (count : ℕ) (first after : List ℕ) (e : E) (entries all tail : List E)
     → IsEntryBytes form.front form.told first → ((d : E) → form.Fits count d → first ≡ form.spelled count d → e ≡ d)
