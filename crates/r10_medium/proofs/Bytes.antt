@@ -6,7 +6,6 @@ use Rattle.std.proofs.lemmas.Bool.{cases_lt}
 use Rattle.std.proofs.lemmas.List.{append-nil, get_or-drop, length-append, length-drop, length-take-le, take-append-le, take_more}
 use Rattle.std.proofs.lemmas.List.Folds.{concat-append}
 use Rattle.r10_medium.specs.Disk.{Image, Block, block_at, IsWhole}
-use Rattle.r10_medium.specs.Stop.{SameBelow}
 
 -- one block more
 pub concat_more : (blocks : Image) (first i : ℕ) → first + i < length blocks → concat (take i (drop first blocks)) ++ block_at blocks (first + i) ≡ concat (take (i + 1) (drop first blocks))
@@ -50,51 +49,6 @@ take-concat size (suc count) (block ∷ blocks) whole le = elim (cases_lt size 5
       ∙ sym (take-append-add block (concat blocks) (size - 512))
       ∙ ap (λ (k : ℕ). take k (block ++ concat blocks)) (sym split)
 ]
-
-same_front : (m kept : ℕ) (xs ys : Image) → length ys ≡ length xs → IsWhole xs → IsWhole ys → kept ≤ 512
-    → ((k : ℕ) → k < m → block_at ys k ≡ block_at xs k) → take kept (block_at ys m) ≡ take kept (block_at xs m)
-    → take (512 * m + kept) (concat ys) ≡ take (512 * m + kept) (concat xs)
-same_front m kept [] [] e whole_x whole_y le same tail = refl
-same_front m kept [] (y ∷ ys) e whole_x whole_y le same tail = absurd (omega (arith, e))
-same_front m kept (x ∷ xs) [] e whole_x whole_y le same tail = absurd (omega (arith, e))
-same_front zero kept (x ∷ xs) (y ∷ ys) e whole_x whole_y le same tail =
-    ap (λ (k : ℕ). take k (y ++ concat ys)) one
-    ∙ take-append-le kept y (concat ys) (omega (arith, le, whole_y 0 (omega arith)))
-    ∙ tail
-    ∙ sym (take-append-le kept x (concat xs) (omega (arith, le, whole_x 0 (omega arith))))
-    ∙ ap (λ (k : ℕ). take k (x ++ concat xs)) (sym one)
-  where
-    one : 512 * 0 + kept ≡ kept
-    one = omega arith
-same_front (suc m) kept (x ∷ xs) (y ∷ ys) e whole_x whole_y le same tail =
-    ap (λ (l : List ℕ). take (512 * suc m + kept) (l ++ concat ys)) (same 0 (omega arith))
-    ∙ ap (λ (k : ℕ). take k (x ++ concat ys)) more
-    ∙ take-append-add x (concat ys) (512 * m + kept)
-    ∙ ap (λ (l : List ℕ). x ++ l) (same_front m kept xs ys (omega (arith, e)) (whole_rest x xs whole_x) (whole_rest y ys whole_y) le (λ k lt. same (suc k) (omega (arith, lt))) tail)
-    ∙ sym (take-append-add x (concat xs) (512 * m + kept))
-    ∙ ap (λ (k : ℕ). take k (x ++ concat xs)) (sym more)
-  where
-    more : 512 * suc m + kept ≡ length x + (512 * m + kept)
-    more = omega (arith, whole_x 0 (omega arith))
-
--- What is the same up to a place reads, from an earlier block on, as the same bytes up to that place.
-pub bytes_below : (start first kept : ℕ) (a b : Image) → start ≤ first → kept ≤ 512 → IsWhole a → IsWhole b → SameBelow first kept a b
-    → take (512 * (first - start) + kept) (concat (drop start b)) ≡ take (512 * (first - start) + kept) (concat (drop start a))
-bytes_below start first kept a b from le whole_a whole_b same =
-    same_front (first - start) kept (drop start a) (drop start b)
-    (length-drop start b ∙ ap (λ (k : ℕ). k - start) same.size ∙ sym (length-drop start a))
-    (whole_drop start a whole_a) (whole_drop start b whole_b) le
-    (λ k lt. get_or-drop start b k [] ∙ same.blocks (start + k) (omega (arith, lt, from)) ∙ sym (get_or-drop start a k []))
-    (ap (λ (l : Block). take kept l) (get_or-drop start b (first - start) [] ∙ ap (block_at b) there)
-    ∙ same.tail
-    ∙ ap (λ (l : Block). take kept l) (sym (get_or-drop start a (first - start) [] ∙ ap (block_at a) there)))
-  where
-    there : start + (first - start) ≡ first
-    there = omega (arith, from)
-
--- what is cut from the bytes of enough blocks
-pub read_front : (size first count : ℕ) (blocks : Image) → IsWhole blocks → size ≤ 512 * count → take size (concat (take count (drop first blocks))) ≡ take size (concat (drop first blocks))
-read_front size first count blocks whole le = take-concat size count (drop first blocks) (whole_drop first blocks whole) le
 
 pub length-read_front : (size first : ℕ) (blocks : Image) → IsWhole blocks → 512 * first + size ≤ 512 * length blocks → length (take size (concat (drop first blocks))) ≡ size
 length-read_front size first blocks whole room =

@@ -1,18 +1,8 @@
 -- A medium of which the blocks behind the highest written one are zeros.
-use Rattle.std.proofs.Common.{◌≡◌, ℕ, ◌+◌, ◌-◌, ◌<◌, ◌≤◌, [], ◌++◌, length, take, replicate, get_or, set, refl, sym, ◌∙◌, ap, arith}
-use Rattle.std.proofs.lemmas.List.{append-nil, append_assoc, length-append, length-replicate, get_or_append_left, get_or-append_right, get_or-replicate, replicate-append-replicate, set-append_left, take_all}
-use Rattle.r10_medium.specs.Disk.{Image, Block, block_at}
+use Rattle.std.proofs.Common.{◌≡◌, ℕ, ◌+◌, ◌-◌, ◌<◌, ◌≤◌, ◌++◌, length, take, replicate, get_or, set, sym, ◌∙◌, ap, arith}
+use Rattle.std.proofs.lemmas.List.{append-nil, append_assoc, length-append, length-replicate, replicate-append-replicate, set-append_left, take_all}
+use Rattle.r10_medium.specs.Disk.{Image, Block}
 use Rattle.r10_medium.specs.Memory.{zeros, with_zeros}
-
-pub read_made : (size n : ℕ) (front : Image) → n < length front → block_at front n ≡ block_at (with_zeros size front) n
-read_made size n front lt = sym (get_or_append_left front (replicate (size - length front) zeros) [] n lt)
-
-pub read_zeros : (size n : ℕ) (front : Image) → length front ≤ n → n < length (with_zeros size front) → zeros ≡ block_at (with_zeros size front) n
-read_zeros size n front more lt =
-    sym
-    (get_or-append_right front (replicate (size - length front) zeros) (length front) n [] refl more
-    ∙ get_or-replicate (size - length front) (n - length front) zeros []
-    (omega (arith, more, lt, length-append front (replicate (size - length front) zeros), length-replicate (size - length front) zeros)))
 
 pub put_made : (size n : ℕ) (front : Image) (block : Block) → n < length front → length (set front n block) ≡ length front
     → with_zeros size (set front n block) ≡ set (with_zeros size front) n block
