@@ -1,6 +1,6 @@
 -- What holds where no rule is broken.
-use Rattle.std.proofs.Common.{◌≡◌, ℕ, ◌-◌, ◌%◌, ◌≤◌, Bool, true, false, ◌&&◌, List, [], ◌∷◌, ◌++◌, length, take, refl, ◌∙◌, Some, None}
-use Rattle.std.proofs.lemmas.Bool.{eqb-true, leb-true, eq-eqb, le-leb}
+use Rattle.std.proofs.Common.{◌≡◌, ℕ, ◌-◌, ◌%◌, ◌≤◌, Bool, true, false, List, [], ◌∷◌, ◌++◌, length, take, refl, ◌∙◌, Some, None}
+use Rattle.std.proofs.lemmas.Bool.{eqb-true, leb-true, eq-eqb, le-leb, and_parts}
 use Rattle.std.specs.Prelude.{nat_le}
 use Rattle.r10_count.specs.Checks.{first_broken}
 use Rattle.r10_count.specs.Bytes.{u16_at}
@@ -16,11 +16,6 @@ pub none_broken : (answer : Bool) (fault : PacketFault) (rest : List (Bool × Pa
 none_broken true fault rest e = (refl, e)
 none_broken false fault rest e = absurd (cc)
 
-pub both : (a b : Bool) → (a && b) ≡ true → (a ≡ true) × (b ≡ true)
-both true true e = (refl, refl)
-both true false e = absurd (cc)
-both false b e = absurd (cc)
-
 -- the lengths that a packet may have
 pub record HasLengths (h : Header) : Type 0 where
   pub least : 24 ≤ h.packet_len
@@ -29,9 +24,9 @@ pub record HasLengths (h : Header) : Type 0 where
 
 pub lengths_of : (h : Header) → has_lengths h ≡ true → HasLengths h
 lengths_of h e =
-    let a = both _ _ e in
-    let b = both _ _ a.0 in
-    let c = both _ _ b.0 in
+    let a = and_parts _ _ e in
+    let b = and_parts _ _ a.0 in
+    let c = and_parts _ _ b.0 in
     record {
       least = leb-true 24 h.packet_len c.0;
       words = eqb-true (h.packet_len % 4) 0 c.1;

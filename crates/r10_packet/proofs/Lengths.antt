@@ -1,10 +1,9 @@
 -- How long the parts of a packet are.
-use Rattle.std.proofs.Common.{◌≡◌, ℕ, zero, suc, ◌+◌, ◌-◌, ◌*◌, ◌/◌, ◌%◌, ◌<◌, ◌≤◌, ◌==◌, Bool, true, false, cond, List, [], ◌∷◌, ◌++◌, length, refl, ap, ◌∙◌, arith, length-append}
+use Rattle.std.proofs.Common.{◌≡◌, ℕ, zero, suc, ◌+◌, ◌-◌, ◌*◌, ◌/◌, ◌%◌, ◌<◌, ◌≤◌, List, [], ◌∷◌, ◌++◌, length, refl, ap, ◌∙◌, arith, length-append}
 use Rattle.std.specs.Prelude.{slice_index}
-use Rattle.std.proofs.lemmas.Bool.{eqb-true}
 use Rattle.std.proofs.lemmas.List.{length-replicate}
 use Rattle.r10_packet.specs.Sums.{data_checksum}
-use Rattle.r10_packet.specs.Header.{header_bytes, checksum_bits, check_bits_of, flags_of, check_of_bits}
+use Rattle.r10_packet.specs.Header.{header_bytes, checksum_bits, check_bits_of, flags_of}
 use Rattle.r10_packet.specs.Packet.{filled, least_filler, framed_bytes, framed}
 use Rattle.r10_packet.specs.declared.header.Header.{Header}
 use Rattle.r10_packet.specs.declared.check.Check.{Check}
@@ -71,13 +70,3 @@ flags_small Nothing = omega arith
 flags_small Sum8 = omega arith
 flags_small Sum16 = omega arith
 flags_small Sum32 = omega arith
-
--- the checksum of so many bits has no more of them
-asked_at : (bits : ℕ) (a b c : Bool) → bits == 8 ≡ a → bits == 16 ≡ b → bits == 32 ≡ c → checksum_bits (flags_of (cond a Sum8 (cond b Sum16 (cond c Sum32 Nothing)))) / 8 ≤ bits / 8
-asked_at bits true b c e f g = omega (arith, eqb-true bits 8 e)
-asked_at bits false true c e f g = omega (arith, eqb-true bits 16 f)
-asked_at bits false false true e f g = omega (arith, eqb-true bits 32 g)
-asked_at bits false false false e f g = omega arith
-
-pub asked_width : (bits : ℕ) → checksum_bits (flags_of (check_of_bits bits)) / 8 ≤ bits / 8
-asked_width bits = asked_at bits (bits == 8) (bits == 16) (bits == 32) refl refl refl

@@ -2,7 +2,7 @@
 use Rattle.std.proofs.Common.{◌≡◌, ◌↔◌, ℕ, ◌+◌, ◌-◌, ◌/◌, ◌≤◌, Bool, true, false, ◌&&◌, List, ◌++◌, length, take, drop, refl, sym, ap, ◌∙◌, None, arith, append_assoc}
 use Rattle.std.specs.Prelude.{slice_range, if◌then◌else◌}
 use Rattle.std.proofs.Math.Seq.{take-add}
-use Rattle.std.proofs.lemmas.Bool.{le-leb, leb-true}
+use Rattle.std.proofs.lemmas.Bool.{le-leb, leb-true, and_parts}
 use Rattle.std.proofs.lemmas.List.{length-append, length-take-le, length-drop, drop-drop, drop_at, take_at}
 use Rattle.std.proofs.lemmas.Slice.Eq.{bytes_eq-Decides}
 use Rattle.r10_packet.specs.Sums.{data_checksum}
@@ -12,7 +12,7 @@ use Rattle.r10_packet.specs.Framing.{header_at, body_at, has_lengths, has_room_f
 use Rattle.r10_packet.specs.declared.header.Header.{Header}
 use Rattle.r10_packet.specs.declared.view.DataSum.TheVariants.{NoRoom, Wrong, Right}
 use Rattle.r10_packet.proofs.Fields.{AreBytes, header_back, fields_fit, header_again}
-use Rattle.r10_packet.proofs.Kept.{lengths_of, whole_of, no_fault, both}
+use Rattle.r10_packet.proofs.Kept.{lengths_of, whole_of, no_fault}
 use Rattle.r10_packet.proofs.Lengths.{header_length, checksum_length, filled_length}
 use Rattle.r10_packet.proofs.Again.{sound_again}
 
@@ -50,7 +50,7 @@ pub record IsReadWhole (bytes : List ℕ) (h : Header) (body : List ℕ) : Type 
   pub checksum : has_data_checksum bytes ≡ true
 
 pub right_of : (h : Header) (bytes : List ℕ) → (has_room_for_checksum h && is_right h bytes) ≡ true → data_sum_of h bytes ≡ Right
-right_of h bytes e = (let p = both (has_room_for_checksum h) (is_right h bytes) e in rw (p.0, p.1) refl)
+right_of h bytes e = (let p = and_parts (has_room_for_checksum h) (is_right h bytes) e in rw (p.0, p.1) refl)
 
 told_by : (room right : Bool) → (if room then (if right then Right else Wrong) else NoRoom) ≡ Right → (room && right) ≡ true
 told_by true true e = refl
@@ -116,7 +116,7 @@ found_whole bytes fits sound checked =
     let start : ℕ = checksum_start h in
     let whole = whole_of bytes sound in
     let lengths = lengths_of h whole.sound.lengths in
-    let has = both (has_room_for_checksum h) (is_right h bytes) checked in
+    let has = and_parts (has_room_for_checksum h) (is_right h bytes) checked in
     let room : 24 + h.data_len + bits / 8 ≤ n = leb-true (24 + h.data_len + bits / 8) n has.0 in
     let back : bytes ≡ header_bytes h ++ drop 24 bytes = header_back bytes whole.long fits whole.sound.sync whole.sound.total in
     let front : take 24 bytes ≡ header_bytes h = ap (take 24) back ∙ take_at (header_bytes h) (drop 24 bytes) 24 (header_length h) in

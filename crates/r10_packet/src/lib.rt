@@ -5,7 +5,6 @@
 mod check;
 mod fault;
 mod header;
-mod laws;
 mod packet;
 mod sums;
 mod view;
@@ -13,7 +12,6 @@ mod view;
 pub use check::Check;
 pub use fault::PacketFault;
 pub use header::{Header, decode_header, encode_header};
-pub use laws::{flags_tell, header_again, packet_again, packet_found, part_lengths};
 pub use packet::Packet;
 pub use sums::{sum8, sum16, sum32};
 pub use view::{DataSum, PacketView};
