@@ -1,10 +1,9 @@
 -- A UART body is a body of its form.
-use Rattle.std.proofs.Common.{◌≡◌, ℕ, get_or, ◌+◌, ◌<◌, List, [], ◌∷◌, ◌++◌, length, drop, refl, sym, ap, ◌∙◌, arith}
+use Rattle.std.proofs.Common.{◌≡◌, ℕ, ◌+◌, ◌<◌, List, [], ◌∷◌, ◌++◌, length, refl, sym, ap, ◌∙◌, arith}
 use Rattle.std.specs.List.{flat_map, AllByRecursion, sum_by}
 use Rattle.r10_count.specs.Form.{IsBody, IsForeign, FitsAll, OpensAll, SuitsAll, spelled_all, body_bytes}
-use Rattle.r10_count.proofs.Bodies.{one_spelled}
 use Rattle.r10_count.proofs.BodyParts.{first_is}
-use Rattle.r10_count.proofs.Lengths.{next_long, sizes_from}
+use Rattle.r10_count.proofs.Lengths.{sizes_from}
 use Rattle.r10_count.specs.Texts.{told_size}
 use Rattle.r10_count.proofs.Plain.{plain_spelled, plain_fits, plain_all}
 use Rattle.r10_uart.specs.Uart.{FitsUart, IsUart, IsForeignUart, uart_body, uart_entry, uart_word, uart_entry_size}
@@ -44,23 +43,11 @@ is_body es body is = ((opens_some es is.opens, are_fits 0 es is.fits), is.spelle
 pub foreign_is : (body : List ℕ) → IsForeign uart_form body → IsForeignUart body
 foreign_is body f = (f.0, f.1, f.2, f.4, f.5)
 
-pub is_foreign : (body : List ℕ) → IsForeignUart body → IsForeign uart_form body
-is_foreign body f = (f.0, f.1, f.2, refl, f.3, f.4)
-
 -- an entry is read from the front of bytes in one way
 pub one_uart_entry : (e d : UartEntry) (x y : List ℕ) → FitsUart e → FitsUart d → uart_entry e ++ x ≡ uart_entry d ++ y → (e ≡ d) × (x ≡ y)
 one_uart_entry e d x y fe fd same =
     let first = first_is 12 told_size (uart_entry e) x (uart_entry d) y (uart_entry-told e fe) (uart_entry-told d fd) same in
     (uart_entry-one e d fe fd first.0, first.1)
-
--- a body is made of one list of entries
-pub one_uart_body : (es ds : List UartEntry) → AllByRecursion FitsUart es → AllByRecursion FitsUart ds → uart_body es ≡ uart_body ds → es ≡ ds
-one_uart_body es ds fe fd same =
-    one_spelled uart_form 0 es ds (fits_are 0 es fe) (fits_are 0 ds fd) (spelled_is 0 es ∙ ap (drop 4) same ∙ sym (spelled_is 0 ds))
-
--- the entries that are left are the next one and those behind it
-pub next_size : (es : List UartEntry) (i : ℕ) (e : UartEntry) → i < length es → e ≡ get_or es i e → length (flat_map uart_entry (drop i es)) ≡ uart_entry_size e + length (flat_map uart_entry (drop (i + 1) es))
-next_size = next_long uart_entry uart_entry_size uart_entry-size
 
 -- a body has its word and the sizes of its entries
 pub body-length : (es : List UartEntry) → length (uart_body es) ≡ 4 + sum_by uart_entry_size es
