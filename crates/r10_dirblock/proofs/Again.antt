@@ -1,5 +1,5 @@
 -- What is written is read again, and what was read may be written.
-use Rattle.std.proofs.Common.{◌≡◌, ℕ, zero, suc, ◌+◌, ◌*◌, ◌<◌, ◌≤◌, Bool, true, false, List, [], ◌∷◌, ◌++◌, length, take, drop, map, get_or, nat_le, ◌==◌, Ok, Option, Some, None, refl, sym, ap, ◌∙◌, subst, arith, rules}
+use Rattle.std.proofs.Common.{◌≡◌, ℕ, zero, suc, ◌+◌, ◌*◌, ◌<◌, ◌≤◌, Bool, true, false, List, [], ◌∷◌, ◌++◌, length, take, drop, map, get_or, nat_le, ◌==◌, Ok, Option, None, refl, sym, ap, ◌∙◌, arith, rules}
 use Rattle.std.proofs.lemmas.List.{append_assoc, length-append, take_at, drop_at, drop-drop, get_or-drop}
 use Rattle.std.proofs.lemmas.List.FromFn.{fill_by_all}
 use Rattle.std.proofs.lemmas.List.Elements.{All-cons, All-nil, All-head, All-tail, All-get_or}
@@ -31,7 +31,7 @@ is_nested : (e : Entry) (more : List ℕ) → entry_bytes e ++ more ≡ nested e
 unfolding entry_bytes
 is_nested e more = simp append_assoc
 
-length-entry_bytes : (e : Entry) → FitsEntry e → length (entry_bytes e) ≡ 112
+pub length-entry_bytes : (e : Entry) → FitsEntry e → length (entry_bytes e) ≡ 112
 unfolding entry_bytes
 length-entry_bytes e fits = simp length-append (omega (arith, fits.name, fits.create_date, fits.create_time, fits.reserved, fits.close_time))
 
@@ -179,10 +179,6 @@ again r d more head fits rooms =
     ∙ ap (λ (o : Option DirFault). unless_broken o (block_of (all_of r d more))) (no_fault r d more head fits rooms)
     ∙ ap (λ (b : DirBlock). Ok b) (block_again r d more head fits)
 
-ok_is : (o : Option DirFault) (b d : DirBlock) → unless_broken o b ≡ Ok d → (o ≡ None) × (b ≡ d)
-ok_is None b d is = (refl, cc)
-ok_is (Some fault) b d is = absurd (cc)
-
 -- What holds where no rule is broken.
 pub record KeepsRules (bytes : List ℕ) : Type 0 where
   pub name : part 0 8 bytes ≡ magic
@@ -203,10 +199,3 @@ keeps_rules bytes none =
       size = eqb-true (from_be_bytes w32 (part 12 4 bytes)) 512 c.0;
       rooms = all_held bytes (entry_count bytes) 0 c.1;
     }
-
--- what was read has room in each entry
-pub rooms_read : (bytes : List ℕ) (d : DirBlock) → read_block bytes ≡ Ok d → HasRooms d
-unfolding read_block
-rooms_read bytes d is =
-    let found = ok_is (first_broken (block_rules bytes)) (block_of bytes) d is in
-    subst HasRooms found.1 (keeps_rules bytes found.0).rooms
