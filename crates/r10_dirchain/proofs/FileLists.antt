@@ -2,7 +2,7 @@
 use Rattle.std.proofs.Common.{◌≡◌, ℕ, zero, suc, ◌+◌, ◌-◌, ◌<◌, ◌≤◌, Bool, true, false, if◌then◌else◌, List, [], ◌∷◌, ◌++◌, length, take, drop, get_or, set, inl, inr, refl, sym, ap, ◌∙◌, arith, append_assoc, length-append, ◌==◌}
 use Rattle.std.proofs.Math.Seq.{take-append-add}
 use Rattle.std.proofs.lemmas.Bool.{ne_eqb, cases_lt}
-use Rattle.std.proofs.lemmas.List.{append-nil}
+use Rattle.std.proofs.lemmas.List.{append-nil, drop_more}
 use Rattle.std.proofs.lemmas.List.Concat.{flat_map-append}
 use Rattle.std.proofs.lemmas.List.Sums.{suffix_len_is}
 use Rattle.r10_dirblock.specs.declared.entry.Entry.{Entry}
@@ -135,3 +135,9 @@ files-updated entry chain some =
     let is = found.1 in
     ap (λ (j : ℕ). listed_files (set chain j (record { number = (at chain j).number; block = record (at chain j).block { entries = with_last_entry entry (at chain j).block.entries } }))) (last_listing_is chain i is)
     ∙ files-set_last chain i (record { number = (at chain i).number; block = record (at chain i).block { entries = with_last_entry entry (at chain i).block.entries } }) entry is.within is.lists is.behind refl
+
+-- ---- one block after another
+
+-- the entries from a block on are its own and those behind it
+pub files_from : (chain : List ChainBlock) (i : ℕ) (b : ChainBlock) → i < length chain → b ≡ get_or chain i b → listed_files (drop i chain) ≡ b.block.entries ++ listed_files (drop (i + 1) chain)
+files_from chain i b lt is = ap listed_files (drop_more chain i b lt ∙ ap (λ (c : ChainBlock). c ∷ drop (i + 1) chain) (sym is))

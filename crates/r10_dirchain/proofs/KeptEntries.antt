@@ -7,10 +7,7 @@ use Rattle.std.proofs.lemmas.List.Elements.{All-head, All-tail}
 use Rattle.r10_dirblock.specs.declared.entry.Entry.{Entry}
 use Rattle.r10_dirblock.specs.declared.block.DirBlock.{DirBlock}
 use Rattle.r10_dirblock.specs.Block.{head_bytes, entry_bytes, IsBlock, FitsHead, FitsEntry}
-
-length-entry_bytes : (e : Entry) → FitsEntry e → length (entry_bytes e) ≡ 112
-unfolding entry_bytes
-length-entry_bytes e fits = simp length-append (omega (arith, fits.name, fits.create_date, fits.create_time, fits.reserved, fits.close_time))
+use Rattle.r10_dirblock.proofs.Again.{length-entry_bytes}
 
 length-head_bytes : (revision : ℕ) (d : DirBlock) → FitsHead d → length (head_bytes revision d) ≡ 64
 unfolding head_bytes

@@ -12,7 +12,8 @@ use Rattle.r10_dirchain.specs.declared.chain.Listed.{Listed}
 use Rattle.r10_dirchain.specs.Chain.{listed_files}
 use Rattle.r10_dirchain.specs.Mount.{blocks_in, stands, stand_rules, closed_rule, closed_rules, listed, listed_in, place_rules, full_rule, full_rules, mount_rules}
 use Rattle.r10_dirchain.proofs.Rules.{ends_with}
-use Rattle.r10_dirchain.proofs.Usable.{none_broken, front_holds}
+use Rattle.r10_dirchain.proofs.Usable.{front_holds}
+use Rattle.r10_count.proofs.Rules.{none_broken}
 
 -- ---- rules for each
 

@@ -151,10 +151,6 @@ one_fault image m n a b =
     (λ on. ⊎_elim (λ there. absurd (taken_there image a.passed b.passed a.last m b.holds b.apart there a.cannot)) (λ there. absurd (taken_there image b.passed a.passed b.last n a.holds a.apart there b.cannot)) on)
     (along_passed image a.passed b.passed 1 1 1 1 a.last m b.last n a.holds b.holds a.leads b.leads refl refl)
 
--- where a chain can be taken, what is read is that chain, and there is no fault
-pub read_only : (image : Image) (read : List ChainBlock) → IsDirectory image read → (chain : List ChainBlock) → IsDirectory image chain → read ≡ chain
-read_only image read is chain there = one_directory image read chain is there
-
 pub no_fault : (image : Image) (e : ChainError) → IsChainError image e → (chain : List ChainBlock) → IsDirectory image chain → IsNoFault e
 no_fault image (BadDirectory n) bad chain is = not_both image chain n is bad
 no_fault image Medium bad chain is = tt

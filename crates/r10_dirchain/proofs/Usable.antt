@@ -1,17 +1,13 @@
 -- What the rules of a directory that a recorder can use say of its blocks.
 use Rattle.std.proofs.Common.{◌≡◌, ℕ, zero, suc, ◌+◌, ◌<◌, ◌≤◌, Bool, true, false, ◌&&◌, ◌==◌, nat_le, List, [], ◌∷◌, ◌++◌, length, None, refl, arith}
-use Rattle.std.proofs.lemmas.Bool.{leb-true, eqb-true}
+use Rattle.std.proofs.lemmas.Bool.{leb-true, eqb-true, and_parts}
 use Rattle.r10_count.specs.Checks.{first_broken}
 use Rattle.r10_medium.specs.Disk.{Image}
 use Rattle.r10_dirchain.specs.declared.chain.ChainBlock.{ChainBlock}
 use Rattle.r10_dirchain.specs.Chain.{at}
 use Rattle.r10_dirchain.specs.OnMedium.{HasNext}
 use Rattle.r10_dirchain.specs.Mount.{listed, place_rules, full_rules, stand_rules, closed_rules, mount_rules}
-
--- the first rule of those that hold, and the others
-pub none_broken : {F : Type 0} (b : Bool) (f : F) (rules : List (Bool × F)) → first_broken ((b, f) ∷ rules) ≡ None → (b ≡ true) × (first_broken rules ≡ None)
-none_broken true f rules none = (refl, none)
-none_broken false f rules none = absurd (cc)
+pub use Rattle.r10_count.proofs.Rules.{none_broken}
 
 -- the front of those that hold
 pub front_holds : {F : Type 0} (xs ys : List (Bool × F)) → first_broken (xs ++ ys) ≡ None → first_broken xs ≡ None
@@ -19,15 +15,11 @@ front_holds [] ys none = refl
 front_holds ((true, f) ∷ xs) ys none = front_holds xs ys none
 front_holds ((false, f) ∷ xs) ys none = absurd (cc)
 
-both : (a b : Bool) → (a && b) ≡ true → (a ≡ true) × (b ≡ true)
-both true b is = (refl, is)
-both false b is = absurd (cc)
-
 pub placed : (reserved n : ℕ) (chain : List ChainBlock) → first_broken (place_rules reserved n chain) ≡ None → (i : ℕ) → i < length chain
     → ((at chain i).number ≡ n + i) × (n + i ≤ reserved)
 placed reserved n [] none i lt = absurd (omega (arith, lt))
 placed reserved n (b ∷ chain) none zero lt =
-    let here = both (b.number == n) (nat_le n reserved) (none_broken (b.number == n && nat_le n reserved) b.number (place_rules reserved (n + 1) chain) none).0 in
+    let here = and_parts (b.number == n) (nat_le n reserved) (none_broken (b.number == n && nat_le n reserved) b.number (place_rules reserved (n + 1) chain) none).0 in
     (omega (arith, eqb-true b.number n here.0), omega (arith, leb-true n reserved here.1))
 placed reserved n (b ∷ chain) none (suc i) lt =
     let rest = placed reserved (n + 1) chain (none_broken (b.number == n && nat_le n reserved) b.number (place_rules reserved (n + 1) chain) none).1 i (omega (arith, lt)) in
