@@ -1,5 +1,5 @@
 -- The image of a formatted medium.
-use Rattle.std.proofs.Common.{◌≡◌, ◌≢◌, ℕ, zero, suc, ◌+◌, ◌-◌, ◌<◌, ◌≤◌, List, [], ◌∷◌, ◌++◌, length, replicate, append_assoc, Result, Ok, Err, OnOk, ap, sym, ◌∙◌, refl, arith}
+use Rattle.std.proofs.Common.{◌≡◌, ◌≢◌, ℕ, zero, suc, ◌+◌, ◌-◌, ◌<◌, ◌≤◌, List, [], ◌∷◌, ◌++◌, length, replicate, append_assoc, ap, sym, ◌∙◌, refl, arith}
 use Rattle.std.specs.List.{concat}
 use Rattle.std.proofs.lemmas.List.{append-nil, length-replicate, get_or-replicate, replicate_more, ext_get_or}
 use Rattle.std.proofs.lemmas.List.Elements.{All-cons, All-nil}
@@ -20,11 +20,6 @@ pub image_bytes : (blocks : ℕ) (volume : List ℕ) → (concat (replicate 1 ze
 image_bytes blocks volume =
     append_assoc (concat (replicate 1 zeros)) (formatted_block volume) (concat (replicate (blocks - 2) zeros))
     ∙ ap (λ t. t ++ (formatted_block volume ++ concat (replicate (blocks - 2) zeros))) (append-nil zeros)
-
--- what holds at any answer
-pub on_ok : {T E : Type 0} (result : Result T E) (P : Type 0) → P → OnOk result P
-on_ok (Ok x) P holds = holds
-on_ok (Err e) P holds = tt
 
 module _ (blocks : ℕ) (volume : List ℕ) where
   -- block k of the image is zeros, but for block 1
