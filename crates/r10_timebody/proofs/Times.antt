@@ -5,6 +5,7 @@ use Rattle.r10_count.specs.Bytes.{le_bytes}
 use Rattle.r10_count.specs.Civil.{IsCivil}
 use Rattle.r10_count.specs.declared.civil.Parts.{Parts}
 use Rattle.r10_timebody.specs.Time.{two_packed_digits, digits_word, time_word, time_body, told_number, told_parts, IsTime}
+use Rattle.r10_count.proofs.Moments.{same_parts}
 
 pub told_number-two_digits : (n : ℕ) → n < 100 → told_number (two_packed_digits n) ≡ n
 told_number-two_digits n small = omega arith
@@ -40,9 +41,6 @@ time_body-digit_bytes p h =
     ∙ ap (λ t. le_bytes 4 (time_word p) ++ two_packed_digits p.centi ∷ two_packed_digits p.second ∷ t ++ digits_word p.month p.day ++ digits_word (p.year / 100) (p.year % 100)) (digits_word_bytes p.hour p.minute h.hour h.minute)
     ∙ ap (λ t. le_bytes 4 (time_word p) ++ two_packed_digits p.centi ∷ two_packed_digits p.second ∷ two_packed_digits p.minute ∷ two_packed_digits p.hour ∷ t ++ digits_word (p.year / 100) (p.year % 100)) (digits_word_bytes p.month p.day h.month h.day)
     ∙ ap (λ t. le_bytes 4 (time_word p) ++ two_packed_digits p.centi ∷ two_packed_digits p.second ∷ two_packed_digits p.minute ∷ two_packed_digits p.hour ∷ two_packed_digits p.day ∷ two_packed_digits p.month ∷ t) (digits_word_bytes (p.year / 100) (p.year % 100) century year)
-
-same_parts : (p q : Parts) → p.year ≡ q.year → p.month ≡ q.month → p.day ≡ q.day → p.hour ≡ q.hour → p.minute ≡ q.minute → p.second ≡ q.second → p.centi ≡ q.centi → p ≡ q
-same_parts p q y m d h n s c i = record { year = y i; month = m i; day = d i; hour = h i; minute = n i; second = s i; centi = c i }
 
 told_year : (year : ℕ) → year < 10000 → told_number (two_packed_digits (year / 100)) * 100 + told_number (two_packed_digits (year % 100)) ≡ year
 told_year year h = omega (arith, told_number-two_digits (year / 100) (omega arith), told_number-two_digits (year % 100) (omega arith))
