@@ -1,14 +1,13 @@
 -- A body of bus messages is a body of its form.
-use Rattle.std.proofs.Common.{◌≡◌, ℕ, get_or, ◌+◌, ◌*◌, ◌%◌, ◌^◌, ◌<◌, ◌≤◌, List, [], ◌∷◌, ◌++◌, length, drop, refl, sym, ap, ◌∙◌, arith, length-append}
+use Rattle.std.proofs.Common.{◌≡◌, ℕ, get_or, ◌+◌, ◌%◌, ◌^◌, ◌<◌, List, [], ◌∷◌, length, drop, refl, sym, ap, ◌∙◌, arith}
 use Rattle.std.proofs.lemmas.Bool.{eq-eqb, eqb-true}
 use Rattle.std.specs.List.{flat_map, AllByRecursion, sum_by}
 use Rattle.r10_count.specs.Form.{IsBody, IsForeign, FitsAll, OpensAll, SuitsAll, spelled_all, body_bytes}
 use Rattle.r10_count.proofs.Bodies.{one_spelled}
-use Rattle.r10_count.proofs.BodyParts.{first_is}
 use Rattle.r10_count.proofs.Lengths.{next_long, sizes_from}
 use Rattle.r10_count.proofs.Plain.{plain_spelled, plain_fits, plain_all}
-use Rattle.r10_b1553.specs.Bus.{FitsBus, IsBus, IsForeignBus, bus_body, bus_entry, bus_entry_size, bus_told_size}
-use Rattle.r10_b1553.specs.Entry.{bus_form, bus_entry-told, bus_entry-one, bus_entry-size}
+use Rattle.r10_b1553.specs.Bus.{FitsBus, IsBus, IsForeignBus, bus_body, bus_entry, bus_entry_size}
+use Rattle.r10_b1553.specs.Entry.{bus_form, bus_entry-size}
 use Rattle.r10_b1553.specs.declared.entry.BusEntry.{BusEntry}
 
 pub spelled_is : (before : ℕ) (es : List BusEntry) → spelled_all bus_form before es ≡ flat_map bus_entry es
@@ -56,15 +55,6 @@ is_body es body is =
 pub foreign_is : (body : List ℕ) → IsForeign bus_form body → IsForeignBus body
 foreign_is body f = (f.0, f.1, f.2, eqb-true (f.0 % 16777216) (length f.1) f.3, f.4, f.5)
 
-pub is_foreign : (body : List ℕ) → IsForeignBus body → IsForeign bus_form body
-is_foreign body f = (f.0, f.1, f.2, eq-eqb (f.0 % 16777216) (length f.1) f.3, f.4, f.5)
-
--- an entry is read from the front of bytes in one way
-pub one_bus_entry : (e d : BusEntry) (x y : List ℕ) → FitsBus e → FitsBus d → bus_entry e ++ x ≡ bus_entry d ++ y → (e ≡ d) × (x ≡ y)
-one_bus_entry e d x y fe fd same =
-    let first = first_is 14 bus_told_size (bus_entry e) x (bus_entry d) y (bus_entry-told e fe) (bus_entry-told d fd) same in
-    (bus_entry-one e d fe fd first.0, first.1)
-
 -- a body is made of one list of entries
 pub one_bus_body : (es ds : List BusEntry) → AllByRecursion FitsBus es → AllByRecursion FitsBus ds → bus_body es ≡ bus_body ds → es ≡ ds
 one_bus_body es ds fe fd same =
@@ -77,11 +67,3 @@ next_size = next_long bus_entry bus_entry_size bus_entry-size
 -- a body has its word and the sizes of its entries
 pub body-length : (es : List BusEntry) → length (bus_body es) ≡ 4 + sum_by bus_entry_size es
 body-length es = omega (arith, sizes_from bus_entry bus_entry_size bus_entry-size 0 es)
-
-entries_long : (es : List BusEntry) → 14 * length es ≤ length (flat_map bus_entry es)
-entries_long [] = omega arith
-entries_long (e ∷ es) = omega (arith, length-append (bus_entry e) (flat_map bus_entry es), bus_entry-size e, entries_long es)
-
--- each entry has fourteen bytes or more, so that a short body has few entries
-pub body_long : (es : List BusEntry) → 4 + 14 * length es ≤ length (bus_body es)
-body_long es = omega (arith, entries_long es)
