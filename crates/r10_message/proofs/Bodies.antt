@@ -1,11 +1,11 @@
 -- A body of messages is a body of its form.
-use Rattle.std.proofs.Common.{◌≡◌, ℕ, get_or, ◌+◌, ◌*◌, ◌%◌, ◌^◌, ◌<◌, ◌≤◌, List, [], ◌∷◌, ◌++◌, length, drop, refl, sym, ap, ◌∙◌, arith, length-append}
+use Rattle.std.proofs.Common.{◌≡◌, ℕ, ◌+◌, ◌%◌, ◌^◌, ◌<◌, List, [], ◌∷◌, ◌++◌, length, drop, refl, sym, ap, ◌∙◌, arith}
 use Rattle.std.proofs.lemmas.Bool.{eq-eqb, eqb-true}
 use Rattle.std.specs.List.{flat_map, AllByRecursion, sum_by}
 use Rattle.r10_count.specs.Form.{IsBody, IsForeign, FitsAll, OpensAll, SuitsAll, spelled_all, body_bytes}
 use Rattle.r10_count.proofs.Bodies.{one_spelled}
 use Rattle.r10_count.proofs.BodyParts.{first_is}
-use Rattle.r10_count.proofs.Lengths.{next_long, sizes_from}
+use Rattle.r10_count.proofs.Lengths.{sizes_from}
 use Rattle.r10_count.specs.Texts.{told_size}
 use Rattle.r10_count.proofs.Plain.{plain_spelled, plain_fits, plain_all}
 use Rattle.r10_message.specs.Message.{FitsMessage, IsMessage, IsForeignMessage, message_body, message_entry, message_entry_size}
@@ -57,9 +57,6 @@ is_body es body is =
 pub foreign_is : (body : List ℕ) → IsForeign message_form body → IsForeignMessage body
 foreign_is body f = (f.0, f.1, f.2, eqb-true (f.0 % 65536) (length f.1) f.3, f.4, f.5)
 
-pub is_foreign : (body : List ℕ) → IsForeignMessage body → IsForeign message_form body
-is_foreign body f = (f.0, f.1, f.2, eq-eqb (f.0 % 65536) (length f.1) f.3, f.4, f.5)
-
 -- an entry is read from the front of bytes in one way
 pub one_message_entry : (e d : MessageEntry) (x y : List ℕ) → FitsMessage e → FitsMessage d → message_entry e ++ x ≡ message_entry d ++ y → (e ≡ d) × (x ≡ y)
 one_message_entry e d x y fe fd same =
@@ -71,18 +68,6 @@ pub one_message_body : (es ds : List MessageEntry) → AllByRecursion FitsMessag
 one_message_body es ds fe fd same =
     one_spelled message_form 0 es ds (fits_are 0 es fe) (fits_are 0 ds fd) (spelled_is 0 es ∙ ap (drop 4) same ∙ sym (spelled_is 0 ds))
 
--- the entries that are left are the next one and those behind it
-pub next_size : (es : List MessageEntry) (i : ℕ) (e : MessageEntry) → i < length es → e ≡ get_or es i e → length (flat_map message_entry (drop i es)) ≡ message_entry_size e + length (flat_map message_entry (drop (i + 1) es))
-next_size = next_long message_entry message_entry_size message_entry-size
-
 -- a body has its word and the sizes of its entries
 pub body-length : (es : List MessageEntry) → length (message_body es) ≡ 4 + sum_by message_entry_size es
 body-length es = omega (arith, sizes_from message_entry message_entry_size message_entry-size 0 es)
-
-entries_long : (es : List MessageEntry) → 12 * length es ≤ length (flat_map message_entry es)
-entries_long [] = omega arith
-entries_long (e ∷ es) = omega (arith, length-append (message_entry e) (flat_map message_entry es), message_entry-size e, entries_long es)
-
--- each entry has twelve bytes or more, so that a short body has few entries
-pub body_long : (es : List MessageEntry) → 4 + 12 * length es ≤ length (message_body es)
-body_long es = omega (arith, entries_long es)

@@ -5,11 +5,7 @@ use Rattle.r10_count.specs.Count.{stamp, IsCount}
 use Rattle.r10_count.specs.Padding.{padded}
 use Rattle.r10_message.specs.Message.{FitsMessage, message_header, message_entry, message_of}
 use Rattle.r10_message.specs.declared.entry.MessageEntry.{MessageEntry}
-
-high_bit : (q : ℕ) → q < 2 → flag_at 31 (nat_eq q 1) ≡ 2147483648 * q
-high_bit zero lt = refl
-high_bit (suc zero) lt = refl
-high_bit (suc (suc n)) lt = absurd (omega arith)
+use Rattle.r10_count.proofs.Fronts.{high_bit}
 
 next_bit : (q : ℕ) → q < 2 → flag_at 30 (nat_eq q 1) ≡ 1073741824 * q
 next_bit zero lt = refl
