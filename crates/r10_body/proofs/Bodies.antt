@@ -24,6 +24,7 @@ use Rattle.r10_indexbody.proofs.Roots.{one_root_body}
 use Rattle.r10_body.specs.Content.{Content, setup, time, event, uart, bus, arinc, discrete, message, node, root, report, type_of, body_of, FitsContent}
 use Rattle.r10_body.proofs.Lists.{same_front, IsOneWay, one_list}
 use Rattle.r10_body.proofs.CivilParts.{in_range, day_below}
+use Rattle.r10_count.proofs.Moments.{same_parts}
 
 -- ---- UART
 
@@ -71,14 +72,6 @@ one_digits_word : (a b c d : ℕ) → a < 100 → b < 100 → c < 100 → d < 10
 one_digits_word a b c d ha hb hc hd same =
     let whole : 256 * two_packed_digits a + two_packed_digits b ≡ 256 * two_packed_digits c + two_packed_digits d = (same_u16 (256 * two_packed_digits a + two_packed_digits b) (256 * two_packed_digits c + two_packed_digits d) [] [] (omega arith) (omega arith) same).0 in
     (omega arith, omega arith)
-
-same_parts : (p q : Parts) → p.year ≡ q.year → p.month ≡ q.month → p.day ≡ q.day → p.hour ≡ q.hour → p.minute ≡ q.minute → p.second ≡ q.second → p.centi ≡ q.centi → p ≡ q
-same_parts p q a b c d e f g =
-    ap (λ x. record p { year = x }) a ∙ ap (λ x. record p { year = q.year; month = x }) b
-    ∙ ap (λ x. record p { year = q.year; month = q.month; day = x }) c
-    ∙ ap (λ x. record q { hour = x; minute = p.minute; second = p.second; centi = p.centi }) d
-    ∙ ap (λ x. record q { minute = x; second = p.second; centi = p.centi }) e
-    ∙ ap (λ x. record q { second = x; centi = p.centi }) f ∙ ap (λ x. record q { centi = x }) g
 
 pub one_time_body : (p q : Parts) → IsCivil p → IsCivil q → time_body p ≡ time_body q → p ≡ q
 one_time_body p q fp fq same =

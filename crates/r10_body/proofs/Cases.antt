@@ -18,7 +18,8 @@ use Rattle.r10_body.specs.declared.entry.Entry.{Entry}
 use Rattle.r10_body.specs.declared.gap.Gap.{Gap}
 use Rattle.r10_body.specs.declared.gap.Gap.TheVariants.{Whole, Lost, Unknown}
 use Rattle.r10_body.specs.Vectors.{a_setup_packet, a_time_packet, uart_packet, a_node_packet, a_root_packet, a_report_packet, data_packets, a_recording}
-use Rattle.r10_body.proofs.Recording.{setup-first, time-second, uart-third, node-fourth, no}
+use Rattle.r10_body.proofs.Recording.{setup-first, time-second, uart-third, node-fourth}
+use Rattle.std.proofs.lemmas.Bool.{false≢true}
 
 abbrev pub text_at : ℕ → UartEntry
 text_at count = record { count = count; parity = false; sub = 0; bytes = [] }
@@ -43,14 +44,14 @@ pub second-setup : KeepsStart data_packets a_setup_packet → ⊥
 second-setup ((only-first, first), second) = omega (arith, only-first refl)
 
 pub no-setup : KeepsStart [] a_time_packet → ⊥
-no-setup ((only-first, first), second) = no (first refl)
+no-setup ((only-first, first), second) = false≢true (first refl)
 
 pub no-time-second : KeepsStart (a_setup_packet ∷ []) uart_packet → ⊥
-no-time-second (start, second) = no (second refl)
+no-time-second (start, second) = false≢true (second refl)
 
 -- rule 5: channels
 pub data-on-channel-0 : KeepsChannels data_packets (record uart_packet { channel = 0 }) → ⊥
-data-on-channel-0 ((there, back), one-type, flags) = no (back refl)
+data-on-channel-0 ((there, back), one-type, flags) = false≢true (back refl)
 
 pub index-on-channel-5 : KeepsChannels data_packets (record a_node_packet { channel = 5 }) → ⊥
 index-on-channel-5 ((there, back), one-type, flags) = omega (arith, there refl)
@@ -198,7 +199,7 @@ root-missing = record {
   bytes_are = refl;
   offset_is = refl;
   strict = (setup-first, (time-second, (uart-third, (node-fourth, tt))));
-  unclosed = λ is. absurd (no (sym is));
+  unclosed = λ is. absurd (false≢true (sym is));
   answered = tt;
   wrong = no_index refl (lit≤ tt) refl refl;
 }
@@ -282,7 +283,7 @@ unfolding packet_bytes header_bytes
 report-fourth = record {
   fits = record { channel = lit< tt; sequence = lit< tt; gap = tt; check = lit< tt; counter = lit< tt; content = record { channel = lit< tt; reserved = lit< tt; lost = lit< tt }; short = lit≤ tt };
   checksums = λ _. refl;
-  start = ((λ e. absurd (no e), λ e. absurd (omega arith)), λ e. absurd (omega arith));
+  start = ((λ e. absurd (false≢true e), λ e. absurd (omega arith)), λ e. absurd (omega arith));
   channels = ((λ _. refl, λ _. refl), λ lt. absurd (omega arith), λ _. refl);
   sequence = refl;
   counts = (tt, tt, tt);

@@ -15,6 +15,7 @@ use Rattle.r10_body.specs.Content.{Content, setup, time, event, uart, bus, arinc
 use Rattle.r10_body.specs.Packets.{Packet, packet_bytes, file_bytes}
 use Rattle.r10_body.specs.Rules.{MayFollow, EachFollows, KeepsChecksums, IsNextNode, IsNextRoot, HasPlace, is_index, is_data, is_node, is_root, is_closed_file, all_named, has_whole_index, node_entries, root_entry_of, last_nodes, unnamed, last_root}
 use Rattle.r10_body.proofs.Sentences.{rest_length}
+use Rattle.std.proofs.lemmas.List.Elements.{filter-append}
 
 -- ---- what a packet is
 
@@ -106,7 +107,7 @@ index_body (node es) counter is = (omega (arith, node_length es), omega (arith, 
 index_body (root es) counter is = (omega (arith, root_length es), omega (arith, root_length es))
 index_body c counter is = absurd (let no : false ≡ true = is in cc)
 
-none_wide : (check : ℕ) → check ≡ 0 → checksum_bits check / 8 ≡ 0
+pub none_wide : (check : ℕ) → check ≡ 0 → checksum_bits check / 8 ≡ 0
 none_wide check e = rw e refl
 
 long_at : (p : Packet) → p.check ≡ 0 → is_index p ≡ true → length (packet_bytes p) ≡ index_len p.content
@@ -235,3 +236,11 @@ sized_from before (p ∷ ps) each sized =
 -- the index of a file has 20 bytes for each packet that it names and at most 88 for each node, and all nodes but the last name a hundred
 pub sized : (ps : List Packet) → EachFollows [] ps → (index_bytes ps ≤ 20 * count_by is_data ps + 88 * count_by is_node ps) × (100 * count_by is_node ps < count_by is_data ps + 100)
 sized ps each = sized_within ps (sized_from [] ps each (record { named = 0; bytes = omega arith; once = omega arith; few = omega arith; whole = omega arith; roots = omega arith }))
+
+-- ---- packets of data
+
+pub datas_yes : (ps : List Packet) (p : Packet) → is_index p ≡ false → filter is_data (ps ++ p ∷ []) ≡ filter is_data ps ++ p ∷ []
+datas_yes ps p is = let one : filter is_data (p ∷ []) ≡ p ∷ [] = rw is refl in filter-append is_data ps (p ∷ []) ∙ ap (λ (qs : List Packet). filter is_data ps ++ qs) one
+
+pub datas_no : (ps : List Packet) (p : Packet) → is_index p ≡ true → filter is_data (ps ++ p ∷ []) ≡ filter is_data ps
+datas_no ps p is = let none : filter is_data (p ∷ []) ≡ [] = rw is refl in filter-append is_data ps (p ∷ []) ∙ ap (λ (qs : List Packet). filter is_data ps ++ qs) none ∙ append-nil (filter is_data ps)

@@ -1,8 +1,8 @@
 -- How long a file is: no longer than its cost.
-use Rattle.std.proofs.Common.{◌≡◌, ℕ, ◌+◌, ◌*◌, ◌<◌, ◌≤◌, ◌/◌, ◌⊎◌, inl, inr, Bool, true, false, ◌==◌, ◌||◌, IsTrue, cond, Option, None, Some, List, [], ◌∷◌, ◌++◌, length, map, take, refl, sym, ap, ◌∙◌, arith}
+use Rattle.std.proofs.Common.{◌≡◌, ℕ, ◌+◌, ◌*◌, ◌<◌, ◌≤◌, ◌⊎◌, inl, inr, Bool, true, false, ◌==◌, ◌||◌, IsTrue, cond, Option, None, Some, List, [], ◌∷◌, ◌++◌, length, map, take, refl, sym, ap, ◌∙◌, arith}
 use Rattle.std.specs.Prelude.{count_by}
 use Rattle.std.specs.List.{sum_by}
-use Rattle.std.proofs.lemmas.Bool.{eqb-true, false_from_ne_true}
+use Rattle.std.proofs.lemmas.Bool.{eqb-true, false_from_ne_true, false≢true}
 use Rattle.std.proofs.lemmas.List.{length-append}
 use Rattle.std.proofs.lemmas.List.Sums.{sum_by-append, sum_by-cons}
 use Rattle.r10_packet.proofs.Lengths.{checksum_width}
@@ -16,7 +16,6 @@ use Rattle.r10_message.specs.Message.{message_entry_size}
 use Rattle.r10_message.proofs.Bodies.{body-length as message_length}
 use Rattle.r10_body.proofs.Lone.{packet-length}
 use Rattle.r10_body.specs.Content.{Content, setup, time, event, uart, bus, arinc, discrete, message, node, root, report, type_of, body_of, FitsContent, timed, messages_of}
-use Rattle.r10_packet.specs.Header.{checksum_bits}
 use Rattle.r10_indexbody.specs.declared.loss.LossBody.{LossBody}
 use Rattle.r10_body.specs.Cost.{each_file, message_cost, lost_cost, owed, entry_cost, file_cost}
 use Rattle.r10_body.specs.Files.{FileSays}
@@ -29,7 +28,7 @@ use Rattle.r10_body.specs.declared.entry.Timed.{Timed}
 use Rattle.r10_body.specs.declared.message.Message.TheVariants as messages
 use Rattle.r10_body.proofs.Sentences.{rest_length}
 use Rattle.r10_body.proofs.Sums.{same_sum}
-use Rattle.r10_body.proofs.Indexes.{index_len, index_bytes, index_long, counted_first, sized}
+use Rattle.r10_body.proofs.Indexes.{index_len, index_bytes, index_long, counted_first, sized, none_wide}
 
 -- header, body, and at most filler and checksum
 pub packet_short : (p : Packet) → length (packet_bytes p) ≤ length (packet_body p) + 31
@@ -64,19 +63,16 @@ entries_lost size said paid (e ∷ es) channel gap some =
     let sizes : sum_by size (e ∷ es) ≡ size e + sum_by size es = sum_by-cons size e es in
     omega (arith, paid e)
 
-same_sizes : {E : Type 0} (n : ℕ) (es : List E) → sum_by (λ e. n) es ≡ n * length es
+pub same_sizes : {E : Type 0} (n : ℕ) (es : List E) → sum_by (λ e. n) es ≡ n * length es
 same_sizes n [] = omega arith
 same_sizes n (e ∷ es) = omega (arith, same_sizes n es, sum_by-cons (λ e. n) e es)
-
-no_type : false ≡ true → ⊥
-no_type e = cc
 
 last_of : (a b c d e : Bool) → (d ≡ true) ⊎ (e ≡ true) → IsTrue (a || b || c || d || e)
 last_of true b c d e is = refl
 last_of false true c d e is = refl
 last_of false false true d e is = refl
 last_of false false false true e is = refl
-last_of false false false false e (inl is) = absurd (no_type is)
+last_of false false false false e (inl is) = absurd (false≢true is)
 last_of false false false false e (inr is) = is
 
 -- ---- packets
@@ -115,19 +111,16 @@ owed_none (Some loss) p told whole = absurd (let no : Lost loss.lost ≡ Whole =
 -- a packet reports where it is a report
 pub report_at : (p : Packet) (c : Content) → p.content ≡ c → (b : Bool) → (type_of c == 0) ≡ b → (owed (report_of p) ≡ cond b 68 0) × ((type_of c == 0) ≡ true → length (body_of p.counter c) ≡ 20)
 report_at p (report loss) e b is = (rw (e, sym is) refl, λ _. refl)
-report_at p (setup text) e b is = (rw (e, sym is) refl, λ yes. absurd (no_type yes))
-report_at p (time civil) e b is = (rw (e, sym is) refl, λ yes. absurd (no_type yes))
-report_at p (event one) e b is = (rw (e, sym is) refl, λ yes. absurd (no_type yes))
-report_at p (uart es) e b is = (rw (e, sym is) refl, λ yes. absurd (no_type yes))
-report_at p (bus es) e b is = (rw (e, sym is) refl, λ yes. absurd (no_type yes))
-report_at p (arinc es) e b is = (rw (e, sym is) refl, λ yes. absurd (no_type yes))
-report_at p (discrete bits es) e b is = (rw (e, sym is) refl, λ yes. absurd (no_type yes))
-report_at p (message es) e b is = (rw (e, sym is) refl, λ yes. absurd (no_type yes))
-report_at p (node es) e b is = (rw (e, sym is) refl, λ yes. absurd (no_type yes))
-report_at p (root es) e b is = (rw (e, sym is) refl, λ yes. absurd (no_type yes))
-
-pub no_wide : (check : ℕ) → check ≡ 0 → checksum_bits check / 8 ≡ 0
-no_wide check e = rw e refl
+report_at p (setup text) e b is = (rw (e, sym is) refl, λ yes. absurd (false≢true yes))
+report_at p (time civil) e b is = (rw (e, sym is) refl, λ yes. absurd (false≢true yes))
+report_at p (event one) e b is = (rw (e, sym is) refl, λ yes. absurd (false≢true yes))
+report_at p (uart es) e b is = (rw (e, sym is) refl, λ yes. absurd (false≢true yes))
+report_at p (bus es) e b is = (rw (e, sym is) refl, λ yes. absurd (false≢true yes))
+report_at p (arinc es) e b is = (rw (e, sym is) refl, λ yes. absurd (false≢true yes))
+report_at p (discrete bits es) e b is = (rw (e, sym is) refl, λ yes. absurd (false≢true yes))
+report_at p (message es) e b is = (rw (e, sym is) refl, λ yes. absurd (false≢true yes))
+report_at p (node es) e b is = (rw (e, sym is) refl, λ yes. absurd (false≢true yes))
+report_at p (root es) e b is = (rw (e, sym is) refl, λ yes. absurd (false≢true yes))
 
 pub own_whole : (p : Packet) (before : List Packet) → MayFollow before p → (is_index p ≡ true) ⊎ (is_report_packet p ≡ true) → (p.gap ≡ Whole) × (p.check ≡ 0)
 own_whole p before may (inl is) = let own : IsTrue (is_setup_packet p || is_time p || is_event p || is_index p || is_report_packet p) = last_of (is_setup_packet p) (is_time p) (is_event p) (is_index p) (is_report_packet p) (inl is) in (may.channels.2 own, may.checksums own)
@@ -143,7 +136,7 @@ packet_covered before p false true is said may other =
     let counts : count_by is_report_packet (p ∷ []) ≡ 1 = rw said refl in
     let own = own_whole p before may (inr said) in
     let at = report_at p p.content refl true said in
-    omega (arith, one, counts, at.0, at.1 said, packet-length p, rest_length p, no_wide p.check own.1, owed_none (last_report before) p may.reports.0 own.0)
+    omega (arith, one, counts, at.0, at.1 said, packet-length p, rest_length p, none_wide p.check own.1, owed_none (last_report before) p may.reports.0 own.0)
 packet_covered before p false false is said may other =
     let one : count_by is_data (p ∷ []) ≡ 1 = rw is refl in
     omega (arith, one, data_covered p may.fits other is said, owed_is (last_report before) p may.reports.0)
@@ -186,7 +179,7 @@ reports_named (p ∷ ps) = omega (arith, one_named p (is_index p) (is_report_pac
 setup_short : (counter : ℕ) (c : Content) (text : List ℕ) → c ≡ setup text → length (body_of counter c) ≤ 4 + length text
 setup_short counter c text is = rw is (omega arith)
 
-content_is : (c : Content) (text : List ℕ) → c ∷ [] ≡ setup text ∷ [] → c ≡ setup text
+pub content_is : (c : Content) (text : List ℕ) → c ∷ [] ≡ setup text ∷ [] → c ≡ setup text
 content_is c text same = cc
 
 -- the cost covers the packets
@@ -212,9 +205,16 @@ file_covered bytes text entries closed says =
     let sums : sum_by entry_cost (file_entries says.0) ≡ sum_by entry_cost entries = same_sum entry_cost (file_entries says.0) entries says.2.entries_are in
     omega arith
 
-packets_some : (ps : List Packet) → 0 < length ps → 0 < length (file_bytes ps)
+pub packets_some : (ps : List Packet) → 0 < length ps → 0 < length (file_bytes ps)
 packets_some [] some = absurd (omega arith)
 packets_some (p ∷ ps) some = omega (arith, packet-length p, length-append (packet_bytes p) (file_bytes ps))
+
+pub packets_few : (ps : List Packet) → length ps ≤ length (file_bytes ps)
+packets_few [] = omega arith
+packets_few (p ∷ ps) = omega (arith, packets_few ps, packet-length p, length-append (packet_bytes p) (file_bytes ps))
+
+pub packet_long : (p : Packet) → 24 ≤ length (packet_bytes p)
+packet_long p = omega (arith, packet-length p)
 
 pub file_some : (bytes text : List ℕ) (entries : List Entry) (closed : Bool) → FileSays bytes text entries closed → 0 < length bytes
 file_some bytes text entries closed says =

@@ -1,14 +1,12 @@
 -- The first recording is a file that says its setup and its entries.
-use Rattle.std.specs.Prelude.{◌≡◌, true, false, [], ◌∷◌, ◌++◌, refl}
+use Rattle.std.specs.Prelude.{true, false, [], ◌∷◌, ◌++◌, refl}
 use Rattle.std.proofs.Common.{inl, lit<, lit≤, arith, sym}
 use Rattle.r10_packet.specs.Header.{header_bytes}
 use Rattle.r10_body.specs.Packets.{packet_bytes, file_bytes}
 use Rattle.r10_body.specs.Rules.{MayFollow, IsFile}
 use Rattle.r10_body.specs.Files.{FileSays}
 use Rattle.r10_body.specs.Vectors.{a_setup_packet, a_time_packet, uart_packet, a_node_packet, a_root_packet, data_packets, a_recording, recorded}
-
-pub no : false ≡ true → ⊥
-no e = cc
+use Rattle.std.proofs.lemmas.Bool.{false≢true}
 
 pub setup-first : MayFollow [] a_setup_packet
 setup-first = record {
@@ -19,7 +17,7 @@ setup-first = record {
   sequence = refl;
   counts = (tt, tt, tt);
   index = refl;
-  counters = (λ e. tt, λ e. absurd (no e));
+  counters = (λ e. tt, λ e. absurd (false≢true e));
   events = tt;
   reports = (refl, tt);
 }
@@ -28,12 +26,12 @@ pub time-second : MayFollow (a_setup_packet ∷ []) a_time_packet
 time-second = record {
   fits = record { channel = lit< tt; sequence = lit< tt; gap = tt; check = lit< tt; counter = lit< tt; content = refl; short = lit≤ tt };
   checksums = λ _. refl;
-  start = ((λ e. absurd (no e), λ e. absurd (omega arith)), λ _. refl);
-  channels = ((λ e. absurd (no e), λ e. absurd (omega arith)), λ _. (λ e. absurd (omega arith), tt), λ _. refl);
+  start = ((λ e. absurd (false≢true e), λ e. absurd (omega arith)), λ _. refl);
+  channels = ((λ e. absurd (false≢true e), λ e. absurd (omega arith)), λ _. (λ e. absurd (omega arith), tt), λ _. refl);
   sequence = refl;
   counts = ((refl, tt), (lit≤ tt, tt), (lit≤ tt, tt));
   index = refl;
-  counters = (λ _. (refl, tt), λ e. absurd (no e));
+  counters = (λ _. (refl, tt), λ e. absurd (false≢true e));
   events = tt;
   reports = (refl, tt);
 }
@@ -50,12 +48,12 @@ uart-third = record {
     short = lit≤ tt;
   };
   checksums = λ e. refl;
-  start = ((λ e. absurd (no e), λ e. absurd (omega arith)), λ e. absurd (omega arith));
-  channels = ((λ e. absurd (no e), λ e. absurd (omega arith)), λ _. (λ e. absurd (omega arith), (λ e. absurd (omega arith), tt)), λ _. refl);
+  start = ((λ e. absurd (false≢true e), λ e. absurd (omega arith)), λ e. absurd (omega arith));
+  channels = ((λ e. absurd (false≢true e), λ e. absurd (omega arith)), λ _. (λ e. absurd (omega arith), (λ e. absurd (omega arith), tt)), λ _. refl);
   sequence = refl;
   counts = ((refl, tt), (lit≤ tt, (lit≤ tt, tt)), (lit≤ tt, (lit≤ tt, tt)));
   index = refl;
-  counters = (λ e. absurd (omega arith), λ e. absurd (no e));
+  counters = (λ e. absurd (omega arith), λ e. absurd (false≢true e));
   events = tt;
   reports = (refl, tt);
 }
@@ -73,7 +71,7 @@ node-fourth = record {
     short = lit≤ tt;
   };
   checksums = λ _. refl;
-  start = ((λ e. absurd (no e), λ e. absurd (omega arith)), λ e. absurd (omega arith));
+  start = ((λ e. absurd (false≢true e), λ e. absurd (omega arith)), λ e. absurd (omega arith));
   channels = ((λ _. refl, λ _. refl), λ lt. absurd (omega arith), λ _. refl);
   sequence = refl;
   counts = (tt, tt, tt);
@@ -96,7 +94,7 @@ root-fifth = record {
     short = lit≤ tt;
   };
   checksums = λ _. refl;
-  start = ((λ e. absurd (no e), λ e. absurd (omega arith)), λ e. absurd (omega arith));
+  start = ((λ e. absurd (false≢true e), λ e. absurd (omega arith)), λ e. absurd (omega arith));
   channels = ((λ _. refl, λ _. refl), λ lt. absurd (omega arith), λ _. refl);
   sequence = refl;
   counts = (tt, tt, tt);
@@ -125,7 +123,7 @@ closed-says = (
   a_recording,
   refl,
   record {
-    file = record { each = (setup-first, (time-second, (uart-third, (node-fourth, (root-fifth, tt))))); start = lit≤ tt; index = λ e. absurd (no (sym e)); reports = refl };
+    file = record { each = (setup-first, (time-second, (uart-third, (node-fourth, (root-fifth, tt))))); start = lit≤ tt; index = λ e. absurd (false≢true (sym e)); reports = refl };
     setup_is = refl;
     entries_are = λ channel. refl;
     closed_is = refl;

@@ -10,9 +10,10 @@ use Rattle.r10_body.specs.Gaps.{IsSoundGap}
 use Rattle.r10_body.specs.Packets.{FitsPacket, Packet, packet_bytes}
 use Rattle.r10_body.specs.Rules.{EachFollows, EndsReports, IsGapTold, IsSoundReport, MayFollow, is_index, is_report_packet, is_time, last_report, last_time, report_of}
 use Rattle.r10_body.specs.declared.gap.Gap.TheVariants.{Whole, Lost}
-use Rattle.r10_body.proofs.Lengths.{last_with, no_wide, own_whole, report_at}
+use Rattle.r10_body.proofs.Lengths.{last_with, own_whole, report_at}
 use Rattle.r10_body.proofs.Lone.{packet-length}
 use Rattle.r10_body.proofs.Sentences.{rest_length}
+use Rattle.r10_body.proofs.Indexes.{none_wide}
 
 -- ---- a report
 
@@ -51,7 +52,7 @@ report_fits before p loss e may =
 pub report_long : (before : List Packet) (p : Packet) → MayFollow before p → is_report_packet p ≡ true → length (packet_bytes p) ≡ 44
 report_long before p may said =
     let at = report_at p p.content refl true said in
-    omega (arith, at.1 said, packet-length p, rest_length p, no_wide p.check (own_whole p before may (inr said)).1)
+    omega (arith, at.1 said, packet-length p, rest_length p, none_wide p.check (own_whole p before may (inr said)).1)
 
 untold : (o : Option LossBody) (p : Packet) → IsGapTold o p → p.gap ≡ Whole → o ≡ None
 untold None p told whole = refl

@@ -6,7 +6,7 @@ use Rattle.r10_indexbody.specs.Index.{FitsRootBody}
 use Rattle.r10_indexbody.specs.Vectors.{a_root_entry}
 use Rattle.r10_indexbody.specs.declared.entry.RootEntry.{RootEntry}
 use Rattle.r10_body.proofs.Lenient.{strict-lenient}
-use Rattle.r10_body.proofs.Recording.{setup-first, time-second, uart-third, node-fourth, no}
+use Rattle.r10_body.proofs.Recording.{setup-first, time-second, uart-third, node-fourth}
 use Rattle.r10_body.specs.Content.{FitsContent, root, uart}
 use Rattle.r10_body.specs.Faults.{IsAtFault, KeepsHeader, KeepsFiller, ReadsPacket, BreaksRule, first_packet, rule, IsAnswered}
 use Rattle.r10_body.specs.Faults as broken_rules
@@ -17,6 +17,7 @@ use Rattle.r10_body.specs.Vectors.{uart_packet, a_node_packet, a_root_packet, da
 use Rattle.r10_body.specs.declared.fault.FileFault.TheVariants.{Rule}
 use Rattle.r10_body.proofs.Injective.{one_packet}
 use Rattle.r10_body.proofs.Retold.{IsRetold, retold_start, retold_channels, retold_sequence, retold_counts}
+use Rattle.std.proofs.lemmas.Bool.{false≢true}
 
 -- what stands first is one packet, whatever number is told
 the_packet : (p q : Packet) (bytes : List ℕ) → ReadsPacket bytes p → ReadsPacket bytes q → IsRetold p q
@@ -51,7 +52,7 @@ fault_8 before p each foreign header filler reads keeps breaks told = record {
   bytes_are = refl;
   offset_is = refl;
   strict = each;
-  unclosed = λ e. absurd (no (sym e));
+  unclosed = λ e. absurd (false≢true (sym e));
   answered = told;
   wrong = rule foreign (broken_rules.index p reads breaks) (least_eight before p (packet_bytes p) header filler reads keeps);
 }
@@ -80,7 +81,7 @@ root-misplaced =
     (refl, refl, lit≤ tt) refl
     (record { channel = lit< tt; sequence = lit< tt; gap = tt; check = lit< tt; counter = lit< tt; content = fields; short = lit≤ tt }, λ _. refl, refl)
     (record {
-      start = ((λ e. absurd (no e), λ e. absurd (omega arith)), λ e. absurd (omega arith));
+      start = ((λ e. absurd (false≢true e), λ e. absurd (omega arith)), λ e. absurd (omega arith));
       channels = ((λ _. refl, λ _. refl), λ lt. absurd (omega arith), λ _. refl);
       sequence = refl;
       counts = (tt, tt, tt);
@@ -103,8 +104,8 @@ data-too-late =
     (refl, refl, lit≤ tt) refl
     (record { channel = lit< tt; sequence = lit< tt; gap = tt; check = lit< tt; counter = lit< tt; content = fields; short = lit≤ tt }, λ _. refl, refl)
     (record {
-      start = ((λ e. absurd (no e), λ e. absurd (omega arith)), λ e. absurd (omega arith));
-      channels = ((λ e. absurd (no e), λ e. absurd (omega arith)), λ _. (λ e. absurd (omega arith), (λ e. absurd (omega arith), (λ _. refl, (λ e. absurd (omega arith), tt)))), λ e. absurd (no e));
+      start = ((λ e. absurd (false≢true e), λ e. absurd (omega arith)), λ e. absurd (omega arith));
+      channels = ((λ e. absurd (false≢true e), λ e. absurd (omega arith)), λ _. (λ e. absurd (omega arith), (λ e. absurd (omega arith), (λ _. refl, (λ e. absurd (omega arith), tt)))), λ e. absurd (false≢true e));
       sequence = refl;
       counts = ((refl, tt), (lit≤ tt, (lit≤ tt, (lit≤ tt, tt))), (lit≤ tt, tt));
     })

@@ -30,7 +30,7 @@ pub use laws::{lone_packet, one_sentence, strict_is_lenient};
 pub use length::file_length;
 pub use meaning::decode;
 pub use message::{Kind, Message};
-pub use one_spelling::{one_list_of_packets, one_meaning, one_packet, packet_sentence};
+pub use one_spelling::{one_list_of_packets, one_meaning, one_packet};
 pub use opaque::is_opaque;
 pub use refusal::{Glance, Refusal};
 pub use same::are_same;
