@@ -1,7 +1,7 @@
 -- A packet of the recorder's is framed, and what is framed so is a packet of the recorder's.
 use Rattle.std.proofs.Common.{◌≡◌, ◌↔◌, ℕ, zero, suc, ◌+◌, ◌-◌, ◌/◌, ◌%◌, ◌^◌, ◌<◌, ◌≤◌, inl, inr, Bool, true, false, IsTrue, not, ◌==◌, ◌&&◌, ◌||◌, List, [], ◌∷◌, ◌++◌, length, take, drop, refl, sym, subst, ap, ◌∙◌, None, arith, replicate}
 use Rattle.std.specs.Prelude.{slice_range, slice_index, bit_and}
-use Rattle.std.proofs.lemmas.Bool.{cases_lt, le-leb, leb-true, eq-eqb, eqb-true}
+use Rattle.std.proofs.lemmas.Bool.{cases_lt, le-leb, leb-true, eq-eqb, eqb-true, and_parts}
 use Rattle.std.proofs.lemmas.List.{take-append-drop, drop-take, drop_at, length-append, length-drop, length-take-le}
 use Rattle.std.specs.Str.{bytes_eq}
 use Rattle.std.proofs.lemmas.Slice.Eq.{bytes_eq-Decides}
@@ -13,7 +13,7 @@ use Rattle.r10_packet.specs.Packet.{filled, least_filler}
 use Rattle.r10_packet.specs.Framing.{framing_fault, header_at, body_at, has_lengths, has_room_for_checksum, is_right, has_data_checksum}
 use Rattle.r10_packet.specs.declared.header.Header.{Header}
 use Rattle.r10_packet.proofs.Fields.{AreBytes}
-use Rattle.r10_packet.proofs.Kept.{both, whole_of, lengths_of}
+use Rattle.r10_packet.proofs.Kept.{whole_of, lengths_of}
 use Rattle.r10_packet.proofs.Lengths.{header_length, filled_length}
 use Rattle.r10_packet.proofs.Whole.{read_whole, found_whole, filler_at}
 use Rattle.r10_body.specs.Bodies.{IsBodyOf}
@@ -71,8 +71,8 @@ made_below : (n flags : ℕ) → flags < n → all_made n ≡ true → flags_mad
 unfolding all_made
 made_below zero flags lt all = absurd (omega arith)
 made_below (suc n) flags lt all = elim (cases_lt flags n) [
-  | inl under ↦ made_below n flags under (both (flags_made n) (all_made n) all).1
-  | inr over ↦ (let same : n ≡ flags = omega (arith, over) in subst (λ (m : ℕ). flags_made m ≡ true) same (both (flags_made n) (all_made n) all).0)
+  | inl under ↦ made_below n flags under (and_parts (flags_made n) (all_made n) all).1
+  | inr over ↦ (let same : n ≡ flags = omega (arith, over) in subst (λ (m : ℕ). flags_made m ≡ true) same (and_parts (flags_made n) (all_made n) all).0)
 ]
 
 told_flags : (flags : ℕ) → flags < 2 ^ 8 → bit_and flags 0xEC ≡ 0 → flags ≡ flag_at 4 (bit_of 4 flags) + flags % 4
@@ -87,7 +87,7 @@ told_flags flags lt none =
 rest_long : (bytes : List ℕ) (n : ℕ) → n ≤ length bytes → length (slice_range bytes 24 n) ≡ n - 24
 rest_long bytes n le = length-take-le (n - 24) (drop 24 bytes) (omega (arith, length-drop 24 bytes))
 
-has_own_lengths : (p : Packet) → FitsPacket p → has_lengths (header_of p) ≡ true
+pub has_own_lengths : (p : Packet) → FitsPacket p → has_lengths (header_of p) ≡ true
 has_own_lengths p fits =
     let n : ℕ = 24 + length (packet_rest p) in
     let words : n % 4 ≡ 0 = omega (arith, rest_words p) in
@@ -204,7 +204,7 @@ pub record HasRoom (bytes : List ℕ) : Type 0 where
 pub room_of : (bytes : List ℕ) → framing_fault bytes ≡ None → has_data_checksum bytes ≡ true → HasRoom bytes
 room_of bytes sound checked =
     let h = header_at bytes in
-    record { room = leb-true (24 + h.data_len + checksum_bits h.flags / 8) h.packet_len (both (has_room_for_checksum h) (is_right h bytes) checked).0; whole = (whole_of bytes sound).whole }
+    record { room = leb-true (24 + h.data_len + checksum_bits h.flags / 8) h.packet_len (and_parts (has_room_for_checksum h) (is_right h bytes) checked).0; whole = (whole_of bytes sound).whole }
 
 zeros_are : (n : ℕ) → n < 4 → take {A = ℕ} n (0 ∷ 0 ∷ 0 ∷ []) ≡ replicate n 0
 zeros_are zero lt = refl

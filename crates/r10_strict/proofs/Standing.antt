@@ -1,25 +1,20 @@
 -- What a track says of the bytes so far.
-use Rattle.std.proofs.Common.{◌≡◌, ℕ, ◌+◌, ◌<◌, ◌≤◌, ◌⊎◌, inl, inr, true, false, cond, List, [], ◌∷◌, ◌++◌, length, take, drop, count_by, refl, sym, ap, ◌∙◌, subst, arith, append-nil, Some, None}
-use Rattle.std.proofs.lemmas.List.{length-append, take-append-drop, length-take-le, nil_from_length}
+use Rattle.std.proofs.Common.{◌≡◌, ℕ, ◌+◌, ◌<◌, ◌≤◌, ◌⊎◌, inl, inr, true, false, cond, List, [], ◌∷◌, ◌++◌, length, take, drop, count_by, refl, sym, ap, ◌∙◌, subst, arith, append-nil, None}
+use Rattle.std.proofs.lemmas.List.{length-append, take-append-drop, length-take-le}
 use Rattle.std.proofs.lemmas.List.Folds.{concat-append}
 use Rattle.std.proofs.lemmas.List.Sums.{sum_by-append, sum_by-cons}
 use Rattle.std.specs.List.{AllByRecursion, concat}
 use Rattle.r10_packet.specs.Framing.{framing_fault, header_at, body_at, has_data_checksum}
 use Rattle.r10_packet.proofs.Kept.{whole_of, lengths_of}
-use Rattle.r10_packet.specs.declared.fault.PacketFault.TheVariants as packet_faults
 use Rattle.r10_body.specs.Foreign.{opaque_at, IsForeignBody, IsForeignPacket, IsForeignFile}
 use Rattle.r10_body.specs.Faults.{HasFault, IsFaulty}
 use Rattle.r10_body.specs.declared.fault.FileFault.{FileFault}
-use Rattle.r10_body.specs.declared.fault.FileFault.TheVariants.{Truncated}
 use Rattle.r10_strict.specs.Tracks.{IsFirst, TracksForeign}
 use Rattle.r10_strict.specs.declared.file.ForeignTrack.{ForeignTrack}
 use Rattle.r10_strict.specs.declared.packet.ForeignPacket.{ForeignPacket}
 use Rattle.r10_strict.proofs.Fronts.{stays, is_foreign}
 use Rattle.r10_strict.proofs.Ways.{packet_long}
-
-pub all_more : {A : Type 0} (P : A → Type 0) (xs : List A) (x : A) → AllByRecursion P xs → P x → AllByRecursion P (xs ++ x ∷ [])
-all_more P [] x all here = (here, tt)
-all_more P (y ∷ ys) x all here = (all.0, all_more P ys x all.1 here)
+use Rattle.r10_count.proofs.Lists.{all_more}
 
 -- what is read without a fault
 pub first_is : (bytes : List ℕ) (packet : ForeignPacket) → framing_fault bytes ≡ None → packet.length ≡ (header_at bytes).packet_len → packet.opaque ≡ opaque_at bytes
@@ -87,8 +82,3 @@ pub stands_file : (track : ForeignTrack) (bytes : List ℕ) → (track.offset �
 stands_file track bytes some so_far =
     let long : length (concat so_far.packets) ≡ track.offset = sym (so_far.offset ∙ ap length so_far.bytes_are) in
     (so_far.packets, so_far.bytes_are, some_packets so_far.packets (omega (arith, some, long)), so_far.foreign, so_far.opaque)
-
-pub stands_empty : (track : ForeignTrack) (bytes : List ℕ) → track.offset ≡ 0 → TracksForeign track bytes → IsFaulty bytes 0 Truncated
-stands_empty track bytes none so_far =
-    let empty : bytes ≡ [] = nil_from_length bytes (omega (arith, none, so_far.offset)) in
-    ([], bytes, refl, refl, tt, inr refl, subst (λ t. framing_fault t ≡ Some packet_faults.Truncated) (sym empty) refl)

@@ -31,6 +31,7 @@ use Rattle.r10_strict.specs.declared.facts.PacketKind.{PacketKind}
 use Rattle.r10_strict.specs.Tally.{empty_tally, spread_behind, tally_of, timed_cost, with_message}
 use Rattle.r10_strict.specs.declared.facts.Spread.{Spread}
 use Rattle.r10_strict.specs.declared.tally.Tally.{Tally}
+use Rattle.r10_body.proofs.Lengths.{same_sizes}
 
 -- ---- numbers and costs
 
@@ -116,10 +117,6 @@ entries_cheap : {E : Type 0} (size : E → ℕ) (said : E → Timed) (cheap : (e
 entries_cheap size said cheap [] = omega arith
 entries_cheap size said cheap (e ∷ es) =
     omega (arith, entries_cheap size said cheap es, sum_by-cons timed_cost (said e) (map said es), sum_by-cons size e es, cheap e)
-
-same_sizes : {E : Type 0} (n : ℕ) (es : List E) → sum_by (λ e. n) es ≡ n * length es
-same_sizes n [] = omega arith
-same_sizes n (e ∷ es) = omega (arith, same_sizes n es, sum_by-cons (λ e. n) e es)
 
 pub content_cheap : (counter : ℕ) (c : Content) → sum_by timed_cost (messages_of counter c) ≤ 29 * length (body_of counter c)
 content_cheap counter (setup text) = omega arith

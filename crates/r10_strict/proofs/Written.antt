@@ -1,7 +1,6 @@
 -- What the recorder writes is what any recorder may have written.
-use Rattle.std.proofs.Common.{◌≡◌, ℕ, ◌+◌, ◌-◌, ◌/◌, ◌%◌, ◌^◌, ◌<◌, ◌≤◌, ◌==◌, Bool, true, false, not, ◌&&◌, ◌||◌, cond, List, [], ◌∷◌, ◌++◌, length, map, count_by, refl, sym, ap, ◌∙◌, subst, arith, append-nil, lit<}
+use Rattle.std.proofs.Common.{◌≡◌, ℕ, ◌+◌, ◌-◌, ◌/◌, ◌%◌, ◌^◌, ◌<◌, ◌≤◌, ◌==◌, Bool, true, false, not, ◌||◌, cond, List, [], ◌∷◌, ◌++◌, length, map, count_by, refl, sym, ap, ◌∙◌, subst, arith, append-nil, lit<}
 use Rattle.std.specs.Prelude.{nat_le}
-use Rattle.std.proofs.lemmas.Bool.{le-leb, eq-eqb}
 use Rattle.std.proofs.lemmas.List.Sums.{sum_by-cons}
 use Rattle.std.proofs.lemmas.Nat.{from_le_bytes-to_le_bytes_4}
 use Rattle.std.specs.List.{AllByRecursion, concat, flat_map, list_any}
@@ -9,7 +8,7 @@ use Rattle.r10_count.specs.Bytes.{le_bytes, u32_at, flag_at, bit_of}
 use Rattle.r10_count.specs.Civil.{is_leap}
 use Rattle.r10_packet.specs.Header.{checksum_bits}
 use Rattle.r10_packet.specs.Packet.{least_filler}
-use Rattle.r10_packet.specs.Framing.{body_at, has_lengths}
+use Rattle.r10_packet.specs.Framing.{body_at}
 use Rattle.r10_packet.specs.declared.header.Header.{Header}
 use Rattle.r10_packet.proofs.Whole.{IsReadWhole, read_whole}
 use Rattle.r10_timebody.specs.Time as time_bodies
@@ -21,18 +20,13 @@ use Rattle.r10_body.proofs.Lenient.{strict-lenient}
 use Rattle.r10_body.specs.Content.{Content, setup, time, event, uart, bus, arinc, discrete, message, node, root, report, type_of, body_of, messages_of, FitsContent}
 use Rattle.r10_body.specs.Files.{IsStrict}
 use Rattle.r10_body.specs.Foreign.{known_types, is_loss_report, selects_other, is_opaque_packet, opaque_at, IsForeignBody, IsForeignPacket, IsForeignFile}
-use Rattle.r10_body.specs.Packets.{Packet, FitsPacket, flagged, packet_body, packet_rest, packet_bytes, header_of}
-use Rattle.r10_body.proofs.Sentences.{packet_sentence, rest_length, rest_words}
+use Rattle.r10_body.specs.Packets.{Packet, FitsPacket, flagged, packet_body, packet_bytes, header_of}
+use Rattle.r10_body.proofs.Sentences.{packet_sentence}
 use Rattle.r10_body.proofs.Rules.{follows_fit}
+use Rattle.r10_strict.proofs.Spelled.{has_own_lengths}
+use Rattle.std.proofs.lemmas.Bool.{and_right, or_from}
 
 -- ---- no packet of the recorder's is opaque
-
-off : (a b : Bool) → b ≡ false → (a && b) ≡ false
-off true b e = e
-off false b e = refl
-
-neither : (a b : Bool) → a ≡ false → b ≡ false → (a || b) ≡ false
-neither a b e f = rw (e, f) refl
 
 none_of : (a b c d e f : Bool) → a ≡ false → b ≡ false → c ≡ false → d ≡ false → e ≡ false → f ≡ false → (a || b || c || d || e || f) ≡ false
 none_of a b c d e f p q r s t u = rw (p, q, r, s, t, u) refl
@@ -59,38 +53,38 @@ time_present false = refl
 node_clear : (n : ℕ) (rest : List ℕ) → n < 2 ^ 16 → index_bodies.is_opaque_index (le_bytes 4 (2 ^ 31 + n) ++ rest) ≡ false
 node_clear n rest lt =
     let word = word_at (2 ^ 31 + n) rest (omega (arith, lt)) in
-    off _ _ (neither _ _ (ap (bit_of 30) word ∙ bit_is 30 (2 ^ 31 + n) 2 (omega (arith, lt))) (ap (bit_of 29) word ∙ bit_is 29 (2 ^ 31 + n) 4 (omega (arith, lt))))
+    and_right _ _ (or_from _ _ (ap (bit_of 30) word ∙ bit_is 30 (2 ^ 31 + n) 2 (omega (arith, lt))) (ap (bit_of 29) word ∙ bit_is 29 (2 ^ 31 + n) 4 (omega (arith, lt))))
 
 root_clear : (n : ℕ) (rest : List ℕ) → n < 2 ^ 16 → index_bodies.is_opaque_index (le_bytes 4 n ++ rest) ≡ false
 root_clear n rest lt =
     let word = word_at n rest (omega (arith, lt)) in
-    off _ _ (neither _ _ (ap (bit_of 30) word ∙ bit_is 30 n 0 (omega (arith, lt))) (ap (bit_of 29) word ∙ bit_is 29 n 0 (omega (arith, lt))))
+    and_right _ _ (or_from _ _ (ap (bit_of 30) word ∙ bit_is 30 n 0 (omega (arith, lt))) (ap (bit_of 29) word ∙ bit_is 29 n 0 (omega (arith, lt))))
 
 message_clear : (n : ℕ) (rest : List ℕ) → n < 2 ^ 16 → message_bodies.is_opaque_message (le_bytes 4 n ++ rest) ≡ false
 message_clear n rest lt =
     let word = word_at n rest (omega (arith, lt)) in
     let none : n / 65536 ≡ 0 = omega (arith, lt) in
-    off _ _ (ap (λ w. not (w / 65536 % 4 == 0)) word ∙ ap (λ k. not (k % 4 == 0)) none)
+    and_right _ _ (ap (λ w. not (w / 65536 % 4 == 0)) word ∙ ap (λ k. not (k % 4 == 0)) none)
 
 unselected : (counter : ℕ) (content : Content) → FitsContent counter content → selects_other (type_of content) (body_of counter content) ≡ false
-unselected counter (setup text) fits = none_of _ _ _ _ _ _ (off (type_of (setup text) == 1) _ (off (nat_le 4 (length (body_of counter (setup text)))) _ (ap (bit_of 9) (word_at 0x0C text (lit< tt))))) refl refl refl refl refl
-unselected counter (event e) fits = none_of _ _ _ _ _ _ refl (off (type_of (event e) == 2) _ (off (nat_le 4 (length (body_of counter (event e)))) _ (ap (bit_of 31) (word_at 1 (event_bodies.event_entry_bytes e) (lit< tt))))) refl refl refl refl
+unselected counter (setup text) fits = none_of _ _ _ _ _ _ (and_right (type_of (setup text) == 1) _ (and_right (nat_le 4 (length (body_of counter (setup text)))) _ (ap (bit_of 9) (word_at 0x0C text (lit< tt))))) refl refl refl refl refl
+unselected counter (event e) fits = none_of _ _ _ _ _ _ refl (and_right (type_of (event e) == 2) _ (and_right (nat_le 4 (length (body_of counter (event e)))) _ (ap (bit_of 31) (word_at 1 (event_bodies.event_entry_bytes e) (lit< tt))))) refl refl refl refl
 unselected counter (time civil) fits =
     let leap : Bool = is_leap civil.year in
     let word : u32_at (time_bodies.time_body civil) 0 ≡ cond leap 0x301 0x201 = from_le_bytes-to_le_bytes_4 (cond leap 0x301 0x201) (time_small leap) in
-    none_of _ _ _ _ _ _ refl refl refl (off (type_of (time civil) == 17) _ (off (nat_le 4 (length (body_of counter (time civil)))) _ (ap (λ w. not (bit_of 9 w)) word ∙ ap not (time_present leap)))) refl refl
+    none_of _ _ _ _ _ _ refl refl refl (and_right (type_of (time civil) == 17) _ (and_right (nat_le 4 (length (body_of counter (time civil)))) _ (ap (λ w. not (bit_of 9 w)) word ∙ ap not (time_present leap)))) refl refl
 unselected counter (uart entries) fits =
-    none_of _ _ _ _ _ _ refl refl refl refl refl (off (type_of (uart entries) == 80) _ (off (nat_le 4 (length (body_of counter (uart entries)))) _ (ap (λ w. not (bit_of 31 w)) (word_at 0x80000000 (flat_map uart_bodies.uart_entry entries) (lit< tt)))))
+    none_of _ _ _ _ _ _ refl refl refl refl refl (and_right (type_of (uart entries) == 80) _ (and_right (nat_le 4 (length (body_of counter (uart entries)))) _ (ap (λ w. not (bit_of 31 w)) (word_at 0x80000000 (flat_map uart_bodies.uart_entry entries) (lit< tt)))))
 unselected counter (bus entries) fits = refl
 unselected counter (arinc entries) fits = refl
 unselected counter (discrete bits entries) fits = refl
 unselected counter (report loss) fits = refl
 unselected counter (message entries) fits =
-    none_of _ _ _ _ _ _ refl refl refl refl (off (type_of (message entries) == 48) _ (message_clear (length entries) (flat_map message_bodies.message_entry entries) fits.counted)) refl
+    none_of _ _ _ _ _ _ refl refl refl refl (and_right (type_of (message entries) == 48) _ (message_clear (length entries) (flat_map message_bodies.message_entry entries) fits.counted)) refl
 unselected counter (node entries) fits =
-    none_of _ _ _ _ _ _ refl refl (off (type_of (node entries) == 3) _ (node_clear (length entries) (flat_map index_bodies.node_entry entries) fits.counted)) refl refl refl
+    none_of _ _ _ _ _ _ refl refl (and_right (type_of (node entries) == 3) _ (node_clear (length entries) (flat_map index_bodies.node_entry entries) fits.counted)) refl refl refl
 unselected counter (root entries) fits =
-    none_of _ _ _ _ _ _ refl refl (off (type_of (root entries) == 3) _ (root_clear (length entries) (flat_map index_bodies.root_entry entries) fits.counted)) refl refl refl
+    none_of _ _ _ _ _ _ refl refl (and_right (type_of (root entries) == 3) _ (root_clear (length entries) (flat_map index_bodies.root_entry entries) fits.counted)) refl refl refl
 
 known : (counter : ℕ) (content : Content) → not (list_any (λ type. type == type_of content) known_types || is_loss_report (type_of content) (body_of counter content)) ≡ false
 known counter (setup text) = refl
@@ -115,19 +109,10 @@ header_clear p fits =
 
 -- ---- a packet of the recorder's is one of any
 
-lengths_hold : (a b c d e : Bool) → a ≡ true → b ≡ true → c ≡ true → e ≡ true → (a && b && (c || d) && e) ≡ true
-lengths_hold a b c d e p q r s = rw (p, q, r, s) refl
-
-header_lengths : (p : Packet) → FitsPacket p → has_lengths (header_of p) ≡ true
-header_lengths p fits =
-    let size : ℕ = length (packet_rest p) in
-    lengths_hold _ _ _ _ _ (le-leb 24 (24 + size) (omega arith)) (eq-eqb ((24 + size) % 4) 0 (omega (arith, rest_words p))) (le-leb (24 + size) 524288 fits.short)
-    (le-leb (length (packet_body p)) (24 + size - 24) (omega (arith, rest_length p)))
-
 read_alone : (p : Packet) → FitsPacket p → IsReadWhole (packet_bytes p) (header_of p) (packet_body p)
 read_alone p fits =
     subst (λ t. IsReadWhole t (header_of p) (packet_body p)) (append-nil (packet_bytes p))
-    (read_whole (least_filler (checksum_bits (header_of p).flags) (packet_body p)) (packet_bytes p) [] (header_of p) (packet_body p) (packet_sentence p fits) (header_lengths p fits))
+    (read_whole (least_filler (checksum_bits (header_of p).flags) (packet_body p)) (packet_bytes p) [] (header_of p) (packet_body p) (packet_sentence p fits) (has_own_lengths p fits))
 
 pub packet_clear : (p : Packet) → FitsPacket p → opaque_at (packet_bytes p) ≡ false
 packet_clear p fits =

@@ -26,9 +26,7 @@ pub use any::{AnyPacket, read_any};
 pub use facts::{Facts, PacketKind, Spread};
 pub use file::{Fault, ForeignTrack};
 pub use foreign_body::is_foreign_body;
-pub use laws::{
-    fault_stays, one_fault, one_verdict, packet_stays, packet_without_fault, strict_is_foreign,
-};
+pub use laws::{fault_stays, one_fault, one_verdict, strict_is_foreign};
 pub use packet::{ForeignPacket, read_foreign};
 pub use strict::{StrictReading, read_checked, read_strict};
 pub use text::{TextEntry, split_text};
