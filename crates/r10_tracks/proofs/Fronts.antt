@@ -5,7 +5,7 @@ use Rattle.std.specs.Cmp.Lexicographic.{pointwise, same_text, other_text}
 use Rattle.std.proofs.lemmas.List.{take-append-drop, take_at, append_cancel_left}
 use Rattle.std.specs.Prelude.{◌↔◌, IsTrue}
 use Rattle.std.specs.List.{flat_map}
-use Rattle.r10_tracks.proofs.Either.{no}
+use Rattle.std.proofs.lemmas.Bool.{false≢true}
 
 abbrev pub Strips : List ℕ → List ℕ → Option (Bor (List ℕ)) → Type 0
 Strips bytes front r = MatchOption r (pointwise nat_eq (take (length front) bytes) front ≡ false) (λ x. (pointwise nat_eq (take (length front) bytes) front ≡ true) × (x.now ≡ drop (length front) bytes) × (length x.now + length front ≡ length bytes))
@@ -45,10 +45,6 @@ pub if_none_map : {T : Type 0} (o : Option T) (P Q : Type 0) → (P → Q) → I
 if_none_map None P Q f p = f p
 if_none_map (Some x) P Q f p = tt
 
-pub if_some_map : {T : Type 0} (o : Option T) (P Q : T → Type 0) → ((x : T) → P x → Q x) → IfSome o P → IfSome o Q
-if_some_map None P Q f p = tt
-if_some_map (Some x) P Q f p = f x p
-
 -- a test of what stands behind a front
 pub framed : (body front word rest whole : List ℕ) (b : Bool) → front ≡ word → body ≡ front ++ rest → IsTrue b ↔ (rest ≡ whole) → IsTrue b ↔ (body ≡ word ++ whole)
 framed body front word rest whole b same found test =
@@ -56,13 +52,7 @@ framed body front word rest whole b same found test =
     (λ e. at ∙ ap (λ (t : List ℕ). word ++ t) (test.0 e), λ e. test.1 (append_cancel_left word rest whole (sym at ∙ e)))
 
 pub unframed : (body front word whole : List ℕ) → front ≡ word → Missing body front → IsTrue false ↔ (body ≡ word ++ whole)
-unframed body front word whole same missing = (λ e. absurd (no e), λ e. absurd (missing whole (e ∙ ap (λ (t : List ℕ). t ++ whole) (sym same))))
-
--- one item of a list is behind
-pub step_left : {A : Type 0} (P : Type 0) (code : A → List ℕ) (left rest : List ℕ) (x : A) (xs more : List A) → left ≡ code x ++ rest → xs ≡ x ∷ more → P ↔ (left ≡ flat_map code xs) → P ↔ (rest ≡ flat_map code more)
-step_left P code left rest x xs more found is test =
-    let whole : flat_map code xs ≡ code x ++ flat_map code more = ap (λ ys. flat_map code ys) is in
-    (λ p. append_cancel_left (code x) rest (flat_map code more) (sym found ∙ test.0 p ∙ whole), λ e. test.1 (found ∙ ap (λ (t : List ℕ). code x ++ t) e ∙ sym whole))
+unframed body front word whole same missing = (λ e. absurd (false≢true e), λ e. absurd (missing whole (e ∙ ap (λ (t : List ℕ). t ++ whole) (sym same))))
 
 pub step_none : {A : Type 0} (P : Type 0) (code : A → List ℕ) (left : List ℕ) (x : A) (xs more : List A) → Missing left (code x) → xs ≡ x ∷ more → P ↔ (left ≡ flat_map code xs) → IsTrue false ↔ P
-step_none P code left x xs more missing is test = (λ e. absurd (no e), λ p. absurd (missing (flat_map code more) (test.0 p ∙ ap (λ ys. flat_map code ys) is)))
+step_none P code left x xs more missing is test = (λ e. absurd (false≢true e), λ p. absurd (missing (flat_map code more) (test.0 p ∙ ap (λ ys. flat_map code ys) is)))

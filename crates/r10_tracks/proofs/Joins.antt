@@ -8,7 +8,7 @@ use Rattle.r10_body.proofs.Injective.{one_packet}
 use Rattle.r10_body.proofs.Retold.{IsRetold, retold_start, retold_channels, retold_sequence, retold_counts, retold_index, retold_counters, retold_events}
 use Rattle.r10_tracks.specs.Broken.{Breaks}
 use Rattle.r10_tracks.specs.Broken as broken_later
-use Rattle.r10_tracks.proofs.Either.{no}
+use Rattle.std.proofs.lemmas.Bool.{false≢true}
 
 pub of_bytes : (before : List Packet) (bytes : List ℕ) (closed : Bool) (p : Packet) (n : ℕ) → ReadsPacket bytes p → Breaks before p n → BreaksRule before bytes closed n
 of_bytes before bytes closed p n reads (broken_later.start not) = start p reads not
@@ -49,7 +49,7 @@ of_packet before bytes closed p n reads shuts high (channels q rq not) = inr (br
 of_packet before bytes closed p n reads shuts high (sequence q rq not) = inr (broken_later.sequence (λ kept. not (retold_sequence before p q (retold bytes p q reads rq) kept)))
 of_packet before bytes closed p n reads shuts high (counts q rq not) = inr (broken_later.counts (λ kept. not (retold_counts before p q (retold bytes p q reads rq) kept)))
 of_packet before bytes closed p n reads shuts high (index q rq not) = inr (broken_later.index (λ kept. not (retold_index before p q (retold bytes p q reads rq) kept)))
-of_packet before bytes closed p n reads shuts high (unclosed q rq is shut) = absurd (no (sym shut ∙ shuts (still_index p q (retold bytes p q reads rq) is)))
+of_packet before bytes closed p n reads shuts high (unclosed q rq is shut) = absurd (false≢true (sym shut ∙ shuts (still_index p q (retold bytes p q reads rq) is)))
 of_packet before bytes closed p n reads shuts high (counters q rq not) = inr (broken_later.counters (λ kept. not (retold_counters before p q (retold bytes p q reads rq) kept)))
 of_packet before bytes closed p n reads shuts high (events q rq not) = inr (broken_later.events (λ kept. not (retold_events before p q (retold bytes p q reads rq) kept)))
 of_packet before bytes closed p n reads shuts high (reports q loss rq is not) = inl refl

@@ -5,10 +5,10 @@ use Rattle.r10_body.specs.Packets.{Packet}
 use Rattle.r10_body.specs.Rules.{KeepsStart, KeepsChannels, KeepsSequence, KeepsCounts, KeepsIndex, KeepsCounters, KeepsEvents, is_index, is_node, is_root}
 use Rattle.r10_body.proofs.Indexes.{Part, datum, node_here, root_here, part_of, counted_first, counted_yes, counted_no}
 use Rattle.r10_tracks.specs.Broken.{Breaks, start, channels, sequence, counts, index, counters, events, reports}
-use Rattle.r10_tracks.proofs.Either.{no}
+use Rattle.std.proofs.lemmas.Bool.{false≢true}
 
 pub not_kept : (A : Type 0) (b : Bool) → b ≡ false → IsTrue b ↔ A → A → ⊥
-not_kept A b is decides kept = no (sym is ∙ decides.1 kept)
+not_kept A b is decides kept = false≢true (sym is ∙ decides.1 kept)
 
 pub least_4 : (before : List Packet) (p : Packet) (m : ℕ) → Breaks before p m → 4 ≤ m
 least_4 before p m (start broken) = omega arith

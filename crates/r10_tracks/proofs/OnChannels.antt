@@ -5,24 +5,21 @@ use Rattle.std.specs.HashMap.{HashMap, get}
 use Rattle.std.specs.List.{AllByRecursion}
 use Rattle.std.proofs.lemmas.List.{append-nil}
 use Rattle.std.proofs.lemmas.List.Elements.{filter-append}
-use Rattle.std.proofs.lemmas.Bool.{eq-eqb, eqb-true}
+use Rattle.std.proofs.lemmas.Bool.{eq-eqb, eqb-true, false≢true}
 use Rattle.r10_body.specs.Content.{type_of}
 use Rattle.r10_body.specs.Files.{on_channel}
 use Rattle.r10_body.specs.Packets.{Packet, packet_entries, file_entries}
 use Rattle.r10_body.specs.Rules.{EachFollows, KeepsChannels, KeepsSequence, KeepsCounts, Rise, packet_on, is_entry_on}
 use Rattle.r10_body.specs.declared.entry.Entry.{Entry}
 use Rattle.r10_body.specs.Sequence.{next_sequence, last_count}
-use Rattle.r10_body.proofs.ChannelLists.{packet_off_channel, channel_same, channel_other, sequence_same, sequence_other, rises}
+use Rattle.r10_body.proofs.ChannelLists.{packet_off_channel, channel_same, channel_other, sequence_same, sequence_other, rises, last_joined, rise_behind}
 use Rattle.r10_body.proofs.Indexes.{counted, counted_first, counted_yes, counted_no}
-use Rattle.r10_strict.proofs.Standing.{all_more}
 use Rattle.r10_strict.specs.Facts.{AreFactsOf, Spans, TellsCounts}
 use Rattle.r10_strict.specs.declared.facts.Facts.{Facts}
 use Rattle.r10_strict.specs.declared.facts.Spread.{Spread}
 use Rattle.r10_tracks.specs.Channels.{HaveType, KeptOf, IsKeptOfChannel, AreKept}
 use Rattle.r10_tracks.specs.declared.channels.ChannelTrack.{ChannelTrack}
-
-no : false ≡ true → ⊥
-no e = cc
+use Rattle.r10_count.proofs.Lists.{all_more}
 
 on_it : (channel : ℕ) (p : Packet) → p.channel ≡ channel → packet_on channel p ≡ true
 on_it channel p e = eq-eqb p.channel channel e
@@ -60,10 +57,6 @@ nothing_on channel (p ∷ ps) none =
     let rest : on_channel channel (file_entries ps) ≡ [] = nothing_on channel ps (omega (arith, none, counted_first (packet_on channel) p ps)) in
     filter-append (is_entry_on channel) (packet_entries p) (file_entries ps) ∙ ap (λ (es : List Entry). es ++ on_channel channel (file_entries ps)) off ∙ rest
 
-pub last_behind : (count : ℕ) (es fs : List Entry) → last_count count (es ++ fs) ≡ last_count (last_count count es) fs
-last_behind count [] fs = refl
-last_behind count (e ∷ es) fs = last_behind e.count es fs
-
 pub last_given : (a b : ℕ) (es : List Entry) → 0 < length es → last_count a es ≡ last_count b es
 last_given a b [] some = absurd (omega (arith, some))
 last_given a b (e ∷ es) some = refl
@@ -79,10 +72,6 @@ last_spanned before s es spans = spans.last ∙ last_given s.first before es (sp
 pub rise_join : (count : ℕ) (es fs : List Entry) → Rise count es → Rise (last_count count es) fs → Rise count (es ++ fs)
 rise_join count [] fs rise more = more
 rise_join count (e ∷ es) fs rise more = (rise.0, rise_join e.count es fs rise.1 more)
-
-pub rise_behind : (count : ℕ) (es fs : List Entry) → Rise count (es ++ fs) → Rise (last_count count es) fs
-rise_behind count [] fs rise = rise
-rise_behind count (e ∷ es) fs rise = rise_behind e.count es fs rise.1
 
 -- what the counts of a packet's entries have to be behind those of its channel
 abbrev pub GoOn : ℕ → List Entry → List Entry → Type 0
@@ -164,7 +153,7 @@ pub last_some : (packets : List Packet) (p : Packet) (f : Facts) (s : Spread) �
 last_some packets p f s is tells =
     let before : List Entry = on_channel p.channel (file_entries packets) in
     let spans : Spans s (packet_entries p) = subst (λ (o : Option Spread). TellsCounts o (packet_entries p)) is tells.counts in
-    last_spanned (last_count 0 before) s (packet_entries p) spans ∙ sym (last_behind 0 before (packet_entries p))
+    last_spanned (last_count 0 before) s (packet_entries p) spans ∙ sym (last_joined 0 before (packet_entries p))
 
 pub last_same : (packets : List Packet) (p : Packet) (f : Facts) (last : ℕ) → f.counts ≡ None → last ≡ last_count 0 (on_channel f.channel (file_entries packets)) → AreFactsOf f p
     → last ≡ last_count 0 (on_channel p.channel (file_entries packets) ++ packet_entries p)
@@ -193,7 +182,7 @@ kept_other : (packets : List Packet) (p : Packet) (channel : ℕ) (o : Option Ch
 kept_other packets p channel None off kept = omega (arith, kept, counted (packet_on channel) packets p, counted_no (packet_on channel) p off)
 kept_other packets p channel (Some track) off kept = record {
   some = omega (arith, kept.some, counted (packet_on channel) packets p);
-  types = λ some. all_more (λ (q : Packet). q.channel ≡ channel → type_of q.content ≡ track.data_type) packets p (kept.types some) (λ e. absurd (no (sym off ∙ on_it channel p e)));
+  types = λ some. all_more (λ (q : Packet). q.channel ≡ channel → type_of q.content ≡ track.data_type) packets p (kept.types some) (λ e. absurd (false≢true (sym off ∙ on_it channel p e)));
   sequence = kept.sequence ∙ sym (sequence_other channel packets p off);
   last = kept.last ∙ sym (ap (λ (es : List Entry). last_count 0 es) (channel_other channel packets p off));
 }
@@ -210,4 +199,4 @@ are_kept packets p f track old new puts kept tells here =
 
 pub on_ok : {T E : Type 0} (P : Type 0) (r : Result T E) → IsOk r → OnOk r P → P
 on_ok P (Ok x) is p = p
-on_ok P (Err e) is p = absurd (no is)
+on_ok P (Err e) is p = absurd (false≢true is)

@@ -1,10 +1,10 @@
 -- The index of a file's packets, with and without a packet more.
 use Rattle.std.proofs.Common.{◌≡◌, ◌⊎◌, inl, inr, ◌==◌, Option, None, Some, is_some, not, ℕ, zero, suc, ◌+◌, ◌-◌, ◌*◌, ◌^◌, ◌<◌, ◌≤◌, Bool, true, false, cond, IsTrue, List, [], ◌∷◌, ◌++◌, length, take, drop, refl, sym, ap, subst, ◌∙◌, arith}
 use Rattle.std.specs.Prelude.{count_by, filter, min, ◌↔◌, ◌&&◌, ◌||◌, MatchOption}
-use Rattle.std.proofs.lemmas.Bool.{eqb-true, le-leb, leb-true}
+use Rattle.std.proofs.lemmas.Bool.{eqb-true, le-leb, leb-true, false≢true}
 use Rattle.std.specs.List.{AllByRecursion}
-use Rattle.std.proofs.lemmas.List.{append-nil, length-append, length-drop, length-take, take_all, take_min, drop_min}
-use Rattle.std.proofs.lemmas.List.Elements.{filter-append, recursion_from_All, All-from_recursion, All-filter}
+use Rattle.std.proofs.lemmas.List.{length-append, length-drop, length-take, take_all, take_min, drop_min}
+use Rattle.std.proofs.lemmas.List.Elements.{recursion_from_All, All-from_recursion, All-filter}
 use Rattle.std.proofs.lemmas.List.Sums.{length-filter}
 use Rattle.r10_count.specs.Count.{IsCount}
 use Rattle.r10_indexbody.specs.Index.{FitsNode, FitsNodeBody, FitsRoot, FitsRootBody, node_body, root_body}
@@ -16,7 +16,7 @@ use Rattle.r10_body.specs.Content.{Content, FitsContent, setup, time, event, uar
 use Rattle.r10_body.specs.Packets.{Packet, FitsPacket, packet_body, packet_bytes, packet_entries, file_bytes}
 use Rattle.r10_body.specs.Rules.{MayFollow, EachFollows, HasPlace, KeepsIndex, IsNextNode, IsNextRoot, is_time, is_index, is_report_packet, is_data, is_node, is_root, is_closed_file, all_named, has_whole_index, closed_from, group_size, last_root, node_entry_of, node_entries, root_entry_of, last_time, unnamed}
 use Rattle.r10_body.proofs.Groups.{none_unnamed, root_before, root_with, size_grows, size_of_node, size_of_root, size_stays, unnamed_with}
-use Rattle.r10_body.proofs.Indexes.{Part, datum, node_here, root_here, part_of, counted, counted_first, counted_yes, counted_no, index_len, index_long, no_nodes, no_roots, not_closed}
+use Rattle.r10_body.proofs.Indexes.{Part, datum, node_here, root_here, part_of, counted, counted_first, counted_yes, counted_no, index_len, index_long, no_nodes, no_roots, not_closed, datas_yes, datas_no}
 use Rattle.r10_body.proofs.Rules.{bytes_more, follows_fit}
 use Rattle.r10_index.specs.Book.{Book}
 use Rattle.r10_index.specs.Counted.{IsBookOf, CountsEntriesUpTo}
@@ -26,14 +26,13 @@ use Rattle.r10_index.proofs.Behind.{part_fits, last_more, no_names, no_link_here
 use Rattle.r10_strict.specs.Facts.{AreFactsOf, kind_of}
 use Rattle.r10_strict.specs.declared.facts.Facts.{Facts}
 use Rattle.r10_strict.specs.declared.facts.PacketKind.TheVariants.{Node, Root}
-use Rattle.r10_tracks.specs.Index.{HasPlaceIn, IsIndexed, IsLastRoot, IsRootHere, IsSameIndex, link_at}
+use Rattle.r10_tracks.specs.Index.{HasPlaceIn, IsIndexed, IsLastRoot, IsRootHere, link_at}
 use Rattle.r10_tracks.specs.Names.{root_at}
 use Rattle.r10_tracks.specs.declared.index.IndexTracks.{IndexTracks}
-use Rattle.r10_tracks.proofs.Either.{no}
 use Rattle.r10_tracks.proofs.Named.{names_length, names_more}
 use Rattle.r10_tracks.proofs.Least.{index_packets}
-use Rattle.r10_strict.proofs.Standing.{all_more}
-use Rattle.r10_tracks.proofs.OnTimes.{few}
+use Rattle.r10_count.proofs.Lists.{all_more}
+use Rattle.r10_body.proofs.Lengths.{packets_few}
 
 -- ---- the next hundred
 
@@ -103,23 +102,6 @@ named_fit ps each short =
 
 -- ---- what is kept
 
--- nothing changes
-pub same_index : (old new : IndexTracks) (ps : List Packet) → IsSameIndex old new → IsIndexed old ps → IsIndexed new ps
-same_index old new ps s ix = record {
-  named = s.named ∙ ix.named;
-  counted = subst (λ (ns : List ℕ). CountsEntriesUpTo ns (filter is_data ps)) (sym s.counted) ix.counted;
-  end = s.end ∙ ix.end;
-  bytes = s.bytes ∙ ix.bytes;
-  nodes = s.nodes ∙ ix.nodes;
-  group = s.group ∙ ix.group;
-  loose = ix.loose ∙ ap (λ n. names (last_time 0 ps) n old.pending) (sym s.start) ∙ ap (λ n. names (last_time 0 ps) new.start n) (sym s.pending);
-  full = λ some. omega (arith, ix.full (omega (arith, some, s.pending)), s.bytes, s.nodes, ap (λ (es : List NodeEntry). length es) s.named, s.start, s.pending);
-  few = omega (arith, ix.few, s.nodes, ap (λ (es : List NodeEntry). length es) s.named);
-  low = omega (arith, ix.low, s.start, s.pending);
-  link = subst (λ (o : Option ℕ). IsLastRoot o ps) (sym s.root) ix.link;
-  closed = s.closed ∙ ix.closed;
-}
-
 pub pending_is : (t : IndexTracks) (ps : List Packet) → IsIndexed t ps → length (unnamed ps) ≡ t.pending
 pending_is t ps ix = ap (λ (es : List RootEntry). length es) ix.loose ∙ names_length (last_time 0 ps) t.start t.pending
 
@@ -139,7 +121,7 @@ all_is t ps false ix test = sym (not_all (all_named ps) refl)
   where
     not_all : (c : Bool) → all_named ps ≡ c → all_named ps ≡ false
     not_all false e = e
-    not_all true e = absurd (no (test.1 (omega (arith, leb-true (count_by is_data ps) (100 * count_by is_node ps) e, datas_are t ps ix, ix.nodes))))
+    not_all true e = absurd (false≢true (test.1 (omega (arith, leb-true (count_by is_data ps) (100 * count_by is_node ps) e, datas_are t ps ix, ix.nodes))))
 
 -- there is no index packet
 pub none_is : (t : IndexTracks) (ps : List Packet) → IsIndexed t ps → (t.nodes ≡ 0) × (t.root ≡ None) → count_by is_index ps ≡ 0
@@ -153,12 +135,12 @@ is_none_then t ps ix none = (omega (arith, index_packets ps, ix.nodes, none), no
 -- whether there is a root
 pub no_root_then : (root : Option ℕ) (b : Bool) → is_some root ≡ not b → b ≡ true → root ≡ None
 no_root_then None b says none = refl
-no_root_then (Some offset) true says none = absurd (no (sym says))
-no_root_then (Some offset) false says none = absurd (no none)
+no_root_then (Some offset) true says none = absurd (false≢true (sym says))
+no_root_then (Some offset) false says none = absurd (false≢true none)
 
 pub no_root_says : (root : Option ℕ) (b : Bool) → is_some root ≡ not b → root ≡ None → b ≡ true
 no_root_says offset true says none = refl
-no_root_says offset false says none = absurd (no (sym (ap (λ (o : Option ℕ). is_some o) none) ∙ says))
+no_root_says offset false says none = absurd (false≢true (sym (ap (λ (o : Option ℕ). is_some o) none) ∙ says))
 
 -- an index packet has the last time's counter
 index_or_report : (p : Packet) → is_index p ≡ true → IsTrue (is_index p || is_report_packet p)
@@ -263,18 +245,6 @@ last_closed : (b : Bool) (ps : List Packet) (p : Packet) → closed_from b (ps +
 last_closed b [] p = refl
 last_closed b (q ∷ ps) p = last_closed (is_root q) ps p
 
-kept_yes : (test : Packet → Bool) (ps : List Packet) (p : Packet) → test p ≡ true → filter test (ps ++ p ∷ []) ≡ filter test ps ++ p ∷ []
-kept_yes test ps p is = let one : filter test (p ∷ []) ≡ p ∷ [] = rw is refl in filter-append test ps (p ∷ []) ∙ ap (λ (qs : List Packet). filter test ps ++ qs) one
-
-kept_no : (test : Packet → Bool) (ps : List Packet) (p : Packet) → test p ≡ false → filter test (ps ++ p ∷ []) ≡ filter test ps
-kept_no test ps p is = let none : filter test (p ∷ []) ≡ [] = rw is refl in filter-append test ps (p ∷ []) ∙ ap (λ (qs : List Packet). filter test ps ++ qs) none ∙ append-nil (filter test ps)
-
-pub datas_yes : (ps : List Packet) (p : Packet) → is_index p ≡ false → filter is_data (ps ++ p ∷ []) ≡ filter is_data ps ++ p ∷ []
-datas_yes ps p is = kept_yes is_data ps p (rw is refl)
-
-pub datas_no : (ps : List Packet) (p : Packet) → is_index p ≡ true → filter is_data (ps ++ p ∷ []) ≡ filter is_data ps
-datas_no ps p is = kept_no is_data ps p (rw is refl)
-
 bytes_grown : (t : IndexTracks) (ps : List Packet) (p : Packet) (f : Facts) (bytes : ℕ) → IsIndexed t ps → AreFactsOf f p → length (file_bytes (ps ++ p ∷ [])) < 2 ^ 63 → bytes ≡ min (t.bytes + f.length) (2 ^ 64 - 1) → bytes ≡ length (file_bytes (ps ++ p ∷ []))
 bytes_grown t ps p f bytes ix tells short is =
     let whole : length (file_bytes (ps ++ p ∷ [])) ≡ length (file_bytes ps) + length (packet_bytes p) = ap (λ (b : List ℕ). length b) (bytes_more ps p) ∙ length-append (file_bytes ps) (packet_bytes p) in
@@ -282,7 +252,7 @@ bytes_grown t ps p f bytes ix tells short is =
 
 -- nodes are fewer than bytes
 few_nodes : (ps : List Packet) → count_by is_node ps ≤ length (file_bytes ps)
-few_nodes ps = omega (arith, sym (length-filter is_node ps), few (filter is_node ps), fewer is_node ps)
+few_nodes ps = omega (arith, sym (length-filter is_node ps), packets_few (filter is_node ps), fewer is_node ps)
 
 -- a node names some packets, of those that no node names yet a hundred, or all
 node_size : (ps : List Packet) (p : Packet) (es : List NodeEntry) → MayFollow ps p → p.content ≡ node es
@@ -312,7 +282,7 @@ start_is pending start bytes first true none is full = omega (arith, eqb-true pe
 start_is pending start bytes first false none is full = some pending none is full
   where
     some : (n : ℕ) → n == 0 ≡ false → first ≡ start → (0 < n → bytes ≡ start + 2028 * n) → bytes ≡ first + 2028 * n
-    some zero e same all = absurd (no (sym e))
+    some zero e same all = absurd (false≢true (sym e))
     some (suc n) e same all = omega (arith, same, all (omega arith))
 
 same_names : (pending start bytes first clock : ℕ) (b : Bool) → pending == 0 ≡ b → first ≡ cond b bytes start → names clock start pending ≡ names clock first pending
@@ -434,8 +404,8 @@ datum_keeps ps p n r = datum_at p.content refl where
   datum_at (discrete bits es) e = rw e (λ k. k, λ k. k)
   datum_at (message es) e = rw e (λ k. k, λ k. k)
   datum_at (report loss) e = rw e (λ k. k, λ k. k)
-  datum_at (node es) e = let yes : is_node p ≡ true = rw e refl in absurd (no (sym n ∙ yes))
-  datum_at (root es) e = let yes : is_root p ≡ true = rw e refl in absurd (no (sym r ∙ yes))
+  datum_at (node es) e = let yes : is_node p ≡ true = rw e refl in absurd (false≢true (sym n ∙ yes))
+  datum_at (root es) e = let yes : is_root p ≡ true = rw e refl in absurd (false≢true (sym r ∙ yes))
 
 pub keeps_datum : (t : IndexTracks) (ps : List Packet) (p : Packet) (f : Facts) (b : Bool) → AreFactsOf f p → (f.kind ≡ Node → ⊥) → (f.kind ≡ Root → ⊥) → IsTrue b ↔ (count_by is_index ps ≡ 0) → IsTrue b ↔ KeepsIndex ps p
 keeps_datum t ps p f b tells not_node not_root test =
