@@ -9,7 +9,7 @@ use Rattle.r10_indexbody.specs.Index.{FitsNode}
 use Rattle.r10_indexbody.specs.declared.entry.NodeEntry.{NodeEntry}
 use Rattle.r10_indexbody.proofs.Nodes.{body-length as node_length}
 use Rattle.r10_body.proofs.Lone.{packet-length}
-use Rattle.r10_body.proofs.Recording.{setup-first, time-second, uart-third, node-fourth, no}
+use Rattle.r10_body.proofs.Recording.{setup-first, time-second, uart-third, node-fourth}
 use Rattle.r10_body.specs.Content.{type_of}
 use Rattle.r10_body.specs.Faults.{IsAnswered, IsAtFault}
 use Rattle.r10_body.specs.Packets.{Packet, FitsPacket, packet_bytes, packet_rest, file_bytes, file_entries}
@@ -29,6 +29,8 @@ use Rattle.r10_judge.specs.Copies.{copy, copies, node_of_99}
 use Rattle.r10_judge.proofs.Answering.{no_report, reads_first}
 use Rattle.r10_judge.proofs.Judging.{to_bytes, from_bytes}
 use Rattle.r10_judge.proofs.Ending.{broken_at_fault}
+use Rattle.std.proofs.lemmas.Bool.{false≢true}
+use Rattle.r10_count.proofs.Lists.{all_joined, all_taken}
 
 -- ---- a packet that breaks rule 8 and none below it
 
@@ -98,10 +100,6 @@ all_filtered : (channel : ℕ) (es : List Entry) → AllByRecursion (λ x. x.cou
 all_filtered channel [] all = tt
 all_filtered channel (e ∷ es) all = filtered channel es e (is_entry_on channel e) refl (all_filtered channel es all.1) all.0
 
-all_joined : {A : Type 0} (P : A → Type 0) (xs ys : List A) → AllByRecursion P xs → AllByRecursion P ys → AllByRecursion P (xs ++ ys)
-all_joined P [] ys all more = more
-all_joined P (x ∷ xs) ys all more = (all.0, all_joined P xs ys all.1 more)
-
 level : (count : ℕ) (es : List Entry) → AllByRecursion (λ x. x.count ≡ 1000) es → count ≤ 1000 → Rise count es
 level count [] all le = tt
 level count (e ∷ es) all le = (omega (arith, all.0, le), level e.count es all.1 (omega (arith, all.0)))
@@ -111,12 +109,12 @@ copy_may : (n : ℕ) (ps : List Packet) → n < 256 → Known n ps → MayFollow
 copy_may n ps lt k = record {
   fits = record { channel = lit< tt; sequence = omega (arith, lt); gap = tt; check = lit< tt; counter = lit< tt; content = (lit< tt, (record { count = lit< tt; sub = lit< tt; bytes = lit< tt }, tt)); short = lit≤ tt };
   checksums = λ _. refl;
-  start = ((λ e. absurd (no e), λ e. absurd (omega (arith, e, k.long))), λ e. absurd (omega (arith, e, k.long)));
-  channels = ((λ e. absurd (no e), λ e. absurd (omega (arith, e))), λ _. k.types, λ _. refl);
+  start = ((λ e. absurd (false≢true e), λ e. absurd (omega (arith, e, k.long))), λ e. absurd (omega (arith, e, k.long)));
+  channels = ((λ e. absurd (false≢true e), λ e. absurd (omega (arith, e))), λ _. k.types, λ _. refl);
   sequence = omega (arith, k.fives, lt);
   counts = ((refl, tt), level 0 _ (all_joined (λ (x : Entry). x.count ≡ 1000) (filter (is_entry_on 5) (file_entries ps)) _ (all_filtered 5 (file_entries ps) k.counts) (refl, tt)) (omega arith), (lit≤ tt, tt));
   index = k.index;
-  counters = (λ e. absurd (omega (arith, e, k.long)), λ e. absurd (no e));
+  counters = (λ e. absurd (omega (arith, e, k.long)), λ e. absurd (false≢true e));
   events = tt;
   reports = (rw k.quiet refl, tt);
 }
@@ -156,11 +154,6 @@ known (suc n) le = copy_more n (copies n) (omega (arith, le)) (known n (omega (a
 
 -- ---- a node of 99 entries
 
-all_taken : {A : Type 0} (P : A → Type 0) (n : ℕ) (xs : List A) → AllByRecursion P xs → AllByRecursion P (take n xs)
-all_taken P zero xs all = tt
-all_taken P (suc n) [] all = tt
-all_taken P (suc n) (x ∷ xs) all = (all.0, all_taken P n xs all.1)
-
 keeps_below : (n : ℕ) (ps : List Packet) → 98 ≤ n → n ≤ 256 → Known n ps → KeepsBelow ps (node_of_99 ps)
 keeps_below n ps least most k =
     let p : Packet = node_of_99 ps in
@@ -178,7 +171,7 @@ keeps_below n ps least most k =
         short = omega (arith, rest_length p, node_length (take 99 entries), size);
       };
       checksums = λ _. refl;
-      start = ((λ e. absurd (no e), λ e. absurd (omega (arith, e, k.long))), λ e. absurd (omega (arith, e, k.long)));
+      start = ((λ e. absurd (false≢true e), λ e. absurd (omega (arith, e, k.long))), λ e. absurd (omega (arith, e, k.long)));
       channels = ((λ _. refl, λ _. refl), λ lt. absurd (omega arith), λ _. refl);
       sequence = omega (arith, k.zeros);
       counts = (tt, subst (λ (es : List Entry). Rise 0 es) (sym (append-nil (filter (is_entry_on 0) (file_entries ps)))) (level 0 _ (all_filtered 0 (file_entries ps) k.counts) (omega arith)), tt);

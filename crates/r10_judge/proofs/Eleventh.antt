@@ -1,33 +1,18 @@
 -- Reports that break rule 11 and none below it.
-use Rattle.std.proofs.Common.{◌≡◌, ℕ, ◌-◌, Bool, List, [], ◌∷◌, ◌++◌, length, refl, ap, subst, arith, lit<, lit≤}
+use Rattle.std.proofs.Common.{◌≡◌, ℕ, ◌-◌, Bool, List, [], ◌∷◌, ◌++◌, length, refl, ap, subst}
 use Rattle.r10_packet.specs.Header.{header_bytes}
 use Rattle.r10_indexbody.specs.declared.loss.LossBody.{LossBody}
-use Rattle.r10_body.proofs.Recording.{setup-first, time-second, uart-third, no}
+use Rattle.r10_body.proofs.Recording.{setup-first, time-second, uart-third}
 use Rattle.r10_body.specs.Faults.{IsAnswered, IsAtFault}
 use Rattle.r10_body.specs.Packets.{Packet, packet_bytes, file_bytes}
-use Rattle.r10_body.specs.Rules.{MayFollow}
 use Rattle.r10_body.specs.Vectors.{data_packets, a_report_packet}
 use Rattle.r10_body.specs.declared.fault.FileFault.TheVariants.{Rule}
 use Rattle.r10_judge.proofs.Ending.{report_at_fault}
+use Rattle.r10_body.proofs.Cases.{report-fourth}
 
 -- of channel 5
 abbrev pub one_lost : LossBody
 one_lost = record { channel = 5; reserved = 0; lost = 1 }
-
-report-fourth : MayFollow data_packets a_report_packet
-unfolding packet_bytes header_bytes
-report-fourth = record {
-  fits = record { channel = lit< tt; sequence = lit< tt; gap = tt; check = lit< tt; counter = lit< tt; content = record { channel = lit< tt; reserved = lit< tt; lost = lit< tt }; short = lit≤ tt };
-  checksums = λ _. refl;
-  start = ((λ e. absurd (no e), λ e. absurd (omega arith)), λ e. absurd (omega arith));
-  channels = ((λ _. refl, λ _. refl), λ lt. absurd (omega arith), λ _. refl);
-  sequence = refl;
-  counts = (tt, tt, tt);
-  index = refl;
-  counters = (λ e. absurd (omega arith), λ _. refl);
-  events = tt;
-  reports = (refl, (refl, lit< tt));
-}
 
 -- the data of the first recording, then a report
 abbrev pub reported : List Packet

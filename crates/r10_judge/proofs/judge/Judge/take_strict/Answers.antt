@@ -1,14 +1,11 @@
-use Rattle.std.proofs.Common.{◌≡◌, ◌∙◌, ◌<◌, ◌^◌, ◌++◌, ◌∷◌, [], List, ℕ, length, Some, None, Result, Ok, Err, OnOk, sym, subst, ap}
+use Rattle.std.proofs.Common.{◌≡◌, ◌∙◌, ◌<◌, ◌^◌, ◌++◌, ◌∷◌, [], List, ℕ, length, Some, None, sym, subst, ap}
 use Rattle.r10_body.specs.Packets.{packet_bytes, file_bytes}
 use Rattle.r10_strict.proofs.Written.{packet_foreign}
 use Rattle.r10_body.proofs.Rules.{bytes_more}
 use Rattle.r10_judge.specs.Judged.{BreaksRuleOfFileFirst}
 use Rattle.r10_judge.proofs.Judging.{some_stands, none_stands, stops_at, goes_on, reads_own}
 use Rattle.r10_judge.proofs.judge.Judge.take_strict.Goals as goal
-
-weaker : {T E A B : Type 0} (r : Result T E) → (A → B) → OnOk r A → OnOk r B
-weaker (Ok x) f a = f a
-weaker (Err e) f a = tt
+use Rattle.std.proofs.lemmas.Result.{on_ok_weaker}
 
 pub returns-in-Some-clause-taken : goal.returns-in-Some-clause-taken
 returns-in-Some-clause-taken c = λ before p goes sums told answered tells body fits short.
@@ -20,6 +17,6 @@ pub returns-in-None-clause-taken : goal.returns-in-None-clause-taken
 returns-in-None-clause-taken c = λ before p goes sums told answered tells body fits short.
     let first : BreaksRuleOfFileFirst c.args.self.now.closed goes.packets p None = subst (λ o. BreaksRuleOfFileFirst c.args.self.now.closed goes.packets p o) c.in-None.is (c.rule.ensures goes.packets p goes.tracked fits sums told tells body) in
     let same : before ++ packet_bytes p ≡ file_bytes (goes.packets ++ p ∷ []) = ap (λ (l : List ℕ). l ++ packet_bytes p) goes.bytes_are ∙ sym (bytes_more goes.packets p) in
-    weaker c.add.result (λ added. none_stands c.args.self.now.broken c.args.self.now.closed c.add.new.self (before ++ packet_bytes p) c.requires
+    on_ok_weaker c.add.result (λ added. none_stands c.args.self.now.broken c.args.self.now.closed c.add.new.self (before ++ packet_bytes p) c.requires
     (goes_on c.args.self.now.closed c.args.self.now.tracks c.add.new.self before (packet_bytes p) p goes (packet_foreign p fits) (reads_own p fits sums) first
     (added goes.packets p (record { tracked = goes.tracked; may = first.0; short = subst (λ (l : List ℕ). length l < 2 ^ 63) same short; tells = tells })))) c.add.ensures.added
