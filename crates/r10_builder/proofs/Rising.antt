@@ -12,10 +12,6 @@ pub rise_join : (n m : ℕ) (xs ys : List Entry) → Rise n xs → last_count n 
 rise_join n m [] ys rise le more = lower n m ys le more
 rise_join n m (x ∷ xs) ys rise le more = (rise.0, rise_join x.count m xs ys rise.1 le more)
 
-pub rise_front : (n : ℕ) (xs ys : List Entry) → Rise n (xs ++ ys) → Rise n xs
-rise_front n [] ys rise = tt
-rise_front n (x ∷ xs) ys rise = (rise.0, rise_front x.count xs ys rise.1)
-
 pub rise_behind : (n : ℕ) (xs : List Entry) (y : Entry) (ys : List Entry) → Rise n (xs ++ y ∷ ys) → last_count n xs ≤ y.count
 rise_behind n [] y ys rise = rise.0
 rise_behind n (x ∷ xs) y ys rise = rise_behind x.count xs y ys rise.1
