@@ -3,7 +3,7 @@ use Rattle.std.proofs.Common.{◌≡◌, ◌≤◌, ◌<◌, ℕ, true, false, L
 use Rattle.std.specs.List.{AllByRecursion, IsDistinct}
 use Rattle.std.proofs.Math.Nat.{mod-lt}
 use Rattle.std.proofs.lemmas.List.{length-append}
-use Rattle.std.proofs.lemmas.Bool.{eq-eqb, eqb-true, false_from_ne_true, leb-true, ltb-true}
+use Rattle.std.proofs.lemmas.Bool.{eq-eqb, leb-true, ltb-true}
 use Rattle.r10_count.specs.Count.{IsCount}
 use Rattle.r10_count.specs.Civil.{IsCivil}
 use Rattle.r10_count.specs.Checks.{first_broken}
@@ -15,7 +15,7 @@ use Rattle.r10_body.specs.declared.gap.Gap.TheVariants.{Whole}
 use Rattle.r10_body.specs.declared.message.Message.{Message}
 use Rattle.r10_body.specs.declared.message.Message.TheVariants.{Time, Event}
 use Rattle.r10_body.specs.declared.message.Kind.TheVariants as kinds
-use Rattle.r10_body.specs.declared.refusal.Refusal.TheVariants.{WrongKind, CountRange, CountBack, BadEvent}
+use Rattle.r10_body.specs.declared.refusal.Refusal.TheVariants.{CountRange, CountBack, BadEvent}
 use Rattle.r10_body.specs.declared.spec.ChannelSpec.{ChannelSpec}
 use Rattle.r10_machine.specs.Config.{Config}
 use Rattle.r10_machine.specs.Limits.{IsConfig, channel_ids}
@@ -26,20 +26,18 @@ use Rattle.r10_machine.specs.Calls.{closed_whole, shown_whole}
 use Rattle.r10_machine.specs.SoundParts.{Climbs, LaneClimbs, counts_on, count_or_0, IsTimeOrMessage}
 use Rattle.r10_machine.proofs.Ranges.{parts_of, ids_distinct}
 use Rattle.r10_machine.proofs.Climbing.{climbs_push, entry_counts}
-use Rattle.r10_machine.proofs.Steady.{checks_pass, parts_pass}
-use Rattle.r10_machine.proofs.Growing.{ClimbsWith, climbs_without, time_apart, lanes_distinct, all_joined}
+use Rattle.r10_machine.proofs.Growing.{ClimbsWith, climbs_without, time_apart, lanes_distinct, other_than, wrong_kind}
 use Rattle.r10_machine.specs.EventChecks.{event_checks}
 use Rattle.r10_machine.specs.ControlCalls.{event_entry}
 use Rattle.r10_machine.specs.Sound.{IsEntry, IsOwnFile, IsEvent}
+use Rattle.r10_count.proofs.Rules.{none_broken, rules_parts}
+use Rattle.r10_count.proofs.Lists.{all_joined}
 
 -- ---- entries
 
 pub all_each : {X : Type 0} (P Q : X → Type 0) → ((x : X) → P x → Q x) → (xs : List X) → AllByRecursion P xs → AllByRecursion Q xs
 all_each P Q each [] all = tt
 all_each P Q each (x ∷ xs) (here, all) = (each x here, all_each P Q each xs all)
-
-wrong_kind : Some WrongKind ≡ None → ⊥
-wrong_kind is = cc
 
 -- no channel takes events
 no_event : (spec : ChannelSpec) (number before : ℕ) (kind : kinds.the_data) → spec.kind ≡ kind → first_broken (message_checks spec (Event number before)) ≡ None → ⊥
@@ -77,10 +75,10 @@ pub record Marking (last : Option ℕ) (number count : ℕ) : Type 0 where
 
 pub marking : (last : Option ℕ) (number count : ℕ) → first_broken (event_checks last number count) ≡ None → Marking last number count
 marking last number count fine =
-    let a = parts_pass (count_checks last count) ((nat_le number 4095, BadEvent) ∷ []) fine in
-    let b = checks_pass (nat_lt count 281474976710656) CountRange ((is_not_before last count, CountBack) ∷ []) a.0 in
-    let c = checks_pass (is_not_before last count) CountBack [] b.1 in
-    let d = checks_pass (nat_le number 4095) BadEvent [] a.1 in
+    let a = rules_parts (count_checks last count) ((nat_le number 4095, BadEvent) ∷ []) fine in
+    let b = none_broken (nat_lt count 281474976710656) CountRange ((is_not_before last count, CountBack) ∷ []) a.0 in
+    let c = none_broken (is_not_before last count) CountBack [] b.1 in
+    let d = none_broken (nat_le number 4095) BadEvent [] a.1 in
     record { range = ltb-true count 281474976710656 b.0; order = after last c.0; number_is = leb-true number 4095 d.0 }
   where
     after : (last : Option ℕ) → is_not_before last count ≡ true → count_or_0 last ≤ count
@@ -129,9 +127,6 @@ own_shows s f size own = record {
 }
 
 -- ---- channels apart
-
-other_than : (a b : ℕ) → (a == b) ≡ false → (b == a) ≡ false
-other_than a b differ = false_from_ne_true (b == a) (λ is. true≢false (sym (eq-eqb a b (sym (eqb-true b a is))) ∙ differ))
 
 -- the channels of times and of events are neither the same nor any lane's, and no two lanes have the same
 pub record Apart (s : Config) (lanes : List Lane) : Type 0 where

@@ -1,6 +1,5 @@
 -- What readers and channels do, mounts and erases, from sound states to sound states.
 use Rattle.std.proofs.Common.{◌≡◌, ◌≤◌, ◌<◌, ◌^◌, ℕ, Bool, true, false, not, List, [], ◌∷◌, ◌++◌, map, length, drop, zero, suc, Option, Some, None, refl, sym, ap, ◌∙◌, subst, arith, IfSome, IsSomeAnd, true≢false, ◌==◌, nat_lt, slice_get}
-use Rattle.std.specs.List.{AllByRecursion}
 use Rattle.std.proofs.lemmas.Bool.{eqb-true, eqb-false, eq-eqb, ltb-true, leb-true}
 use Rattle.std.proofs.lemmas.List.{length-append, append_assoc}
 use Rattle.r10_count.specs.Count.{IsCount}
@@ -17,9 +16,11 @@ use Rattle.r10_machine.specs.Checks.{message_checks, taking_checks, count_checks
 use Rattle.r10_machine.specs.Calls.{Opens, Advances, GivesQueued, fresh_cursor, wanted_since, accepted, losing, overflowed}
 use Rattle.r10_machine.specs.SoundParts.{IsSoundLane, IsSoundCursor, LaneClimbs, Climbs, counts_on, count_or_0}
 use Rattle.r10_machine.proofs.Climbing.{climbs_push, map-joined}
-use Rattle.r10_machine.proofs.Steady.{checks_pass, parts_pass, changed_all, same_specs}
+use Rattle.r10_machine.proofs.Steady.{changed_all, same_specs}
 use Rattle.r10_machine.specs.Sound.{IsSound}
 use Rattle.r10_machine.proofs.Grown.{work_moved}
+use Rattle.r10_count.proofs.Rules.{none_broken, rules_parts}
+use Rattle.r10_count.proofs.Lists.{all_more}
 
 -- ---- cursors
 
@@ -88,10 +89,6 @@ closes_sound s old id new sound sets = sound_sets s old new id None sound sets t
 
 -- ---- channels
 
-all_push : {X : Type 0} (P : X → Type 0) (xs : List X) (x : X) → AllByRecursion P xs → P x → AllByRecursion P (xs ++ x ∷ [])
-all_push P [] x all here = (here, tt)
-all_push P (y ∷ ys) x (first, all) here = (first, all_push P ys x all here)
-
 -- a lane that may take a message
 record Takes (lane : Lane) (count : ℕ) (message : Message) : Type 0 where
   message_is : first_broken (message_checks lane.spec message) ≡ None
@@ -101,11 +98,11 @@ record Takes (lane : Lane) (count : ℕ) (message : Message) : Type 0 where
 
 takes_of : (lane : Lane) (count : ℕ) (message : Message) → first_broken (taking_checks lane.spec lane.last count message ++ room_checks (Some lane)) ≡ None → Takes lane count message
 takes_of lane count message all =
-    let a = parts_pass (taking_checks lane.spec lane.last count message) (room_checks (Some lane)) all in
-    let b = parts_pass (message_checks lane.spec message) (count_checks lane.last count) a.0 in
-    let c = checks_pass (nat_lt count 281474976710656) CountRange ((is_not_before lane.last count, CountBack) ∷ []) b.1 in
-    let d = checks_pass (is_not_before lane.last count) CountBack [] c.1 in
-    let e = checks_pass (not (is_full lane)) Overflow [] a.1 in
+    let a = rules_parts (taking_checks lane.spec lane.last count message) (room_checks (Some lane)) all in
+    let b = rules_parts (message_checks lane.spec message) (count_checks lane.last count) a.0 in
+    let c = none_broken (nat_lt count 281474976710656) CountRange ((is_not_before lane.last count, CountBack) ∷ []) b.1 in
+    let d = none_broken (is_not_before lane.last count) CountBack [] c.1 in
+    let e = none_broken (not (is_full lane)) Overflow [] a.1 in
     record {
       message_is = b.0;
       range = ltb-true count 281474976710656 c.0;
@@ -130,9 +127,9 @@ accepted_sound lane count message takes sound =
     let new : Sample = record { count = count; message = message; gap = gap_after lane.missed } in
     record {
       held = omega (arith, takes.room, length-append lane.waiting (new ∷ []));
-      messages = all_push (λ x. first_broken (message_checks lane.spec x.message) ≡ None) lane.waiting new sound.messages takes.message_is;
-      counts = all_push (λ x. IsCount x.count) lane.waiting new sound.counts takes.range;
-      gaps = all_push (λ x. IsSoundGap x.gap) lane.waiting new sound.gaps (gap_fits lane.missed (lane.missed == 0) refl sound.missed);
+      messages = all_more (λ x. first_broken (message_checks lane.spec x.message) ≡ None) lane.waiting new sound.messages takes.message_is;
+      counts = all_more (λ x. IsCount x.count) lane.waiting new sound.counts takes.range;
+      gaps = all_more (λ x. IsSoundGap x.gap) lane.waiting new sound.gaps (gap_fits lane.missed (lane.missed == 0) refl sound.missed);
       missed = omega arith;
     }
 

@@ -17,6 +17,7 @@ use Rattle.r10_machine.proofs.Steady.{some_each, last_shows}
 use Rattle.r10_machine.proofs.Growing.{ClimbsWith, each_climb}
 use Rattle.r10_machine.specs.Sound.{IsSound, IsSoundWork, SoundWork, IsOwnFile, IsOthersFile}
 use Rattle.r10_machine.proofs.LastFiles.{last_counts, last_own, last_each, last_length, last_last, shown_files}
+use Rattle.std.proofs.lemmas.Option.{same_Some}
 
 -- ---- modes
 
@@ -78,12 +79,9 @@ recording_works modes.Unmounted fine = refl
 recording_works modes.Idle fine = refl
 recording_works modes.Recording fine = refl
 
-some-same : {X : Type 0} {a b : X} → Some a ≡ Some b → a ≡ b
-some-same is = cc
-
 pub last_is_own : (s : Config) (files : List File) (f : File) → last_or None files ≡ Some f → f.own ≡ true → AllByRecursion (IsOwnFile s) (own_files files) → IsOwnFile s f
 last_is_own s [] f is own all = cc
-last_is_own s (x ∷ []) f is own all = subst (IsOwnFile s) (some-same is) (alone x.own (ap (λ (g : File). g.own) (some-same is) ∙ own) all)
+last_is_own s (x ∷ []) f is own all = subst (IsOwnFile s) (same_Some _ _ is) (alone x.own (ap (λ (g : File). g.own) (same_Some _ _ is) ∙ own) all)
   where
     alone : (b : Bool) → b ≡ true → AllByRecursion (IsOwnFile s) (cond b (x ∷ []) []) → IsOwnFile s x
     alone true is (first, all) = first
@@ -108,7 +106,7 @@ pub record Taping (s : Config) (m : Machine) : Type 0 where
 
 pub last_of : (P : File → Type 0) (files : List File) (f : File) → last_or None files ≡ Some f → AllByRecursion P files → P f
 last_of P [] f is all = cc
-last_of P (x ∷ []) f is (first, all) = subst P (some-same is) first
+last_of P (x ∷ []) f is (first, all) = subst P (same_Some _ _ is) first
 last_of P (x ∷ y ∷ ys) f is (first, all) = last_of P (y ∷ ys) f is all
 
 pub taping : (s : Config) (m : Machine) → IsSound s m → is_recording m.mode ≡ true → Taping s m

@@ -41,7 +41,7 @@ keeps_last old new change f last more generation same = record {
   files = λ again i n there. subst (λ (files : List File). IsSomeAnd (slice_get files i) (λ f. n ≤ f.shown)) (sym same) (last_shows change old.files f last more i n there);
 }
 
-some_then : {A : Type 0} (C : Type 0) (o : Option A) (P : A → Type 0) → IsSomeAnd o P → ((x : A) → o ≡ Some x → P x → C) → C
+pub some_then : {A : Type 0} (C : Type 0) (o : Option A) (P : A → Type 0) → IsSomeAnd o P → ((x : A) → o ≡ Some x → P x → C) → C
 some_then C None P holds then = absurd holds
 some_then C (Some x) P holds then = then x refl holds
 

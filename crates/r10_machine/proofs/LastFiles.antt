@@ -9,16 +9,14 @@ use Rattle.r10_body.specs.declared.entry.Entry.{Entry}
 use Rattle.r10_machine.specs.Machine.{File, Lane, change_last}
 use Rattle.r10_machine.specs.SoundParts.{own_files, counts_on, LaneClimbs, Climbs, count_or_0}
 use Rattle.r10_machine.proofs.Climbing.{map-joined, entry_counts}
-
-some-same : {X : Type 0} {a b : X} → Some a ≡ Some b → a ≡ b
-some-same is = cc
+use Rattle.std.proofs.lemmas.Option.{same_Some}
 
 -- the last file, where it is its own, gets more
 pub last_entries : (change : File → File) (more : List Entry) → ((f : File) → ((change f).own ≡ f.own) × ((change f).entries ≡ f.entries ++ more))
     → (files : List File) (f : File) → last_or None files ≡ Some f → f.own ≡ true → flat_map (λ f. f.entries) (own_files (change_last change files)) ≡ flat_map (λ f. f.entries) (own_files files) ++ more
 last_entries change more same [] f is own = cc
 last_entries change more same (x ∷ []) f is own =
-    let here : x.own ≡ true = ap (λ (g : File). g.own) (some-same is) ∙ own in
+    let here : x.own ≡ true = ap (λ (g : File). g.own) (same_Some _ _ is) ∙ own in
     alone (change x).own x.own ((same x).0 ∙ here) here
   where
     alone : (b c : Bool) → b ≡ true → c ≡ true → flat_map (λ f. f.entries) (cond b (change x ∷ []) []) ≡ flat_map (λ f. f.entries) (cond c (x ∷ []) []) ++ more
@@ -44,7 +42,7 @@ last_counts channel change more same files f is own =
 pub last_own : (P : File → Type 0) (change : File → File) → ((f : File) → (change f).own ≡ f.own) → (files : List File) (f : File) → last_or None files ≡ Some f
     → AllByRecursion P (own_files files) → (P f → P (change f)) → AllByRecursion P (own_files (change_last change files))
 last_own P change same [] f is all here = tt
-last_own P change same (x ∷ []) f is all here = alone (change x).own x.own (same x) all (subst (λ (g : File). P g → P (change g)) (sym (some-same is)) here)
+last_own P change same (x ∷ []) f is all here = alone (change x).own x.own (same x) all (subst (λ (g : File). P g → P (change g)) (sym (same_Some _ _ is)) here)
   where
     alone : (b c : Bool) → b ≡ c → AllByRecursion P (cond c (x ∷ []) []) → (P x → P (change x)) → AllByRecursion P (cond b (change x ∷ []) [])
     alone true true is (first, all) here = (here first, tt)
@@ -60,7 +58,7 @@ last_own P change same (x ∷ y ∷ ys) f is all here = by x.own all (λ rest. l
 -- the same of each file
 pub last_each : (P : File → Type 0) (change : File → File) (files : List File) (f : File) → last_or None files ≡ Some f → AllByRecursion P files → (P f → P (change f)) → AllByRecursion P (change_last change files)
 last_each P change [] f is all here = tt
-last_each P change (x ∷ []) f is (first, all) here = (subst (λ (g : File). P g → P (change g)) (sym (some-same is)) here first, tt)
+last_each P change (x ∷ []) f is (first, all) here = (subst (λ (g : File). P g → P (change g)) (sym (same_Some _ _ is)) here first, tt)
 last_each P change (x ∷ y ∷ ys) f is (first, all) here = (first, last_each P change (y ∷ ys) f is all here)
 
 pub last_length : (change : File → File) (files : List File) → length (change_last change files) ≡ length files
@@ -70,8 +68,8 @@ last_length change (x ∷ y ∷ ys) = omega (arith, last_length change (y ∷ ys
 
 pub last_last : (change : File → File) (files : List File) (f : File) → last_or None files ≡ Some f → last_or None (change_last change files) ≡ Some (change f)
 last_last change [] f is = cc
-last_last change (x ∷ []) f is = ap (λ (g : File). Some (change g)) (some-same is)
-last_last change (x ∷ y ∷ []) f is = ap (λ (g : File). Some (change g)) (some-same is)
+last_last change (x ∷ []) f is = ap (λ (g : File). Some (change g)) (same_Some _ _ is)
+last_last change (x ∷ y ∷ []) f is = ap (λ (g : File). Some (change g)) (same_Some _ _ is)
 last_last change (x ∷ y ∷ z ∷ zs) f is = last_last change (y ∷ z ∷ zs) f is
 
 pub shown_files : (change : File → File) (files : List File) (f : File) → last_or None files ≡ Some f → AllByRecursion (λ f. f.shown ≤ length f.entries) files → ((change f).shown ≤ length (change f).entries)
@@ -83,7 +81,7 @@ pub others_change : (change : File → File) → ((f : File) → (change f).own 
     → own_files (change_last change files) ≡ own_files files
 others_change change same [] f is foreign = refl
 others_change change same (x ∷ []) f is foreign =
-    let here : x.own ≡ false = ap (λ (g : File). g.own) (some-same is) ∙ foreign in
+    let here : x.own ≡ false = ap (λ (g : File). g.own) (same_Some _ _ is) ∙ foreign in
     alone (change x).own x.own (same x ∙ here) here
   where
     alone : (b c : Bool) → b ≡ false → c ≡ false → cond b (change x ∷ []) [] ≡ cond c (x ∷ []) []

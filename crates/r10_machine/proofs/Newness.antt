@@ -23,7 +23,7 @@ lanes_climb : (specs : List ChannelSpec) → AllByRecursion (LaneClimbs []) (map
 lanes_climb [] = tt
 lanes_climb (c ∷ cs) = (omega arith, lanes_climb cs)
 
-none_own : (files : List File) → AllByRecursion IsFoundFile files → own_files files ≡ []
+pub none_own : (files : List File) → AllByRecursion IsFoundFile files → own_files files ≡ []
 none_own [] all = refl
 none_own (f ∷ files) ((shown, foreign), all) = by f.own foreign (none_own files all)
   where

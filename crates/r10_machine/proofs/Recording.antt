@@ -19,16 +19,16 @@ use Rattle.r10_machine.specs.Checks.{is_recording, is_working, tick_checks, coun
 use Rattle.r10_machine.specs.Calls.{time_entry, Ticks, TicksIn, Pumps, Stops, Starts, empty_file, shown_whole, waiting_count, without, all_waiting, lanes_without, closed_whole}
 use Rattle.r10_machine.specs.SoundParts.{IsSoundLane, IsSoundCursor, Climbs, is_open, counts_on, count_or_0}
 use Rattle.r10_machine.proofs.Climbing.{climbs_raised, entry_counts}
-use Rattle.r10_machine.proofs.Steady.{checks_pass, parts_pass, same_specs, changed_all, some_each}
-use Rattle.r10_machine.proofs.Growing.{cost_more, one_more, fitting_room, time_climbs, times_climb, times_kept, pump_climbs, front_fits, dropped_sound, no_times_of, no_times, stopped_climb, stopped_sound, stopped_specs, waiting_fits, all_take, all_joined, append_counts, append_own, append_last, append_there, each_climb}
+use Rattle.r10_machine.proofs.Steady.{same_specs, changed_all, some_each}
+use Rattle.r10_machine.proofs.Growing.{cost_more, one_more, fitting_room, time_climbs, times_climb, times_kept, pump_climbs, front_fits, dropped_sound, no_times_of, no_times, stopped_climb, stopped_sound, stopped_specs, waiting_fits, append_counts, append_own, append_last, append_there, each_climb}
 use Rattle.r10_machine.specs.EventChecks.{most_files, event_checks}
 use Rattle.r10_machine.specs.ControlCalls.{event_entry, Marks, Commits}
 use Rattle.r10_machine.specs.Sound.{IsSound, IsOwnFile, IsOthersFile}
 use Rattle.r10_machine.proofs.Entering.{apart_of, are_entries, own_grows, own_closes, own_shows, marking, event_is_entry, nowhere_else, one_climbs, none_climb, events_climb}
 use Rattle.r10_machine.proofs.Grown.{grown_sound, taping, work_of, work_moved}
-
-some-is : {X : Type 0} {a b : X} → Some a ≡ Some b → a ≡ b
-some-is same = cc
+use Rattle.std.proofs.lemmas.Option.{same_Some}
+use Rattle.r10_count.proofs.Rules.{none_broken, rules_parts}
+use Rattle.r10_count.proofs.Lists.{all_joined, all_taken}
 
 -- the settings with the channel of events in the place of that of times
 abbrev turned : Config → Config
@@ -47,10 +47,10 @@ record Ticking (m : Machine) (tick : Tick) : Type 0 where
 
 ticking : (m : Machine) (tick : Tick) → first_broken (tick_checks (last_tick m) tick.count tick.civil) ≡ None → Ticking m tick
 ticking m tick fine =
-    let a = parts_pass (count_checks (last_tick m) tick.count) ((is_civil tick.civil, BadCivil) ∷ []) fine in
-    let b = checks_pass (nat_lt tick.count 281474976710656) CountRange ((is_not_before (last_tick m) tick.count, CountBack) ∷ []) a.0 in
-    let c = checks_pass (is_not_before (last_tick m) tick.count) CountBack [] b.1 in
-    let d = checks_pass (is_civil tick.civil) BadCivil [] a.1 in
+    let a = rules_parts (count_checks (last_tick m) tick.count) ((is_civil tick.civil, BadCivil) ∷ []) fine in
+    let b = none_broken (nat_lt tick.count 281474976710656) CountRange ((is_not_before (last_tick m) tick.count, CountBack) ∷ []) a.0 in
+    let c = none_broken (is_not_before (last_tick m) tick.count) CountBack [] b.1 in
+    let d = none_broken (is_civil tick.civil) BadCivil [] a.1 in
     record { range = ltb-true tick.count 281474976710656 b.0; order = after (last_tick m) c.0; civil = d.0 }
   where
     after : (last : Option ℕ) → is_not_before last tick.count ≡ true → count_or_0 last ≤ tick.count
@@ -155,7 +155,7 @@ commits_sound s m new sound rec is =
 
 -- ---- pumps
 
-fitting_short : (room cost : ℕ) (es : List Entry) → fitting room cost es ≤ length es
+pub fitting_short : (room cost : ℕ) (es : List Entry) → fitting room cost es ≤ length es
 fitting_short room cost [] = omega arith
 fitting_short room cost (e ∷ es) = by (nat_le (cost + entry_cost e) room) (fitting_short room (cost + entry_cost e) es)
   where
@@ -181,7 +181,7 @@ pumps_sound s m channel most n new config sound rec pumps = by (lane_of channel 
         let t = taping s m sound rec in
         let es = take n (waiting_entries lane) in
         let apart = apart_of s m.lanes config sound.channels in
-        let same : f ≡ t.file = some-is (sym last ∙ t.last) in
+        let same : f ≡ t.file = same_Some _ _ (sym last ∙ t.last) in
         let fine : n ≤ room_for s t.file (take most (waiting_entries lane)) = subst (λ (f : File). n ≤ room_for s f (take most (waiting_entries lane))) same (omega (arith, takes)) in
         let short : n ≤ most = omega (arith, fine, fitting_short (area s t.file) (cost_of t.file) (take most (waiting_entries lane)), length-take most (waiting_entries lane)) in
         let room : cost_of (with_entries es t.file) ≤ area s t.file =
@@ -223,7 +223,7 @@ stops_sound s m stopped new config sound rec stops = by (last_file m) refl stops
         let t = taping s m sound rec in
         let taken = take stopped.taken (all_waiting m.lanes) in
         let apart = apart_of s m.lanes config sound.channels in
-        let same : f ≡ t.file = some-is (sym last ∙ t.last) in
+        let same : f ≡ t.file = same_Some _ _ (sym last ∙ t.last) in
         let fine : stopped.taken ≤ room_for s t.file (all_waiting m.lanes) = subst (λ (f : File). stopped.taken ≤ room_for s f (all_waiting m.lanes)) same (omega (arith, takes)) in
         let room : cost_of (with_entries taken t.file) ≤ area s t.file = room_taken s t.file (all_waiting m.lanes) stopped.taken t.its.room fine in
         subst (IsSound s) (sym is) (grown_sound s m modes.Idle m.tick m.last_event (lanes_without taken m.lanes) (λ f. closed_whole (last_size new) (with_entries taken f)) taken sound (record {
@@ -231,7 +231,7 @@ stops_sound s m stopped new config sound rec stops = by (last_file m) refl stops
           same = λ f. (refl, refl);
           shows = omega (arith, t.shown, length-append t.file.entries taken);
           within = omega arith;
-          fine = own_closes s t.file taken (last_size new) t.its (are_entries s taken (all_take _ stopped.taken (all_waiting m.lanes) (waiting_fits s m.lanes sound.channels sound.lanes))) room;
+          fine = own_closes s t.file taken (last_size new) t.its (are_entries s taken (all_taken _ stopped.taken (all_waiting m.lanes) (waiting_fits s m.lanes sound.channels sound.lanes))) room;
           mode_is = sym (and_false t.file.own);
           specs = stopped_specs taken m.lanes;
           sound_lanes = stopped_sound taken m.lanes sound.lanes;

@@ -18,7 +18,7 @@ use Rattle.r10_dirchain.specs.Mount.{mount_rules, place_rules, stands}
 use Rattle.r10_dirchain.specs.OnMedium.{SameButIn, Turned}
 use Rattle.r10_dirchain.specs.Steps.{with_last_entry}
 use Rattle.r10_dirchain.proofs.Standing.{Stand, usable_of}
-use Rattle.r10_dirchain.proofs.Usable.{none_broken, placed}
+use Rattle.r10_dirchain.proofs.Usable.{placed}
 use Rattle.r10_blockout.specs.Blocks.{bytes_from}
 use Rattle.r10_body.specs.Files.{FileSays}
 use Rattle.r10_machine.specs.Config.{Config}
@@ -26,6 +26,7 @@ use Rattle.r10_machine.specs.Machine.{File, shown_entries}
 use Rattle.r10_machine.specs.Room.{blocks_of, next_block}
 use Rattle.r10_machine.specs.Says.{Lists, MediumSays, SaysEach, SaysFile}
 use Rattle.r10_machine.specs.Bytes.{KeepBytes}
+use Rattle.r10_count.proofs.Rules.{none_broken}
 
 -- ---- bytes
 
@@ -79,13 +80,13 @@ all_four : (a b c d : Bool) → (a && b && c && d) ≡ true → a ≡ true
 all_four true b c d is = refl
 all_four false b c d is = absurd (cc)
 
-here : (blocks n : ℕ) (e : DirectoryEntry) → stands blocks n e ≡ true → e.first_block ≡ n
-here blocks n e is = eqb-true e.first_block n (all_four (e.first_block == n) (nat_lt 0 e.size) (e.block_count == (e.size + 511) / 512) (nat_le (n + e.block_count) blocks) is)
+pub stands_at : (blocks n : ℕ) (e : DirectoryEntry) → stands blocks n e ≡ true → e.first_block ≡ n
+stands_at blocks n e is = eqb-true e.first_block n (all_four (e.first_block == n) (nat_lt 0 e.size) (e.block_count == (e.size + 511) / 512) (nat_le (n + e.block_count) blocks) is)
 
 -- where a file ends, and the next begins
 after : (blocks n : ℕ) (e : DirectoryEntry) (f : File) → stands blocks n e ≡ true → Lists f e → (f.first_block ≡ n) × (f.first_block + blocks_of f.size ≡ n + e.block_count)
 after blocks n e f is lists =
-    let first : e.first_block ≡ n = here blocks n e is in
+    let first : e.first_block ≡ n = stands_at blocks n e is in
     (sym lists.first_block ∙ first, omega (arith, first, lists.first_block, lists.block_count))
 
 -- the last of files behind a block is behind it
@@ -214,7 +215,7 @@ growing_kept s old new files f whole says kept same bytes =
 
 -- ---- a directory that is written
 
-others_stay : (reserved k : ℕ) (numbers : List ℕ) → reserved < k → All (λ (n : ℕ). n ≤ reserved) numbers → All (λ (n : ℕ). k ≢ n) numbers
+pub others_stay : (reserved k : ℕ) (numbers : List ℕ) → reserved < k → All (λ (n : ℕ). n ≤ reserved) numbers → All (λ (n : ℕ). k ≢ n) numbers
 others_stay reserved k [] less all = All-nil (λ (n : ℕ). k ≢ n)
 others_stay reserved k (n ∷ numbers) less all =
     All-cons (λ (n : ℕ). k ≢ n) n numbers (λ is. omega (arith, is, less, All-head (λ (n : ℕ). n ≤ reserved) n numbers all)) (others_stay reserved k numbers less (All-tail (λ (n : ℕ). n ≤ reserved) n numbers all))

@@ -16,7 +16,7 @@ use Rattle.r10_machine.specs.Checks.{mounted_checks, idle_checks, recording_chec
 use Rattle.r10_machine.specs.Calls.{overflowed}
 use Rattle.r10_machine.specs.Needs.{shown_part}
 use Rattle.r10_machine.specs.SoundParts.{IsSoundLane, IsSoundCursor}
-use Rattle.r10_machine.proofs.Steady.{checks_pass, parts_pass, some_each, records_of, idle_works}
+use Rattle.r10_machine.proofs.Steady.{some_each, records_of, idle_works}
 use Rattle.r10_machine.proofs.Growing.{dropped_sound}
 use Rattle.r10_machine.specs.declared.event.Event.{Event as EventValue}
 use Rattle.r10_machine.specs.declared.event.Event.TheVariants.{Mount, Dismount, Tick, Start, Offer, Lose, Pump, Event, Commit, Stop, Seal, Erase, Files, Status, Cursor, Advance, Next, Close, Find, CountAt}
@@ -29,22 +29,23 @@ use Rattle.r10_machine.proofs.Going.{sound_with, opens_sound, advances_sound, gi
 use Rattle.r10_machine.proofs.Turning.{mounts_sound, dismounts_sound, seals_sound, erases_sound}
 use Rattle.r10_machine.proofs.Recording.{ticks_sound, marks_sound, commits_sound, pumps_sound, stops_sound, starts_sound}
 use Rattle.r10_machine.proofs.Keeping.{Keeps, keeps_same, does_keeps}
+use Rattle.r10_count.proofs.Rules.{none_broken, rules_parts}
 
 few_files : (s : Config) (m : Machine) (name setup : List ℕ) → first_broken (start_checks s m name setup) ≡ None → length m.files < most_files s
 few_files s m name setup fine =
-    let a = parts_pass (begin_checks (elim m.tick [ None ↦ false | Some t ↦ true ]) name setup) (file_checks s m.files name) fine in
+    let a = rules_parts (begin_checks (elim m.tick [ None ↦ false | Some t ↦ true ]) name setup) (file_checks s m.files name) fine in
     let full = (nat_lt (length m.files) (most_files s), DirectoryFull) ∷ [] in
-    let b = checks_pass (not (is_taken name m.files)) NameTaken ((is_sealed m.files, Unsealed) ∷ full) a.1 in
-    let c = checks_pass (is_sealed m.files) Unsealed full b.1 in
-    let d = checks_pass (nat_lt (length m.files) (most_files s)) DirectoryFull [] c.1 in
+    let b = none_broken (not (is_taken name m.files)) NameTaken ((is_sealed m.files, Unsealed) ∷ full) a.1 in
+    let c = none_broken (is_sealed m.files) Unsealed full b.1 in
+    let d = none_broken (nat_lt (length m.files) (most_files s)) DirectoryFull [] c.1 in
     ltb-true (length m.files) (most_files s) d.0
 
 file_there : (files file from to : ℕ) → first_broken (cursor_checks files file from to) ≡ None → file < files
 file_there files file from to fine =
     let here = (nat_lt file files, NoSuchFile) ∷ [] in
-    let a = checks_pass (nat_lt from 281474976710656) CountRange (in_48_bits to ∷ here) fine in
-    let b = checks_pass (nat_lt to 281474976710656) CountRange here a.1 in
-    let c = checks_pass (nat_lt file files) NoSuchFile [] b.1 in
+    let a = none_broken (nat_lt from 281474976710656) CountRange (in_48_bits to ∷ here) fine in
+    let b = none_broken (nat_lt to 281474976710656) CountRange here a.1 in
+    let c = none_broken (nat_lt file files) NoSuchFile [] b.1 in
     ltb-true file files c.0
 
 -- ---- what a call does
@@ -54,29 +55,29 @@ does_sound s old Mount replies.Done new config sound fine is = subst (IsSound s)
 does_sound s old Dismount replies.Done new config sound fine is = subst (IsSound s) (sym is) (dismounts_sound s old sound fine)
 does_sound s old (Tick count parts) replies.Done new config sound fine does =
     let tick : MachineTick = record { count = count; civil = parts } in
-    ticks_sound s old tick new config sound (parts_pass (mounted_checks old.mode) (tick_checks (last_tick old) count parts) fine).1 does
+    ticks_sound s old tick new config sound (rules_parts (mounted_checks old.mode) (tick_checks (last_tick old) count parts) fine).1 does
 does_sound s old (Start name setup) replies.Done new config sound fine does =
-    let parts = parts_pass (idle_checks old.mode) (start_checks s old name setup) fine in
+    let parts = rules_parts (idle_checks old.mode) (start_checks s old name setup) fine in
     starts_sound s old name setup new config sound (idle_works old.mode parts.0) (few_files s old name setup parts.1) does
 does_sound s old (Offer channel count message) replies.Done new config sound fine is = subst (IsSound s) (sym is) (offers_sound s old channel count message sound fine)
 does_sound s old (Lose channel lost) replies.Done new config sound fine is = subst (IsSound s) (sym is) (loses_sound s old channel lost sound)
 does_sound s old (Pump channel most) (replies.Moved n) new config sound fine does =
-    pumps_sound s old channel most n new config sound (records_of old.mode (parts_pass (recording_checks old.mode) (channel_checks (lane_of channel old)) fine).0) does
+    pumps_sound s old channel most n new config sound (records_of old.mode (rules_parts (recording_checks old.mode) (channel_checks (lane_of channel old)) fine).0) does
 does_sound s old (Event number count) replies.Done new config sound fine does =
-    let parts = parts_pass (recording_checks old.mode) (event_checks old.last_event number count) fine in
+    let parts = rules_parts (recording_checks old.mode) (event_checks old.last_event number count) fine in
     marks_sound s old number count new config sound (records_of old.mode parts.0) parts.1 does
 does_sound s old Commit replies.Done new config sound fine does = commits_sound s old new sound (records_of old.mode fine) does
 does_sound s old Stop (replies.Stopped stopped) new config sound fine does = stops_sound s old stopped new config sound (records_of old.mode fine) does
 does_sound s old Seal replies.Done new config sound fine does =
-    let parts = parts_pass (idle_checks old.mode) (seal_checks old.files) fine in
+    let parts = rules_parts (idle_checks old.mode) (seal_checks old.files) fine in
     seals_sound s old new sound parts.0 parts.1 does
 does_sound s old Erase replies.Done new config sound fine does =
-    let parts = parts_pass (idle_checks old.mode) (erase_checks old.generation) fine in
+    let parts = rules_parts (idle_checks old.mode) (erase_checks old.generation) fine in
     erases_sound s old new sound parts.0 parts.1 does
 does_sound s old Files (replies.Files files) new config sound fine (told, is) = subst (IsSound s) (sym is) sound
 does_sound s old Status (replies.Status status) new config sound fine (told, is) = subst (IsSound s) (sym is) sound
 does_sound s old (Cursor file channels from to) (replies.Cursor id) new config sound fine does =
-    opens_sound s old file channels from to id new sound (file_there (length old.files) file from to (parts_pass (mounted_checks old.mode) (cursor_checks (length old.files) file from to) fine).1) does
+    opens_sound s old file channels from to id new sound (file_there (length old.files) file from to (rules_parts (mounted_checks old.mode) (cursor_checks (length old.files) file from to) fine).1) does
 does_sound s old (Advance id) (replies.Advanced n) new config sound fine does = advances_sound s old id n new sound does
 does_sound s old (Next id) (replies.Next given) new config sound fine does = gives_sound s old id given new sound does
 does_sound s old (Close id) replies.Done new config sound fine does = closes_sound s old id new sound does
@@ -93,6 +94,15 @@ refusal_sound s (Offer channel count message) old sound = by (is_none (first_bro
     by true = overflows_sound s old channel sound
     by false = sound
 refusal_sound s event old sound = sound
+
+-- what is refused leaves the files
+pub refused_files : (event : EventValue) (m : Machine) → (after_refusal event m).files ≡ m.files
+refused_files (Offer channel count message) m = by (is_none (first_broken (offer_checks (lane_of channel m) count message)))
+  where
+    by : (b : Bool) → (cond b (with_lane channel overflowed m) m).files ≡ m.files
+    by true = refl
+    by false = refl
+refused_files event m = refl
 
 -- ---- failures of the medium
 

@@ -12,12 +12,13 @@ use Rattle.r10_machine.specs.Machine.{Machine, Lane, File, cursor_of, change_las
 use Rattle.r10_machine.specs.Room.{cost_of, area}
 use Rattle.r10_machine.specs.Checks.{is_recording, is_working, is_sealed, unmounted_checks, idle_checks}
 use Rattle.r10_machine.specs.SoundParts.{IsSoundLane, IsSoundCursor, LaneClimbs, Climbs, is_open, own_files, counts_on, count_or_0}
-use Rattle.r10_machine.proofs.Steady.{checks_pass, some_each, last_shows}
+use Rattle.r10_machine.proofs.Steady.{some_each, last_shows}
 use Rattle.r10_machine.specs.EventChecks.{erase_checks, seal_checks}
 use Rattle.r10_machine.specs.ControlCalls.{Seals, Erases, closed_in, erased_with}
 use Rattle.r10_machine.specs.Sound.{IsSound, IsOwnFile, IsOthersFile}
 use Rattle.r10_machine.proofs.LastFiles.{others_change, counts_same, climb_same, last_each, last_length, last_last, shown_files}
 use Rattle.r10_machine.proofs.Grown.{work_is, work_of, turns_sound, last_of}
+use Rattle.r10_count.proofs.Rules.{none_broken}
 
 -- ---- mounts
 
@@ -86,7 +87,7 @@ pub seals_sound : (s : Config) (m new : Machine) → IsSound s m → first_broke
 seals_sound s m new sound fine unsealed seals =
     let r = idle m.mode fine in
     let work = work_of m.mode s m r.works sound.work in
-    let a = checks_pass (not (is_sealed m.files)) NoSuchFile [] unsealed in
+    let a = none_broken (not (is_sealed m.files)) NoSuchFile [] unsealed in
     by r (last_or None m.files) refl (sym work.recording ∙ r.rests) (not-true (is_sealed m.files) a.0) seals
   where
     by : Resting m.mode → (o : Option File) → last_or None m.files ≡ o → elim o as (λ o. Bool) [ None ↦ false | Some f ↦ is_open f ] ≡ false → elim o as (λ o. Bool) [ None ↦ true | Some f ↦ f.closed ] ≡ false
@@ -127,7 +128,7 @@ pub erases_sound : (s : Config) (m new : Machine) → IsSound s m → first_brok
 erases_sound s m new sound fine next is =
     let r = idle m.mode fine in
     let work = work_of m.mode s m r.works sound.work in
-    let a = checks_pass (nat_lt m.generation (2 ^ 64 - 1)) Stale [] next in
+    let a = none_broken (nat_lt m.generation (2 ^ 64 - 1)) Stale [] next in
     let empty : Machine = record m { files = []; generation = m.generation + 1; lanes = map (erased_with m.files) m.lanes } in
     subst (IsSound s) (sym is) (record {
       channels = erased_specs m.files m.lanes ∙ sound.channels;

@@ -5,7 +5,7 @@ ghost use Rattle.r10_count.specs.Checks.{first_broken};
 ghost use Rattle.r10_dirblock.specs.declared.entry.Entry.{Entry as DirectoryEntry};
 ghost use Rattle.r10_dirchain.specs.Chain.{listed_files};
 ghost use Rattle.r10_dirchain.specs.Mount.{mount_rules};
-ghost use Rattle.r10_dirchain.specs.OnMedium.{SameButIn, Turned};
+ghost use Rattle.r10_dirchain.specs.OnMedium.{Turned};
 ghost use Rattle.r10_dirchain.specs.Steps.{with_last_entry};
 ghost use Rattle.r10_dirchain.specs.declared.chain.ChainBlock.{ChainBlock};
 ghost use Rattle.r10_machine.specs.Config.{Config};
@@ -13,7 +13,6 @@ ghost use Rattle.r10_machine.specs.Machine.{File};
 ghost use Rattle.r10_machine.specs.Room.{next_block};
 ghost use Rattle.r10_medium.specs.Disk.{Image, IsWhole};
 ghost use Rattle.r10_medium.specs.Stop.{SameBelow};
-ghost use Rattle.r10_machine.specs.Bytes.{KeepBytes};
 ghost use Rattle.r10_machine.specs.Says.{Lists, MediumSays, SaysEach, SaysFile};
 ghost use Rattle.r10_blockout.specs.Blocks.{bytes_from};
 
@@ -33,15 +32,6 @@ pub fn directories_turn()
     ensures { (s : Config) (old new : Image) (chain : List ChainBlock) (changed : List ℕ) (files : List File) → IsWhole old → length old ≡ s.blocks
         → Turned chain changed old new → All (λ n. n ≤ s.directory) changed → first_broken (mount_rules s.directory s.blocks chain) ≡ None
         → SaysEach old (listed_files chain) files → MediumSays s new files }
-{}
-
-/// So their bytes stay, and behind the reserved blocks where no other block changes.
-pub fn bytes_stand()
-    ensures closed { (s : Config) (old new : Image) (files : List File) → IsWhole old → MediumSays s old files → (kept : ℕ) → SameBelow (next_block s files) kept old new → KeepBytes old new files }
-    ensures growing { (s : Config) (old new : Image) (files : List File) (f : File) → IsWhole old → MediumSays s old (files ++ f ∷ [])
-        → (kept : ℕ) → SameBelow f.first_block kept old new → bytes_from new f.first_block f.size ≡ bytes_from old f.first_block f.size → KeepBytes old new (files ++ f ∷ []) }
-    ensures directory { (s : Config) (old new : Image) (numbers : List ℕ) (files : List File) → IsWhole old → MediumSays s old files → SameButIn numbers old new → All (λ n. n ≤ s.directory) numbers
-        → KeepBytes old new files }
 {}
 
 /// A file is listed behind others, or in place of the last.
