@@ -12,7 +12,7 @@ use Rattle.r10_machine.specs.Limits.{IsConfig, channel_ids}
 use Rattle.r10_machine.specs.Machine.{Machine, Lane, File, fresh, fresh_lane, lane_in, saturated, shown_entries}
 use Rattle.r10_machine.specs.Checks.{is_working}
 use Rattle.r10_machine.specs.ControlCalls.{own_entries}
-use Rattle.r10_machine.specs.SoundParts.{IsSoundLane, own_files}
+use Rattle.r10_machine.specs.SoundParts.{IsSoundLane}
 use Rattle.r10_machine.specs.Sound.{IsFoundFile, IsSound}
 use Rattle.r10_machine.specs.Step.{Run, Step}
 use Rattle.r10_machine.specs.EventChecks.{most_files}
@@ -32,6 +32,7 @@ use Rattle.r10_account.proofs.Lanes.{lane_of_spec}
 use Rattle.r10_account.proofs.Numbers.{at_first, same_number, small_again, twice}
 use Rattle.r10_account.proofs.Stepping.{FailsTo, FailedSteps, WorkSteps, work_steps, failed_steps}
 use Rattle.r10_account.proofs.Stepping.WorkSteps.{on, failing}
+use Rattle.r10_machine.proofs.Newness.{none_own}
 
 -- the law of a step
 abbrev StepsStaySound : Type 0
@@ -273,10 +274,6 @@ fresh_same channel say none at each (spec ∷ specs) = by (spec.id == channel) (
     by : (b : Bool) → say (lane_in channel (map fresh_lane specs)) ≡ none → say (cond b (Some (fresh_lane spec)) (lane_in channel (map fresh_lane specs))) ≡ none
     by true rest = each spec
     by false rest = rest
-
-none_own : (files : List File) → AllByRecursion IsFoundFile files → own_files files ≡ []
-none_own [] all = refl
-none_own (f ∷ files) ((shown, own), all) = rw own (none_own files all)
 
 pub recording_accounts : StepsStaySound → ((s : Config) (files : List File) (failures : ℕ) → AllByRecursion IsFoundFile files → length files ≤ most_files s → IsSound s (fresh s.channels files failures))
     → (s : Config) (channel : ℕ) (files : List File) (failures : ℕ) (events : List EventValue) (rs : List ReplyValue) (images : List Image) (new : Machine) → IsConfig s → AllByRecursion IsFoundFile files → length files ≤ most_files s

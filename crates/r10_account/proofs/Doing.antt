@@ -1,5 +1,5 @@
 -- What calls that are neither refused nor fail do to the account of a channel.
-use Rattle.std.proofs.Common.{◌≡◌, ◌≤◌, ℕ, ◌+◌, Bool, true, false, not, cond, List, [], ◌∷◌, ◌++◌, map, take, drop, length, count_by, Option, Some, None, option_map, refl, sym, ap, ◌∙◌, subst, arith, IsSomeAnd, slice_get, ◌==◌, nat_lt}
+use Rattle.std.proofs.Common.{◌≡◌, ◌≤◌, ℕ, ◌+◌, Bool, true, false, not, cond, List, [], ◌∷◌, ◌++◌, map, take, drop, length, count_by, Option, Some, None, option_map, refl, sym, ap, ◌∙◌, subst, arith, slice_get, ◌==◌, nat_lt}
 use Rattle.std.specs.List.{IsDistinct, last_or}
 use Rattle.std.proofs.lemmas.Bool.{eqb-true}
 use Rattle.std.proofs.lemmas.List.{append-nil, take-append-drop, take_all, take-map, drop-map, map-append, length-map}
@@ -22,13 +22,15 @@ use Rattle.r10_machine.specs.declared.reply.Reply.TheVariants as replies
 use Rattle.r10_machine.specs.EventChecks.{refusal, start_checks, event_checks, file_checks, most_files}
 use Rattle.r10_machine.specs.Step.{Does}
 use Rattle.r10_body.specs.declared.refusal.Refusal.TheVariants.{NameTaken, Overflow, Unsealed, DirectoryFull}
-use Rattle.r10_machine.proofs.Steady.{checks_pass, parts_pass, records_of, same_specs}
+use Rattle.r10_machine.proofs.Steady.{records_of, same_specs, none_broken, rules_parts}
 use Rattle.r10_machine.proofs.Taking.{on_its_own, on_another, lane_has, taken_on}
 use Rattle.r10_account.specs.Accepted.{Exchange, entry_with, was_accepted}
 use Rattle.r10_account.specs.Account.{waiting_in, waiting_of, missed_in, missed_of, erased_in, erased_of}
 use Rattle.r10_account.proofs.Accounting.{StepAccounts, WaitsMore, IsApart, is_loss, missed_behind, waits_accounts, same_waits, missed_on, shifts, files_change}
 use Rattle.r10_account.proofs.Files.{AllBehind, own_more, own_kept, own_appended, behind_kept, behind_appended}
 use Rattle.r10_account.proofs.Lanes.{lane_changed, lane_stays, lane_mapped, mapped_specs}
+use Rattle.r10_machine.proofs.Entering.{nowhere_else}
+use Rattle.r10_machine.proofs.Keeping.{some_then}
 
 -- what is known of a recorder that works, of a channel and of its lane
 pub record Known (s : Config) (channel : ℕ) (mode : Mode) (lanes : List Lane) (files : List File) : Type 0 where
@@ -41,10 +43,6 @@ pub record Known (s : Config) (channel : ℕ) (mode : Mode) (lanes : List Lane) 
   pub distinct : IsDistinct (λ a b. a == b) (map (λ l. l.spec.id) lanes)
   pub open_file : is_recording mode ≡ true → (f : File) × (last_or None files ≡ Some f) × (f.own ≡ true)
   pub closed_shows : (f : File) → last_or None files ≡ Some f → f.own ≡ true → f.closed ≡ true → f.shown ≡ length f.entries
-
-some_then : {A : Type 0} (C : Type 0) (o : Option A) (P : A → Type 0) → IsSomeAnd o P → ((x : A) → o ≡ Some x → P x → C) → C
-some_then C None P holds then = absurd holds
-some_then C (Some x) P holds then = then x refl holds
 
 -- ---- offers
 
@@ -139,17 +137,13 @@ told_waits channel id lost lanes files lane there = loss_waits channel id lost l
 
 -- ---- what goes into the open file
 
--- an entry of another channel
-one_apart : (channel : ℕ) (e : Entry) → (e.channel == channel) ≡ false → on_channel channel (e ∷ []) ≡ []
-one_apart channel e differ = rw differ refl
-
 puts_apart : (s : Config) (channel : ℕ) (mode : Mode) (lanes : List Lane) (files : List File) (x : Exchange) (e : Entry) (later : List Lane) (news : List File) → Known s channel mode lanes files → IsApart channel x → (e.channel == channel) ≡ false
     → is_recording mode ≡ true → later ≡ lanes → news ≡ change_last (with_entries (e ∷ [])) files → StepAccounts channel lanes files x later news
 puts_apart s channel mode lanes files x e later news known apart differ rec same is =
     let o = known.open_file rec in
     files_change channel lanes files x later news apart
     (ap (own_entries channel) is ∙ own_more channel (with_entries (e ∷ [])) (e ∷ []) (λ f. (refl, refl)) files o.0 o.1 o.2
-    ∙ ap (λ (l : List Entry). own_entries channel files ++ l) (one_apart channel e differ) ∙ append-nil (own_entries channel files)) same
+    ∙ ap (λ (l : List Entry). own_entries channel files ++ l) (nowhere_else channel e differ) ∙ append-nil (own_entries channel files)) same
     (λ all. subst AllBehind (sym is) (behind_kept (with_entries (e ∷ [])) files all))
 
 -- ---- pumps
@@ -232,10 +226,10 @@ erase_accounts s channel mode lanes files x known apart =
 
 is_closed : (s : Config) (m : Machine) (name setup : List ℕ) → first_broken (start_checks s m name setup) ≡ None → is_sealed m.files ≡ true
 is_closed s m name setup fine =
-    let a = parts_pass (begin_checks (elim m.tick [ None ↦ false | Some t ↦ true ]) name setup) (file_checks s m.files name) fine in
+    let a = rules_parts (begin_checks (elim m.tick [ None ↦ false | Some t ↦ true ]) name setup) (file_checks s m.files name) fine in
     let full = (nat_lt (length m.files) (most_files s), DirectoryFull) ∷ [] in
-    let b = checks_pass (not (is_taken name m.files)) NameTaken ((is_sealed m.files, Unsealed) ∷ full) a.1 in
-    (checks_pass (is_sealed m.files) Unsealed full b.1).0
+    let b = none_broken (not (is_taken name m.files)) NameTaken ((is_sealed m.files, Unsealed) ∷ full) a.1 in
+    (none_broken (is_sealed m.files) Unsealed full b.1).0
 
 last_closed : (files : List File) (f : File) → last_or None files ≡ Some f → is_sealed files ≡ true → f.closed ≡ true
 last_closed files f is sealed = subst (λ (o : Option File). elim o as (λ o. Bool) [ None ↦ true | Some f ↦ f.closed ] ≡ true) is sealed
@@ -245,8 +239,8 @@ last_closed files f is sealed = subst (λ (o : Option File). elim o as (λ o. Bo
 quiet : (channel : ℕ) (old : Machine) (x : Exchange) (new : Machine) → IsApart channel x → new.lanes ≡ old.lanes → new.files ≡ old.files → StepAccounts channel old.lanes old.files x new.lanes new.files
 quiet channel old x new apart lanes files = waits_accounts channel old.lanes old.files x new.lanes new.files (same_waits channel old.lanes old.files x new.lanes new.files apart lanes files)
 
-same : (channel : ℕ) (old : Machine) (x : Exchange) (new : Machine) → IsApart channel x → new ≡ old → StepAccounts channel old.lanes old.files x new.lanes new.files
-same channel old x new apart is = quiet channel old x new apart (ap (λ (m : Machine). m.lanes) is) (ap (λ (m : Machine). m.files) is)
+pub unchanged : (channel : ℕ) (old : Machine) (x : Exchange) (new : Machine) → IsApart channel x → new ≡ old → StepAccounts channel old.lanes old.files x new.lanes new.files
+unchanged channel old x new apart is = quiet channel old x new apart (ap (λ (m : Machine). m.lanes) is) (ap (λ (m : Machine). m.files) is)
 
 abbrev apart_is : {channel : ℕ} {x : Exchange} → ((lost : ℕ) → entry_with channel lost x ≡ []) → was_accepted channel x ≡ false → is_loss channel x ≡ false → IsApart channel x
 apart_is makes accepts loses = record { makes_none = makes; accepts_none = accepts; loses_none = loses }
@@ -263,13 +257,13 @@ does_accounts s channel old (Tick count parts) replies.Done new known fine does 
         puts_apart s channel old.mode old.lanes old.files (Tick count parts, replies.Done) (time_entry s (record { count = count; civil = parts })) new.lanes new.files known (apart_is (λ lost. refl) refl refl) known.time rec
         (ap (λ (m : Machine). m.lanes) is) (ap (λ (m : Machine). m.files) is)
 does_accounts s channel old (Start name setup) replies.Done new known fine does =
-    let sealed = is_closed s old name setup (parts_pass (idle_checks old.mode) (start_checks s old name setup) fine).1 in
+    let sealed = is_closed s old name setup (rules_parts (idle_checks old.mode) (start_checks s old name setup) fine).1 in
     some_then (StepAccounts channel old.lanes old.files (Start name setup, replies.Done) new.lanes new.files) old.tick _ does (λ tick is_tick made.
     let e = time_entry s tick in
     let g : File = shown_whole (last_size new) (with_entries (e ∷ []) (empty_file s old.files name setup)) in
     let files : new.files ≡ old.files ++ g ∷ [] = ap (λ (m : Machine). m.files) made.1 in
     files_change channel old.lanes old.files (Start name setup, replies.Done) new.lanes new.files (apart_is (λ lost. refl) refl refl)
-    (ap (own_entries channel) files ∙ own_appended channel old.files g refl ∙ ap (λ (l : List Entry). own_entries channel old.files ++ l) (one_apart channel e known.time) ∙ append-nil (own_entries channel old.files))
+    (ap (own_entries channel) files ∙ own_appended channel old.files g refl ∙ ap (λ (l : List Entry). own_entries channel old.files ++ l) (nowhere_else channel e known.time) ∙ append-nil (own_entries channel old.files))
     (ap (λ (m : Machine). m.lanes) made.1)
     (λ all. subst AllBehind (sym files) (behind_appended old.files g (λ f last own. known.closed_shows f last own (last_closed old.files f last sealed)) all)))
 does_accounts s channel old (Offer id count message) replies.Done new known fine is =
@@ -281,7 +275,7 @@ does_accounts s channel old (Lose id lost) replies.Done new known fine is =
     (waits_at channel old.lanes old.files (Lose id lost, replies.Done) (change_first (is_channel id) (losing lost) old.lanes) new.lanes old.files new.files
     (ap (λ (m : Machine). m.lanes) is) (ap (λ (m : Machine). m.files) is) (told_waits channel id lost old.lanes old.files known.lane known.there))
 does_accounts s channel old (Pump id most) (replies.Moved n) new known fine does =
-    let o = known.open_file (records_of old.mode (parts_pass (recording_checks old.mode) (channel_checks (lane_of id old)) fine).0) in
+    let o = known.open_file (records_of old.mode (rules_parts (recording_checks old.mode) (channel_checks (lane_of id old)) fine).0) in
     some_then (StepAccounts channel old.lanes old.files (Pump id most, replies.Moved n) new.lanes new.files) (lane_of id old) _ does (λ lane is_lane pumps.
     some_then (StepAccounts channel old.lanes old.files (Pump id most, replies.Moved n) new.lanes new.files) (last_or None old.files) _ pumps (λ f last made.
     let es = take n (waiting_entries lane) in
@@ -292,7 +286,7 @@ does_accounts s channel old (Pump id most) (replies.Moved n) new known fine does
     (own_more channel (with_entries es) es (λ f. (refl, refl)) old.files o.0 o.1 o.2 ∙ ap (λ (l : List Entry). own_entries channel old.files ++ l) g.on)
     g.waits g.missed g.erased (same_specs (is_channel id) (without n) (λ lane. refl) old.lanes) (behind_kept (with_entries es) old.files))))
 does_accounts s channel old (Event number count) replies.Done new known fine does =
-    let rec = records_of old.mode (parts_pass (recording_checks old.mode) (event_checks old.last_event number count) fine).0 in
+    let rec = records_of old.mode (rules_parts (recording_checks old.mode) (event_checks old.last_event number count) fine).0 in
     some_then (StepAccounts channel old.lanes old.files (Event number count, replies.Done) new.lanes new.files) (last_or None old.files) _ does (λ f last made.
     puts_apart s channel old.mode old.lanes old.files (Event number count, replies.Done) (event_entry s number count f) new.lanes new.files known (apart_is (λ lost. refl) refl refl) known.event rec
     (ap (λ (m : Machine). m.lanes) made.1) (ap (λ (m : Machine). m.files) made.1))
@@ -321,8 +315,8 @@ does_accounts s channel old Seal replies.Done new known fine does =
 does_accounts s channel old Erase replies.Done new known fine is =
     accounts_at channel old.lanes old.files (Erase, replies.Done) (map (erased_with old.files) old.lanes) new.lanes [] new.files (ap (λ (m : Machine). m.lanes) is) (ap (λ (m : Machine). m.files) is)
     (erase_accounts s channel old.mode old.lanes old.files (Erase, replies.Done) known (apart_is (λ lost. refl) refl refl))
-does_accounts s channel old Files (replies.Files files) new known fine (told, is) = same channel old (Files, replies.Files files) new (apart_is (λ lost. refl) refl refl) is
-does_accounts s channel old Status (replies.Status status) new known fine (told, is) = same channel old (Status, replies.Status status) new (apart_is (λ lost. refl) refl refl) is
+does_accounts s channel old Files (replies.Files files) new known fine (told, is) = unchanged channel old (Files, replies.Files files) new (apart_is (λ lost. refl) refl refl) is
+does_accounts s channel old Status (replies.Status status) new known fine (told, is) = unchanged channel old (Status, replies.Status status) new (apart_is (λ lost. refl) refl refl) is
 does_accounts s channel old (Cursor file channels from to) (replies.Cursor id) new known fine (free, sets) =
     quiet channel old (Cursor file channels from to, replies.Cursor id) new (apart_is (λ lost. refl) refl refl) (ap (λ (m : Machine). m.lanes) sets.1) (ap (λ (m : Machine). m.files) sets.1)
 does_accounts s channel old (Advance id) (replies.Advanced n) new known fine does =
@@ -334,6 +328,6 @@ does_accounts s channel old (Next id) (replies.Next given) new known fine does =
     quiet channel old (Next id, replies.Next given) new (apart_is (λ lost. refl) refl refl) (ap (λ (m : Machine). m.lanes) made.1.1) (ap (λ (m : Machine). m.files) made.1.1))
 does_accounts s channel old (Close id) replies.Done new known fine sets =
     quiet channel old (Close id, replies.Done) new (apart_is (λ lost. refl) refl refl) (ap (λ (m : Machine). m.lanes) sets.1) (ap (λ (m : Machine). m.files) sets.1)
-does_accounts s channel old (Find file id count) (replies.Found answer) new known fine (told, is) = same channel old (Find file id count, replies.Found answer) new (apart_is (λ lost. refl) refl refl) is
-does_accounts s channel old (CountAt file parts) (replies.CountAt answer) new known fine (told, is) = same channel old (CountAt file parts, replies.CountAt answer) new (apart_is (λ lost. refl) refl refl) is
+does_accounts s channel old (Find file id count) (replies.Found answer) new known fine (told, is) = unchanged channel old (Find file id count, replies.Found answer) new (apart_is (λ lost. refl) refl refl) is
+does_accounts s channel old (CountAt file parts) (replies.CountAt answer) new known fine (told, is) = unchanged channel old (CountAt file parts, replies.CountAt answer) new (apart_is (λ lost. refl) refl refl) is
 does_accounts s channel old event reply new known fine does = absurd does

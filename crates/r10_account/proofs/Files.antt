@@ -11,7 +11,7 @@ use Rattle.r10_machine.specs.ControlCalls.{own_entries}
 use Rattle.r10_machine.specs.Needs.{shown_part}
 use Rattle.r10_machine.specs.SoundParts.{own_files}
 use Rattle.r10_account.specs.Account.{shown_own}
-use Rattle.r10_account.proofs.Lanes.{some_same}
+use Rattle.std.proofs.lemmas.Option.{same_Some}
 
 abbrev all_own : List File → List Entry
 all_own files = flat_map (λ (f : File). f.entries) (own_files files)
@@ -32,7 +32,7 @@ all_more : (change : File → File) (more : List Entry) → ((f : File) → ((ch
     → (files : List File) (f : File) → last_or None files ≡ Some f → f.own ≡ true → all_own (change_last change files) ≡ all_own files ++ more
 all_more change more same [] f is own = cc
 all_more change more same (x ∷ []) f is own =
-    let here : x.own ≡ true = ap (λ (g : File). g.own) (some_same is) ∙ own in
+    let here : x.own ≡ true = ap (λ (g : File). g.own) (same_Some _ _ is) ∙ own in
     alone (change x).own x.own ((same x).0 ∙ here) here
   where
     alone : (b c : Bool) → b ≡ true → c ≡ true → flat_map (λ (f : File). f.entries) (cond b (change x ∷ []) []) ≡ flat_map (λ (f : File). f.entries) (cond c (x ∷ []) []) ++ more

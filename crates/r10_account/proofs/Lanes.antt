@@ -5,9 +5,7 @@ use Rattle.r10_body.specs.declared.spec.ChannelSpec.{ChannelSpec}
 use Rattle.r10_machine.specs.declared.event.Event.{Event}
 use Rattle.r10_machine.specs.Machine.{Lane, lane_in, is_channel, change_first}
 use Rattle.r10_machine.specs.Step.{LanesAfter}
-
-pub some_same : {X : Type 0} {a b : X} → Some a ≡ Some b → a ≡ b
-some_same is = cc
+use Rattle.std.proofs.lemmas.Option.{same_Some}
 
 same_id : (change : Lane → Lane) → ((lane : Lane) → (change lane).spec ≡ lane.spec) → (lane : Lane) (channel : ℕ) (b : Bool) → (lane.spec.id == channel) ≡ b → ((change lane).spec.id == channel) ≡ b
 same_id change same lane channel b is = ap (λ (spec : ChannelSpec). spec.id == channel) (same lane) ∙ is
@@ -104,7 +102,7 @@ lost_front channel event (old ∷ olds) (end ∷ ends) (new ∷ news) lane same 
           end = end;
           end_is = ap (λ (b : Bool). cond b (Some end) (lane_in channel ends)) end_here;
           is = ap (λ (b : Bool). cond b (Some new) (lane_in channel news)) new_here ∙ ap Some is
-              ∙ ap (λ (l : Lane). Some (record l { waiting = drop n l.waiting; erased = end.erased })) (some_same there);
+              ∙ ap (λ (l : Lane). Some (record l { waiting = drop n l.waiting; erased = end.erased })) (same_Some _ _ there);
         }
     by false here there rest =
         later ends news end new (ap (λ (spec : ChannelSpec). spec.id == channel) (heads same).0 ∙ here) (ap (λ (l : Lane). l.spec.id == channel) is ∙ here) (rest there)

@@ -1,16 +1,16 @@
 -- Files that were found stay the first, with what they show.
-use Rattle.std.proofs.Common.{◌≡◌, ◌≤◌, ◌⊎◌, inl, inr, ℕ, Bool, true, false, ◌||◌, List, [], ◌∷◌, ◌++◌, map, take, length, zip, Option, Some, None, is_none, cond, refl, sym, ap, ◌∙◌, subst, arith, IsSomeAnd, slice_get, true≢false}
+use Rattle.std.proofs.Common.{◌≡◌, ◌≤◌, ◌⊎◌, inl, inr, ℕ, Bool, true, false, ◌||◌, List, [], ◌∷◌, ◌++◌, map, take, length, zip, Option, Some, None, refl, sym, ap, ◌∙◌, subst, arith, slice_get, true≢false}
 use Rattle.std.specs.List.{AllByRecursion, last_or, list_any}
 use Rattle.std.proofs.lemmas.List.{take_all}
-use Rattle.r10_machine.specs.Checks.{first_broken, is_recording, offer_checks, recording_checks, channel_checks}
+use Rattle.r10_machine.specs.Checks.{is_recording, recording_checks, channel_checks}
 use Rattle.r10_body.specs.declared.refusal.Refusal.{Refusal}
 use Rattle.r10_body.specs.declared.refusal.Refusal.TheVariants as refusals
 use Rattle.r10_medium.specs.Disk.{Image}
 use Rattle.r10_machine.specs.Config.{Config}
 use Rattle.r10_machine.specs.Limits.{IsConfig}
-use Rattle.r10_machine.specs.Machine.{Machine, File, cursor_of, fresh, lane_of, last_size, change_last, waiting_entries, with_entries, with_lane}
+use Rattle.r10_machine.specs.Machine.{Machine, File, cursor_of, fresh, lane_of, last_size, change_last, waiting_entries, with_entries}
 use Rattle.r10_machine.specs.Needs.{shown_part}
-use Rattle.r10_machine.specs.Calls.{all_waiting, closed_whole, empty_file, overflowed, shown_whole, time_entry, TicksIn}
+use Rattle.r10_machine.specs.Calls.{all_waiting, closed_whole, empty_file, shown_whole, time_entry, TicksIn}
 use Rattle.r10_machine.specs.ControlCalls.{closed_in, event_entry}
 use Rattle.r10_machine.specs.Sound.{IsFoundFile, IsSound}
 use Rattle.r10_machine.specs.declared.event.Event.{Event as EventValue}
@@ -18,11 +18,14 @@ use Rattle.r10_machine.specs.declared.event.Event.TheVariants.{Mount, Dismount, 
 use Rattle.r10_machine.specs.declared.reply.Reply.{Reply as ReplyValue}
 use Rattle.r10_machine.specs.declared.reply.Reply.TheVariants as replies
 use Rattle.r10_machine.specs.EventChecks.{refusal, event_checks, most_files}
-use Rattle.r10_machine.specs.Step.{Does, Step, Run, Replies, Refuses, GivesUp, FailsIn, after_refusal}
+use Rattle.r10_machine.specs.Step.{Does, Step, Run, Replies, Refuses, GivesUp, FailsIn}
 use Rattle.r10_machine.proofs.Grown.{taping}
-use Rattle.r10_machine.proofs.Steady.{parts_pass, records_of}
+use Rattle.r10_machine.proofs.Steady.{records_of, rules_parts}
 use Rattle.r10_account.specs.Found.{AreStillFirst, may_erase}
-use Rattle.r10_account.proofs.Lanes.{heads, some_same}
+use Rattle.r10_account.proofs.Lanes.{heads}
+use Rattle.std.proofs.lemmas.Option.{same_Some}
+use Rattle.r10_machine.proofs.Keeping.{some_then}
+use Rattle.r10_machine.proofs.Steps.{refused_files}
 
 -- ---- files
 
@@ -33,7 +36,7 @@ stays_same found files news is still = subst (AreStillFirst found) (sym is) stil
 own_changes : (change : File → File) (found files : List File) (f : File) → last_or None files ≡ Some f → f.own ≡ true → AreStillFirst found files → AreStillFirst found (change_last change files)
 own_changes change [] files f last own still = tt
 own_changes change (g ∷ found) [] f last own still = absurd still
-own_changes change (g ∷ found) (x ∷ []) f last own (here, still) = absurd (true≢false (sym own ∙ sym (ap (λ (f : File). f.own) (some_same last)) ∙ here.own))
+own_changes change (g ∷ found) (x ∷ []) f last own (here, still) = absurd (true≢false (sym own ∙ sym (ap (λ (f : File). f.own) (same_Some _ _ last)) ∙ here.own))
 own_changes change (g ∷ found) (x ∷ y ∷ ys) f last own (here, still) = (here, own_changes change found (y ∷ ys) f last own still)
 
 -- the last file is closed
@@ -66,10 +69,6 @@ shown_still (f ∷ found) (e ∷ ends) (n ∷ news) same (here, still) =
 
 -- ---- steps
 
-some_then : {A : Type 0} (C : Type 0) (o : Option A) (P : A → Type 0) → IsSomeAnd o P → ((x : A) → o ≡ Some x → P x → C) → C
-some_then C None P holds then = absurd holds
-some_then C (Some x) P holds then = then x refl holds
-
 abbrev OpensOwn : Machine → Type 0
 OpensOwn m = is_recording m.mode ≡ true → (f : File) × (last_or None m.files ≡ Some f) × (f.own ≡ true)
 
@@ -96,12 +95,12 @@ does_still s found old (Start name setup) replies.Done new opens fine none does 
 does_still s found old (Offer id count message) replies.Done new opens fine none is still = stays_same found old.files new.files (ap (λ (m : Machine). m.files) is) still
 does_still s found old (Lose id lost) replies.Done new opens fine none is still = stays_same found old.files new.files (ap (λ (m : Machine). m.files) is) still
 does_still s found old (Pump id most) (replies.Moved n) new opens fine none does still =
-    let rec = records_of old.mode (parts_pass (recording_checks old.mode) (channel_checks (lane_of id old)) fine).0 in
+    let rec = records_of old.mode (rules_parts (recording_checks old.mode) (channel_checks (lane_of id old)) fine).0 in
     some_then (AreStillFirst found new.files) (lane_of id old) _ does (λ lane is_lane pumps.
     some_then (AreStillFirst found new.files) (last_or None old.files) _ pumps (λ f last made.
     records (with_entries (take n (waiting_entries lane))) found old new opens rec (ap (λ (m : Machine). m.files) made.2) still))
 does_still s found old (Event number count) replies.Done new opens fine none does still =
-    let rec = records_of old.mode (parts_pass (recording_checks old.mode) (event_checks old.last_event number count) fine).0 in
+    let rec = records_of old.mode (rules_parts (recording_checks old.mode) (event_checks old.last_event number count) fine).0 in
     some_then (AreStillFirst found new.files) (last_or None old.files) _ does (λ f last made.
     records (with_entries (event_entry s number count f ∷ [])) found old new opens rec (ap (λ (m : Machine). m.files) made.1) still)
 does_still s found old Commit replies.Done new opens fine none is still = records (shown_whole (last_size new)) found old new opens (records_of old.mode fine) (ap (λ (m : Machine). m.files) is) still
@@ -124,14 +123,6 @@ does_still s found old (Close id) replies.Done new opens fine none sets still = 
 does_still s found old (Find file id count) (replies.Found answer) new opens fine none (told, is) still = stays_same found old.files new.files (ap (λ (m : Machine). m.files) is) still
 does_still s found old (CountAt file parts) (replies.CountAt answer) new opens fine none (told, is) still = stays_same found old.files new.files (ap (λ (m : Machine). m.files) is) still
 does_still s found old event reply new opens fine none does still = absurd does
-
-refused_files : (event : EventValue) (m : Machine) → (after_refusal event m).files ≡ m.files
-refused_files (Offer id count message) m = by (is_none (first_broken (offer_checks (lane_of id m) count message)))
-  where
-    by : (b : Bool) → (cond b (with_lane id overflowed m) m).files ≡ m.files
-    by true = refl
-    by false = refl
-refused_files event m = refl
 
 -- what erases nothing is no erase, where it is done or the medium fails
 no_erase : (event : EventValue) → may_erase (event, replies.Refused refusals.Medium) ≡ false → is_erase event ≡ false

@@ -1,5 +1,5 @@
 -- What a step does to the account of a channel.
-use Rattle.std.proofs.Common.{◌≡◌, ◌≤◌, ℕ, ◌+◌, ◌-◌, ◌^◌, ◌⊎◌, inl, inr, Bool, true, false, not, cond, List, [], ◌∷◌, ◌++◌, take, length, Option, Some, None, is_none, refl, sym, ap, ◌∙◌, subst, IsSomeAnd, true≢false}
+use Rattle.std.proofs.Common.{◌≡◌, ◌≤◌, ℕ, ◌+◌, ◌-◌, ◌^◌, ◌⊎◌, inl, inr, Bool, true, false, not, cond, List, [], ◌∷◌, ◌++◌, take, length, Option, Some, None, is_none, refl, sym, ap, ◌∙◌, subst, true≢false}
 use Rattle.std.specs.List.{AllByRecursion}
 use Rattle.std.proofs.lemmas.List.{append_assoc, append-nil}
 use Rattle.r10_machine.specs.Checks.{first_broken, Check, is_working, is_full, offer_checks, room_checks}
@@ -18,13 +18,15 @@ use Rattle.r10_machine.specs.declared.reply.Reply.{Reply as ReplyValue}
 use Rattle.r10_machine.specs.declared.reply.Reply.TheVariants as replies
 use Rattle.r10_machine.specs.EventChecks.{refusal}
 use Rattle.r10_machine.specs.Step.{Does, Step, Replies, Refuses, GivesUp, FailsIn, after_refusal, uses_medium}
-use Rattle.r10_machine.proofs.Steady.{checks_pass}
 use Rattle.r10_account.specs.Accepted.{Exchange, entry_with, was_accepted}
 use Rattle.r10_account.specs.Account.{waiting_in, waiting_of, missed_in, missed_of, erased_in, erased_of, shown_own}
 use Rattle.r10_account.proofs.Accounting.{StepAccounts, WaitsMore, IsApart, is_loss, same_waits, waits_accounts}
-use Rattle.r10_account.proofs.Doing.{Known, does_accounts, front_moves, offer_waits, overflow_waits, told_waits, waits_at}
+use Rattle.r10_account.proofs.Doing.{Known, does_accounts, front_moves, offer_waits, overflow_waits, told_waits, waits_at, unchanged}
 use Rattle.r10_account.proofs.Files.{AllBehind, shown_front, shown_same}
-use Rattle.r10_account.proofs.Lanes.{lost_front, some_same as some_is}
+use Rattle.r10_account.proofs.Lanes.{lost_front}
+use Rattle.std.proofs.lemmas.Option.{same_Some}
+use Rattle.r10_machine.proofs.Keeping.{some_then}
+use Rattle.r10_machine.proofs.Steady.{none_broken, rules_pass, rules_stop}
 
 -- ---- exchanges apart
 
@@ -56,20 +58,10 @@ used_apart channel event reply uses = record { makes_none = λ lost. refl; accep
 
 -- ---- refusals by a check
 
-first_of_front : {F : Type 0} (xs ys : List (Bool × F)) (f : F) → first_broken xs ≡ Some f → first_broken (xs ++ ys) ≡ Some f
-first_of_front [] ys f is = cc
-first_of_front ((true, g) ∷ xs) ys f is = first_of_front xs ys f is
-first_of_front ((false, g) ∷ xs) ys f is = is
-
-first_behind : {F : Type 0} (xs ys : List (Bool × F)) → first_broken xs ≡ None → first_broken (xs ++ ys) ≡ first_broken ys
-first_behind [] ys none = refl
-first_behind ((true, g) ∷ xs) ys none = first_behind xs ys none
-first_behind ((false, g) ∷ xs) ys none = cc
-
 no_overflow : (xs : List Check) (f : Refusal) → AllByRecursion (λ x. is_overflow x.1 ≡ false) xs → first_broken xs ≡ Some f → is_overflow f ≡ false
 no_overflow [] f all is = cc
 no_overflow ((true, g) ∷ xs) f (here, all) is = no_overflow xs f all is
-no_overflow ((false, g) ∷ xs) f (here, all) is = subst (λ (r : Refusal). is_overflow r ≡ false) (some_is is) here
+no_overflow ((false, g) ∷ xs) f (here, all) is = subst (λ (r : Refusal). is_overflow r ≡ false) (same_Some _ _ is) here
 
 front_apart : (o : Option Lane) (count : ℕ) (message : Message) (f : Refusal) → first_broken (offer_checks o count message) ≡ Some f → is_overflow f ≡ false
 front_apart None count message f is = no_overflow (offer_checks None count message) f (refl, tt) is
@@ -79,18 +71,18 @@ offer_refused : (channel : ℕ) (old : Machine) (lane : Lane) → lane_in channe
     → (o : Option Lane) (p : Option Refusal) → first_broken (offer_checks o count message) ≡ p → first_broken (offer_checks o count message ++ room_checks o) ≡ Some first
     → WaitsMore channel old.lanes old.files (Offer id count message, replies.Refused first) (cond (is_none p) (with_lane id overflowed old) old).lanes (cond (is_none p) (with_lane id overflowed old) old).files
 offer_refused channel old lane there id count message first o (Some f) broken is =
-    let same : f ≡ first = some_is (sym (first_of_front (offer_checks o count message) (room_checks o) f broken) ∙ is) in
+    let same : f ≡ first = same_Some _ _ (sym (rules_stop (offer_checks o count message) (room_checks o) f broken) ∙ is) in
     same_waits channel old.lanes old.files (Offer id count message, replies.Refused first) old.lanes old.files
     (refused_apart channel (Offer id count message) first (subst (λ (r : Refusal). is_overflow r ≡ false) same (front_apart o count message f broken))) refl refl
 offer_refused channel old lane there id count message first None None broken is = cc
 offer_refused channel old lane there id count message first (Some l) None broken is =
-    let over : refusals.Overflow ≡ first = full (not (is_full l)) (sym (first_behind (offer_checks (Some l) count message) (room_checks (Some l)) broken) ∙ is) in
+    let over : refusals.Overflow ≡ first = full (not (is_full l)) (sym (rules_pass (offer_checks (Some l) count message) (room_checks (Some l)) broken) ∙ is) in
     subst (λ (r : Refusal). WaitsMore channel old.lanes old.files (Offer id count message, replies.Refused r) (change_first (is_channel id) overflowed old.lanes) old.files) over
     (overflow_waits channel id count message old.lanes old.files lane there)
   where
     full : (b : Bool) → first_broken ((b, refusals.Overflow) ∷ []) ≡ Some first → refusals.Overflow ≡ first
     full true is = cc
-    full false is = some_is is
+    full false is = same_Some _ _ is
 
 refused_waits : (s : Config) (channel : ℕ) (old : Machine) (lane : Lane) → lane_in channel old.lanes ≡ Some lane → (event : EventValue) (first : Refusal) → refusal s old event ≡ Some first
     → WaitsMore channel old.lanes old.files (event, replies.Refused first) (after_refusal event old).lanes (after_refusal event old).files
@@ -106,10 +98,6 @@ after_mode (Offer id count message) m = by (is_none (first_broken (offer_checks 
     by true = refl
     by false = refl
 after_mode event m = refl
-
-unchanged : (channel : ℕ) (old : Machine) (x : Exchange) (new : Machine) → IsApart channel x → new ≡ old → StepAccounts channel old.lanes old.files x new.lanes new.files
-unchanged channel old x new apart is =
-    waits_accounts channel old.lanes old.files x new.lanes new.files (same_waits channel old.lanes old.files x new.lanes new.files apart (ap (λ (m : Machine). m.lanes) is) (ap (λ (m : Machine). m.files) is))
 
 refused_at : (s : Config) (channel : ℕ) (old : Machine) (lane : Lane) → lane_in channel old.lanes ≡ Some lane → (event : EventValue) (r first : Refusal) (new : Machine) → refusal s old event ≡ Some first → r ≡ first → new ≡ after_refusal event old
     → WaitsMore channel old.lanes old.files (event, replies.Refused r) new.lanes new.files
@@ -224,7 +212,7 @@ works_by s m (Lose id lost) looks fine = absurd (true≢false (sym looks))
 works_by s m (Next id) looks fine = absurd (true≢false (sym looks))
 works_by s m (Close id) looks fine = absurd (true≢false (sym looks))
 works_by s m Status looks fine = absurd (true≢false (sym looks))
-works_by s m event looks fine = (checks_pass (is_working m.mode) refusals.Failed _ fine).0
+works_by s m event looks fine = (none_broken (is_working m.mode) refusals.Failed _ fine).0
 
 uses_looks : (event : EventValue) → uses_medium event ≡ true → looks event ≡ true
 uses_looks (Offer id count message) uses = absurd (true≢false (sym uses))
@@ -238,10 +226,6 @@ uses_looks event uses = refl
 pub record FailedSteps (channel : ℕ) (lanes : List Lane) (files : List File) (x : Exchange) (later : List Lane) (news : List File) (mode : Mode) : Type 0 where
   pub waits : WaitsMore channel lanes files x later news
   pub failed : is_working mode ≡ false
-
-some_then : {A : Type 0} (C : Type 0) (o : Option A) (P : A → Type 0) → IsSomeAnd o P → ((x : A) → o ≡ Some x → P x → C) → C
-some_then C None P holds then = absurd holds
-some_then C (Some x) P holds then = then x refl holds
 
 stays_failed : (channel : ℕ) (old : Machine) (x : Exchange) (new : Machine) → IsApart channel x → is_working old.mode ≡ false → new.lanes ≡ old.lanes → new.files ≡ old.files → new.mode ≡ old.mode
     → FailedSteps channel old.lanes old.files x new.lanes new.files new.mode
