@@ -1,13 +1,10 @@
 -- What the entries of a directory tell of the files that they list.
-use Rattle.std.proofs.Common.{◌≡◌, ℕ, suc, ◌+◌, ◌/◌, ◌<◌, ◌≤◌, Bool, true, false, ◌&&◌, ◌||◌, ◌-◌, List, [], ◌∷◌, ◌++◌, length, map, drop, get_or, Option, Some, None, refl, sym, ap, subst, ◌∙◌, arith}
+use Rattle.std.proofs.Common.{◌≡◌, ℕ, suc, ◌+◌, ◌/◌, ◌<◌, ◌≤◌, Bool, true, false, ◌&&◌, ◌-◌, List, [], ◌∷◌, ◌++◌, length, map, drop, get_or, Option, Some, None, refl, sym, ap, subst, ◌∙◌, arith}
 use Rattle.std.specs.Prelude.{nat_lt, nat_le, ◌==◌}
 use Rattle.std.specs.List.{last_or}
-use Rattle.std.specs.Str.{bytes_eq}
-use Rattle.std.proofs.lemmas.List.{drop_more}
 use Rattle.std.proofs.lemmas.Bool.{eqb-true, leb-true, ltb-true}
 use Rattle.r10_medium.specs.Disk.{Image}
 use Rattle.r10_dirblock.specs.Block.{is_closed}
-use Rattle.r10_dirblock.specs.Texts.{stripped}
 use Rattle.r10_dirblock.specs.declared.entry.Entry.{Entry}
 use Rattle.r10_dirchain.specs.declared.chain.ChainBlock.{ChainBlock}
 use Rattle.r10_dirchain.specs.Chain.{listed_files}
@@ -22,6 +19,7 @@ use Rattle.r10_machine.specs.Room.{blocks_of, next_block}
 use Rattle.r10_machine.specs.Finding.{info_of}
 use Rattle.r10_machine.specs.Says.{Lists, SaysEach}
 use Rattle.r10_volume.specs.Listing.{block_behind, has_name, info_in, is_last_closed}
+use Rattle.r10_dirchain.proofs.FileLists.{files_from}
 
 -- ---- what a directory lists that holds files
 
@@ -169,14 +167,6 @@ pub last-append : {A : Type 0} (d : Option A) (xs ys : List A) → last_or d (xs
 last-append d [] ys = refl
 last-append d (x ∷ xs) ys = last-append (Some x) xs ys
 
-or-append : (a all b c : Bool) → all ≡ (b || c) → (a || all) ≡ ((a || b) || c)
-or-append true all b c is = refl
-or-append false all b c is = is
-
-pub named-append : (name : List ℕ) (xs ys : List Entry) → has_name name (xs ++ ys) ≡ (has_name name xs || has_name name ys)
-named-append name [] ys = refl
-named-append name (x ∷ xs) ys = or-append (bytes_eq (stripped x.name) name) (has_name name (xs ++ ys)) (has_name name xs) (has_name name ys) (named-append name xs ys)
-
 -- the last of entries by its place
 pub last_at : (d : Option Entry) (entries : List Entry) (e : Entry) → 0 < length entries → e ≡ get_or entries (length entries - 1) e → Some e ≡ last_or d entries
 last_at d [] e some is = absurd (omega (arith, some))
@@ -186,14 +176,10 @@ last_at d (x ∷ y ∷ entries) e some is = last_at (Some x) (y ∷ entries) e (
     one_more : length (x ∷ y ∷ entries) - 1 ≡ suc (length (y ∷ entries) - 1)
     one_more = omega arith
 
--- what is left of a directory's blocks, from one of them on
-left_at : (chain : List ChainBlock) (i : ℕ) (b : ChainBlock) → i < length chain → b ≡ get_or chain i b → listed_files (drop i chain) ≡ b.block.entries ++ listed_files (drop (i + 1) chain)
-left_at chain i b lt is = ap listed_files (drop_more chain i b lt ∙ ap (λ (c : ChainBlock). c ∷ drop (i + 1) chain) (sym is))
-
 pub last_left : (chain : List ChainBlock) (i : ℕ) (b : ChainBlock) (last now all : Option Entry) → i < length chain → b ≡ get_or chain i b → now ≡ last_or last b.block.entries
     → last_or last (listed_files (drop i chain)) ≡ all → last_or now (listed_files (drop (i + 1) chain)) ≡ all
 last_left chain i b last now all lt is next done =
     ap (λ (o : Option Entry). last_or o (listed_files (drop (i + 1) chain))) next
     ∙ sym (last-append last b.block.entries (listed_files (drop (i + 1) chain)))
-    ∙ ap (last_or last) (sym (left_at chain i b lt is))
+    ∙ ap (last_or last) (sym (files_from chain i b lt is))
     ∙ done

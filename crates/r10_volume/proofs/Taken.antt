@@ -5,7 +5,7 @@ use Rattle.r10_medium.specs.Disk.{Image}
 use Rattle.r10_dirchain.specs.declared.chain.ChainBlock.{ChainBlock}
 use Rattle.r10_dirchain.specs.declared.read.ChainError.{ChainError}
 use Rattle.r10_dirchain.specs.declared.read.ChainError.TheVariants.{BadDirectory, Medium, OutOfMemory}
-use Rattle.r10_dirchain.specs.Bad.{IsChainError, IsNoFault}
+use Rattle.r10_dirchain.specs.Bad.{IsNoFault}
 use Rattle.r10_dirchain.specs.Chain.{IsDirectory}
 use Rattle.r10_dirchain.specs.Checked.{IsCheckError}
 use Rattle.r10_dirchain.specs.Mount.{mount_rules}
@@ -38,11 +38,6 @@ one_unusable reserved image m n (not_used chain is broken) (not_used other that 
     one_number m n (broken_in reserved image chain) broken (ap (broken_in reserved image) (one_directory image chain other is that) ∙ breaks)
 
 -- ---- errors
-
-pub of_chain : (reserved : ℕ) (image : Image) (error : ChainError) → IsChainError image error → IsMountError reserved image error
-of_chain reserved image (BadDirectory n) bad = not_taken bad
-of_chain reserved image Medium bad = tt
-of_chain reserved image OutOfMemory bad = tt
 
 pub of_check : (reserved : ℕ) (image : Image) (chain : List ChainBlock) (error : ChainError) → IsDirectory image chain → IsCheckError (mount_rules reserved (length image) chain) error → IsMountError reserved image error
 of_check reserved image chain (BadDirectory n) is broken = not_used chain is broken

@@ -163,10 +163,6 @@ held_still s old new made changed files makes found turned = record {
 pub held_empty : (s : Config) (old : Disk) (new : Image) (made : List ChainBlock) (changed : List ℕ) (files : List File) → Makes s old.blocks made changed files [] → Turned made changed old.blocks new → HoldsFiles s new made None []
 held_empty s old new made changed files makes turned = record { says = said s old new made changed files [] makes turned; directory = turned.directory; found = tt; last = tt }
 
--- an Ok reads as what it made sure
-pub on_reads : {T E : Type 0} (P : Image → Type 0) (Q : Type 0) (new : Disk) (result : Result T E) → (P new.blocks → Q) → OnOk result (Settled P new) → OnOk result Q
-on_reads P Q new result gives settled = on_ok result (Settled P new) Q (λ here. gives (settled_reads P new here)) settled
-
 -- ---- a step behind calls that change nothing
 
 pub left_before : (old mid : Disk) → Unchanged old mid → (image : Image) → MayLeave mid image → MayLeave old image
@@ -192,15 +188,6 @@ turns_later chain made changed old mid new first result same is turns settled =
 
     reads : SameButIn [] old.blocks new.blocks ⊎ Turned made changed old.blocks new.blocks
     reads = subst (λ (before : Image). SameButIn [] before new.blocks ⊎ Turned made changed before new.blocks) same.reads (⊎_elim (λ t. inl t.others) (λ t. inr t) turns.reads)
-
--- no step at all
-pub turns_nowhere : {T E : Type 0} (chain made : List ChainBlock) (changed : List ℕ) (old new : Disk) (result : Result T E) → Unchanged old new → IsDirectory old.blocks chain
-    → OnOk result (Settled (Turned made changed old.blocks) new) → Turns chain made [] changed old new result
-turns_nowhere chain made changed old new result same is settled =
-    turns_of chain made [] changed old new result is (λ i lt. All-nil (λ (n : ℕ). (at chain i).number ≢ n))
-    (stayed (λ image. ComesBy (SameButIn []) old image ⊎ Turned made changed old.blocks image) old new same (λ image now. inl (image, now, same_in [] image)))
-    (inl (subst (λ (image : Image). SameButIn [] old.blocks image) (sym same.reads) (same_in [] old.blocks)))
-    settled
 
 -- ---- steps by their answers
 

@@ -1,20 +1,17 @@
 -- A directory that a recorder can take into use stays one with another last file, or one more.
-use Rattle.std.proofs.Common.{◌≡◌, ℕ, suc, ◌+◌, ◌-◌, ◌*◌, ◌/◌, ◌<◌, ◌≤◌, Bool, true, ◌&&◌, List, [], ◌∷◌, length, take, Option, Some, None, refl, sym, ap, ◌∙◌, subst, arith}
+use Rattle.std.proofs.Common.{◌≡◌, ℕ, suc, ◌+◌, ◌-◌, ◌/◌, ◌<◌, ◌≤◌, Bool, true, ◌&&◌, List, [], ◌∷◌, length, take, Option, Some, None, refl, ap, ◌∙◌, subst, arith}
 use Rattle.std.specs.Prelude.{nat_lt, nat_le, ◌==◌}
-use Rattle.std.specs.List.{All, last_or}
+use Rattle.std.specs.List.{last_or}
 use Rattle.std.proofs.lemmas.Bool.{le-leb, lt-ltb, eq-eqb}
 use Rattle.std.proofs.lemmas.List.Sums.{sum_by-cons}
-use Rattle.std.proofs.lemmas.List.Elements.{All-nil, All-cons, All-head, All-tail}
 use Rattle.r10_medium.specs.Disk.{Image}
-use Rattle.r10_dirblock.specs.Block.{is_closed}
 use Rattle.r10_dirblock.specs.declared.entry.Entry.{Entry}
 use Rattle.r10_dirchain.specs.declared.chain.ChainBlock.{ChainBlock}
 use Rattle.r10_dirchain.specs.Chain.{IsDirectory, listed_files}
 use Rattle.r10_dirchain.specs.Mount.{blocks_in, stands}
-use Rattle.r10_dirchain.specs.Steps.{added, updated}
-use Rattle.r10_dirchain.proofs.Standing.{ButLastClosed, Stand, usable_of}
-use Rattle.r10_dirchain.proofs.Staying.{usable-added, usable-updated}
-use Rattle.r10_volume.specs.Listing.{block_behind, is_last_closed}
+use Rattle.r10_dirchain.specs.Steps.{updated}
+use Rattle.r10_dirchain.proofs.Standing.{Stand, usable_of}
+use Rattle.r10_dirchain.proofs.Staying.{usable-updated}
 use Rattle.r10_volume.specs.Mounting.{IsUsable}
 use Rattle.r10_volume.proofs.Listed.{placed_at}
 
@@ -59,41 +56,4 @@ relisted_stays reserved old new chain e f usable is first some count within same
     record {
       directory = there;
       rules = rw same (usable-updated reserved (length old) f chain usable.rules last.some (here (length old) n f (omega (arith, first, last.first)) some count (omega (arith, first, last.first, within))));
-    }
-
--- the block behind these, and all of them closed
-all_closed : (entries : List Entry) → ButLastClosed entries → is_last_closed entries ≡ true → All (λ (e : Entry). is_closed e ≡ true) entries
-all_closed [] but closed = All-nil (λ (e : Entry). is_closed e ≡ true)
-all_closed (e ∷ []) but closed = All-cons (λ (x : Entry). is_closed x ≡ true) e [] closed (All-nil (λ (x : Entry). is_closed x ≡ true))
-all_closed (e ∷ d ∷ entries) but closed =
-    let Closed : Entry → Type 0 = λ x. is_closed x ≡ true in
-    let all : All Closed (take (suc (length (d ∷ entries) - 1)) (e ∷ d ∷ entries)) = subst (λ (k : ℕ). All Closed (take k (e ∷ d ∷ entries))) (one_more e d entries) but in
-    All-cons Closed e (d ∷ entries) (All-head Closed e (take (length (d ∷ entries) - 1) (d ∷ entries)) all)
-    (all_closed (d ∷ entries) (All-tail Closed e (take (length (d ∷ entries) - 1) (d ∷ entries)) all) closed)
-  where
-    one_more : (e d : Entry) (entries : List Entry) → length (e ∷ d ∷ entries) - 1 ≡ suc (length (d ∷ entries) - 1)
-    one_more e d entries = omega arith
-
-behind_of : (blocks reserved : ℕ) (entries : List Entry) (o : Option Entry) → o ≡ last_or None entries → Stand blocks (reserved + 1) entries → block_behind reserved entries ≡ reserved + 1 + blocks_in entries
-behind_of blocks reserved [] o is stand = omega arith
-behind_of blocks reserved (d ∷ entries) None is stand = absurd (never d entries is)
-  where
-    never : (d : Entry) (entries : List Entry) → None ≡ last_or None (d ∷ entries) → ⊥
-    never d [] is = cc
-    never d (c ∷ entries) is = never c entries is
-behind_of blocks reserved (d ∷ entries) (Some e) is stand =
-    let last = last_in blocks (reserved + 1) e (d ∷ entries) stand (sym is) in
-    rw (block_behind, sym is) last.behind
-
-pub longer_stays : (reserved : ℕ) (old new : Image) (chain : List ChainBlock) (e : Entry) → IsUsable reserved old chain → is_last_closed (listed_files chain) ≡ true → length (listed_files chain) < 4 * reserved
-    → e.first_block ≡ block_behind reserved (listed_files chain) → 0 < e.size → e.block_count ≡ (e.size + 511) / 512 → e.first_block + e.block_count ≤ length old → length new ≡ length old
-    → IsDirectory new (added e chain) → IsUsable reserved new (added e chain)
-longer_stays reserved old new chain e usable closed few first some count within same there =
-    let parts = usable_of reserved (length old) chain usable.rules in
-    let n = reserved + 1 + blocks_in (listed_files chain) in
-    let place : e.first_block ≡ n = first ∙ behind_of (length old) reserved (listed_files chain) (last_or None (listed_files chain)) refl parts.stand in
-    record {
-      directory = there;
-      rules = rw same (usable-added reserved (length old) e old chain usable.directory usable.rules (all_closed (listed_files chain) parts.closed closed) few
-          (here (length old) n e place some count (omega (arith, place, within))));
     }

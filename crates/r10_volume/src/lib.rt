@@ -11,7 +11,7 @@ mod steps;
 
 pub use formatting::format;
 pub use holding::found_files_stay;
-pub use laws::{an_image_keeps_its_bytes, listings_tell, usable_directories_stay};
+pub use laws::{an_image_keeps_its_bytes, listings_tell};
 pub use listing::{count, is_sealed, is_taken, last_file, list, next_block};
 pub use mounting::mount;
 pub use steps::{dismount, erase};
