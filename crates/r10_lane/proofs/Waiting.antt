@@ -15,12 +15,11 @@ use Rattle.r10_machine.specs.Machine.{Lane}
 use Rattle.r10_machine.specs.Checks.{offer_checks, room_checks, taking_checks, message_checks, count_checks, in_48_bits, is_not_before}
 use Rattle.r10_machine.specs.Calls.{overflowed}
 use Rattle.r10_machine.specs.SoundParts.{Climbs, count_or_0}
-use Rattle.r10_count.proofs.Rules.{rules_stop}
-use Rattle.r10_machine.proofs.Steady.{parts_pass, checks_pass}
-use Rattle.r10_machine.proofs.Growing.{all_joined}
+use Rattle.r10_count.proofs.Rules.{rules_stop, none_broken, rules_parts}
 use Rattle.r10_machine.proofs.Climbing.{climbs_push, map-joined}
 use Rattle.r10_lane.specs.Lanes.{Offers, IsTaken, TookWaiting, Waits, counts_of, first_count_or}
 use Rattle.r10_lane.specs.Laws.{lane_took_stays}
+use Rattle.r10_count.proofs.Lists.{all_joined}
 
 -- ---- offers
 
@@ -40,9 +39,9 @@ small count fine = ltb-true count 281474976710656 fine
 -- a message that passes its checks is one that the channel takes, and its count, of 48 bits, isn't below the last one
 pub passed : (spec : ChannelSpec) (last : Option ℕ) (count : ℕ) (message : Message) → first_broken (taking_checks spec last count message) ≡ None → (channel_refusal spec message ≡ None) × (count_or_0 last ≤ count) × IsCount count
 passed spec last count message fine =
-    let parts = parts_pass (message_checks spec message) (count_checks last count) fine in
-    let range = checks_pass (in_48_bits count).0 CountRange ((is_not_before last count, CountBack) ∷ []) parts.1 in
-    let order = checks_pass (is_not_before last count) CountBack [] range.1 in
+    let parts = rules_parts (message_checks spec message) (count_checks last count) fine in
+    let range = none_broken (in_48_bits count).0 CountRange ((is_not_before last count, CountBack) ∷ []) parts.1 in
+    let order = none_broken (is_not_before last count) CountBack [] range.1 in
     (parts.0, not_before last count order.0, small count range.0)
 
 -- and may go behind what waits
