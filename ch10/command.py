@@ -32,8 +32,7 @@ def version() -> str:
         return 'of no number: there is no file VERSION beside its folder'
 
 
-ABOUT = """What a crew asks of a recording, or of the image of a medium: from standard input to standard output, by the public \
-standard alone.
+ABOUT = """Answers what a crew asks of a recording, or of the image of a medium, by the public standard alone.
 
     ch10 summary < INPUT          what each channel has: packets, entries, bytes, counts, times, rate, losses
     ch10 csv < INPUT              the entries as CSV, by count, then channel, then place
@@ -44,14 +43,21 @@ standard alone.
     ch10 file NAME < IMAGE        one file of an image, as a recording
     ch10 sqlite --out FILE < INPUT    the entries as a database of SQLite
     ch10 tmats < SCRIPT           a setup text for the channels of a script of r10
+    ch10 catalogue add|find|show  a catalogue of many recordings
+    ch10 load INPUT ..            entries of many recordings into a database
+    ch10 report INPUT ..          one HTML page about recordings
 
-It knows of this recorder's own no rule and one form, that of a loss report, and reads recordings of others too: packets of a kind \
-that is
-not read are passed over and counted as opaque. What stands before the first fault is answered, and then the status is 1.
+The last three name files. All others read standard input and write standard output. Other recorders' files are read too:
+packets of a type that is not known are passed over, and counted as opaque. The one packet of r10's own is the loss report.
+summary goes on after damage. The other commands answer what comes before the first fault, and the status is 1; with
+--keep-going they go on too.
 """
 
 
 # ---- the words of a call
+
+COMMANDS: List[str] = []
+
 
 class Parser(argparse.ArgumentParser):
     def print_help(self, file: Any = None) -> None:
@@ -67,6 +73,12 @@ def number(word: str) -> int:
     return int(word)
 
 
+def file_number(word: str) -> int:
+    if re.search('[^0-9]', word):
+        raise argparse.ArgumentTypeError('%r is no number of a file, from 0 on: ch10 summary < IMAGE lists the files' % word[:60])
+    return number(word)
+
+
 def channel_number(word: str) -> int:
     if number(word) > 0xFFFF:
         raise argparse.ArgumentTypeError('%s is not in 0..=65535' % word[:60])
@@ -78,7 +90,7 @@ def bound(word: str) -> Any:
     return Bound(word)
 
 
-TIMES = """A and B are civil times, as '2024-02-29 12:34:56.78', with none to seven places behind the second; 12:34:56 is of
+TIMES = """A and B are civil times, as '2024-02-29 12:34:56.78', with none to seven places after the second; 12:34:56 is of
 the day of the recording's first time; '060 12:34:56' is a day of the year, where the recording has no date; 1000 is a count.
 Both ends are taken in."""
 
@@ -94,9 +106,10 @@ def parser_of() -> 'Parser':
         made = commands.add_parser(name, prog='ch10 ' + name, allow_abbrev=False, description=about, epilog=more,
                                    formatter_class=argparse.RawDescriptionHelpFormatter)
         made.set_defaults(run=run)
-        made.add_argument('--file', type=number, metavar='N', help='a file of an image, by its number from 0 on'
-                          + (' (without it: each)' if name in ('summary', 'sqlite') else '' if name == 'file'
-                             else ' (without it: 0)'))
+        if name != 'tmats':  # (whose input is a script)
+            made.add_argument('--file', type=file_number, metavar='N', help='a file of an image, by its number from 0 on'
+                              + (' (without it: each)' if name in ('summary', 'sqlite') else '' if name == 'file'
+                                 else ' (without it: 0)'))
         return made
 
     def with_channels(made: argparse.ArgumentParser) -> None:
@@ -151,6 +164,7 @@ def parser_of() -> 'Parser':
                    'As in: ch10 file FLT1 < medium.img | r10 check')
     made.add_argument('name', nargs='?', metavar='NAME', help='its name, as r10 files prints it')
     add_words(commands, Parser, channel_number)
+    COMMANDS.extend(commands.choices)
     return top
 
 
@@ -159,28 +173,30 @@ SUMMARY_MORE = """Of each channel and type of data:
   entries          '-' where the type has none, or none that is read
   entries/s        entries but one, over the time from the first to the last
   losses           packets that are flagged for an overflow: of the program's lines, those with a gap
-  lost             how many messages were lost there, by the loss reports before them; + where of a loss it isn't told how many: \
-at least one
+  lost             how many messages were lost there, by the loss reports before them; 3+ if a loss has no report: it counts as one
   jumps            packets whose sequence number does not follow that of the channel's packet before
   opaque           packets that are not read: a secondary header, stamps of another clock, a type or a form of it that is not known
   first, last      the lowest and highest count of its entries, or else of its packets' headers
   first time ..    the same as civil times, by the last time in the recording that isn't later; '-' where there is none"""
-CSV_MORE = """The first line names the columns. time has seven places behind the second; lost is how many messages were lost \
-before an
-entry, 1+ where the recording does not tell how many; value is the message in hex digits, or the civil time of a time; what a type \
+CSV_MORE = """The first line names the columns. time has seven places after the second; lost is how many messages were lost \
+right before an
+entry, 1+ if the recording has no number; value is the message in hex digits, or the civil time of a time; what a type \
 does not have is empty.
+docs/USING.md lists the columns of each kind.
 """
-JSON_MORE = """Each line is an object with the keys channel, count, time, lost and type, and those of the type as in a script; a \
-message's data error
-is data_error. lost is how many messages were lost before it, "1+" where the recording does not tell how many.
+JSON_MORE = """Each line is an object with the columns of csv as keys, those of the entry's kind alone. lost is how many messages \
+were lost right
+before it, "1+" if the recording has no number; a value that is not there is null. With --raw the keys of a kind are those of a \
+script, but
+that a message's data error is data_error.
 """
-SVG_MORE = """A strip for each channel: bars of entries a second (of packets, in grey, where no entry is read), with the highest \
+SVG_MORE = """A strip for each channel: bars of entries a second (of packets, in grey, if no entry is read), with the highest \
 beside it, and below
-them in red where messages were lost.
+them in red where messages were lost. Damaged stretches are shaded, and jumps of the clock marked.
 """
 SQLITE_MORE = """A table for each kind: uart, message, bus1553, arinc, discrete, time and event, with the columns of csv --kind \
 and the file's number before them (0 of
-a recording); lost is NULL where the recording does not tell how many. Beside them: files, channels, losses, damage, clocks, \
+a recording); lost is NULL if the recording has no number. Beside them: files, channels, losses, damage, clocks, \
 clock_jumps and setup.
 """
 RANGE_MORE = """Packets stand as they are, each one whole that has an entry in the range (or, where it is not read, its own \
@@ -197,7 +213,24 @@ def hint(words: List[str]) -> str:
     return ''
 
 
+# Words that other programs have, each with the command that does the same here.
+LIKE_OTHERS = {'ls': 'summary', 'list': 'summary', 'files': 'summary', 'info': 'summary', 'check': 'summary', 'dump': 'csv',
+               'play': 'csv', 'cat': 'csv', 'plot': 'svg', 'cut': 'range', 'extract': 'file', 'db': 'sqlite'}
+
+
+def unknown(word: str) -> str:
+    """What is said of a first word that is no command: the nearest one, and all of them."""
+    import difflib  # read when it is asked for
+    known = list(COMMANDS)
+    nearest = [LIKE_OTHERS[word]] if word in LIKE_OTHERS else difflib.get_close_matches(word, known, 1)
+    near = "; the nearest is '%s'" % nearest[0] if nearest else ''
+    return 'there is no command %r%s%s; the commands are %s and %s; see ch10 --help' % (
+        word[:60], hint([word]), near, ', '.join(known[:-1]), known[-1])
+
+
 def words_of(words: List[str]) -> Namespace:
+    if words and not words[0].startswith('-') and words[0] not in COMMANDS:
+        raise Wrong(unknown(words[0]))
     asked, left = PARSER.parse_known_args(words)
     if left:
         raise Wrong('unexpected argument %r%s; see ch10 %s --help' % (left[0][:60], hint(left), asked.command))

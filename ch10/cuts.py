@@ -2,10 +2,10 @@
 from __future__ import annotations
 
 from argparse import Namespace
-from typing import Dict
+from typing import Dict, List
 from .bodies import counts
 from .inputs import Output, is_recording, listed, one_part, shown, the_file
-from .medium import bytes_of
+from .medium import File, bytes_of
 from .packets import loss_of, packets
 from .standard import INDEX, SETUP, TIME, Data, Fault, Wrong, let_go
 from .survey import Survey
@@ -76,6 +76,13 @@ def as_range(asked: Namespace, data: Data, out: Output) -> None:
     survey.judge()
 
 
+def has(files: List[File]) -> str:
+    """The names of an image's files, the first ten of them."""
+    names = [shown(file.name) for file in files[:10]]
+    more = ' and %d more' % (len(files) - 10) if len(files) > 10 else ''
+    return ': the image has %s%s' % (', '.join(names), more) if names else ': the image has none'
+
+
 def as_file(asked: Namespace, data: Data, out: Output) -> None:
     if (asked.name is None) == (asked.file is None):
         raise Wrong('file takes a NAME, or --file N; see ch10 file --help')
@@ -87,7 +94,7 @@ def as_file(asked: Namespace, data: Data, out: Output) -> None:
     else:
         named = [file for file in files if file.name == asked.name]
         if not named:
-            raise Fault('no file has the name %s' % shown(asked.name[:60]))
+            raise Fault('no file has the name %s%s' % (shown(asked.name[:60]), has(files)))
         file = named[0]
     begin, end = bytes_of(data, file)
     for at in range(begin, end, 1 << 20):

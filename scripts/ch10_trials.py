@@ -655,7 +655,7 @@ def calls():
     yield ['csv', '--from', '12:34:56.78', '--to', '2024-02-29'], FIRST, 2, (
         "argument --to: '2024-02-29' is neither a count nor a time such as '2024-02-29 12:34:56.78', '060 12:34:56.78' or 12:34:56;"
         " see ch10 csv --help")
-    yield ['file', 'FLT2'], image, 1, 'no file has the name FLT2'
+    yield ['file', 'FLT2'], image, 1, 'no file has the name FLT2: the image has FLT1'
     yield ['file', 'FLT1'], FIRST, 1, 'the input is a recording and no image: it has no files'
     yield ['file'], image, 2, 'file takes a NAME, or --file N; see ch10 file --help'
     yield ['csv', '--file', '1'], image, 1, 'no file has the number 1: the image has 1'
@@ -664,6 +664,13 @@ def calls():
     yield ['csv', 'medium.img'], image, 2, (
         "unexpected argument 'medium.img'; a recording or an image comes from standard input: < FILE; see ch10 csv --help")
     yield [], image, 2, 'the following arguments are required: COMMAND; see ch10 --help'
+    yield ['csv', '--file', 'FLT1'], image, 2, (
+        "argument --file: 'FLT1' is no number of a file, from 0 on: ch10 summary < IMAGE lists the files; see ch10 csv --help")
+    known = 'the commands are summary, csv, json, svg, setup, tmats, sqlite, range, file, catalogue, load and report'
+    for word, near in (('ls', "; the nearest is 'summary'"), ('sumary', "; the nearest is 'summary'"), ('qqq', '')):
+        yield [word], image, 2, "there is no command '%s'%s; %s; see ch10 --help" % (word, near, known)
+    yield ['medium.img'], image, 2, (
+        "there is no command 'medium.img'; a recording or an image comes from standard input: < FILE; %s; see ch10 --help" % known)
     yield ['csv', '--help'], b'', 0, None
 
 

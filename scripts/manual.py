@@ -69,6 +69,9 @@ class Help:
             raise Wrong('a help text has no line of usage:\n' + text)
         self.about = [line for line in lines[:usage] if line.strip()]
         self.usage = re.sub('(?i)^usage: ', '', lines[usage])
+        while usage + 1 < len(lines) and lines[usage + 1].startswith('  '):  # a usage of several lines
+            usage += 1
+            self.usage += ' ' + lines[usage].strip()
         self.commands: list[tuple[str, str]] = []
         self.options: list[tuple[str, str]] = []
         self.more: list[str] = []
@@ -150,6 +153,9 @@ def page_of_filters(filters: str, version: str) -> tuple[dict[str, str], dict[st
     for name in names:
         helps[name] = one = Help(said([sys.executable, filters, name, '--help']))
         parts.append((name.upper(), body([one.usage, ''] + one.more) + listed(one.options)))
+        for inner in next_words(one):
+            one = Help(said([sys.executable, filters, name, inner, '--help']))
+            parts.append((('%s %s' % (name, inner)).upper(), body([one.usage, ''] + one.more) + listed(one.options)))
     parts.append(('EXIT STATUS', body(['As of r10(1). What is wrong is one line on standard error that begins with "ch10: ".'])))
     return {'man1/ch10.1': page('ch10', 1, version, 'filters over recordings of IRIG 106 Chapter 10',
                                 ['ch10 COMMAND [WORDS] < INPUT > OUTPUT'], parts, ['r10(1)'])}, helps
@@ -237,8 +243,13 @@ def completions_of_service(helps: dict[str, Help]) -> dict[str, str]:
 
 
 def words_of(one: Help) -> list[str]:
-    """The options of a command, in their long forms."""
-    return [word for head, _ in one.options for word in re.findall(r'--[\w-]+', head)]
+    """What a shell completes after a command: the words of which one comes next, and the options in their long forms."""
+    return next_words(one) + [word for head, _ in one.options for word in re.findall(r'--[\w-]+', head)]
+
+
+def next_words(one: Help) -> list[str]:
+    """The words of which one comes after a command, as add|find|show."""
+    return [word for head, _ in one.options if re.fullmatch(r'[a-z]+(\|[a-z]+)+', head) for word in head.split('|')]
 
 
 def completions(name: str, commands: dict[str, Help], more: list[str]) -> dict[str, str]:

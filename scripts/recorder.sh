@@ -105,8 +105,11 @@ install)
     ;;
 build)
     command -v cargo >/dev/null && is_new || give_up "there is no cargo of 1.$OLDEST or later: rustup installs one"
+    # (the crates are looked for before the library is made, which takes minutes)
+    library=/nonexistent build_by metadata --format-version 1 >/dev/null ||
+        give_up "the crates of r10d are not there; without a network they come from Debian: apt-get install $PACKAGES"
     library=$(library ${2:+"$2"}) || give_up "there is no library: scripts/ffi.sh build says why"
-    build || give_up "r10d was not built; without a network its crates come from Debian: apt-get install $PACKAGES"
+    build || give_up "r10d was not built"
     echo "$top/out/recorder/target/release"
     ;;
 check)
