@@ -32,25 +32,28 @@ def version() -> str:
         return 'of no number: there is no file VERSION beside its folder'
 
 
-ABOUT = """Answers what a crew asks of a recording, or of the image of a medium, by the public standard alone.
+ABOUT = """Answers what a crew asks of a recording, or of the image of a medium, by the
+public standard alone.
 
-    ch10 summary < INPUT          what each channel has: packets, entries, bytes, counts, times, rate, losses
-    ch10 csv < INPUT              the entries as CSV, by count, then channel, then place
-    ch10 json < INPUT             the same as JSON lines
-    ch10 svg < INPUT              a picture of rates and losses over time
-    ch10 setup < INPUT            the setup text, or --tree
-    ch10 range --from A --to B < INPUT    the packets of a range of time, as a recording
-    ch10 file NAME < IMAGE        one file of an image, as a recording
-    ch10 sqlite --out FILE < INPUT    the entries as a database of SQLite
-    ch10 tmats < SCRIPT           a setup text for the channels of a script of r10
-    ch10 catalogue add|find|show  a catalogue of many recordings
-    ch10 load INPUT ..            entries of many recordings into a database
-    ch10 report INPUT ..          one HTML page about recordings
+  ch10 summary < INPUT        what each channel has: packets, entries, losses ..
+  ch10 csv < INPUT            the entries as CSV, by count, channel and place
+  ch10 json < INPUT           the same as JSON lines
+  ch10 svg < INPUT            a picture of rates and losses over time
+  ch10 setup < INPUT          the setup text, or --tree
+  ch10 range < INPUT          a range of time (--from, --to) as a recording
+  ch10 file NAME < IMAGE      one file of an image, as a recording
+  ch10 sqlite < INPUT         the entries as a database of SQLite (--out FILE)
+  ch10 tmats < SCRIPT         a setup text for the channels of a script of r10
+  ch10 catalogue add|find|show    a catalogue of many recordings
+  ch10 load INPUT ..          entries of many recordings into a database
+  ch10 report INPUT ..        one HTML page about recordings
 
-The last three name files. All others read standard input and write standard output. Other recorders' files are read too:
-packets of a type that is not known are passed over, and counted as opaque. The one packet of r10's own is the loss report.
-summary goes on after damage. The other commands answer what comes before the first fault, and the status is 1; with
---keep-going they go on too.
+The last three name files. All others read standard input and write standard
+output. Other recorders' files are read too: packets of a type that is not known
+are passed over, and counted as opaque. The one packet of r10's own is the loss
+report.
+summary goes on after damage. The other commands answer what comes before the
+first fault, and the status is 1; with --keep-going they go on too.
 """
 
 
@@ -90,9 +93,10 @@ def bound(word: str) -> Any:
     return Bound(word)
 
 
-TIMES = """A and B are civil times, as '2024-02-29 12:34:56.78', with none to seven places after the second; 12:34:56 is of
-the day of the recording's first time; '060 12:34:56' is a day of the year, where the recording has no date; 1000 is a count.
-Both ends are taken in."""
+TIMES = """A and B are civil times, as '2024-02-29 12:34:56.78', with none to seven places
+after the second. 12:34:56 is of the day of the recording's first time.
+'060 12:34:56' is a day of the year, for a recording without dates. 1000 is a
+count. Both ends are taken in."""
 
 
 def parser_of() -> 'Parser':
@@ -146,7 +150,7 @@ def parser_of() -> 'Parser':
         if name != 'svg':
             with_forms(made)
     made = going_on(command('setup', run_of('cuts', 'setup'),
-                            'Writes the setup text, byte for byte; of several setup packets one after the other.'))
+                            'Writes the setup text, byte for byte; several packets one after the other.'))
     made.add_argument('--tree', action='store_true', help='the attributes of chapter 9 as a tree, '
                       'and which channels of the recording they do not name or name otherwise')
     made = command('tmats', run_of('script', 'as_tmats'), 'Writes a setup text of chapter 9 for the channels of a script.',
@@ -169,39 +173,45 @@ def parser_of() -> 'Parser':
 
 
 SUMMARY_MORE = """Of each channel and type of data:
-  packets, bytes   all of them, headers and checksums taken in
-  entries          '-' where the type has none, or none that is read
-  entries/s        entries but one, over the time from the first to the last
-  losses           packets that are flagged for an overflow: of the program's lines, those with a gap
-  lost             how many messages were lost there, by the loss reports before them; 3+ if a loss has no report: it counts as one
-  jumps            packets whose sequence number does not follow that of the channel's packet before
-  opaque           packets that are not read: a secondary header, stamps of another clock, a type or a form of it that is not known
-  first, last      the lowest and highest count of its entries, or else of its packets' headers
-  first time ..    the same as civil times, by the last time in the recording that isn't later; '-' where there is none"""
-CSV_MORE = """The first line names the columns. time has seven places after the second; lost is how many messages were lost \
-right before an
-entry, 1+ if the recording has no number; value is the message in hex digits, or the civil time of a time; what a type \
-does not have is empty.
-docs/USING.md lists the columns of each kind.
+  packets, bytes  all of them, headers and checksums taken in
+  entries         '-' if the type has none, or none that is read
+  entries/s       entries but one, over the time from the first to the last
+  losses          packets that are flagged: messages were lost before them
+  lost            how many messages, by the loss reports before those packets;
+                  3+ if a loss has no report: it counts as one
+  jumps           packets whose sequence number does not follow that of the
+                  channel's packet before
+  opaque          packets that are not read: a secondary header, stamps of
+                  another clock, a type or a form of it that is not known
+  bad             packets that were passed over, where the header says of which
+                  channel; in the row all every damaged stretch
+  first, last     the lowest and highest count of its entries, or else of its
+                  packets' headers
+  first time ..   the same as civil times, by the last time in the recording
+                  that isn't later; '-' if there is none"""
+CSV_MORE = """The first line names the columns. time has seven places after the second; lost
+is how many messages were lost right before an entry, 1+ if the recording has no
+number; value is the message in hex digits, or the civil time of a time; what a
+type does not have is empty. docs/USING.md lists the columns of each kind.
 """
-JSON_MORE = """Each line is an object with the columns of csv as keys, those of the entry's kind alone. lost is how many messages \
-were lost right
-before it, "1+" if the recording has no number; a value that is not there is null. With --raw the keys of a kind are those of a \
-script, but
-that a message's data error is data_error.
+JSON_MORE = """Each line is an object with the columns of csv as keys, those of the entry's
+kind alone. lost is how many messages were lost right before it, "1+" if the
+recording has no number; a value that is not there is null. With --raw the keys
+of a kind are those of a script, but that a message's data error is data_error.
 """
-SVG_MORE = """A strip for each channel: bars of entries a second (of packets, in grey, if no entry is read), with the highest \
-beside it, and below
-them in red where messages were lost. Damaged stretches are shaded, and jumps of the clock marked.
+SVG_MORE = """A strip for each channel: bars of entries a second (of packets, in grey, if no
+entry is read), with the highest beside it, and below them in red where messages
+were lost. Damaged stretches are shaded, and jumps of the clock marked.
 """
-SQLITE_MORE = """A table for each kind: uart, message, bus1553, arinc, discrete, time and event, with the columns of csv --kind \
-and the file's number before them (0 of
-a recording); lost is NULL if the recording has no number. Beside them: files, channels, losses, damage, clocks, \
-clock_jumps and setup.
+SQLITE_MORE = """A table for each kind: uart, message, bus1553, arinc, discrete, time and event,
+with the columns of csv --kind and the file's number before them (0 of a
+recording); lost is NULL if the recording has no number. Beside them: files,
+channels, losses, damage, clocks, clock_jumps and setup.
 """
-RANGE_MORE = """Packets stand as they are, each one whole that has an entry in the range (or, where it is not read, its own \
-count), and the loss report before it; before them
-stand the setup and the last time before the range. The index is left out, for it would name other places.
+RANGE_MORE = """Packets stand as they are, each one whole that has an entry in the range (or,
+where it is not read, its own count), and the loss report before it; before them
+stand the setup and the last time before the range. The index is left out, for
+it would name other places.
 """
 
 

@@ -10,21 +10,22 @@ from typing import Any, Callable
 
 VERDICTS = ('strict', 'lenient', 'faulty', 'unjudged')
 
-DATABASE = """The database is a file of SQLite (--db range.sqlite) or a server of PostgreSQL (--db postgresql://user@host/range, \
-or 'host=.. dbname=..'); without
---db it is that of CH10_DB in the environment, else ch10.sqlite in this folder. A server needs the package python3-psycopg2."""
-ADD_MORE = """Of each recording, or each file of an image, it keeps sum, size, places, verdict, times, channels, damaged stretches \
-and setup attributes. A recording
-is known by its sum: given again, or at another place, it is no second one. What a run that was stopped had not kept yet, the next \
-one adds.
-Of a folder it takes what ends in .ch10, .c10 or .img, or begins as a recording or an image does. It enters the folders below it, \
-but by no symbolic link.
+DATABASE = """The database is a file of SQLite (--db range.sqlite) or a server of PostgreSQL
+(--db postgresql://user@host/range, or 'host=.. dbname=..'); without --db it is
+that of CH10_DB in the environment, else ch10.sqlite in this folder. A server
+needs the package python3-psycopg2."""
+ADD_MORE = """Of each recording, or each file of an image, it keeps sum, size, places,
+verdict, times, channels, damaged stretches and setup attributes. A recording is
+known by its sum: given again, or at another place, it is no second one. What a
+run that was stopped had not kept yet, the next one adds. Of a folder it takes
+what ends in .ch10, .c10 or .img, or begins as a recording or an image does. It
+enters the folders below it, but by no symbolic link.
 """
-FIND_MORE = """All conditions have to hold; of one that is given several times, any. Those of a channel hold for one and the same \
-channel, and with them the times are
-that channel's. PATTERN may have * and ?, and looks at no case. A and B are times as '2024-02-29 12:34:56.78', 2024-02-29 (the \
-whole day), or '060 12:34:56'
-for recordings whose times have no date; both ends are taken in.
+FIND_MORE = """All conditions have to hold; of one that is given several times, any. Those of a
+channel hold for one and the same channel, and with them the times are that
+channel's. PATTERN may have * and ?, and looks at no case. A and B are times as
+'2024-02-29 12:34:56.78', 2024-02-29 (the whole day), or '060 12:34:56' for
+recordings whose times have no date; both ends are taken in.
 """
 
 
@@ -53,18 +54,19 @@ def run_of(module: str, name: str) -> Callable[..., None]:
     return run
 
 
-LOAD_MORE = """What is not in the catalogue is added first. The entries of a channel of a recording are loaded once: given again \
-they are no second ones, and what a run that
-was stopped had not loaded whole it had not loaded at all. The tables: entry_1553, entry_arinc, entry_uart, entry_message, \
-entry_discrete, entry_time, entry_event.
+LOAD_MORE = """What is not in the catalogue is added first. The entries of a channel of a
+recording are loaded once: given again they are no second ones, and what a run
+that was stopped had not loaded whole it had not loaded at all. The tables:
+entry_1553, entry_arinc, entry_uart, entry_message, entry_discrete, entry_time,
+entry_event.
 """
 
 
-REPORT_MORE = """As in: ch10 report flight/*.ch10 > report.html. It has an overview, a time line of the files, and of each \
-recording its verdict, a picture of rates and losses,
-channels, damaged stretches, clocks, what its buses carried, and its setup. Where the program r10 is not there, it says that \
-nothing was judged. The status is 1 where a
-recording is faulty or damaged.
+REPORT_MORE = """As in: ch10 report flight/*.ch10 > report.html. It has an overview, a time line
+of the files, and of each recording its verdict, a picture of rates and losses,
+channels, damaged stretches, clocks, what its buses carried, and its setup.
+Where the program r10 is not there, it says that nothing was judged. The status
+is 1 where a recording is faulty or damaged.
 """
 
 
@@ -128,7 +130,7 @@ def add_words(commands: Any, Parser: Any, channel_number: Callable[[str], int]) 
     made.add_argument('inputs', nargs='+', metavar='INPUT', help='a recording, an image, or a folder')
     with_database(made)
     made.add_argument('--place', type=place, metavar='BASE',
-                      help='where they are said to lie: BASE/NAME, as s3://bucket/flights, in place of the path')
+                      help='where they are to be found: BASE/NAME, as s3://bucket/flights, in place of the path')
     judging(made)
     made.add_argument('--anew', action='store_true', help='judges and counts what is there already once more')
 
@@ -164,7 +166,7 @@ def add_words(commands: Any, Parser: Any, channel_number: Callable[[str], int]) 
     with_database(made)
     made.add_argument('--channel', type=channel_number, metavar='C', action='append',
                       help='this channel alone; may be given again for another')
-    made.add_argument('--place', type=place, metavar='BASE', help='where they are said to lie: BASE/NAME, in place of the path')
+    made.add_argument('--place', type=place, metavar='BASE', help='where they are to be found: BASE/NAME, in place of the path')
     judging(made)
 
     made = command(commands, 'report', run_of('report', 'report'),

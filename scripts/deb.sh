@@ -167,6 +167,9 @@ try_package() {
 }
 
 case ${1:-} in
+-h | --help)
+    sed -n '2,10s/^# \{0,1\}//p' "${BASH_SOURCE[0]}"
+    ;;
 try)
     [ -f "${2:-}" ] || give_up 2 "which package? scripts/deb.sh try PACKAGE"
     try_package "$2"

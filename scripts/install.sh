@@ -18,6 +18,12 @@ give_up() {
     exit "$1"
 }
 
+case ${1:-} in
+-h | --help)
+    sed -n '2,11s/^# \{0,1\}//p' "${BASH_SOURCE[0]}"
+    exit
+    ;;
+esac
 uninstall=
 if [ "${1:-}" = --uninstall ]; then
     uninstall=yes
@@ -117,4 +123,5 @@ mkdir -p "$root$prefix" && cp -a --no-preserve=ownership "$whole$prefix/." "$roo
 if [ -z "$root" ] && [ "$(id -u)" = 0 ] && command -v ldconfig >/dev/null; then
     ldconfig
 fi
-echo "(installed r10 $version in $root$prefix: scripts/install.sh --uninstall${1:+ $1}${2:+ $2} removes it)"
+again=${1:+ $(printf %q "$1")}${2:+ $(printf %q "$2")}
+echo "(installed r10 $version in $root$prefix: scripts/install.sh --uninstall$again removes it)"

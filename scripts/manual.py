@@ -202,7 +202,8 @@ def tables(page: pathlib.Path, heading: str) -> list[tuple[str, str]]:
         elif not heads:
             heads = cells
         elif set(cells[0]) != {'-'}:
-            more = ['%s: %s' % (head.lower(), it) for head, it in zip(heads[2:], cells[2:]) if it]
+            more = [it.replace('needed', 'must be given') if it.startswith('needed') else '%s: %s' % (head.lower(), it)
+                    for head, it in zip(heads[2:], cells[2:]) if it]
             rows.append((cells[0], '; '.join(it for it in [cells[1], *more] if it)))
     if not rows:
         raise Wrong('%s has no table in "%s"' % (page, heading))

@@ -51,6 +51,10 @@ compare_examples() {
 
 case $# in
 0) awk '/^== / { print $2 }' "$cases" ;;
-1) if [ "$1" = --examples ]; then compare_examples; else side_by_side "$1"; fi ;;
+1) case $1 in
+    --examples) compare_examples ;;
+    -*) usage ;;
+    *) side_by_side "$1" ;;
+    esac ;;
 *) usage ;;
 esac

@@ -4,10 +4,10 @@
 #
 #     scripts/soak.sh SECONDS [SEED [FOLDER [BLOCKS]]]
 #
-# It runs ffi/example.c, compiled over the proved library (scripts/ffi.sh), on a file that it maps in FOLDER (else a new one under
-# /tmp). Each run is ended by SIGKILL after some hundredths of a second. Then scripts/judge_image.py, which shares no code with the
-# recorder, says what the medium holds. The file has BLOCKS blocks: 2,048 (1 MiB) where that is not said. The last line counts; the
-# status is 0 where nothing is missing.
+# It runs ffi/example.c, compiled over the proved library if it is there (scripts/ffi.sh build), else over one without proofs, on a
+# file that it maps in FOLDER (else a new one under /tmp). Each run is ended by SIGKILL after some hundredths of a second. Then
+# scripts/judge_image.py, which shares no code with the recorder, says what the medium holds. The file has BLOCKS blocks: 2,048
+# (1 MiB) where that is not said. The last line counts; the status is 0 where nothing is missing.
 set -eu
 
 top=$(cd "$(dirname "$(readlink -f "${BASH_SOURCE[0]}")")/.." && pwd)
@@ -17,5 +17,10 @@ top=$(cd "$(dirname "$(readlink -f "${BASH_SOURCE[0]}")")/.." && pwd)
 }
 room=$(mktemp -d)
 trap 'rm -rf "$room"' EXIT
-"$top/scripts/ffi.sh" examples "$room"
+quick=()
+"$top/scripts/ffi.sh" proved >/dev/null || {
+    quick=(--quick)
+    echo "(over a library that is not proved: scripts/ffi.sh build makes the proved one)" >&2
+}
+"$top/scripts/ffi.sh" examples "${quick[@]}" "$room"
 python3 "$top/scripts/soak.py" "$room/example_c" "$1" "${2:-1}" "${3:-$room}" "${4:-2048}"
