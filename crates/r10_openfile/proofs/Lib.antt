@@ -35,3 +35,4 @@ pub mod Lanes
 pub mod AllLanes
 pub mod Stops
 pub mod Rests
+pub mod AtOnce

@@ -13,3 +13,4 @@ pub mod ByParts
 pub mod Pumping
 pub mod Machines
 pub mod Stopping
+pub mod AtOnce

@@ -18,6 +18,7 @@ ghost use Rattle.r10_machine.specs.Config.{Config};
 ghost use Rattle.r10_machine.specs.Machine.{File};
 ghost use Rattle.r10_machine.specs.Says.{MediumSays};
 ghost use Rattle.r10_openfile.specs.Asking.{MayBeListed};
+ghost use Rattle.r10_openfile.specs.AtOnce.{TurnsAtOnce};
 ghost use Rattle.r10_openfile.specs.Begun.{MayList};
 
 use r10_dirblock::Entry;
@@ -53,6 +54,9 @@ pub fn list_file<M: BlockMedium>(
         → OnOk result (IsCarried (M.disk medium.new).blocks (record { recording = mux.now; shown = length mux.now.out.entries }) text entries) }
     // The blocks in front of the file stay, but for the directory's that are written.
     ensures front { (k : ℕ) → k < first_of mux.now.out.blocks → All (λ (n : ℕ). k ≢ n) ((last_block directory.old).number ∷ spare directory.old) → block_at (M.disk medium.new).blocks k ≡ block_at (M.disk medium.old).blocks k }
+    // At every moment, and where the medium fails, the directory is the old one or the new one.
+    ensures at_once { TurnsAtOnce (first_of mux.now.out.blocks) (added entry directory.old) (spare directory.old)
+        ((last_block directory.old).number ∷ spare directory.old) (M.disk medium.old) (M.disk medium.new) }
     ensures done { OnOk result (directory.new ≡ added entry directory.old) }
     ensures kept { OnErr result (directory.new ≡ directory.old) }
     ensures blocks { length (M.disk medium.new).blocks ≡ length (M.disk medium.old).blocks }

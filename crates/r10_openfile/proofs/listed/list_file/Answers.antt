@@ -11,6 +11,7 @@ use Rattle.r10_volume.specs.Holding.{HoldsFiles}
 use Rattle.r10_machine.specs.Says.{MediumSays}
 use Rattle.r10_volume.proofs.Turning.{on_both}
 use Rattle.r10_openfile.proofs.Calls.{directory_stays, front_listed, front_put, last_holds, last_moments, listed_carried, listed_holds, listed_moments, listed_reads, listed_settled, turned_size}
+use Rattle.r10_openfile.proofs.AtOnce.{spared_at_once, spares_puts, spares_stays, then_at_once, turns_at_once}
 use Rattle.r10_openfile.proofs.listed.list_file.Goals as goal
 
 pub returns-in-Err-clause-either : goal.returns-in-Err-clause-either
@@ -164,3 +165,48 @@ returns-clause-front g c =
     let it = c.requires.carries in
     λ k less apart. front_listed chain (added c.args.entry chain) (first_of c.args.mux.now.out.blocks) k (last_block chain).number (spare chain) (file_blocks (file_bytes it.2.packets)) (disk c.args.medium.now) (disk c.commit_blocks.new.medium)
     (disk c.sync.new.self) (disk c.add.new.medium) c.add.result (c.commit_blocks.ensures.puts it.0 it.1 it.2) c.sync.ensures.same c.add.ensures.turns less apart
+
+-- ---- at every moment
+
+pub returns-in-Err-clause-at_once : goal.returns-in-Err-clause-at_once
+returns-in-Err-clause-at_once g c =
+    let disk = g.M.BlockMedium.disk in
+    let old = disk c.args.medium.now in
+    let mid = disk c.commit_blocks.new.medium in
+    let it = c.requires.carries in
+    let first = first_of c.args.mux.now.out.blocks in
+    let chain = c.args.directory.now in
+    let made = added c.args.entry chain in
+    let numbers = (last_block chain).number ∷ spare chain in
+    let spares = spares_puts first (file_blocks (file_bytes it.2.packets)) old mid (c.commit_blocks.ensures.puts it.0 it.1 it.2) in
+    spared_at_once first made (spare chain) numbers old mid spares
+
+pub returns-in-Err-sync-clause-at_once : goal.returns-in-Err-sync-clause-at_once
+returns-in-Err-sync-clause-at_once g c =
+    let disk = g.M.BlockMedium.disk in
+    let old = disk c.args.medium.now in
+    let mid = disk c.commit_blocks.new.medium in
+    let it = c.requires.carries in
+    let first = first_of c.args.mux.now.out.blocks in
+    let chain = c.args.directory.now in
+    let made = added c.args.entry chain in
+    let numbers = (last_block chain).number ∷ spare chain in
+    let spares = spares_puts first (file_blocks (file_bytes it.2.packets)) old mid (c.commit_blocks.ensures.puts it.0 it.1 it.2) in
+    let sure = disk c.sync.new.self in
+    spared_at_once first made (spare chain) numbers old sure (spares_stays first old mid sure spares c.sync.ensures.same)
+
+pub returns-clause-at_once : goal.returns-clause-at_once
+returns-clause-at_once g c =
+    let disk = g.M.BlockMedium.disk in
+    let old = disk c.args.medium.now in
+    let mid = disk c.commit_blocks.new.medium in
+    let it = c.requires.carries in
+    let first = first_of c.args.mux.now.out.blocks in
+    let chain = c.args.directory.now in
+    let made = added c.args.entry chain in
+    let numbers = (last_block chain).number ∷ spare chain in
+    let spares = spares_puts first (file_blocks (file_bytes it.2.packets)) old mid (c.commit_blocks.ensures.puts it.0 it.1 it.2) in
+    let sure = disk c.sync.new.self in
+    let new = disk c.add.new.medium in
+    then_at_once first made (spare chain) numbers old sure new (spares_stays first old mid sure spares c.sync.ensures.same)
+    (turns_at_once first chain made (spare chain) numbers sure new c.add.result c.add.ensures.turns)
