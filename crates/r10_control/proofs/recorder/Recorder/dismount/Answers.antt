@@ -1,4 +1,4 @@
-use Rattle.std.proofs.Common.{◌≡◌, None, refl, sym, ap, ◌∙◌, subst, length, List, [], ◌∷◌}
+use Rattle.std.proofs.Common.{◌≡◌, None, refl, sym, ap, ◌∙◌, subst, length, List}
 use Rattle.r10_body.specs.declared.refusal.Refusal.TheVariants as refusals
 use Rattle.r10_count.specs.Checks.{first_broken}
 use Rattle.r10_machine.specs.Checks.{idle_checks}
@@ -24,8 +24,8 @@ use Rattle.r10_dirchain.specs.declared.chain.ChainBlock.{ChainBlock}
 use Rattle.r10_means.proofs.Behind.{failed_safely, refused_safely, synced_safely}
 use Rattle.r10_means.specs.Left.{StaysSafe, whichever}
 use Rattle.r10_control.proofs.StopPoints.{idle_leaves, makes_none}
-use Rattle.r10_dirchain.specs.OnMedium.{SameButIn}
-use Rattle.r10_control.proofs.Fronting.{same_but_none, turned_alone}
+use Rattle.r10_control.specs.Fronts.{IdleSpares}
+use Rattle.r10_control.proofs.Fronting.{idle_spares, idle_spares_all}
 use Rattle.r10_control.proofs.recorder.Recorder.dismount.Goals as goal
 
 pub returns-in-Err-clause-steps : goal.returns-in-Err-clause-steps
@@ -153,25 +153,24 @@ returns-in-Err-clause-memory g c = λ same. asks_none c.mode_in.result c.in-Err.
 
 -- ---- which blocks stay
 
-pub returns-in-Err-clause-front : goal.returns-in-Err-clause-front
-returns-in-Err-clause-front g c =
+pub returns-in-Err-clause-spares : goal.returns-in-Err-clause-spares
+returns-in-Err-clause-spares g c =
     let w = c.self.inside in
     let disk = g.M.BlockMedium.disk in
-    subst (λ (v : RecorderState _ _). SameButIn (1 ∷ []) (disk v.medium).blocks (disk v.medium).blocks) c.self.view_is
-    (same_but_none (1 ∷ []) (disk w.medium).blocks)
+    subst (λ (v : RecorderState _ _). IdleSpares (with_shutdown 0xFF) v.kept.work (disk v.medium) (disk v.medium)) c.self.view_is (idle_spares_all (with_shutdown 0xFF) (work_of w.work) (disk w.medium))
 
-pub returns-in-Ok-clause-front : goal.returns-in-Ok-clause-front
-returns-in-Ok-clause-front g c =
+pub returns-in-Ok-clause-spares : goal.returns-in-Ok-clause-spares
+returns-in-Ok-clause-spares g c =
     let w = c.self.inside in
     let disk = g.M.BlockMedium.disk in
     let later = disk c.dismount.new.medium in
-    subst (λ (v : RecorderState _ _). SameButIn (1 ∷ []) (disk v.medium).blocks later.blocks) c.self.view_is
-    (turned_alone c.in-Idle.directory (with_shutdown 0xFF c.in-Idle.directory) (disk w.medium) later c.dismount.result c.dismount.ensures.turns)
+    subst (λ (v : RecorderState _ _). IdleSpares (with_shutdown 0xFF) v.kept.work (disk v.medium) later) c.self.view_is
+    (idle_spares (with_shutdown 0xFF) (work_of w.work) c.in-Idle.directory (disk w.medium) later c.dismount.result (ap work_of c.in-Idle.is) c.dismount.ensures.turns)
 
-pub returns-in-Err-dismount-clause-front : goal.returns-in-Err-dismount-clause-front
-returns-in-Err-dismount-clause-front g c =
+pub returns-in-Err-dismount-clause-spares : goal.returns-in-Err-dismount-clause-spares
+returns-in-Err-dismount-clause-spares g c =
     let w = c.self.inside in
     let disk = g.M.BlockMedium.disk in
     let later = disk c.dismount.new.medium in
-    subst (λ (v : RecorderState _ _). SameButIn (1 ∷ []) (disk v.medium).blocks later.blocks) c.self.view_is
-    (turned_alone c.in-Idle.directory (with_shutdown 0xFF c.in-Idle.directory) (disk w.medium) later c.dismount.result c.dismount.ensures.turns)
+    subst (λ (v : RecorderState _ _). IdleSpares (with_shutdown 0xFF) v.kept.work (disk v.medium) later) c.self.view_is
+    (idle_spares (with_shutdown 0xFF) (work_of w.work) c.in-Idle.directory (disk w.medium) later c.dismount.result (ap work_of c.in-Idle.is) c.dismount.ensures.turns)

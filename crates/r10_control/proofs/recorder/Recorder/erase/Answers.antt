@@ -1,4 +1,4 @@
-use Rattle.std.proofs.Common.{◌≡◌, ◌+◌, ℕ, List, None, refl, sym, ap, ◌∙◌, subst, [], ◌∷◌}
+use Rattle.std.proofs.Common.{◌≡◌, ◌+◌, ℕ, List, None, refl, sym, ap, ◌∙◌, subst}
 use Rattle.r10_body.specs.declared.refusal.Refusal.TheVariants as refusals
 use Rattle.r10_count.specs.Checks.{first_broken}
 use Rattle.r10_count.proofs.Rules.{rules_pass, rules_stop}
@@ -26,9 +26,9 @@ use Rattle.r10_means.specs.Left.{StaysSafe, whichever}
 use Rattle.r10_control.proofs.StopPoints.{made_of}
 use Rattle.r10_control.proofs.Making.{erase_left}
 use Rattle.r10_medium.proofs.Stops.{unchanged}
-use Rattle.r10_dirchain.specs.OnMedium.{SameButIn}
+use Rattle.r10_control.specs.Fronts.{IdleSpares}
 use Rattle.r10_dirchain.specs.Steps.{emptied}
-use Rattle.r10_control.proofs.Fronting.{same_but_none, turned_alone}
+use Rattle.r10_control.proofs.Fronting.{idle_spares, idle_spares_all}
 use Rattle.r10_control.proofs.recorder.Recorder.erase.Goals as goal
 
 pub returns-in-Err-clause-steps : goal.returns-in-Err-clause-steps
@@ -202,39 +202,36 @@ returns-in-Err-erase-clause-stops g c =
 
 -- ---- which blocks stay
 
-pub returns-in-Err-clause-front : goal.returns-in-Err-clause-front
-returns-in-Err-clause-front g c =
+pub returns-in-Err-clause-spares : goal.returns-in-Err-clause-spares
+returns-in-Err-clause-spares g c =
     let w = c.self.inside in
     let disk = g.M.BlockMedium.disk in
-    subst (λ (v : RecorderState _ _). SameButIn (1 ∷ []) (disk v.medium).blocks (disk v.medium).blocks) c.self.view_is
-    (same_but_none (1 ∷ []) (disk w.medium).blocks)
+    subst (λ (v : RecorderState _ _). IdleSpares emptied v.kept.work (disk v.medium) (disk v.medium)) c.self.view_is (idle_spares_all emptied (work_of w.work) (disk w.medium))
 
-pub returns-in-Err-check_erase-clause-front : goal.returns-in-Err-check_erase-clause-front
-returns-in-Err-check_erase-clause-front g c =
+pub returns-in-Err-check_erase-clause-spares : goal.returns-in-Err-check_erase-clause-spares
+returns-in-Err-check_erase-clause-spares g c =
     let w = c.self.inside in
     let disk = g.M.BlockMedium.disk in
-    subst (λ (v : RecorderState _ _). SameButIn (1 ∷ []) (disk v.medium).blocks (disk v.medium).blocks) c.self.view_is
-    (same_but_none (1 ∷ []) (disk w.medium).blocks)
+    subst (λ (v : RecorderState _ _). IdleSpares emptied v.kept.work (disk v.medium) (disk v.medium)) c.self.view_is (idle_spares_all emptied (work_of w.work) (disk w.medium))
 
-pub returns-in_default-from_slice-clause-front : goal.returns-in_default-from_slice-clause-front
-returns-in_default-from_slice-clause-front g c =
+pub returns-in_default-from_slice-clause-spares : goal.returns-in_default-from_slice-clause-spares
+returns-in_default-from_slice-clause-spares g c =
     let w = c.self.inside in
     let disk = g.M.BlockMedium.disk in
-    subst (λ (v : RecorderState _ _). SameButIn (1 ∷ []) (disk v.medium).blocks (disk v.medium).blocks) c.self.view_is
-    (same_but_none (1 ∷ []) (disk w.medium).blocks)
+    subst (λ (v : RecorderState _ _). IdleSpares emptied v.kept.work (disk v.medium) (disk v.medium)) c.self.view_is (idle_spares_all emptied (work_of w.work) (disk w.medium))
 
-pub returns-in-Ok-erase-clause-front : goal.returns-in-Ok-erase-clause-front
-returns-in-Ok-erase-clause-front g c =
+pub returns-in-Ok-erase-clause-spares : goal.returns-in-Ok-erase-clause-spares
+returns-in-Ok-erase-clause-spares g c =
     let w = c.self.inside in
     let disk = g.M.BlockMedium.disk in
     let later = disk c.erase.new.medium in
-    subst (λ (v : RecorderState _ _). SameButIn (1 ∷ []) (disk v.medium).blocks later.blocks) c.self.view_is
-    (turned_alone c.in-Idle.directory (emptied c.in-Idle.directory) (disk w.medium) later c.erase.result c.erase.ensures.turns)
+    subst (λ (v : RecorderState _ _). IdleSpares emptied v.kept.work (disk v.medium) later) c.self.view_is
+    (idle_spares emptied (work_of w.work) c.in-Idle.directory (disk w.medium) later c.erase.result (ap work_of c.in-Idle.is) c.erase.ensures.turns)
 
-pub returns-in-Err-erase-clause-front : goal.returns-in-Err-erase-clause-front
-returns-in-Err-erase-clause-front g c =
+pub returns-in-Err-erase-clause-spares : goal.returns-in-Err-erase-clause-spares
+returns-in-Err-erase-clause-spares g c =
     let w = c.self.inside in
     let disk = g.M.BlockMedium.disk in
     let later = disk c.erase.new.medium in
-    subst (λ (v : RecorderState _ _). SameButIn (1 ∷ []) (disk v.medium).blocks later.blocks) c.self.view_is
-    (turned_alone c.in-Idle.directory (emptied c.in-Idle.directory) (disk w.medium) later c.erase.result c.erase.ensures.turns)
+    subst (λ (v : RecorderState _ _). IdleSpares emptied v.kept.work (disk v.medium) later) c.self.view_is
+    (idle_spares emptied (work_of w.work) c.in-Idle.directory (disk w.medium) later c.erase.result (ap work_of c.in-Idle.is) c.erase.ensures.turns)
