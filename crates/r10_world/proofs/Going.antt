@@ -8,7 +8,7 @@ use Rattle.r10_machine.specs.Machine.{Lane, Machine}
 use Rattle.r10_means.specs.Kept.{Kept}
 use Rattle.r10_medium.specs.Disk.{Disk, Image}
 use Rattle.r10_cursor.specs.declared.cursor.Cursor.{Cursor}
-use Rattle.r10_world.specs.Answering.{AnswersEach, AnswersSo}
+use Rattle.r10_world.specs.Answering.{AnswersEach, IsAnswered}
 use Rattle.r10_world.specs.Standing.{PartsStepTo, PartsRunTo, PartsStandFor}
 use Rattle.r10_world.specs.State.{WorldState}
 use Rattle.r10_world.specs.Telling.{WorldRuns, RecorderStepsTo}
@@ -83,15 +83,15 @@ run_more disk start mid new events i n event reply xs ys law here is within long
 pub begun_each : {M : Type 0} (disk : M → Disk) (w : WorldState M) (n : ℕ) (xs : List ReplyValue) → n ≡ length xs → AnswersEach disk w [] (drop n xs) w
 begun_each disk w n xs is = rw (is, none_behind xs) refl
 
-each_more : {M : Type 0} (disk : M → Disk) (start mid new : WorldState M) (es : List EventValue) (rs : List ReplyValue) (event : EventValue) (reply : ReplyValue) → AnswersEach disk start es rs mid → AnswersSo disk mid.recorder mid.slots event reply new.recorder new.slots
+each_more : {M : Type 0} (disk : M → Disk) (start mid new : WorldState M) (es : List EventValue) (rs : List ReplyValue) (event : EventValue) (reply : ReplyValue) → AnswersEach disk start es rs mid → IsAnswered disk mid event reply new
     → AnswersEach disk start (es ++ event ∷ []) (rs ++ reply ∷ []) new
-each_more {M} disk start mid new [] [] event reply same one = (new, subst (λ (w : WorldState M). AnswersSo disk w.recorder w.slots event reply new.recorder new.slots) same one, refl)
+each_more {M} disk start mid new [] [] event reply same one = (new, subst (λ (w : WorldState M). IsAnswered disk w event reply new) same one, refl)
 each_more disk start mid new (e ∷ es) (r ∷ rs) event reply (next, first, rest) one = (next, first, each_more disk next mid new es rs event reply rest one)
 each_more disk start mid new [] (r ∷ rs) event reply each one = absurd each
 each_more disk start mid new (e ∷ es) [] event reply each one = absurd each
 
 pub answer_more : {M : Type 0} (disk : M → Disk) (start mid new : WorldState M) (events : List EventValue) (i n : ℕ) (event : EventValue) (reply : ReplyValue) (xs ys : List ReplyValue) → i < length events → event ≡ get_or events i event → n ≤ length xs
-    → ys ≡ xs ++ reply ∷ [] → AnswersEach disk start (take i events) (drop n xs) mid → AnswersSo disk mid.recorder mid.slots event reply new.recorder new.slots → AnswersEach disk start (take (i + 1) events) (drop n ys) new
+    → ys ≡ xs ++ reply ∷ [] → AnswersEach disk start (take i events) (drop n xs) mid → IsAnswered disk mid event reply new → AnswersEach disk start (take (i + 1) events) (drop n ys) new
 answer_more disk start mid new events i n event reply xs ys here is within longer each one =
     let more : take (i + 1) events ≡ take i events ++ event ∷ [] = take_more events i event here ∙ ap (λ (e : EventValue). take i events ++ e ∷ []) (sym is) in
     rw (more, drop_one_more n xs ys reply within longer) (each_more disk start mid new (take i events) (drop n xs) event reply each one)

@@ -1,5 +1,5 @@
 -- A whole recording.
-use Rattle.std.proofs.Common.{◌≡◌, ◌≤◌, ℕ, true, false, List, length, zip, is_some, inl, inr, subst, sym, ◌∙◌, true≢false}
+use Rattle.std.proofs.Common.{◌≡◌, ◌⊎◌, ◌≤◌, ℕ, true, false, List, [], ◌∷◌, length, zip, is_some, inl, inr, refl, ap, subst, sym, ◌∙◌, true≢false}
 use Rattle.std.specs.List.{AllByRecursion, list_any}
 use Rattle.r10_account.specs.Accepted.{accepted_entries}
 use Rattle.r10_account.specs.Account.{IsAccount}
@@ -17,14 +17,17 @@ use Rattle.r10_machine.specs.declared.event.Event.{Event as EventValue}
 use Rattle.r10_machine.specs.declared.mode.Mode.{Mode}
 use Rattle.r10_machine.specs.declared.mode.Mode.TheVariants as modes
 use Rattle.r10_machine.specs.declared.reply.Reply.{Reply as ReplyValue}
-use Rattle.r10_medium.specs.Disk.{Disk, Image}
+use Rattle.r10_medium.proofs.Stops.{joined, weakened}
+use Rattle.r10_medium.specs.Disk.{Disk, Image, MayLeave}
 use Rattle.r10_medium.specs.Stop.{Leaves, Settled}
 use Rattle.r10_means.proofs.Keeping.{safe_says}
+use Rattle.r10_means.specs.Again.{AreAgain}
 use Rattle.r10_means.specs.Kept.{Work, mode_of, unmounted, idle, recording, failed}
 use Rattle.r10_means.specs.Left.{IsLeft}
 use Rattle.r10_means.specs.Safe.{IsSafeOrFailed}
 use Rattle.r10_world.specs.State.{WorldState}
-use Rattle.r10_world.specs.Stopping.{IsSafeIn, RecordsRun, Recovers, RunsSafely}
+use Rattle.r10_volume.specs.Formatted.{IsFormatted}
+use Rattle.r10_world.specs.Stopping.{IsLeftNew, IsSafeIn, RecordsNew, RecordsRun, Recovers, RunsSafely}
 
 -- the laws of files that are found, and of what was accepted
 abbrev pub FilesAreFound : Type 0
@@ -86,4 +89,31 @@ records_so are_found account stay disk s medium old new files events replies rec
           (subst (λ (x : _). Leaves (IsLeft old.recorder.kept.config m events replies) (disk x) ended) same (all.left (recovers.safe settled)));
       settled = λ settled works. settled_in s later.work ran.machine.mode ran.machine.files ended means.mode works (held settled);
       sure = λ settled. safe_in s later.work ran.machine.mode ran.machine.files ended means.mode (held settled);
+    }
+
+-- ---- on a medium that was formatted for it
+
+none_again : (again : List File) → AreAgain [] again → again ≡ []
+none_again [] same = refl
+none_again (f ∷ files) same = absurd same
+
+pub records_new : (s : Config) (events : List EventValue) (replies : List ReplyValue) (old mid new : Disk) → Leaves (λ image. MayLeave old image ⊎ IsFormatted s old.blocks image) old mid → Settled (IsFormatted s old.blocks) mid
+    → RecordsRun s [] events replies mid new → RecordsNew s events replies old new
+records_new s events replies old mid new formats formatted ran =
+    let none : Settled (λ image. MediumSays s image []) mid = λ image may. (formatted image may).has.0 in
+    let first : fresh s.channels ran.again mid.failures ≡ fresh s.channels [] mid.failures = ap (λ (l : List File). fresh s.channels l mid.failures) (none_again ran.again ran.same) in
+    let m : Machine = fresh s.channels [] mid.failures in
+    let so : Image → Type 0 = IsLeftNew s m events replies old in
+    record {
+      failures_before = mid.failures;
+      images = ran.images;
+      machine = ran.machine;
+      run = subst (λ (x : Machine). Run s x events replies ran.images ran.machine) first ran.run;
+      says = ran.says;
+      failures = ran.failures;
+      accounts = ran.accounts;
+      left = joined so old mid new (weakened (λ image. MayLeave old image ⊎ IsFormatted s old.blocks image) so old mid (λ image is. inl is) formats)
+          (weakened (IsLeft s m events replies) so mid new (λ image is. inr is) (subst (λ (x : Machine). Leaves (IsLeft s x events replies) mid new) first (ran.left none)));
+      settled = ran.settled none;
+      sure = ran.sure none;
     }

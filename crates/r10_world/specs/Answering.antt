@@ -28,6 +28,7 @@ use Rattle.r10_control.specs.Taking.{Part, TellsWaiting, TookAll, entries_of, mo
 use Rattle.r10_means.specs.Grown.{AreGrown}
 use Rattle.r10_means.specs.Kept.{Kept, failed, mode_of}
 use Rattle.r10_control.specs.Checks.{files_of, recorder_refusal}
+use Rattle.r10_control.specs.Fronts.{Spares}
 use Rattle.r10_control.specs.Effects.{CommitEffect, DismountEffect, EraseEffect, EventEffect, MountEffect, PumpEffect, StartEffect, StopEffect, TickEffect}
 use Rattle.r10_control.specs.Own.{AreOwn, OwnGrow, OwnStay}
 use Rattle.r10_control.specs.Reading.{IsReadAt, IsReadFileRefusal, ShowsAt}
@@ -270,10 +271,17 @@ pub record ChangesNothing {M : Type 0} (disk : M → Disk) (old : RecorderState 
 abbrev pub AnswersAlone : {M : Type 0} → (M → Disk) → RecorderState M Lane → EventValue → ReplyValue → RecorderState M Lane → Type 0
 AnswersAlone disk old event reply new = (slots : List (Option CursorValue)) → AnswersSo disk old slots event reply new slots
 
+-- an event with its reply: what was answered and done; and, whatever the reply, which blocks stay, at every moment of it
+pub record IsAnswered {M : Type 0} (disk : M → Disk) (old : WorldState M) (event : EventValue) (reply : ReplyValue)
+    (new : WorldState M) : Type 0 where
+  pub answer : AnswersSo disk old.recorder old.slots event reply new.recorder new.slots
+  pub spares : Spares old.recorder.kept (disk old.recorder.medium) event (disk new.recorder.medium)
+
 -- events in turn, each from the world that the one before it left
 abbrev pub AnswersEach : {M : Type 0} → (M → Disk) → WorldState M → List EventValue → List ReplyValue → WorldState M → Type 0
 AnswersEach disk old [] [] new = new ≡ old
-AnswersEach {M} disk old (event ∷ events) (reply ∷ given) new = (mid : WorldState M) × AnswersSo disk old.recorder old.slots event reply mid.recorder mid.slots × AnswersEach disk mid events given new
+AnswersEach {M} disk old (event ∷ events) (reply ∷ given) new =
+    (mid : WorldState M) × IsAnswered disk old event reply mid × AnswersEach disk mid events given new
 AnswersEach disk old events given new = ⊥
 
 -- a whole recording: events in turn, from a new world over this medium

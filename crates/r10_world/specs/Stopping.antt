@@ -1,10 +1,12 @@
 -- What a stop of the medium leaves at events, and over runs.
-use Rattle.std.specs.Prelude.{◌≡◌, ℕ, true, false, List, Option, IsSome, zip}
+use Rattle.std.specs.Prelude.{◌≡◌, ◌⊎◌, ℕ, true, false, List, [], Option, IsSome, zip}
 use Rattle.std.specs.List.{list_any}
 use Rattle.r10_account.specs.Accepted.{accepted_entries}
 use Rattle.r10_account.specs.Account.{IsAccount}
 use Rattle.r10_account.specs.Found.{AreStillFirst, may_erase}
 use Rattle.r10_body.specs.Channels.{spec_of}
+use Rattle.r10_body.specs.declared.refusal.Refusal.{Refusal}
+use Rattle.r10_body.specs.declared.refusal.Refusal.TheVariants.{Medium, OutOfMemory}
 use Rattle.r10_control.specs.Lanes.{AreLanes}
 use Rattle.r10_control.specs.State.{RecorderState}
 use Rattle.r10_cursor.specs.declared.cursor.Cursor.{Cursor}
@@ -18,11 +20,12 @@ use Rattle.r10_machine.specs.Step.{Run}
 use Rattle.r10_machine.specs.declared.event.Event.{Event as EventValue}
 use Rattle.r10_machine.specs.declared.reply.Reply.{Reply as ReplyValue}
 use Rattle.r10_means.specs.Kept.{Kept, failed}
-use Rattle.r10_medium.specs.Disk.{Disk, Image, IsSynced, Unchanged}
+use Rattle.r10_medium.specs.Disk.{Disk, Image, IsSynced, MayLeave, Rose, Unchanged}
 use Rattle.r10_medium.specs.Stop.{Leaves, Settled}
 use Rattle.r10_means.specs.Again.{AreAgain, FindsAgain}
 use Rattle.r10_means.specs.Left.{IsLeft, StaysSafe}
 use Rattle.r10_means.specs.Safe.{IsSafe, IsSafeOrFailed, SaysLast}
+use Rattle.r10_volume.specs.Formatted.{IsFormatted}
 use Rattle.r10_world.specs.Standing.{PartsRunTo}
 use Rattle.r10_world.specs.State.{WorldState}
 use Rattle.r10_world.specs.Telling.{WorldStandsFor}
@@ -75,3 +78,33 @@ pub record RecordsRun (s : Config) (files : List File) (events : List EventValue
   pub left : Settled (λ image. MediumSays s image files) old → Leaves (IsLeft s (fresh s.channels again old.failures) events replies) old new
   pub settled : Settled (λ image. MediumSays s image files) old → is_working machine.mode ≡ true → Settled (λ image. MediumSays s image machine.files) new
   pub sure : Settled (λ image. MediumSays s image files) old → IsSafeIn s machine.mode machine.files new
+
+-- ---- a whole recording on a medium that was formatted for it
+
+-- at a moment: what could be left before, or the formatted medium, or what a run leaves
+abbrev pub IsLeftNew : Config → Machine → List EventValue → List ReplyValue → Disk → Image → Type 0
+IsLeftNew s m events replies old image = (MayLeave old image ⊎ IsFormatted s old.blocks image) ⊎ IsLeft s m events replies image
+
+-- From a machine without files, on a medium that had failed so often when it was formatted, the replies to the events are a run; the
+-- medium says the files that it ends with, and has failed as often as the run says. The accepted messages are where `RecordsRun` says.
+-- At any moment a stop leaves what it could leave before, or the formatted medium, or the files of a state of the run, or those that the
+-- next event makes of them; a stop now leaves what `RecordsRun` says.
+pub record RecordsNew (s : Config) (events : List EventValue) (replies : List ReplyValue) (old new : Disk) : Type 0 where
+  pub failures_before : ℕ
+  pub images : List Image
+  pub machine : Machine
+  pub run : Run s (fresh s.channels [] failures_before) events replies images machine
+  pub says : MediumSays s new.blocks machine.files
+  pub failures : machine.failures ≡ new.failures
+  pub accounts : (channel : ℕ) → IsSome (spec_of s.channels channel)
+      → IsAccount channel machine (accepted_entries channel 0 events replies)
+  pub left : Leaves (IsLeftNew s (fresh s.channels [] failures_before) events replies old) old new
+  pub settled : is_working machine.mode ≡ true → Settled (λ image. MediumSays s image machine.files) new
+  pub sure : IsSafeIn s machine.mode machine.files new
+
+-- why nothing was recorded: the medium failed while it was formatted; or memory was refused, and it is formatted
+abbrev pub RecordsNone : Config → Disk → Refusal → Disk → Type 0
+RecordsNone s old Medium new =
+    Rose old.failures new.failures × Leaves (λ image. MayLeave old image ⊎ IsFormatted s old.blocks image) old new
+RecordsNone s old OutOfMemory new = Settled (IsFormatted s old.blocks) new
+RecordsNone s old r new = ⊥

@@ -4,6 +4,7 @@ ghost use Rattle.std.specs.Prelude.{◌≡◌, ℕ, List};
 ghost use Rattle.r10_machine.specs.Machine.{Lane, Machine};
 ghost use Rattle.r10_means.specs.Kept.{Kept};
 ghost use Rattle.r10_medium.specs.Disk.{Image};
+ghost use Rattle.r10_control.specs.Fronts.{Spares};
 ghost use Rattle.r10_world.specs.Answering.{AnswersClose, AnswersNext, AnswersSo};
 ghost use Rattle.r10_world.specs.Standing.{PartsStepTo, PartsStandFor};
 ghost use Rattle.r10_world.specs.Stopping.{Survives};
@@ -38,6 +39,8 @@ pub(crate) fn open<M: BlockMedium>(
     ensures tells { RecorderStepsTo M.disk recorder.old cursors.old.slots (events.Cursor file channels.now from to) result recorder.new cursors.new.slots }
     ensures answers { AnswersSo M.disk recorder.old cursors.old.slots (events.Cursor file channels.now from to) result recorder.new cursors.new.slots }
     ensures stops { Survives M.disk recorder.old (events.Cursor file channels.now from to) result recorder.new }
+    ensures spares { Spares recorder.old.kept (M.disk recorder.old.medium) (events.Cursor file channels.now from to)
+        (M.disk recorder.new.medium) }
     ensures config { recorder.new.kept.config ≡ recorder.old.kept.config }
 {
     // For the proof: a recorder's call is a step of the machine; a call on the cursors is a step too; so is a lack of memory.
@@ -67,6 +70,7 @@ pub(crate) fn advance<M: BlockMedium>(
     ensures tells { RecorderStepsTo M.disk recorder.old cursors.old.slots (events.Advance id) result recorder.new cursors.new.slots }
     ensures answers { AnswersSo M.disk recorder.old cursors.old.slots (events.Advance id) result recorder.new cursors.new.slots }
     ensures stops { Survives M.disk recorder.old (events.Advance id) result recorder.new }
+    ensures spares { Spares recorder.old.kept (M.disk recorder.old.medium) (events.Advance id) (M.disk recorder.new.medium) }
     ensures config { recorder.new.kept.config ≡ recorder.old.kept.config }
 {
     // For the proof: a recorder's call is a step of the machine; a call on the cursors is a step too; a refusal is a step that changes nothing; what a cursor takes is what the machine's takes.

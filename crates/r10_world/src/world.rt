@@ -6,6 +6,7 @@ ghost use Rattle.r10_world.specs.Copies.{IsCopy};
 ghost use Rattle.r10_world.specs.Joined.{begun_world};
 ghost use Rattle.r10_medium.specs.Stop.{Settled};
 ghost use Rattle.r10_means.specs.Safe.{IsSafe};
+ghost use Rattle.r10_control.specs.Fronts.{Spares};
 ghost use Rattle.r10_world.specs.Answering.{AnswersSo};
 ghost use Rattle.r10_world.specs.Stopping.{Recovers, Survives};
 ghost use Rattle.r10_world.specs.Telling.{WorldStandsFor, RecorderStepsTo};
@@ -129,6 +130,8 @@ impl<M: BlockMedium> World<M> {
         ensures tells { RecorderStepsTo M.disk self.old.recorder self.old.slots event.now result self.new.recorder self.new.slots }
         ensures answers { AnswersSo M.disk self.old.recorder self.old.slots event.now result self.new.recorder self.new.slots }
         ensures stops { Survives M.disk self.old.recorder event.now result self.new.recorder }
+        ensures spares { Spares self.old.recorder.kept (M.disk self.old.recorder.medium) event.now
+            (M.disk self.new.recorder.medium) }
         ensures config { self.new.recorder.kept.config ≡ self.old.recorder.kept.config }
     {
         answer(
@@ -153,6 +156,7 @@ fn answer<M: BlockMedium>(
     ensures tells { RecorderStepsTo M.disk recorder.old cursors.old.slots event.now result recorder.new cursors.new.slots }
     ensures answers { AnswersSo M.disk recorder.old cursors.old.slots event.now result recorder.new cursors.new.slots }
     ensures stops { Survives M.disk recorder.old event.now result recorder.new }
+    ensures spares { Spares recorder.old.kept (M.disk recorder.old.medium) event.now (M.disk recorder.new.medium) }
     ensures config { recorder.new.kept.config ≡ recorder.old.kept.config }
 {
     match event {

@@ -7,6 +7,7 @@ use Rattle.r10_control.specs.Refused.{nothing_lacks}
 use Rattle.r10_means.specs.Kept.{Kept}
 use Rattle.r10_world.proofs.Telling.{keeps_same, telling}
 use Rattle.r10_world.proofs.Stopping.{survives_same}
+use Rattle.r10_medium.proofs.Stops.{unchanged}
 use Rattle.r10_world.proofs.control.files.Goals as goal
 use Rattle.r10_machine.specs.declared.event.Event.TheVariants as events
 use Rattle.r10_machine.specs.declared.reply.Reply.TheVariants as replies
@@ -31,3 +32,6 @@ returns-clause-answers g c = λ slots.
     (λ r is refuses. refused_call disk (recorder_refusal old.kept events.Files) nothing_lacks old old slots events.Files r refuses refl refl (or_memory nothing_lacks) (λ none fails. absurd (failed_refuses old.kept.work none (ap (λ (k : Kept). k.work) fails)))
     (λ lacks. tt) (λ left. left) tt (λ lanes. lanes))
     c.listed.ensures
+
+pub returns-clause-spares : goal.returns-clause-spares
+returns-clause-spares g c = unchanged (g.M.BlockMedium.disk c.args.recorder.now.medium)

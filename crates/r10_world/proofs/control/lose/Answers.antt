@@ -1,4 +1,4 @@
-use Rattle.std.proofs.Common.{refl}
+use Rattle.std.proofs.Common.{refl, subst, sym}
 use Rattle.r10_count.specs.Checks.{first_broken}
 use Rattle.r10_machine.specs.declared.reply.Reply.{Reply}
 use Rattle.r10_world.proofs.Answering.{refused_check, told_either}
@@ -7,6 +7,8 @@ use Rattle.r10_machine.specs.Checks.{channel_checks}
 use Rattle.r10_machine.specs.Machine.{lane_in}
 use Rattle.r10_world.proofs.Telling.{telling_with}
 use Rattle.r10_world.proofs.Stopping.{survives_same}
+use Rattle.r10_medium.proofs.Stops.{unchanged}
+use Rattle.r10_medium.specs.Disk.{Unchanged}
 use Rattle.r10_world.proofs.control.lose.Goals as goal
 use Rattle.r10_machine.specs.declared.event.Event.TheVariants as events
 use Rattle.r10_machine.specs.declared.reply.Reply.TheVariants as replies
@@ -35,3 +37,9 @@ returns-clause-answers g c = λ slots.
     (λ v does. (does.0, (does.1, call.ensures.kept, call.ensures.medium, refl)))
     (λ r does. refused_check disk (first_broken (channel_checks (lane_in a.channel old.lanes))) old new slots slots event r does.0 call.ensures.kept call.ensures.medium does.1 refl)
     c.done.ensures
+
+pub returns-clause-spares : goal.returns-clause-spares
+returns-clause-spares g c =
+    let disk = g.M.BlockMedium.disk in
+    let old = c.args.recorder.now in
+    subst (λ (m : _). Unchanged (disk old.medium) (disk m)) (sym c.lose.ensures.medium) (unchanged (disk old.medium))

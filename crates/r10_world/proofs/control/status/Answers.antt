@@ -6,6 +6,7 @@ use Rattle.r10_body.specs.declared.refusal.Refusal.{Refusal}
 use Rattle.r10_medium.proofs.Stops.{unchanged}
 use Rattle.r10_world.proofs.Telling.{telling_with}
 use Rattle.r10_world.proofs.Stopping.{survives_same}
+use Rattle.r10_medium.proofs.Stops.{unchanged}
 use Rattle.r10_world.proofs.control.status.Goals as goal
 use Rattle.r10_machine.specs.declared.event.Event.TheVariants as events
 use Rattle.r10_machine.specs.declared.reply.Reply.TheVariants as replies
@@ -28,3 +29,6 @@ returns-clause-answers g c = λ slots.
     (λ v told. (refl, (told, refl, refl)))
     (λ r lacks. subst (λ (q : Refusal). AnswersSo disk old slots events.Status (replies.Refused q) old slots) (sym lacks) (record { cause = tt; leaves = (refl, unchanged (disk old.medium)); own = own_same old.kept old.kept (disk old.medium).blocks (disk old.medium).blocks refl refl; lanes = refl; cursors = refl }))
     c.reported.ensures
+
+pub returns-clause-spares : goal.returns-clause-spares
+returns-clause-spares g c = unchanged (g.M.BlockMedium.disk c.args.recorder.now.medium)

@@ -13,6 +13,7 @@ use Rattle.r10_world.proofs.Telling.{refused_on}
 use Rattle.r10_body.specs.declared.refusal.Refusal.TheVariants.{Failed}
 use Rattle.r10_means.specs.Kept.{Kept, Work, mode_of}
 use Rattle.r10_world.proofs.Stopping.{alone_if, survives_kept, survives_refused, survives_same}
+use Rattle.r10_medium.proofs.Stops.{unchanged}
 use Rattle.r10_world.proofs.readers.advance.Goals as goal
 use Rattle.r10_machine.specs.declared.event.Event.TheVariants as events
 use Rattle.r10_machine.specs.declared.reply.Reply.TheVariants as replies
@@ -153,3 +154,15 @@ returns-in-Err-take_instalment-clause-answers g c =
     let kept : later ≡ slots = subst (λ (x : Cursor). slice_set slots a.id (Some x) ≡ slots) (sym c.in-Err-take_instalment.ensures.cursor) (set_same slots a.id cursor is) in
     instalment_refused g.M.BlockMedium.disk old call.new.self slots later a.id cursor (first_broken (mounted_checks (mode_of old.kept.work))) (first_refusal old.kept old.lanes slots (events.Advance a.id)) c.in-Err-take_instalment.refusal is c.in-Ok.ensures.tested.1 passed
     c.in-Err-take_instalment.ensures.refused call.ensures.reads.lanes call.ensures.reads.same kept
+
+pub returns-in-Err-clause-spares : goal.returns-in-Err-clause-spares
+returns-in-Err-clause-spares g c = unchanged (g.M.BlockMedium.disk c.args.recorder.now.medium)
+
+pub returns-in-Err-check_read-clause-spares : goal.returns-in-Err-check_read-clause-spares
+returns-in-Err-check_read-clause-spares g c = unchanged (g.M.BlockMedium.disk c.args.recorder.now.medium)
+
+pub returns-in-Ok-take_instalment-clause-spares : goal.returns-in-Ok-take_instalment-clause-spares
+returns-in-Ok-take_instalment-clause-spares g c = c.take_instalment.ensures.reads.same
+
+pub returns-in-Err-take_instalment-clause-spares : goal.returns-in-Err-take_instalment-clause-spares
+returns-in-Err-take_instalment-clause-spares g c = c.take_instalment.ensures.reads.same

@@ -104,3 +104,15 @@ returns-in-Err-open_cursor-clause-answers g c =
     refused_memory g.M.BlockMedium.disk (recorder_refusal old.kept (events.Cursor a.file a.channels.now a.from a.to)) old call.new.self a.cursors.now.slots c.open_cursor.new.cursors.slots (events.Cursor a.file a.channels.now a.from a.to)
     (c.in-Ok.ensures.passed a.channels.now) tt (c.in-Ok.ensures.reads.kept, call.ensures.reads.same)
     (own_same old.kept call.new.self.kept (g.M.BlockMedium.disk old.medium).blocks (g.M.BlockMedium.disk call.new.self.medium).blocks c.in-Ok.ensures.reads.kept call.ensures.reads.same.reads) call.ensures.reads.lanes c.in-Err-open_cursor.ensures.kept
+
+pub returns-in-Err-clause-spares : goal.returns-in-Err-clause-spares
+returns-in-Err-clause-spares g c = c.check_file.ensures.reads.same
+
+pub returns-in-Err-generation-clause-spares : goal.returns-in-Err-generation-clause-spares
+returns-in-Err-generation-clause-spares g c = c.check_file.ensures.reads.same
+
+pub returns-in-Ok-open_cursor-clause-spares : goal.returns-in-Ok-open_cursor-clause-spares
+returns-in-Ok-open_cursor-clause-spares g c = c.check_file.ensures.reads.same
+
+pub returns-in-Err-open_cursor-clause-spares : goal.returns-in-Err-open_cursor-clause-spares
+returns-in-Err-open_cursor-clause-spares g c = c.check_file.ensures.reads.same

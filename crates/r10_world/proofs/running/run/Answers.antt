@@ -59,7 +59,7 @@ loop-i-preserved g c =
     record {
       run = run_more g.M.BlockMedium.disk c.args.world.now c.loop-i.world c.step-reply.new.self c.args.events.now c.loop-i.i n event reply xs ys c.runs_join.ensures
           here c.index-events-i.is within longer so_far.run c.step-reply.ensures.tells;
-      answers = answer_more g.M.BlockMedium.disk c.args.world.now c.loop-i.world c.step-reply.new.self c.args.events.now c.loop-i.i n event reply xs ys here c.index-events-i.is within longer so_far.answers c.step-reply.ensures.answers;
+      answers = answer_more g.M.BlockMedium.disk c.args.world.now c.loop-i.world c.step-reply.new.self c.args.events.now c.loop-i.i n event reply xs ys here c.index-events-i.is within longer so_far.answers (record { answer = c.step-reply.ensures.answers; spares = c.step-reply.ensures.spares });
       stops = run_more_safely g.M.BlockMedium.disk c.args.world.now c.loop-i.world c.step-reply.new.self c.args.events.now c.loop-i.i n event reply xs ys c.runs_join.ensures
           here c.index-events-i.is within longer so_far.stops c.step-reply.ensures.tells c.step-reply.ensures.stops;
       config = c.step-reply.ensures.config ∙ so_far.config;

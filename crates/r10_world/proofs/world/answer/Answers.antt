@@ -4,6 +4,8 @@ use Rattle.r10_world.specs.Answering.{AnswersSo}
 use Rattle.r10_world.proofs.OnTable.{close_so, next_so}
 use Rattle.r10_means.specs.Quiet.{may_make}
 use Rattle.r10_world.proofs.Stopping.{survives_same}
+use Rattle.r10_control.specs.Fronts.{Spares}
+use Rattle.r10_medium.proofs.Stops.{unchanged}
 use Rattle.r10_world.proofs.world.answer.Goals as goal
 
 pub returns-in-Next-clause-stops : goal.returns-in-Next-clause-stops
@@ -21,3 +23,15 @@ pub returns-in-Close-clause-answers : goal.returns-in-Close-clause-answers
 returns-in-Close-clause-answers g c =
     subst (λ (e : Event). AnswersSo g.M.BlockMedium.disk c.args.recorder.now c.args.cursors.now.slots e c.close.result c.args.recorder.now c.close.new.cursors.slots) (sym c.in-Close.is)
     (close_so g.M.BlockMedium.disk c.args.recorder.now c.args.cursors.now.slots c.close.new.cursors.slots c.in-Close.id c.close.result c.close.ensures.answers)
+
+pub returns-in-Next-clause-spares : goal.returns-in-Next-clause-spares
+returns-in-Next-clause-spares g c =
+    let old = c.args.recorder.now in
+    let disk = g.M.BlockMedium.disk old.medium in
+    subst (λ (e : Event). Spares old.kept disk e disk) (sym c.in-Next.is) (unchanged disk)
+
+pub returns-in-Close-clause-spares : goal.returns-in-Close-clause-spares
+returns-in-Close-clause-spares g c =
+    let old = c.args.recorder.now in
+    let disk = g.M.BlockMedium.disk old.medium in
+    subst (λ (e : Event). Spares old.kept disk e disk) (sym c.in-Close.is) (unchanged disk)
