@@ -26,6 +26,7 @@ use Rattle.r10_machine.specs.declared.reply.Reply.TheVariants as replies
 use Rattle.r10_means.specs.Kept.{Kept, mode_of, idle, recording}
 use Rattle.r10_means.specs.Means.{LanesAreCounted, KeptStepsTo, KeptStandsFor}
 use Rattle.r10_means.proofs.Leading.{StepsStaySound, failing, no_fewer, numbers_at}
+use Rattle.r10_means.proofs.Owning.{last_follows}
 
 -- ---- lists
 
@@ -97,7 +98,7 @@ committed law k old new before now m chain made o later files f size limits mean
         tick = means.tick;
         counted = refl;
         files = holds;
-        numbers = (numbers.0, numbers.1, numbers_stay files m.files f (shown_whole size f) refl refl is k.config.channels k.taken k.erased m.lanes numbers.2);
+        numbers = (numbers.0, numbers.1, numbers_stay files m.files f (shown_whole size f) refl refl is k.config.channels k.taken k.erased m.lanes numbers.2, last_follows k.found files m.files f (shown_whole size f) refl is numbers.3);
         sound = law k.config m Commit replies.Done done limits means.sound step;
       };
     }
@@ -134,7 +135,7 @@ sealed law k old new before now m chain made files f size limits means at is fin
         tick = means.tick;
         counted = refl;
         files = holds;
-        numbers = (numbers.0, numbers.1, numbers_stay files m.files f (closed_in size f) refl refl is k.config.channels k.taken k.erased m.lanes numbers.2);
+        numbers = (numbers.0, numbers.1, numbers_stay files m.files f (closed_in size f) refl refl is k.config.channels k.taken k.erased m.lanes numbers.2, last_follows k.found files m.files f (closed_in size f) refl is numbers.3);
         sound = law k.config m Seal replies.Done done limits means.sound step;
       };
     }

@@ -1,11 +1,13 @@
 -- Steps of the machine, and the machines that are meant before and after them.
-use Rattle.std.proofs.Common.{◌≡◌, ◌≤◌, ◌+◌, ℕ, true, inl, List, [], ◌∷◌, length, map, Some, None, refl, sym, ap, ◌∙◌, subst, arith}
+use Rattle.std.proofs.Common.{◌≡◌, ◌≤◌, ◌+◌, ℕ, true, inl, inr, List, [], ◌∷◌, length, map, Some, None, refl, sym, ap, ◌∙◌, subst, arith}
+use Rattle.std.specs.Option.{option_or}
 use Rattle.r10_count.specs.Checks.{first_broken}
 use Rattle.r10_body.specs.declared.refusal.Refusal.{Refusal}
 use Rattle.r10_body.specs.declared.refusal.Refusal.TheVariants.{Medium, OutOfMemory}
 use Rattle.r10_body.specs.declared.spec.ChannelSpec.{ChannelSpec}
 use Rattle.r10_count.specs.declared.civil.Parts.{Parts}
 use Rattle.r10_medium.specs.Disk.{Image, Rose}
+use Rattle.r10_dirchain.specs.Chain.{listed_files}
 use Rattle.r10_dirchain.specs.declared.chain.ChainBlock.{ChainBlock}
 use Rattle.r10_volume.specs.Holding.{HoldsFiles, OthersAreFound}
 use Rattle.r10_machine.specs.declared.mode.Mode.{Mode}
@@ -26,6 +28,8 @@ use Rattle.r10_machine.specs.declared.reply.Reply.{Reply as ReplyValue}
 use Rattle.r10_machine.specs.declared.reply.Reply.TheVariants as replies
 use Rattle.r10_means.specs.Kept.{Kept, Work, mode_of, unmounted, idle, failed}
 use Rattle.r10_means.specs.Means.{LanesAreCounted, HasFiles, LaneIsCounted, KeptStepsTo, KeptStandsFor, NumbersAre}
+use Rattle.r10_means.proofs.Owning.{mounted_follows, none_follow}
+use Rattle.r10_volume.proofs.Listed.{count_told}
 
 -- every step keeps a sound state sound
 abbrev pub StepsStaySound : Type 0
@@ -128,10 +132,11 @@ may_dismount : (mode : Mode) → mode ≡ modes.Idle → first_broken (idle_chec
 may_dismount mode is = subst (λ v. first_broken (idle_checks v) ≡ None) (sym is) refl
 
 pub mounted : StepsStaySound → (k : Kept) (old new : Image) (before now : ℕ) (m : Machine) (chain : List ChainBlock) → IsConfig k.config → KeptStandsFor k old before m → k.work ≡ unmounted → HoldsFiles k.config new chain None m.files → before ≤ now
-    → KeptStepsTo k m Mount replies.Done (record k { work = idle chain }) new now (record m { mode = modes.Idle; failures = now })
+    → KeptStepsTo k m Mount replies.Done (record k { work = idle chain; found = option_or k.found (Some (length (listed_files chain))) }) new now (record m { mode = modes.Idle; failures = now })
 mounted law k old new before now m chain limits means at holds more =
     let later : Machine = record m { mode = modes.Idle; failures = now } in
     let step : Step k.config m Mount replies.Done later = (no_fewer k old before now m means more, (may_mount m.mode (means.mode ∙ ap mode_of at), refl)) in
+    let numbers = numbers_at k unmounted m at means.numbers in
     record {
       step = step;
       means = record {
@@ -139,7 +144,7 @@ mounted law k old new before now m chain limits means at holds more =
         tick = means.tick;
         counted = refl;
         files = holds;
-        numbers = numbers_at k unmounted m at means.numbers;
+        numbers = (numbers.0, numbers.1, numbers.2, mounted_follows k.found m.files (length (listed_files chain)) (count_told k.config new chain None m.files holds) numbers.3);
         sound = law k.config m Mount replies.Done later limits means.sound step;
       };
     }
@@ -149,6 +154,7 @@ pub dismounted : StepsStaySound → (k : Kept) (old new : Image) (before now : �
 dismounted law k old new before now m chain limits means at says found more =
     let later : Machine = record m { mode = modes.Unmounted; failures = now } in
     let step : Step k.config m Dismount replies.Done later = (no_fewer k old before now m means more, (may_dismount m.mode (means.mode ∙ ap mode_of at), refl)) in
+    let numbers = numbers_at k (idle chain) m at means.numbers in
     record {
       step = step;
       means = record {
@@ -156,7 +162,7 @@ dismounted law k old new before now m chain limits means at says found more =
         tick = means.tick;
         counted = refl;
         files = (says, found);
-        numbers = numbers_at k (idle chain) m at means.numbers;
+        numbers = (numbers.0, numbers.1, numbers.2, inr numbers.3);
         sound = law k.config m Dismount replies.Done later limits means.sound step;
       };
     }
@@ -213,7 +219,7 @@ counts_erased (x ∷ specs) files (t ∷ taken) [] lanes are = absurd are
 counts_erased (x ∷ specs) files (t ∷ taken) (e ∷ erased) [] are = absurd are
 
 pub erased : StepsStaySound → (k : Kept) (old new : Image) (before now : ℕ) (m : Machine) (chain made : List ChainBlock) → IsConfig k.config → KeptStandsFor k old before m → k.work ≡ idle chain → refusal k.config m Erase ≡ None
-    → HoldsFiles k.config new made None [] → before ≤ now → KeptStepsTo k m Erase replies.Done (record k { work = idle made; generation = k.generation + 1; erased = k.taken }) new now (record m { files = []; generation = m.generation + 1; lanes = map (erased_with m.files) m.lanes; failures = now })
+    → HoldsFiles k.config new made None [] → before ≤ now → KeptStepsTo k m Erase replies.Done (record k { work = idle made; generation = k.generation + 1; erased = k.taken; found = Some 0 }) new now (record m { files = []; generation = m.generation + 1; lanes = map (erased_with m.files) m.lanes; failures = now })
 erased law k old new before now m chain made limits means at fine holds more =
     let later : Machine = record m { files = []; generation = m.generation + 1; lanes = map (erased_with m.files) m.lanes; failures = now } in
     let step : Step k.config m Erase replies.Done later = (no_fewer k old before now m means more, (fine, refl)) in
@@ -225,7 +231,7 @@ erased law k old new before now m chain made limits means at fine holds more =
         tick = means.tick;
         counted = refl;
         files = holds;
-        numbers = (numbers.0, ap (λ n. n + 1) numbers.1, counts_erased k.config.channels m.files k.taken k.erased m.lanes numbers.2);
+        numbers = (numbers.0, ap (λ n. n + 1) numbers.1, counts_erased k.config.channels m.files k.taken k.erased m.lanes numbers.2, none_follow);
         sound = law k.config m Erase replies.Done later limits means.sound step;
       };
     }

@@ -1,3 +1,4 @@
+mod Owning
 pub mod Leading
 pub mod Lasting
 pub mod Growing

@@ -20,6 +20,7 @@ use Rattle.r10_means.specs.Means.{LanesAreCounted, LaneIsCounted, KeptStepsTo, K
 use Rattle.r10_means.proofs.Growing.{numbers_grow}
 use Rattle.r10_means.proofs.Lasting.{closed_numbers}
 use Rattle.r10_means.proofs.Leading.{StepsStaySound, failing, no_fewer, numbers_at}
+use Rattle.r10_means.proofs.Owning.{last_follows}
 
 -- ---- lanes that lost some of what waits
 
@@ -74,6 +75,7 @@ pumped law k old new before now m chain o later files f channel most n more grow
           numbers.0,
           numbers.1,
           counts_pumped channel n (files ++ with_entries more f ∷ []) k.config.channels grown k.erased m.lanes (numbers_grow files m.files f more own is k.config.channels k.taken grown k.erased m.lanes grows numbers.2),
+          last_follows k.found files m.files f (with_entries more f) refl is numbers.3,
         );
         sound = law k.config m (Pump channel most) (replies.Moved n) done limits means.sound step;
       };
@@ -101,6 +103,7 @@ stopped law k old new before now m chain made o files f g said entries grown lim
           numbers.1,
           counts_stopped entries (files ++ g ∷ []) k.config.channels grown k.erased m.lanes
               (closed_numbers files (with_entries entries f) g (same ∙ sym own) longer k.config.channels grown k.erased m.lanes more),
+          last_follows k.found files m.files f g (same ∙ sym own) is numbers.3,
         );
         sound = law k.config m Stop (replies.Stopped said) done limits means.sound step;
       };

@@ -41,9 +41,9 @@ counts_changed change keeps channel files (x ∷ specs) (t ∷ taken) (e ∷ era
 
 numbers_changed : (change : Lane → Lane) (keeps : (l : Lane) → ((change l).spec ≡ l.spec) × ((change l).erased ≡ l.erased)) (channel : ℕ) (k : Kept) (w : Work) (m : Machine)
     → NumbersAre (record k { work = w }) m → NumbersAre (record k { work = w }) (with_lane channel change m)
-numbers_changed change keeps channel k unmounted m (a, b, c) = (a, b, counts_changed change keeps channel m.files k.config.channels k.taken k.erased m.lanes c)
-numbers_changed change keeps channel k (idle chain) m (a, b, c) = (a, b, counts_changed change keeps channel m.files k.config.channels k.taken k.erased m.lanes c)
-numbers_changed change keeps channel k (recording chain o) m (a, b, c) = (a, b, counts_changed change keeps channel m.files k.config.channels k.taken k.erased m.lanes c)
+numbers_changed change keeps channel k unmounted m (a, b, c, d) = (a, b, counts_changed change keeps channel m.files k.config.channels k.taken k.erased m.lanes c, d)
+numbers_changed change keeps channel k (idle chain) m (a, b, c, d) = (a, b, counts_changed change keeps channel m.files k.config.channels k.taken k.erased m.lanes c, d)
+numbers_changed change keeps channel k (recording chain o) m (a, b, c, d) = (a, b, counts_changed change keeps channel m.files k.config.channels k.taken k.erased m.lanes c, d)
 numbers_changed change keeps channel k failed m numbers = tt
 
 lane_means : (change : Lane → Lane) (keeps : (l : Lane) → ((change l).spec ≡ l.spec) × ((change l).erased ≡ l.erased)) (channel : ℕ) (k : Kept) (image : Image) (n : ℕ) (m : Machine) → KeptStandsFor k image n m

@@ -29,3 +29,5 @@ pub record Kept : Type 0 where
   -- of each channel, in the settings' order: how many entries were taken in, of all files, and how many of them erases took; both up to 2^64 - 1
   pub taken : List ℕ
   pub erased : List ℕ
+  -- how many files the medium listed when it was first mounted, and before that none; 0 from an erase on: those listed after them are the recorder's own
+  pub found : Option ℕ

@@ -1,5 +1,5 @@
 -- Which machines a recorder stands for.
-use Rattle.std.specs.Prelude.{◌≡◌, ℕ, ◌+◌, List, [], ◌∷◌, None, Some, length}
+use Rattle.std.specs.Prelude.{◌≡◌, ◌⊎◌, ℕ, ◌+◌, true, false, List, [], ◌∷◌, ◌++◌, Option, None, Some, length, map, replicate}
 use Rattle.r10_medium.specs.Disk.{Image}
 use Rattle.r10_body.specs.declared.spec.ChannelSpec.{ChannelSpec}
 pub use Rattle.r10_volume.specs.Holding.{OthersAreFound}
@@ -32,11 +32,25 @@ LanesAreCounted files [] [] [] [] = Unit {0}
 LanesAreCounted files (spec ∷ specs) (t ∷ taken) (e ∷ erased) (lane ∷ lanes) = LaneIsCounted files spec t e lane × LanesAreCounted files specs taken erased lanes
 LanesAreCounted files specs taken erased lanes = ⊥
 
+-- of the files the first, so many, were found, and all after them are the recorder's own
+pub record OwnFollow (found : Option ℕ) (files : List File) : Type 0 where
+  pub number : ℕ
+  pub own : ℕ
+  pub found_is : found ≡ Some number
+  pub flags : map (λ (f : File). f.own) files ≡ replicate number false ++ replicate own true
+
+-- so it is from the first mount on; before it none is the recorder's own
+abbrev pub OwnFilesAre : Work → Option ℕ → List File → Type 0
+OwnFilesAre unmounted found files = ((found ≡ None) × (map (λ (f : File). f.own) files ≡ replicate (length files) false)) ⊎ OwnFollow found files
+OwnFilesAre (idle chain) found files = OwnFollow found files
+OwnFilesAre (recording chain file) found files = OwnFollow found files
+OwnFilesAre failed found files = Unit {0}
+
 -- the numbers are the machine's; of a recorder that failed they are told to nobody
 abbrev pub NumbersAre : Kept → Machine → Type 0
 NumbersAre k m = elim k.work [
   | failed ↦ Unit {0}
-  | _ ↦ (m.last_event ≡ k.last_event) × (m.generation ≡ k.generation) × LanesAreCounted m.files k.config.channels k.taken k.erased m.lanes
+  | _ ↦ (m.last_event ≡ k.last_event) × (m.generation ≡ k.generation) × LanesAreCounted m.files k.config.channels k.taken k.erased m.lanes × OwnFilesAre k.work k.found m.files
 ]
 
 -- what is kept, over a medium that reads as an image and has failed so often, stands for this machine, whatever waits in its lanes

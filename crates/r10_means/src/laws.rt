@@ -1,11 +1,13 @@
 //! Calls that are steps of the machine, as calls that do nothing.
 
-ghost use Rattle.std.specs.Prelude.{◌≡◌, ◌≤◌, ◌+◌, ◌++◌, ◌∷◌, ℕ, List, [], None, Some, map, true};
+ghost use Rattle.std.specs.Prelude.{◌≡◌, ◌≤◌, ◌+◌, ◌++◌, ◌∷◌, ℕ, List, [], None, Some, length, map, true};
+ghost use Rattle.std.specs.Option.{option_or};
 ghost use Rattle.r10_count.specs.declared.civil.Parts.{Parts};
 ghost use Rattle.r10_medium.specs.Disk.{Image, Rose};
 ghost use Rattle.r10_body.specs.declared.refusal.Refusal.{Refusal as RefusalValue};
 ghost use Rattle.r10_body.specs.declared.refusal.Refusal.TheVariants as refusals;
 ghost use Rattle.r10_body.specs.declared.entry.Entry.{Entry};
+ghost use Rattle.r10_dirchain.specs.Chain.{listed_files};
 ghost use Rattle.r10_dirchain.specs.declared.chain.ChainBlock.{ChainBlock};
 ghost use Rattle.r10_volume.specs.Holding.{HoldsFiles, Open, OthersAreFound};
 ghost use Rattle.r10_machine.specs.Limits.{IsConfig};
@@ -48,7 +50,7 @@ pub fn lacks_of_memory_are_steps()
 /// A mount leads to a recorder that has the directory in use.
 pub fn mounts_are_steps()
     ensures { (k : Kept) (old new : Image) (n later : ℕ) (m : Machine) (chain : List ChainBlock) → IsConfig k.config → KeptStandsFor k old n m → k.work ≡ unmounted → HoldsFiles k.config new chain None m.files → n ≤ later
-        → KeptStepsTo k m events.Mount replies.Done (record k { work = idle chain }) new later (record m { mode = modes.Idle; failures = later }) }
+        → KeptStepsTo k m events.Mount replies.Done (record k { work = idle chain; found = option_or k.found (Some (length (listed_files chain))) }) new later (record m { mode = modes.Idle; failures = later }) }
 {
     a_step_stays_sound();
 }
@@ -76,7 +78,7 @@ pub fn failures_are_steps()
 /// An erase leads to a recorder without files, of the next generation; what was taken in is erased.
 pub fn erases_are_steps()
     ensures { (k : Kept) (old new : Image) (n later : ℕ) (m : Machine) (chain made : List ChainBlock) → IsConfig k.config → KeptStandsFor k old n m → k.work ≡ idle chain → refusal k.config m events.Erase ≡ None
-        → HoldsFiles k.config new made None [] → n ≤ later → KeptStepsTo k m events.Erase replies.Done (record k { work = idle made; generation = k.generation + 1; erased = k.taken }) new later (record m { files = []; generation = m.generation + 1; lanes = map (erased_with m.files) m.lanes; failures = later }) }
+        → HoldsFiles k.config new made None [] → n ≤ later → KeptStepsTo k m events.Erase replies.Done (record k { work = idle made; generation = k.generation + 1; erased = k.taken; found = Some 0 }) new later (record m { files = []; generation = m.generation + 1; lanes = map (erased_with m.files) m.lanes; failures = later }) }
 {
     a_step_stays_sound();
 }
