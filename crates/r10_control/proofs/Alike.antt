@@ -270,9 +270,9 @@ module _ {L : Type 0} (took : L → List Sample → L → Type 0) (quiet : L →
   numbers_stay k m lanes counted numbers = by k.work numbers
     where
       by : (w : Work) → NumbersAre (record k { work = w }) m → NumbersAre (record k { work = w }) (with_lanes lanes m)
-      by unmounted (event, generation, are) = (event, generation, counted are)
-      by (idle chain) (event, generation, are) = (event, generation, counted are)
-      by (recording chain o) (event, generation, are) = (event, generation, counted are)
+      by unmounted (event, generation, are, own) = (event, generation, counted are, own)
+      by (idle chain) (event, generation, are, own) = (event, generation, counted are, own)
+      by (recording chain o) (event, generation, are, own) = (event, generation, counted are, own)
       by failed are = tt
 
   pub work_sound : (s : Config) (m : Machine) (lanes : List Lane) → (AllByRecursion (LaneClimbs m.files) m.lanes → AllByRecursion (LaneClimbs m.files) lanes) → SoundWork m.mode s m → SoundWork m.mode s (with_lanes lanes m)

@@ -1,15 +1,18 @@
 -- What a call that answers Ok has done.
 use Rattle.std.proofs.Common.{◌≡◌, ℕ, ◌+◌, ◌<◌, ◌≤◌, List, [], ◌∷◌, ◌++◌, length, Option, Some, Result, refl, sym, ap, ◌∙◌, subst, ⊎_elim, arith}
 use Rattle.std.specs.Prelude.{◌≢◌, IsSomeAnd}
+use Rattle.std.specs.Option.{option_or}
 use Rattle.std.proofs.lemmas.List.Elements.{All-cons, All-nil}
 use Rattle.r10_blockout.specs.Output.{first_of, size_of}
 use Rattle.r10_body.specs.declared.spec.ChannelSpec.{ChannelSpec}
 use Rattle.r10_dirblock.specs.Block.{begun_entry, sized}
+use Rattle.r10_dirblock.specs.declared.entry.Entry.{Entry as DirectoryEntry}
 use Rattle.r10_dirchain.specs.Chain.{IsDirectory, listed_files}
 use Rattle.r10_dirchain.specs.OnMedium.{IsPublished, Turns}
 use Rattle.r10_dirchain.specs.Steps.{added, emptied, last_listed, updated, with_shutdown}
 use Rattle.r10_dirchain.specs.declared.chain.ChainBlock.{ChainBlock}
 use Rattle.r10_dirchain.proofs.Directories.{some_block}
+use Rattle.r10_dirchain.proofs.FileLists.{files-with_shutdown}
 use Rattle.r10_dirchain.proofs.Usable.{place_rules_hold, placed}
 use Rattle.r10_volume.specs.Holding.{Open}
 use Rattle.r10_machine.specs.Machine.{Tick}
@@ -48,12 +51,13 @@ one_block reserved first chain made old new result some turns = record {
 
 pub mount_effect : {T E : Type 0} (k : Kept) (old new : Disk) (made : List ChainBlock) (result : Result T E) → IsMounted k.config.directory old.blocks made
     → ((chain : List ChainBlock) → IsUsable k.config.directory old.blocks chain → Turns chain (with_shutdown 0x00 chain) [] (1 ∷ []) old new result) → IsPublished made new
-    → MountEffect k old (record k { work = idle made }) new
-mount_effect k old new made result is turns published = record {
+    → (found : Option ℕ) → found ≡ option_or k.found (Some (length (listed_files made))) → MountEffect k old (record k { work = idle made; found = found }) new
+mount_effect k old new made result is turns published found first = record {
   chain = is.chain;
   usable = is.usable;
   effect = record {
-    kept = ap (λ (l : List ChainBlock). record k { work = idle l }) is.made_is;
+    kept = ap (λ (l : List ChainBlock). record k { work = idle l; found = found }) is.made_is
+        ∙ ap (λ (o : Option ℕ). record k { work = idle (with_shutdown 0x00 is.chain); found = o }) (first ∙ ap (λ (l : List DirectoryEntry). option_or k.found (Some (length l))) (ap (λ (l : List ChainBlock). listed_files l) is.made_is ∙ files-with_shutdown 0x00 is.chain));
     front = one_block k.config.directory (length old.blocks) is.chain (with_shutdown 0x00 is.chain) old new result (some_reserved k.config.directory old.blocks is.chain is.usable) (turns is.chain is.usable);
     directory = subst (λ (l : List ChainBlock). IsPublished l new) is.made_is published;
   };
@@ -74,7 +78,7 @@ dismount_effect k old new chain made result at usable turns is published = rw at
 
 pub erase_effect : {T E : Type 0} (k : Kept) (old new : Disk) (chain made : List ChainBlock) (result : Result T E) → k.work ≡ idle chain → IsUsable k.config.directory old.blocks chain
     → Turns chain (emptied chain) [] (1 ∷ []) old new result → made ≡ emptied chain → IsPublished made new → (erased : List ℕ) → k.taken ≡ erased
-    → EraseEffect k old (record k { work = idle made; generation = k.generation + 1; erased = erased }) new
+    → EraseEffect k old (record k { work = idle made; generation = k.generation + 1; erased = erased; found = Some 0 }) new
 erase_effect k old new chain made result at usable turns is published erased copied = rw at (record {
   kept = rw (is, sym copied) refl;
   front = one_block k.config.directory (length old.blocks) chain (emptied chain) old new result (some_reserved k.config.directory old.blocks chain usable) turns;

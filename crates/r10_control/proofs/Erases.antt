@@ -49,7 +49,7 @@ left_erased files [] = tt
 left_erased files (l ∷ lanes) = (refl, left_erased files lanes)
 
 pub erase_done : StepsStaySound → (k : Kept) (old new : Image) (before now : ℕ) (m : Machine) (chain made : List ChainBlock) → IsConfig k.config → KeptStandsFor k old before m → k.work ≡ idle chain → checked k ≡ None
-    → HoldsFiles k.config new made None [] → before ≤ now → KeptStepsTaking none_taken k m Erase replies.Done (record k { work = idle made; generation = k.generation + 1; erased = k.taken }) new now
+    → HoldsFiles k.config new made None [] → before ≤ now → KeptStepsTaking none_taken k m Erase replies.Done (record k { work = idle made; generation = k.generation + 1; erased = k.taken; found = Some 0 }) new now
 erase_done law k old new before now m chain made limits means at fine holds more = record {
   machine = record m { files = []; generation = m.generation + 1; lanes = map (erased_with m.files) m.lanes; failures = now };
   led = erased law k old new before now m chain made limits means at (same_check k old before m means ∙ fine) holds more;

@@ -1,4 +1,5 @@
 mod Leading
+mod FewFiles
 mod Mounts
 mod Dismounts
 mod Erases

@@ -1,8 +1,10 @@
 -- A mount, as a step of the machine.
-use Rattle.std.proofs.Common.{◌≡◌, ◌≤◌, ℕ, true, List, Option, Some, None, refl, sym, ap, ◌∙◌, subst, arith}
+use Rattle.std.proofs.Common.{◌≡◌, ◌≤◌, ℕ, true, List, length, Option, Some, None, refl, sym, ap, ◌∙◌, subst, arith}
 use Rattle.r10_body.specs.declared.refusal.Refusal.{Refusal}
 use Rattle.r10_body.specs.declared.refusal.Refusal.TheVariants.{Medium, OutOfMemory}
+use Rattle.std.specs.Option.{option_or}
 use Rattle.r10_count.specs.Checks.{first_broken}
+use Rattle.r10_dirchain.specs.Chain.{listed_files}
 use Rattle.r10_dirchain.specs.declared.chain.ChainBlock.{ChainBlock}
 use Rattle.r10_volume.specs.Holding.{HoldsFiles, OthersAreFound}
 use Rattle.r10_machine.specs.Checks.{unmounted_checks}
@@ -42,7 +44,7 @@ pub mount_refused : StepsStaySound → (k : Kept) (image : Image) (n : ℕ) (m :
 mount_refused law k image n m r limits means is = refused_leads law k image n m Mount r limits means (same_check k image n m means ∙ is) (λ x. refl)
 
 pub mount_done : StepsStaySound → (k : Kept) (old new : Image) (before now : ℕ) (m : Machine) (chain : List ChainBlock) → IsConfig k.config → KeptStandsFor k old before m → first_broken (unmounted_checks (mode_of k.work)) ≡ None
-    → HoldsFiles k.config new chain None m.files → before ≤ now → KeptStepsTaking none_taken k m Mount replies.Done (record k { work = idle chain }) new now
+    → HoldsFiles k.config new chain None m.files → before ≤ now → KeptStepsTaking none_taken k m Mount replies.Done (record k { work = idle chain; found = option_or k.found (Some (length (listed_files chain))) }) new now
 mount_done law k old new before now m chain limits means fine holds more = record {
   machine = record m { mode = modes.Idle; failures = now };
   led = mounted law k old new before now m chain limits means (unmounted_work k.work fine) holds more;

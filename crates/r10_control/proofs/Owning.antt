@@ -1,9 +1,10 @@
 -- The entries of a recorder's own files, through each of its calls.
-use Rattle.std.proofs.Common.{◌≡◌, ◌⊎◌, ℕ, suc, ◌+◌, ◌-◌, ◌<◌, ◌≤◌, inl, inr, true, false, List, [], ◌∷◌, ◌++◌, length, take, Option, None, Some, refl, sym, ap, subst, ◌∙◌, arith, append_assoc, ◌*◌, Bool, length-append}
+use Rattle.std.proofs.Common.{◌≡◌, ◌⊎◌, ℕ, zero, suc, drop, ◌+◌, ◌-◌, ◌<◌, ◌≤◌, inl, inr, true, false, List, [], ◌∷◌, ◌++◌, length, take, Option, None, Some, refl, sym, ap, subst, ◌∙◌, arith, append_assoc, ◌*◌, Bool, length-append}
 use Rattle.std.specs.Prelude.{IsSomeAnd, ◌≢◌}
 use Rattle.std.specs.List.{AllByRecursion, last_or}
 use Rattle.std.proofs.lemmas.Bool.{false≢true, ne_eqb}
-use Rattle.std.proofs.lemmas.List.{append-nil}
+use Rattle.std.specs.Option.{option_or}
+use Rattle.std.proofs.lemmas.List.{append-nil, drop_all}
 use Rattle.std.proofs.lemmas.List.Sums.{sum_by-cons}
 use Rattle.r10_blockout.specs.Blocks.{bytes_from}
 use Rattle.r10_blockout.specs.Output.{first_of}
@@ -38,43 +39,64 @@ use Rattle.r10_dirchain.proofs.Usable.{place_rules_hold, placed}
 use Rattle.r10_medium.proofs.Stops.{below_puts}
 use Rattle.r10_seal.specs.Sealing.{ListsSealed, SealsFile, sealed_entry}
 use Rattle.r10_control.proofs.Seals.{sealed_some}
-use Rattle.r10_control.specs.Own.{AreAmong, AreOwn, EndOpen, OwnGrow, OwnStay}
+use Rattle.r10_control.specs.Own.{AreEnded, AreOwn, EndAfter, EndOpen, OwnGrow, OwnIn, OwnStay}
 use Rattle.r10_openfile.specs.Entering.{IsAskedFor}
 use Rattle.r10_control.proofs.Staying.{front_keeps, last_first, listed_keep}
 
 -- ---- listed files
 
-pub none_among : (image : Image) (listed : List DirectoryEntry) → AreAmong image listed []
-none_among image [] = refl
-none_among image (e ∷ listed) = inl (none_among image listed)
-
 still_ended : (old new : Image) (e : DirectoryEntry) (text : List ℕ) (entries : List Entry) → bytes_from new e.first_block e.size ≡ bytes_from old e.first_block e.size → IsEnded old e text entries → IsEnded new e text entries
 still_ended old new e text entries same ended = record { closed = ended.closed; says = subst (λ (b : List ℕ). FileSays b text entries true) (sym same) ended.says }
 
-pub among_keeps : (old new : Image) (listed : List DirectoryEntry) (own : List Entry) → KeepListed old new listed → AreAmong old listed own → AreAmong new listed own
-among_keeps old new [] own keeps is = is
-among_keeps old new (e ∷ listed) own keeps (inl rest) = inl (among_keeps old new listed own keeps.1 rest)
-among_keeps old new (e ∷ listed) own keeps (inr it) = inr (it.0, it.1, it.2, it.3, still_ended old new e it.0 it.1 keeps.0 it.4, among_keeps old new listed it.2 keeps.1 it.5)
+ended_keeps : (old new : Image) (listed : List DirectoryEntry) (own : List Entry) → KeepListed old new listed → AreEnded old listed own → AreEnded new listed own
+ended_keeps old new [] own keeps is = is
+ended_keeps old new (e ∷ listed) own keeps it = (it.0, it.1, it.2, it.3, still_ended old new e it.0 it.1 keeps.0 it.4, ended_keeps old new listed it.2 keeps.1 it.5)
 
--- with one more behind them, of which nothing is said
-pub among_more : (image : Image) (listed : List DirectoryEntry) (e : DirectoryEntry) (own : List Entry) → AreAmong image listed own → AreAmong image (listed ++ e ∷ []) own
-among_more image [] e own is = inl is
-among_more image (d ∷ listed) e own (inl rest) = inl (among_more image listed e own rest)
-among_more image (d ∷ listed) e own (inr it) = inr (it.0, it.1, it.2, it.3, it.4, among_more image listed e it.2 it.5)
+keep_drop : (n : ℕ) (old new : Image) (listed : List DirectoryEntry) → KeepListed old new listed → KeepListed old new (drop n listed)
+keep_drop zero old new listed keeps = keeps
+keep_drop (suc n) old new [] keeps = keeps
+keep_drop (suc n) old new (e ∷ listed) keeps = keep_drop n old new listed keeps.1
 
--- or which is ended and says these entries
-pub among_with : (image : Image) (listed : List DirectoryEntry) (e : DirectoryEntry) (own : List Entry) (text : List ℕ) (here : List Entry) → IsEnded image e text here → AreAmong image listed own → AreAmong image (listed ++ e ∷ []) (own ++ here)
-among_with image [] e own text here ended is = inr (text, here, [], ap (λ (l : List Entry). l ++ here) is ∙ sym (append-nil here), ended, refl)
-among_with image (d ∷ listed) e own text here ended (inl rest) = inl (among_with image listed e own text here ended rest)
-among_with image (d ∷ listed) e own text here ended (inr it) =
-    inr (it.0, it.1, it.2 ++ here, ap (λ (l : List Entry). l ++ here) it.3 ∙ append_assoc it.1 it.2 here, it.4, among_with image listed e it.2 text here ended it.5)
+pub after_keeps : (found : Option ℕ) (old new : Image) (listed : List DirectoryEntry) (own : List Entry) → KeepListed old new listed → EndAfter found old listed own → EndAfter found new listed own
+after_keeps found old new listed own keeps it =
+    record { number = it.number; found_is = it.found_is; within = it.within; ended = ended_keeps old new (drop it.number listed) own (keep_drop it.number old new listed keeps) it.ended }
 
--- they are in front of a last one that is not closed
-pub among_front : (image : Image) (listed : List DirectoryEntry) (e : DirectoryEntry) (own : List Entry) → is_closed e ≡ false → AreAmong image (listed ++ e ∷ []) own → AreAmong image listed own
-among_front image [] e own left (inl is) = is
-among_front image [] e own left (inr it) = absurd (false≢true (sym left ∙ it.4.closed))
-among_front image (d ∷ listed) e own left (inl rest) = inl (among_front image listed e own left rest)
-among_front image (d ∷ listed) e own left (inr it) = inr (it.0, it.1, it.2, it.3, it.4, among_front image listed e it.2 left it.5)
+drop_more : (n : ℕ) (listed : List DirectoryEntry) (e : DirectoryEntry) → n ≤ length listed → drop n (listed ++ e ∷ []) ≡ drop n listed ++ e ∷ []
+drop_more zero listed e within = refl
+drop_more (suc n) [] e within = absurd (omega (arith, within))
+drop_more (suc n) (d ∷ listed) e within = drop_more n listed e (omega (arith, within))
+
+-- with one more behind them, which is ended and says these entries
+ended_with : (image : Image) (listed : List DirectoryEntry) (e : DirectoryEntry) (own : List Entry) (text : List ℕ) (here : List Entry) → IsEnded image e text here → AreEnded image listed own → AreEnded image (listed ++ e ∷ []) (own ++ here)
+ended_with image [] e own text here ended is = (text, here, [], ap (λ (l : List Entry). l ++ here) is ∙ sym (append-nil here), ended, refl)
+ended_with image (d ∷ listed) e own text here ended it = (it.0, it.1, it.2 ++ here, ap (λ (l : List Entry). l ++ here) it.3 ∙ append_assoc it.1 it.2 here, it.4, ended_with image listed e it.2 text here ended it.5)
+
+pub after_with : (found : Option ℕ) (image : Image) (listed : List DirectoryEntry) (e : DirectoryEntry) (own : List Entry) (text : List ℕ) (here : List Entry) → IsEnded image e text here → EndAfter found image listed own → EndAfter found image (listed ++ e ∷ []) (own ++ here)
+after_with found image listed e own text here ended it = record {
+  number = it.number;
+  found_is = it.found_is;
+  within = omega (arith, it.within, length-append listed (e ∷ []));
+  ended = subst (λ (l : List DirectoryEntry). AreEnded image l (own ++ here)) (sym (drop_more it.number listed e it.within)) (ended_with image (drop it.number listed) e own text here ended it.ended);
+}
+
+last_ended : (image : Image) (listed : List DirectoryEntry) (e : DirectoryEntry) (own : List Entry) → AreEnded image (listed ++ e ∷ []) own → is_closed e ≡ true
+last_ended image [] e own it = it.4.closed
+last_ended image (d ∷ listed) e own it = last_ended image listed e it.2 it.5
+
+-- where the last one is not closed, all were found; so they are where another takes its place
+left_found : (n : ℕ) (old new : Image) (listed : List DirectoryEntry) (e other : DirectoryEntry) (own : List Entry) → is_closed e ≡ false → n ≤ length (listed ++ e ∷ []) → AreEnded old (drop n (listed ++ e ∷ [])) own → AreEnded new (drop n (listed ++ other ∷ [])) own
+left_found zero old new listed e other own left within is = absurd (false≢true (sym left ∙ last_ended old listed e own is))
+left_found (suc zero) old new [] e other own left within is = is
+left_found (suc (suc n)) old new [] e other own left within is = absurd (omega (arith, within))
+left_found (suc n) old new (d ∷ listed) e other own left within is = left_found n old new listed e other own left (omega (arith, within)) is
+
+pub after_left : (found : Option ℕ) (old new : Image) (listed : List DirectoryEntry) (e other : DirectoryEntry) (own : List Entry) → is_closed e ≡ false → EndAfter found old (listed ++ e ∷ []) own → EndAfter found new (listed ++ other ∷ []) own
+after_left found old new listed e other own left it = record {
+  number = it.number;
+  found_is = it.found_is;
+  within = omega (arith, it.within, length-append listed (e ∷ []), length-append listed (other ∷ []));
+  ended = left_found it.number old new listed e other own left it.within it.ended;
+}
 
 -- ---- the bytes of listed files
 
@@ -116,7 +138,7 @@ last_split P (e ∷ d ∷ listed) last =
 -- ---- where nothing changes, or the recorder failed
 
 pub grow_none : (k : Kept) (image : Image) → OwnGrow k image k image []
-grow_none k image = inr (λ own has. subst (λ (l : List Entry). AreOwn k.work image l) (sym (append-nil own)) has)
+grow_none k image = inr (λ own has. subst (λ (l : List Entry). AreOwn k image l) (sym (append-nil own)) has)
 
 none_on : (specs : List ChannelSpec) → AllByRecursion (λ (spec : ChannelSpec). on_channel spec.id [] ≡ []) specs
 none_on [] = tt
@@ -134,31 +156,35 @@ stay_failed k later old new is = stay_by k later old new (inl is)
 -- ---- while a file is recorded
 
 module _ (k : Kept) (image : Image) (chain : List ChainBlock) (o : Open) (at : k.work ≡ recording chain o) where
-  pub end_open : (own : List Entry) → AreOwn k.work image own → EndOpen image chain o own
-  end_open own has = subst (λ (w : Work). AreOwn w image own) at has
+  pub end_open : (own : List Entry) → AreOwn k image own → EndOpen k.found image chain o own
+  end_open own has = subst (λ (w : Work). OwnIn k.found w image own) at has
+
+  -- the same were found
+  own_in : (later : Kept) (w : Work) (new : Image) (own : List Entry) → later.work ≡ w → later.found ≡ k.found → OwnIn k.found w new own → AreOwn later new own
+  own_in later w new own is stays has = subst (λ (f : Option ℕ). OwnIn f later.work new own) (sym stays) (subst (λ (x : Work). OwnIn k.found x new own) (sym is) has)
 
   -- only memory was asked for
-  pub asked_own : (p : Open) (later : Kept) → later.work ≡ recording chain p → IsAskedFor o p → OwnGrow k image later image []
-  asked_own p later is asked = inr (λ own has.
+  pub asked_own : (p : Open) (later : Kept) → later.work ≡ recording chain p → later.found ≡ k.found → IsAskedFor o p → OwnGrow k image later image []
+  asked_own p later is stays asked = inr (λ own has.
       let it = end_open own has in
-      subst (λ (w : Work). AreOwn w image (own ++ [])) (sym is)
-      (subst (λ (l : List Entry). EndOpen image chain p l) (sym (append-nil own))
+      own_in later (recording chain p) image (own ++ []) is stays
+      (subst (λ (l : List Entry). EndOpen k.found image chain p l) (sym (append-nil own))
       (record { ended = it.ended; now = it.now; own_is = it.own_is; before = it.before; text = it.text; shown = it.shown; shows = asked.stays image it.text it.now it.shown it.shows })))
 
   module _ (new : Image) (made : List ChainBlock) (whole : IsWhole image) (usable : IsUsable k.config.directory image chain) (last : ListsLast (first_of o.recording.out.blocks) chain)
       (front : KeepsFront k.config.directory (first_of o.recording.out.blocks) image new) (ended : ended_in made ≡ ended_in chain) where
-    before_stays : (own : List Entry) → AreAmong image (ended_in chain) own → AreAmong new (ended_in made) own
+    before_stays : (own : List Entry) → EndAfter k.found image (ended_in chain) own → EndAfter k.found new (ended_in made) own
     before_stays own is =
-        subst (λ (l : List DirectoryEntry). AreAmong new l own) (sym ended)
-        (among_keeps image new (ended_in chain) own (ended_keep k.config.directory (first_of o.recording.out.blocks) image new chain whole usable last front) is)
+        subst (λ (l : List DirectoryEntry). EndAfter k.found new l own) (sym ended)
+        (after_keeps k.found image new (ended_in chain) own (ended_keep k.config.directory (first_of o.recording.out.blocks) image new chain whole usable last front) is)
 
     -- the file that is recorded took these in
-    pub recorded_own : (p : Open) (later : Kept) (more : List Entry) → later.work ≡ recording made p
+    pub recorded_own : (p : Open) (later : Kept) (more : List Entry) → later.work ≡ recording made p → later.found ≡ k.found
         → ((text : List ℕ) (entries : List Entry) (n : ℕ) → IsShown image o text entries n → (m : ℕ) × IsShown new p text (entries ++ more) m) → OwnGrow k image later new more
-    recorded_own p later more is shows = inr (λ own has.
+    recorded_own p later more is stays shows = inr (λ own has.
         let it = end_open own has in
         let then = shows it.text it.now it.shown it.shows in
-        subst (λ (w : Work). AreOwn w new (own ++ more)) (sym is)
+        own_in later (recording made p) new (own ++ more) is stays
         (record {
           ended = it.ended;
           now = it.now ++ more;
@@ -170,16 +196,16 @@ module _ (k : Kept) (image : Image) (chain : List ChainBlock) (o : Open) (at : k
         }))
 
     -- it took them in and was closed
-    pub stopped_own : (first : ℕ) (later : Kept) (more : List Entry) → later.work ≡ idle made
+    pub stopped_own : (first : ℕ) (later : Kept) (more : List Entry) → later.work ≡ idle made → later.found ≡ k.found
         → ((text : List ℕ) (entries : List Entry) (n : ℕ) → IsShown image o text entries n → EndsLast new made first text (entries ++ more)) → OwnGrow k image later new more
-    stopped_own first later more is ends = inr (λ own has.
+    stopped_own first later more is stays ends = inr (λ own has.
         let it = end_open own has in
         let split = last_split (λ (e : DirectoryEntry). (e.first_block ≡ first) × IsEnded new e it.text (it.now ++ more)) (listed_files made) (ends it.text it.now it.shown it.shows) in
         let own_is : own ++ more ≡ it.ended ++ (it.now ++ more) = ap (λ (l : List Entry). l ++ more) it.own_is ∙ append_assoc it.ended it.now more in
-        subst (λ (w : Work). AreOwn w new (own ++ more)) (sym is)
-        (subst (λ (l : List Entry). AreAmong new (listed_files made) l) (sym own_is)
-        (subst (λ (l : List DirectoryEntry). AreAmong new l (it.ended ++ (it.now ++ more))) (sym split.1)
-        (among_with new (ended_in made) split.0 it.ended it.text (it.now ++ more) split.2.1 (before_stays it.ended it.before)))))
+        own_in later (idle made) new (own ++ more) is stays
+        (subst (λ (l : List Entry). EndAfter k.found new (listed_files made) l) (sym own_is)
+        (subst (λ (l : List DirectoryEntry). EndAfter k.found new l (it.ended ++ (it.now ++ more))) (sym split.1)
+        (after_with k.found new (ended_in made) split.0 it.ended it.text (it.now ++ more) split.2.1 (before_stays it.ended it.before)))))
 
 -- ---- what lanes give goes behind whatever the file carries
 
@@ -197,35 +223,54 @@ ends_too spec_of reached image o text other entries others n m lanes was ends is
 
 -- a directory is taken into use, whose blocks alone change
 pub mounted_own : (k later : Kept) (old new : Image) (chain : List ChainBlock) → k.work ≡ unmounted → IsWhole old → IsUsable k.config.directory old chain → KeepsFront k.config.directory (length old) old new
-    → later.work ≡ idle (with_shutdown 0x00 chain) → OwnGrow k old later new []
-mounted_own k later old new chain at whole usable front is = inr (λ own has.
-    subst (λ (w : Work). AreOwn w new (own ++ [])) (sym is)
-    (subst (λ (l : List Entry). AreAmong new (listed_files (with_shutdown 0x00 chain)) l) (sym (append-nil own))
-    (subst (λ (l : List DirectoryEntry). AreAmong new l own) (sym (files-with_shutdown 0x00 chain)) (by own (subst (λ (w : Work). AreOwn w old own) at has)))))
+    → later.work ≡ idle (with_shutdown 0x00 chain) → later.found ≡ option_or k.found (Some (length (listed_files chain))) → OwnGrow k old later new []
+mounted_own k later old new chain at whole usable front is first = inr (λ own has.
+    subst (λ (w : Work). OwnIn later.found w new (own ++ [])) (sym is)
+    (subst (λ (l : List Entry). EndAfter later.found new (listed_files (with_shutdown 0x00 chain)) l) (sym (append-nil own))
+    (subst (λ (l : List DirectoryEntry). EndAfter later.found new l own) (sym (files-with_shutdown 0x00 chain)) (by own (subst (λ (w : Work). OwnIn k.found w old own) at has)))))
   where
-    by : (own : List Entry) → (own ≡ []) ⊎ ((c : List ChainBlock) × IsDirectory old c × AreAmong old (listed_files c) own) → AreAmong new (listed_files chain) own
-    by own (inl none) = subst (λ (l : List Entry). AreAmong new (listed_files chain) l) (sym none) (none_among new (listed_files chain))
+    by : (own : List Entry) → ((k.found ≡ None) × (own ≡ [])) ⊎ ((c : List ChainBlock) × IsDirectory old c × EndAfter k.found old (listed_files c) own) → EndAfter later.found new (listed_files chain) own
+    by own (inl none) = record {
+      number = length (listed_files chain);
+      found_is = first ∙ ap (λ (o : Option ℕ). option_or o (Some (length (listed_files chain)))) none.0;
+      within = omega arith;
+      ended = subst (λ (l : List DirectoryEntry). AreEnded new l own) (sym (drop_all (length (listed_files chain)) (listed_files chain) (omega arith))) none.1;
+    }
     by own (inr it) =
-        among_keeps old new (listed_files chain) own (all_keep k.config.directory old new chain whole usable front)
-        (subst (λ (c : List ChainBlock). AreAmong old (listed_files c) own) (one_directory old it.0 chain it.1 usable.directory) it.2)
+        let was : EndAfter k.found old (listed_files chain) own = subst (λ (c : List ChainBlock). EndAfter k.found old (listed_files c) own) (one_directory old it.0 chain it.1 usable.directory) it.2 in
+        let now = after_keeps k.found old new (listed_files chain) own (all_keep k.config.directory old new chain whole usable front) was in
+        record {
+          number = now.number;
+          found_is = first ∙ ap (λ (o : Option ℕ). option_or o (Some (length (listed_files chain)))) now.found_is;
+          within = now.within;
+          ended = now.ended;
+        }
 
 pub dismounted_own : (k later : Kept) (old new : Image) (chain : List ChainBlock) → k.work ≡ idle chain → IsWhole old → IsUsable k.config.directory old chain → KeepsFront k.config.directory (length old) old new
-    → IsDirectory new (with_shutdown 0xFF chain) → later.work ≡ unmounted → OwnGrow k old later new []
-dismounted_own k later old new chain at whole usable front there is = inr (λ own has.
-    let was : AreAmong old (listed_files chain) own = subst (λ (w : Work). AreOwn w old own) at has in
-    let now = among_keeps old new (listed_files chain) own (all_keep k.config.directory old new chain whole usable front) was in
-    subst (λ (w : Work). AreOwn w new (own ++ [])) (sym is)
-    (subst (λ (l : List Entry). AreOwn unmounted new l) (sym (append-nil own))
-    (inr (with_shutdown 0xFF chain, there, subst (λ (l : List DirectoryEntry). AreAmong new l own) (sym (files-with_shutdown 0xFF chain)) now))))
+    → IsDirectory new (with_shutdown 0xFF chain) → later.work ≡ unmounted → later.found ≡ k.found → OwnGrow k old later new []
+dismounted_own k later old new chain at whole usable front there is stays = inr (λ own has.
+    let was : EndAfter k.found old (listed_files chain) own = subst (λ (w : Work). OwnIn k.found w old own) at has in
+    let now = after_keeps k.found old new (listed_files chain) own (all_keep k.config.directory old new chain whole usable front) was in
+    subst (λ (f : Option ℕ). OwnIn f later.work new (own ++ [])) (sym stays)
+    (subst (λ (w : Work). OwnIn k.found w new (own ++ [])) (sym is)
+    (subst (λ (l : List Entry). OwnIn k.found unmounted new l) (sym (append-nil own))
+    (inr (with_shutdown 0xFF chain, there, subst (λ (l : List DirectoryEntry). EndAfter k.found new l own) (sym (files-with_shutdown 0xFF chain)) now)))))
+
+-- no file is listed
+pub erased_own : (later : Kept) (new : Image) (made : List ChainBlock) → later.work ≡ idle made → later.found ≡ Some 0 → listed_files made ≡ [] → AreOwn later new []
+erased_own later new made is none empty =
+    subst (λ (w : Work). OwnIn later.found w new []) (sym is)
+    (record { number = 0; found_is = none; within = omega arith; ended = subst (λ (l : List DirectoryEntry). AreEnded new l []) (sym empty) refl })
 
 -- a file is begun behind all others
 pub started_own : (k later : Kept) (old new : Image) (chain made : List ChainBlock) (o : Open) (text : List ℕ) (more : List Entry) (n : ℕ) → k.work ≡ idle chain → IsWhole old → IsUsable k.config.directory old chain
-    → KeepsFront k.config.directory (block_behind k.config.directory (listed_files chain)) old new → ended_in made ≡ listed_files chain → IsShown new o text more n → later.work ≡ recording made o → OwnGrow k old later new more
-started_own k later old new chain made o text more n at whole usable front ended shows is = inr (λ own has.
-    let was : AreAmong old (listed_files chain) own = subst (λ (w : Work). AreOwn w old own) at has in
-    let now = among_keeps old new (listed_files chain) own (listed_keep k.config.directory old new chain whole usable front) was in
-    subst (λ (w : Work). AreOwn w new (own ++ more)) (sym is)
-    (record { ended = own; now = more; own_is = refl; before = subst (λ (l : List DirectoryEntry). AreAmong new l own) (sym ended) now; text = text; shown = n; shows = shows }))
+    → KeepsFront k.config.directory (block_behind k.config.directory (listed_files chain)) old new → ended_in made ≡ listed_files chain → IsShown new o text more n → later.work ≡ recording made o → later.found ≡ k.found → OwnGrow k old later new more
+started_own k later old new chain made o text more n at whole usable front ended shows is stays = inr (λ own has.
+    let was : EndAfter k.found old (listed_files chain) own = subst (λ (w : Work). OwnIn k.found w old own) at has in
+    let now = after_keeps k.found old new (listed_files chain) own (listed_keep k.config.directory old new chain whole usable front) was in
+    subst (λ (f : Option ℕ). OwnIn f later.work new (own ++ more)) (sym stays)
+    (subst (λ (w : Work). OwnIn k.found w new (own ++ more)) (sym is)
+    (record { ended = own; now = more; own_is = refl; before = subst (λ (l : List DirectoryEntry). EndAfter k.found new l own) (sym ended) now; text = text; shown = n; shows = shows })))
 
 -- the last file is closed, which was left open
 
@@ -262,22 +307,20 @@ IsLeft listed e = (last_or None listed ≡ Some e) × (is_closed e ≡ false)
 left : (listed : List DirectoryEntry) → is_last_closed listed ≡ false → (e : DirectoryEntry) → last_or None listed ≡ Some e → is_closed e ≡ false
 left listed unsealed e found = subst (λ (o : Option DirectoryEntry). elim o as (λ (x : Option DirectoryEntry). Bool) [ None ↦ true | Some d ↦ is_closed d ] ≡ false) found unsealed
 
-pub sealed_own : (k later : Kept) (old new : Image) (chain made : List ChainBlock) (nodes : ℕ) → k.work ≡ idle chain → IsWhole old → IsUsable k.config.directory old chain → is_last_closed (listed_files chain) ≡ false
-    → ((e : DirectoryEntry) → last_or None (listed_files chain) ≡ Some e → SealsFile old chain e nodes (512 * (length old - e.first_block)) new made) → later.work ≡ idle made → OwnGrow k old later new []
-sealed_own k later old new chain made nodes at whole usable unsealed done is = inr (λ own has.
-    let was : AreAmong old (listed_files chain) own = subst (λ (w : Work). AreOwn w old own) at has in
+pub sealed_own : (k later : Kept) (old new : Image) (chain made : List ChainBlock) (nodes : ℕ) → k.work ≡ idle chain → is_last_closed (listed_files chain) ≡ false
+    → ((e : DirectoryEntry) → last_or None (listed_files chain) ≡ Some e → SealsFile old chain e nodes (512 * (length old - e.first_block)) new made) → later.work ≡ idle made → later.found ≡ k.found → OwnGrow k old later new []
+sealed_own k later old new chain made nodes at unsealed done is stays = inr (λ own has.
+    let was : EndAfter k.found old (listed_files chain) own = subst (λ (w : Work). OwnIn k.found w old own) at has in
     let it = last_split (IsLeft (listed_files chain)) (listed_files chain) (sealed_some (IsLeft (listed_files chain)) (last_or None (listed_files chain)) unsealed (λ e found. (found, left (listed_files chain) unsealed e found))) in
     let e = it.0 in
     let seals = done e it.2.0 in
     let some : 0 < length (listed_files chain) = omega (arith, ap (λ (l : List DirectoryEntry). length l) it.1, length-append (ended_in chain) (e ∷ [])) in
-    let last : ListsLast e.first_block chain = subst (λ (o : Option DirectoryEntry). IsSomeAnd o (λ (x : DirectoryEntry). x.first_block ≡ e.first_block)) (sym it.2.0) refl in
-    let front = sealed_front k.config.directory old new chain made nodes e seals.packets usable some seals.closed in
     let entry = sealed_entry nodes seals.packets seals.closed.time.civil e in
     let listed : listed_files made ≡ ended_in chain ++ entry ∷ [] = ap (λ (c : List ChainBlock). listed_files c) seals.closed.made_is ∙ files-updated entry chain some in
-    let before = among_front old (ended_in chain) e own it.2.1 (subst (λ (l : List DirectoryEntry). AreAmong old l own) it.1 was) in
-    let kept = among_keeps old new (ended_in chain) own (ended_keep k.config.directory e.first_block old new chain whole usable last front) before in
-    let then : AreAmong new (listed_files made) own = subst (λ (l : List DirectoryEntry). AreAmong new l own) (sym listed) (among_more new (ended_in chain) entry own kept) in
-    subst (λ (w : Work). AreOwn w new (own ++ [])) (sym is) (subst (λ (l : List Entry). AreAmong new (listed_files made) l) (sym (append-nil own)) then))
+    let then : EndAfter k.found new (listed_files made) own = subst (λ (l : List DirectoryEntry). EndAfter k.found new l own) (sym listed)
+    (after_left k.found old new (ended_in chain) e entry own it.2.1 (subst (λ (l : List DirectoryEntry). EndAfter k.found old l own) it.1 was)) in
+    subst (λ (f : Option ℕ). OwnIn f later.work new (own ++ [])) (sym stays)
+    (subst (λ (w : Work). OwnIn k.found w new (own ++ [])) (sym is) (subst (λ (l : List Entry). EndAfter k.found new (listed_files made) l) (sym (append-nil own)) then)))
 
 -- ---- where a call on the directory is refused
 

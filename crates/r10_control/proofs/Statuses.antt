@@ -76,7 +76,7 @@ free_recording s image chain o m left mode holds told =
     ∙ sym (ap (λ (l : List File). elim (last_or None l) [ None ↦ 0 | Some f ↦ area s f - cost_of f ]) split.2)
     ∙ sym (ap (free_by s m) mode)
 
-usable_few : (reserved : ℕ) (image : Image) (chain : List ChainBlock) → IsUsable reserved image chain → reserved + 2 ≤ length image → length (listed_files chain) ≤ length image
+pub usable_few : (reserved : ℕ) (image : Image) (chain : List ChainBlock) → IsUsable reserved image chain → reserved + 2 ≤ length image → length (listed_files chain) ≤ length image
 usable_few reserved image chain usable room = omega (arith, few_files (length image) (reserved + 1) (listed_files chain) (omega (arith, room)) (usable_of reserved (length image) chain usable.rules).stand)
 
 -- ---- channels

@@ -1,5 +1,6 @@
 -- What a call that answers Ok has done, whatever files the medium has: what is kept then, the medium's directory, which blocks stay, and what the file that is recorded shows.
 use Rattle.std.specs.Prelude.{◌≡◌, ℕ, ◌+◌, ◌++◌, List, [], ◌∷◌, length, Option, Some, IsSomeAnd}
+use Rattle.std.specs.Option.{option_or}
 use Rattle.r10_blockout.specs.Output.{first_of, size_of}
 use Rattle.r10_count.specs.declared.civil.Parts.{Parts}
 use Rattle.r10_dirblock.specs.Block.{begun_entry, sized}
@@ -46,20 +47,20 @@ HasDirectory chain disk = IsDirectory disk.blocks chain
 
 -- ---- the calls on the directory
 
--- a mount: the directory was one that a mount takes, and block 1 notes that the medium is in use
+-- a mount: the directory was one that a mount takes, and block 1 notes that the medium is in use; the files that the first mount finds are counted
 pub record MountEffect (k : Kept) (old : Disk) (later : Kept) (new : Disk) : Type 0 where
   pub chain : List ChainBlock
   pub usable : IsUsable k.config.directory old.blocks chain
-  pub effect : Effect (length old.blocks) (record k { work = idle (with_shutdown 0x00 chain) }) (IsPublished (with_shutdown 0x00 chain)) old.blocks later new
+  pub effect : Effect (length old.blocks) (record k { work = idle (with_shutdown 0x00 chain); found = option_or k.found (Some (length (listed_files chain))) }) (IsPublished (with_shutdown 0x00 chain)) old.blocks later new
 
 -- a dismount: block 1 notes that the medium is properly dismounted
 abbrev pub DismountEffect : Kept → Disk → Kept → Disk → Type 0
 DismountEffect k old later new = WhereIdle k.work (λ chain. Effect (length old.blocks) (record k { work = unmounted }) (IsPublished (with_shutdown 0xFF chain)) old.blocks later new)
 
--- an erase: no file is listed, and all that was taken in is erased
+-- an erase: no file is listed, all that was taken in is erased, and of the files that come none was found
 abbrev pub EraseEffect : Kept → Disk → Kept → Disk → Type 0
 EraseEffect k old later new =
-    WhereIdle k.work (λ chain. Effect (length old.blocks) (record k { work = idle (emptied chain); generation = k.generation + 1; erased = k.taken }) (IsPublished (emptied chain)) old.blocks later new)
+    WhereIdle k.work (λ chain. Effect (length old.blocks) (record k { work = idle (emptied chain); generation = k.generation + 1; erased = k.taken; found = Some 0 }) (IsPublished (emptied chain)) old.blocks later new)
 
 -- ---- the calls on the file that is recorded
 

@@ -31,6 +31,7 @@ pub struct Recorder<M: BlockMedium, L: LaneOut> {
     pub(crate) generation: u64,
     pub(crate) taken: Vec<u64>,
     pub(crate) erased: Vec<u64>,
+    pub(crate) found: Option<usize>,
     pub(crate) lanes: Vec<L>,
     pub(crate) reader: Reader,
     pub(crate) medium: M,
@@ -44,13 +45,13 @@ impl<M: BlockMedium, L: LaneOut> Model for Recorder<M, L> {
     ghost Value = { RecorderState M L };
 
     ghost view = { λ r. record {
-      kept = record { config = r.settings; work = work_of r.work; tick = r.tick; last_event = r.last_event; generation = r.generation; taken = r.taken.items; erased = r.erased.items };
+      kept = record { config = r.settings; work = work_of r.work; tick = r.tick; last_event = r.last_event; generation = r.generation; taken = r.taken.items; erased = r.erased.items; found = r.found };
       lanes = r.lanes.items;
       medium = r.medium;
     } };
 
     ghost invariant = { λ r. Owns L.spec_of L.reached
-        (record { config = r.settings; work = work_of r.work; tick = r.tick; last_event = r.last_event; generation = r.generation; taken = r.taken.items; erased = r.erased.items })
+        (record { config = r.settings; work = work_of r.work; tick = r.tick; last_event = r.last_event; generation = r.generation; taken = r.taken.items; erased = r.erased.items; found = r.found })
         (M.disk r.medium).blocks r.lanes.items r.reader.books };
 }
 
@@ -66,6 +67,7 @@ impl<M: BlockMedium + Drop, L: LaneOut + Drop> Drop for Recorder<M, L> {
             generation: _,
             taken: _,
             erased: _,
+            found: _,
             lanes: _,
             reader: _,
             medium: _,
@@ -90,10 +92,10 @@ impl<M: BlockMedium, L: LaneOut> Recorder<M, L> {
     ) -> Result<Recorder<M, L>, (Settings, M, Vec<L>)>
         requires blocks { length (M.disk medium).blocks ≡ settings.blocks }
         requires lanes { map L.spec_of lanes.items ≡ settings.channels }
-        ensures kept { IfOk result (λ r. r.kept ≡ record { config = settings; work = unmounted; tick = None; last_event = None; generation = 0; taken = replicate (length settings.channels) 0; erased = replicate (length settings.channels) 0 }) }
+        ensures kept { IfOk result (λ r. r.kept ≡ record { config = settings; work = unmounted; tick = None; last_event = None; generation = 0; taken = replicate (length settings.channels) 0; erased = replicate (length settings.channels) 0; found = None }) }
         ensures lanes { IfOk result (λ r. r.lanes ≡ lanes.items) }
         ensures medium { IfOk result (λ r. r.medium ≡ medium) }
-        ensures owned { IfOk result (λ r. AreOwn r.kept.work (M.disk r.medium).blocks []) }
+        ensures owned { IfOk result (λ r. AreOwn r.kept (M.disk r.medium).blocks []) }
         ensures refused { IfErr result (λ back. (back.0 ≡ settings) × (back.1 ≡ medium) × (back.2.items ≡ lanes.items)) }
     {
         let channels = settings.channels().len();
@@ -112,6 +114,7 @@ impl<M: BlockMedium, L: LaneOut> Recorder<M, L> {
             generation: 0,
             taken,
             erased,
+            found: None,
             lanes,
             reader: Reader::new(alloc),
             medium,
@@ -131,6 +134,7 @@ impl<M: BlockMedium, L: LaneOut> Recorder<M, L> {
             generation: _,
             taken: _,
             erased: _,
+            found: _,
             lanes,
             reader: _,
             medium,
@@ -159,6 +163,7 @@ impl<M: BlockMedium, L: LaneOut> Recorder<M, L> {
             generation,
             taken,
             erased,
+            found,
             lanes,
             reader,
             medium,
@@ -172,6 +177,7 @@ impl<M: BlockMedium, L: LaneOut> Recorder<M, L> {
             generation,
             taken,
             erased,
+            found,
             lanes: spent,
             reader,
             medium,

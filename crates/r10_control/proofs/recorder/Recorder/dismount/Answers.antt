@@ -41,7 +41,7 @@ returns-in-Ok-clause-steps g c =
     let w = c.self.inside in
     let disk = g.M.BlockMedium.disk in
     let later = disk c.dismount.new.medium in
-    let k : Kept = record { config = w.settings; work = work_of w.work; tick = w.tick; last_event = w.last_event; generation = w.generation; taken = w.taken.items; erased = w.erased.items } in
+    let k : Kept = record { config = w.settings; work = work_of w.work; tick = w.tick; last_event = w.last_event; generation = w.generation; taken = w.taken.items; erased = w.erased.items; found = w.found } in
     let at : k.work ≡ idle c.in-Idle.directory = ap work_of c.in-Idle.is in
     subst (λ (v : RecorderState _ _). (m : Machine) → KeptStandsFor v.kept (disk v.medium).blocks (disk v.medium).failures m
     → KeptStepsTaking none_taken v.kept m events.Dismount replies.Done (record k { work = work_of c.turn.new.work }) later.blocks later.failures) c.self.view_is
@@ -56,7 +56,7 @@ returns-in-Err-dismount-clause-steps g c =
     let w = c.self.inside in
     let disk = g.M.BlockMedium.disk in
     let later = disk c.dismount.new.medium in
-    let k : Kept = record { config = w.settings; work = work_of w.work; tick = w.tick; last_event = w.last_event; generation = w.generation; taken = w.taken.items; erased = w.erased.items } in
+    let k : Kept = record { config = w.settings; work = work_of w.work; tick = w.tick; last_event = w.last_event; generation = w.generation; taken = w.taken.items; erased = w.erased.items; found = w.found } in
     let at : k.work ≡ idle c.in-Idle.directory = ap work_of c.in-Idle.is in
     let fine : first_broken (idle_checks (mode_of k.work)) ≡ None = ap (λ mode. first_broken (idle_checks mode)) (sym c.mode_in.ensures) ∙ c.in_default.ensures in
     subst (λ (v : RecorderState _ _). (m : Machine) → KeptStandsFor v.kept (disk v.medium).blocks (disk v.medium).failures m
@@ -70,14 +70,14 @@ pub returns-in-Err-clause-owned : goal.returns-in-Err-clause-owned
 returns-in-Err-clause-owned g c =
     let w = c.self.inside in
     let disk = g.M.BlockMedium.disk in
-    let k : Kept = record { config = w.settings; work = work_of w.work; tick = w.tick; last_event = w.last_event; generation = w.generation; taken = w.taken.items; erased = w.erased.items } in
+    let k : Kept = record { config = w.settings; work = work_of w.work; tick = w.tick; last_event = w.last_event; generation = w.generation; taken = w.taken.items; erased = w.erased.items; found = w.found } in
     subst (λ (v : RecorderState _ _). OwnStay v.kept (disk v.medium).blocks v.kept (disk v.medium).blocks) c.self.view_is (stay_same k (disk w.medium).blocks)
 
 pub returns-in-Err-dismount-clause-owned : goal.returns-in-Err-dismount-clause-owned
 returns-in-Err-dismount-clause-owned g c =
     let w = c.self.inside in
     let disk = g.M.BlockMedium.disk in
-    let k : Kept = record { config = w.settings; work = work_of w.work; tick = w.tick; last_event = w.last_event; generation = w.generation; taken = w.taken.items; erased = w.erased.items } in
+    let k : Kept = record { config = w.settings; work = work_of w.work; tick = w.tick; last_event = w.last_event; generation = w.generation; taken = w.taken.items; erased = w.erased.items; found = w.found } in
     subst (λ (v : RecorderState _ _). OwnStay v.kept (disk v.medium).blocks (record k { work = work_of c.turn-in-Err-dismount.new.work }) (disk c.dismount.new.medium).blocks) c.self.view_is
     (stay_failed k (record k { work = work_of c.turn-in-Err-dismount.new.work }) (disk w.medium).blocks (disk c.dismount.new.medium).blocks (ap work_of c.turn-in-Err-dismount.ensures))
 
@@ -85,7 +85,7 @@ pub returns-in-Ok-clause-owned : goal.returns-in-Ok-clause-owned
 returns-in-Ok-clause-owned g c =
     let w = c.self.inside in
     let disk = g.M.BlockMedium.disk in
-    let k : Kept = record { config = w.settings; work = work_of w.work; tick = w.tick; last_event = w.last_event; generation = w.generation; taken = w.taken.items; erased = w.erased.items } in
+    let k : Kept = record { config = w.settings; work = work_of w.work; tick = w.tick; last_event = w.last_event; generation = w.generation; taken = w.taken.items; erased = w.erased.items; found = w.found } in
     let later = disk c.dismount.new.medium in
     let chain = c.in-Idle.directory in
     let at : k.work ≡ idle chain = ap work_of c.in-Idle.is in
@@ -94,7 +94,7 @@ returns-in-Ok-clause-owned g c =
     (stay_by k (record k { work = work_of c.turn.new.work }) (disk w.medium).blocks later.blocks
     (dismounted_own k (record k { work = work_of c.turn.new.work }) (disk w.medium).blocks later.blocks chain at (whole_reads (disk w.medium)) usable
     (one_block k.config.directory (length (disk w.medium).blocks) chain (with_shutdown 0xFF chain) (disk w.medium) later c.dismount.result (some_reserved k.config.directory (disk w.medium).blocks chain usable) c.dismount.ensures.turns)
-    (subst (λ (l : List ChainBlock). IsDirectory later.blocks l) c.in-Ok.ensures.done c.in-Ok.ensures.directory.directory) (ap work_of c.turn.ensures)))
+    (subst (λ (l : List ChainBlock). IsDirectory later.blocks l) c.in-Ok.ensures.done c.in-Ok.ensures.directory.directory) (ap work_of c.turn.ensures) refl))
 
 pub returns-in-Ok-clause-bytes : goal.returns-in-Ok-clause-bytes
 returns-in-Ok-clause-bytes g c =
@@ -115,7 +115,7 @@ returns-in-Ok-clause-effect g c =
     let w = c.self.inside in
     let disk = g.M.BlockMedium.disk in
     let later = disk c.dismount.new.medium in
-    let k : Kept = record { config = w.settings; work = work_of w.work; tick = w.tick; last_event = w.last_event; generation = w.generation; taken = w.taken.items; erased = w.erased.items } in
+    let k : Kept = record { config = w.settings; work = work_of w.work; tick = w.tick; last_event = w.last_event; generation = w.generation; taken = w.taken.items; erased = w.erased.items; found = w.found } in
     let at : k.work ≡ idle c.in-Idle.directory = ap work_of c.in-Idle.is in
     subst (λ (v : RecorderState _ _). DismountEffect v.kept (disk v.medium) (record k { work = work_of c.turn.new.work }) later) c.self.view_is
     (subst (λ (x : Doing). DismountEffect k (disk w.medium) (record k { work = work_of x }) later) (sym c.turn.ensures)
@@ -126,7 +126,7 @@ pub returns-in-Err-clause-stops : goal.returns-in-Err-clause-stops
 returns-in-Err-clause-stops g c =
     let w = c.self.inside in
     let disk = g.M.BlockMedium.disk in
-    let k : Kept = record { config = w.settings; work = work_of w.work; tick = w.tick; last_event = w.last_event; generation = w.generation; taken = w.taken.items; erased = w.erased.items } in
+    let k : Kept = record { config = w.settings; work = work_of w.work; tick = w.tick; last_event = w.last_event; generation = w.generation; taken = w.taken.items; erased = w.erased.items; found = w.found } in
     subst (λ (v : RecorderState _ _). StaysSafe whichever v.kept events.Dismount (replies.Refused c.in-Err.refusal) (disk v.medium) v.kept (disk v.medium)) c.self.view_is
     (refused_safely whichever k k events.Dismount c.in-Err.refusal (disk w.medium) (disk w.medium) refl (unchanged (disk w.medium)))
 
@@ -134,7 +134,7 @@ pub returns-in-Ok-clause-stops : goal.returns-in-Ok-clause-stops
 returns-in-Ok-clause-stops g c =
     let w = c.self.inside in
     let disk = g.M.BlockMedium.disk in
-    let k : Kept = record { config = w.settings; work = work_of w.work; tick = w.tick; last_event = w.last_event; generation = w.generation; taken = w.taken.items; erased = w.erased.items } in
+    let k : Kept = record { config = w.settings; work = work_of w.work; tick = w.tick; last_event = w.last_event; generation = w.generation; taken = w.taken.items; erased = w.erased.items; found = w.found } in
     let later = disk c.dismount.new.medium in
     subst (λ (v : RecorderState _ _). StaysSafe whichever v.kept events.Dismount replies.Done (disk v.medium) (record k { work = work_of c.turn.new.work }) later) c.self.view_is
     (synced_safely whichever k (record k { work = work_of c.turn.new.work }) events.Dismount replies.Done (disk w.medium) later c.in-Ok.ensures.directory.synced (makes_none whichever k events.Dismount (disk w.medium) later (idle_leaves k (disk w.medium) later c.in-Idle.directory (ap work_of c.in-Idle.is) (λ files held settled. c.dismount.ensures.moments k.config files held settled))))
@@ -143,7 +143,7 @@ pub returns-in-Err-dismount-clause-stops : goal.returns-in-Err-dismount-clause-s
 returns-in-Err-dismount-clause-stops g c =
     let w = c.self.inside in
     let disk = g.M.BlockMedium.disk in
-    let k : Kept = record { config = w.settings; work = work_of w.work; tick = w.tick; last_event = w.last_event; generation = w.generation; taken = w.taken.items; erased = w.erased.items } in
+    let k : Kept = record { config = w.settings; work = work_of w.work; tick = w.tick; last_event = w.last_event; generation = w.generation; taken = w.taken.items; erased = w.erased.items; found = w.found } in
     let later = disk c.dismount.new.medium in
     subst (λ (v : RecorderState _ _). StaysSafe whichever v.kept events.Dismount (replies.Refused refusals.Medium) (disk v.medium) (record k { work = work_of c.turn-in-Err-dismount.new.work }) later) c.self.view_is
     (failed_safely whichever k (record k { work = work_of c.turn-in-Err-dismount.new.work }) events.Dismount (replies.Refused refusals.Medium) (disk w.medium) later (ap work_of c.turn-in-Err-dismount.ensures) (makes_none whichever k events.Dismount (disk w.medium) later (idle_leaves k (disk w.medium) later c.in-Idle.directory (ap work_of c.in-Idle.is) (λ files held settled. c.dismount.ensures.moments k.config files held settled))))

@@ -19,8 +19,9 @@ use Rattle.r10_machine.specs.declared.reply.Reply.TheVariants as replies
 use Rattle.r10_control.proofs.Effecting.{erase_effect, idle_usable}
 use Rattle.r10_control.specs.Effects.{EraseEffect}
 use Rattle.r10_control.specs.Own.{OwnStay}
-use Rattle.r10_control.proofs.Owning.{none_among, stay_failed, stay_same}
+use Rattle.r10_control.proofs.Owning.{erased_own, stay_failed, stay_same}
 use Rattle.r10_dirchain.specs.Chain.{listed_files}
+use Rattle.r10_dirchain.specs.declared.chain.ChainBlock.{ChainBlock}
 use Rattle.r10_means.proofs.Behind.{failed_safely, refused_safely, synced_safely}
 use Rattle.r10_means.specs.Left.{StaysSafe, whichever}
 use Rattle.r10_control.proofs.StopPoints.{made_of}
@@ -63,15 +64,15 @@ returns-in-Ok-erase-clause-steps g c =
     let w = c.self.inside in
     let disk = g.M.BlockMedium.disk in
     let later = disk c.erase.new.medium in
-    let k : Kept = record { config = w.settings; work = work_of w.work; tick = w.tick; last_event = w.last_event; generation = w.generation; taken = w.taken.items; erased = w.erased.items } in
+    let k : Kept = record { config = w.settings; work = work_of w.work; tick = w.tick; last_event = w.last_event; generation = w.generation; taken = w.taken.items; erased = w.erased.items; found = w.found } in
     let at : k.work ≡ idle c.in-Idle.directory = ap work_of c.in-Idle.is in
     let fine : checked k ≡ None =
     rules_pass (idle_checks (mode_of k.work)) (erase_checks k.generation) (ap (λ mode. first_broken (idle_checks mode)) (sym c.mode_in.ensures) ∙ c.in_default.ensures) ∙ c.in_default-check_erase.ensures in
     let copied : k.taken ≡ c.in-Ok.erased.items = sym (c.in-Ok.ensures.items ∙ c.as_slice.ensures.value) in
     subst (λ (v : RecorderState _ _). (m : Machine) → KeptStandsFor v.kept (disk v.medium).blocks (disk v.medium).failures m
-    → KeptStepsTaking none_taken v.kept m events.Erase replies.Done (record k { work = idle c.erase.new.directory; generation = w.generation + 1; erased = c.in-Ok.erased.items }) later.blocks later.failures) c.self.view_is
+    → KeptStepsTaking none_taken v.kept m events.Erase replies.Done (record k { work = idle c.erase.new.directory; generation = w.generation + 1; erased = c.in-Ok.erased.items; found = Some 0 }) later.blocks later.failures) c.self.view_is
     (subst (λ (x : List ℕ). (m : Machine) → KeptStandsFor k (disk w.medium).blocks (disk w.medium).failures m
-    → KeptStepsTaking none_taken k m events.Erase replies.Done (record k { work = idle c.erase.new.directory; generation = w.generation + 1; erased = x }) later.blocks later.failures) copied
+    → KeptStepsTaking none_taken k m events.Erase replies.Done (record k { work = idle c.erase.new.directory; generation = w.generation + 1; erased = x; found = Some 0 }) later.blocks later.failures) copied
     (λ m means.
     let holds = c.in-Ok-erase.ensures.holds k.config m.files (held k c.in-Idle.directory (disk w.medium).blocks m at means.files) in
     erase_done c.a_step_stays_sound.ensures k (disk w.medium).blocks later.blocks (disk w.medium).failures later.failures m c.in-Idle.directory c.erase.new.directory c.self.invariant.limits means at fine
@@ -82,7 +83,7 @@ returns-in-Err-erase-clause-steps g c =
     let w = c.self.inside in
     let disk = g.M.BlockMedium.disk in
     let later = disk c.erase.new.medium in
-    let k : Kept = record { config = w.settings; work = work_of w.work; tick = w.tick; last_event = w.last_event; generation = w.generation; taken = w.taken.items; erased = w.erased.items } in
+    let k : Kept = record { config = w.settings; work = work_of w.work; tick = w.tick; last_event = w.last_event; generation = w.generation; taken = w.taken.items; erased = w.erased.items; found = w.found } in
     let at : k.work ≡ idle c.in-Idle.directory = ap work_of c.in-Idle.is in
     let fine : checked k ≡ None =
     rules_pass (idle_checks (mode_of k.work)) (erase_checks k.generation) (ap (λ mode. first_broken (idle_checks mode)) (sym c.mode_in.ensures) ∙ c.in_default.ensures) ∙ c.in_default-check_erase.ensures in
@@ -97,35 +98,38 @@ pub returns-in-Err-clause-owned : goal.returns-in-Err-clause-owned
 returns-in-Err-clause-owned g c =
     let w = c.self.inside in
     let disk = g.M.BlockMedium.disk in
-    let k : Kept = record { config = w.settings; work = work_of w.work; tick = w.tick; last_event = w.last_event; generation = w.generation; taken = w.taken.items; erased = w.erased.items } in
+    let k : Kept = record { config = w.settings; work = work_of w.work; tick = w.tick; last_event = w.last_event; generation = w.generation; taken = w.taken.items; erased = w.erased.items; found = w.found } in
     subst (λ (v : RecorderState _ _). OwnStay v.kept (disk v.medium).blocks v.kept (disk v.medium).blocks) c.self.view_is (stay_same k (disk w.medium).blocks)
 
 pub returns-in-Err-check_erase-clause-owned : goal.returns-in-Err-check_erase-clause-owned
 returns-in-Err-check_erase-clause-owned g c =
     let w = c.self.inside in
     let disk = g.M.BlockMedium.disk in
-    let k : Kept = record { config = w.settings; work = work_of w.work; tick = w.tick; last_event = w.last_event; generation = w.generation; taken = w.taken.items; erased = w.erased.items } in
+    let k : Kept = record { config = w.settings; work = work_of w.work; tick = w.tick; last_event = w.last_event; generation = w.generation; taken = w.taken.items; erased = w.erased.items; found = w.found } in
     subst (λ (v : RecorderState _ _). OwnStay v.kept (disk v.medium).blocks v.kept (disk v.medium).blocks) c.self.view_is (stay_same k (disk w.medium).blocks)
 
 pub returns-in_default-from_slice-clause-owned : goal.returns-in_default-from_slice-clause-owned
 returns-in_default-from_slice-clause-owned g c =
     let w = c.self.inside in
     let disk = g.M.BlockMedium.disk in
-    let k : Kept = record { config = w.settings; work = work_of w.work; tick = w.tick; last_event = w.last_event; generation = w.generation; taken = w.taken.items; erased = w.erased.items } in
+    let k : Kept = record { config = w.settings; work = work_of w.work; tick = w.tick; last_event = w.last_event; generation = w.generation; taken = w.taken.items; erased = w.erased.items; found = w.found } in
     subst (λ (v : RecorderState _ _). OwnStay v.kept (disk v.medium).blocks v.kept (disk v.medium).blocks) c.self.view_is (stay_same k (disk w.medium).blocks)
 
 pub returns-in-Err-erase-clause-owned : goal.returns-in-Err-erase-clause-owned
 returns-in-Err-erase-clause-owned g c =
     let w = c.self.inside in
     let disk = g.M.BlockMedium.disk in
-    let k : Kept = record { config = w.settings; work = work_of w.work; tick = w.tick; last_event = w.last_event; generation = w.generation; taken = w.taken.items; erased = w.erased.items } in
+    let k : Kept = record { config = w.settings; work = work_of w.work; tick = w.tick; last_event = w.last_event; generation = w.generation; taken = w.taken.items; erased = w.erased.items; found = w.found } in
     subst (λ (v : RecorderState _ _). OwnStay v.kept (disk v.medium).blocks (record k { work = work_of c.turn.new.work }) (disk c.erase.new.medium).blocks) c.self.view_is
     (stay_failed k (record k { work = work_of c.turn.new.work }) (disk w.medium).blocks (disk c.erase.new.medium).blocks (ap work_of c.turn.ensures))
 
 pub returns-in-Ok-erase-clause-owned : goal.returns-in-Ok-erase-clause-owned
 returns-in-Ok-erase-clause-owned g c =
+    let w = c.self.inside in
     let disk = g.M.BlockMedium.disk in
-    none_among (disk c.erase.new.medium).blocks (listed_files c.erase.new.directory)
+    let k : Kept = record { config = w.settings; work = work_of w.work; tick = w.tick; last_event = w.last_event; generation = w.generation; taken = w.taken.items; erased = w.erased.items; found = w.found } in
+    erased_own (record k { work = idle c.erase.new.directory; generation = w.generation + 1; erased = c.in-Ok.erased.items; found = Some 0 }) (disk c.erase.new.medium).blocks c.erase.new.directory refl refl
+    (ap (λ (l : List ChainBlock). listed_files l) c.in-Ok-erase.ensures.done)
 
 pub returns-in-Ok-erase-clause-bytes : goal.returns-in-Ok-erase-clause-bytes
 returns-in-Ok-erase-clause-bytes g c =
@@ -146,10 +150,10 @@ returns-in-Ok-erase-clause-effect g c =
     let w = c.self.inside in
     let disk = g.M.BlockMedium.disk in
     let later = disk c.erase.new.medium in
-    let k : Kept = record { config = w.settings; work = work_of w.work; tick = w.tick; last_event = w.last_event; generation = w.generation; taken = w.taken.items; erased = w.erased.items } in
+    let k : Kept = record { config = w.settings; work = work_of w.work; tick = w.tick; last_event = w.last_event; generation = w.generation; taken = w.taken.items; erased = w.erased.items; found = w.found } in
     let at : k.work ≡ idle c.in-Idle.directory = ap work_of c.in-Idle.is in
     let copied : k.taken ≡ c.in-Ok.erased.items = sym (c.in-Ok.ensures.items ∙ c.as_slice.ensures.value) in
-    subst (λ (v : RecorderState _ _). EraseEffect v.kept (disk v.medium) (record k { work = idle c.erase.new.directory; generation = w.generation + 1; erased = c.in-Ok.erased.items }) later) c.self.view_is
+    subst (λ (v : RecorderState _ _). EraseEffect v.kept (disk v.medium) (record k { work = idle c.erase.new.directory; generation = w.generation + 1; erased = c.in-Ok.erased.items; found = Some 0 }) later) c.self.view_is
     (erase_effect k (disk w.medium) later c.in-Idle.directory c.erase.new.directory c.erase.result at
     (idle_usable g.L.LaneOut.spec_of g.L.LaneOut.reached k (disk w.medium).blocks w.lanes.items c.in-Idle.directory at c.self.invariant.work) c.erase.ensures.turns c.in-Ok-erase.ensures.done c.in-Ok-erase.ensures.directory
     c.in-Ok.erased.items copied)
@@ -158,7 +162,7 @@ pub returns-in-Err-clause-stops : goal.returns-in-Err-clause-stops
 returns-in-Err-clause-stops g c =
     let w = c.self.inside in
     let disk = g.M.BlockMedium.disk in
-    let k : Kept = record { config = w.settings; work = work_of w.work; tick = w.tick; last_event = w.last_event; generation = w.generation; taken = w.taken.items; erased = w.erased.items } in
+    let k : Kept = record { config = w.settings; work = work_of w.work; tick = w.tick; last_event = w.last_event; generation = w.generation; taken = w.taken.items; erased = w.erased.items; found = w.found } in
     subst (λ (v : RecorderState _ _). StaysSafe whichever v.kept events.Erase (replies.Refused c.in-Err.refusal) (disk v.medium) v.kept (disk v.medium)) c.self.view_is
     (refused_safely whichever k k events.Erase c.in-Err.refusal (disk w.medium) (disk w.medium) refl (unchanged (disk w.medium)))
 
@@ -166,7 +170,7 @@ pub returns-in-Err-check_erase-clause-stops : goal.returns-in-Err-check_erase-cl
 returns-in-Err-check_erase-clause-stops g c =
     let w = c.self.inside in
     let disk = g.M.BlockMedium.disk in
-    let k : Kept = record { config = w.settings; work = work_of w.work; tick = w.tick; last_event = w.last_event; generation = w.generation; taken = w.taken.items; erased = w.erased.items } in
+    let k : Kept = record { config = w.settings; work = work_of w.work; tick = w.tick; last_event = w.last_event; generation = w.generation; taken = w.taken.items; erased = w.erased.items; found = w.found } in
     subst (λ (v : RecorderState _ _). StaysSafe whichever v.kept events.Erase (replies.Refused c.in-Err-check_erase.refusal) (disk v.medium) v.kept (disk v.medium)) c.self.view_is
     (refused_safely whichever k k events.Erase c.in-Err-check_erase.refusal (disk w.medium) (disk w.medium) refl (unchanged (disk w.medium)))
 
@@ -174,7 +178,7 @@ pub returns-in_default-from_slice-clause-stops : goal.returns-in_default-from_sl
 returns-in_default-from_slice-clause-stops g c =
     let w = c.self.inside in
     let disk = g.M.BlockMedium.disk in
-    let k : Kept = record { config = w.settings; work = work_of w.work; tick = w.tick; last_event = w.last_event; generation = w.generation; taken = w.taken.items; erased = w.erased.items } in
+    let k : Kept = record { config = w.settings; work = work_of w.work; tick = w.tick; last_event = w.last_event; generation = w.generation; taken = w.taken.items; erased = w.erased.items; found = w.found } in
     subst (λ (v : RecorderState _ _). StaysSafe whichever v.kept events.Erase (replies.Refused refusals.OutOfMemory) (disk v.medium) v.kept (disk v.medium)) c.self.view_is
     (refused_safely whichever k k events.Erase refusals.OutOfMemory (disk w.medium) (disk w.medium) refl (unchanged (disk w.medium)))
 
@@ -182,18 +186,18 @@ pub returns-in-Ok-erase-clause-stops : goal.returns-in-Ok-erase-clause-stops
 returns-in-Ok-erase-clause-stops g c =
     let w = c.self.inside in
     let disk = g.M.BlockMedium.disk in
-    let k : Kept = record { config = w.settings; work = work_of w.work; tick = w.tick; last_event = w.last_event; generation = w.generation; taken = w.taken.items; erased = w.erased.items } in
+    let k : Kept = record { config = w.settings; work = work_of w.work; tick = w.tick; last_event = w.last_event; generation = w.generation; taken = w.taken.items; erased = w.erased.items; found = w.found } in
     let later = disk c.erase.new.medium in
     let fine : checked k ≡ None =
     rules_pass (idle_checks (mode_of k.work)) (erase_checks k.generation) (ap (λ mode. first_broken (idle_checks mode)) (sym c.mode_in.ensures) ∙ c.in_default.ensures) ∙ c.in_default-check_erase.ensures in
-    subst (λ (v : RecorderState _ _). StaysSafe whichever v.kept events.Erase replies.Done (disk v.medium) (record k { work = idle c.erase.new.directory; generation = w.generation + 1; erased = c.in-Ok.erased.items }) later) c.self.view_is
-    (synced_safely whichever k (record k { work = idle c.erase.new.directory; generation = w.generation + 1; erased = c.in-Ok.erased.items }) events.Erase replies.Done (disk w.medium) later c.in-Ok-erase.ensures.directory.synced (made_of whichever k events.Erase (disk w.medium) later (erase_left k (disk w.medium) later c.in-Idle.directory (ap work_of c.in-Idle.is) fine (λ files held settled. c.erase.ensures.moments k.config files held settled))))
+    subst (λ (v : RecorderState _ _). StaysSafe whichever v.kept events.Erase replies.Done (disk v.medium) (record k { work = idle c.erase.new.directory; generation = w.generation + 1; erased = c.in-Ok.erased.items; found = Some 0 }) later) c.self.view_is
+    (synced_safely whichever k (record k { work = idle c.erase.new.directory; generation = w.generation + 1; erased = c.in-Ok.erased.items; found = Some 0 }) events.Erase replies.Done (disk w.medium) later c.in-Ok-erase.ensures.directory.synced (made_of whichever k events.Erase (disk w.medium) later (erase_left k (disk w.medium) later c.in-Idle.directory (ap work_of c.in-Idle.is) fine (λ files held settled. c.erase.ensures.moments k.config files held settled))))
 
 pub returns-in-Err-erase-clause-stops : goal.returns-in-Err-erase-clause-stops
 returns-in-Err-erase-clause-stops g c =
     let w = c.self.inside in
     let disk = g.M.BlockMedium.disk in
-    let k : Kept = record { config = w.settings; work = work_of w.work; tick = w.tick; last_event = w.last_event; generation = w.generation; taken = w.taken.items; erased = w.erased.items } in
+    let k : Kept = record { config = w.settings; work = work_of w.work; tick = w.tick; last_event = w.last_event; generation = w.generation; taken = w.taken.items; erased = w.erased.items; found = w.found } in
     let later = disk c.erase.new.medium in
     let fine : checked k ≡ None =
     rules_pass (idle_checks (mode_of k.work)) (erase_checks k.generation) (ap (λ mode. first_broken (idle_checks mode)) (sym c.mode_in.ensures) ∙ c.in_default.ensures) ∙ c.in_default-check_erase.ensures in

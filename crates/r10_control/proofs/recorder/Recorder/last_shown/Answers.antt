@@ -11,7 +11,7 @@ use Rattle.r10_control.proofs.recorder.Recorder.last_shown.Goals as goal
 pub returns : goal.returns
 returns g c =
     let w = c.self.inside in
-    let k : Kept = record { config = w.settings; work = work_of w.work; tick = w.tick; last_event = w.last_event; generation = w.generation; taken = w.taken.items; erased = w.erased.items } in
+    let k : Kept = record { config = w.settings; work = work_of w.work; tick = w.tick; last_event = w.last_event; generation = w.generation; taken = w.taken.items; erased = w.erased.items; found = w.found } in
     subst (λ (v : RecorderState _ _). c.last_in.result ≡ last_shown v.kept.work) c.self.view_is
     (c.last_in.ensures
     ∙ ap (λ (n : ℕ). shown_as_last n (last_or None (files_of k.work)))

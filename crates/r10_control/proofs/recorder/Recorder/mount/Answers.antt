@@ -1,4 +1,10 @@
-use Rattle.std.proofs.Common.{◌≡◌, ℕ, None, Option, Err, refl, sym, ap, ◌∙◌, subst, length}
+use Rattle.std.proofs.Common.{◌≡◌, ℕ, ◌-◌, ◌^◌, List, None, Some, Option, Err, refl, sym, ap, ◌∙◌, subst, length, min}
+use Rattle.std.specs.Option.{option_or}
+use Rattle.r10_dirblock.specs.declared.entry.Entry.{Entry as DirectoryEntry}
+use Rattle.r10_dirchain.specs.Chain.{listed_files}
+use Rattle.r10_dirchain.specs.declared.chain.ChainBlock.{ChainBlock}
+use Rattle.r10_dirchain.proofs.FileLists.{files-with_shutdown}
+use Rattle.r10_control.proofs.FewFiles.{few_listed}
 use Rattle.r10_body.specs.declared.refusal.Refusal.TheVariants as refusals
 use Rattle.r10_count.specs.Checks.{first_broken}
 use Rattle.r10_machine.specs.Checks.{unmounted_checks}
@@ -57,21 +63,27 @@ returns-in-Ok-clause-steps g c =
     let w = c.self.inside in
     let disk = g.M.BlockMedium.disk in
     let later = disk c.mount.new.medium in
-    let k : Kept = record { config = w.settings; work = work_of w.work; tick = w.tick; last_event = w.last_event; generation = w.generation; taken = w.taken.items; erased = w.erased.items } in
+    let k : Kept = record { config = w.settings; work = work_of w.work; tick = w.tick; last_event = w.last_event; generation = w.generation; taken = w.taken.items; erased = w.erased.items; found = w.found } in
+    let mounted = subst (λ (n : ℕ). IsMounted n (disk w.medium).blocks c.in-Ok.directory) c.directory.ensures.value c.in-Ok.ensures.mounted in
+    let listed : listed_files c.in-Ok.directory ≡ listed_files mounted.chain = ap (λ (l : List ChainBlock). listed_files l) mounted.made_is ∙ files-with_shutdown 0x00 mounted.chain in
+    let few : min (length (listed_files c.in-Ok.directory)) (2 ^ 64 - 1) ≡ length (listed_files c.in-Ok.directory) =
+    subst (λ (l : List DirectoryEntry). min (length l) (2 ^ 64 - 1) ≡ length l) (sym listed) (few_listed k.config (disk w.medium).blocks mounted.chain c.self.invariant.limits c.self.invariant.blocks mounted.usable) in
+    let first : c.found_first-self-inside.result ≡ option_or k.found (Some (length (listed_files c.in-Ok.directory))) = c.found_first-self-inside.ensures ∙ ap (λ (n : ℕ). option_or k.found (Some n)) few in
     let fine : first_broken (unmounted_checks (mode_of k.work)) ≡ None = ap (λ mode. first_broken (unmounted_checks mode)) (sym c.mode_in.ensures) ∙ c.in_default.ensures in
     subst (λ (v : RecorderState _ _). (m : Machine) → KeptStandsFor v.kept (disk v.medium).blocks (disk v.medium).failures m
-    → KeptStepsTaking none_taken v.kept m events.Mount replies.Done (record k { work = work_of c.turn.new.work }) later.blocks later.failures) c.self.view_is
-    (subst (λ (x : Doing). (m : Machine) → KeptStandsFor k (disk w.medium).blocks (disk w.medium).failures m → KeptStepsTaking none_taken k m events.Mount replies.Done (record k { work = work_of x }) later.blocks later.failures) (sym c.turn.ensures)
+    → KeptStepsTaking none_taken v.kept m events.Mount replies.Done (record k { work = work_of c.turn.new.work; found = c.found_first-self-inside.result }) later.blocks later.failures) c.self.view_is
+    (subst (λ (x : Doing). (m : Machine) → KeptStandsFor k (disk w.medium).blocks (disk w.medium).failures m → KeptStepsTaking none_taken k m events.Mount replies.Done (record k { work = work_of x; found = c.found_first-self-inside.result }) later.blocks later.failures) (sym c.turn.ensures)
+    (subst (λ (o : Option ℕ). (m : Machine) → KeptStandsFor k (disk w.medium).blocks (disk w.medium).failures m → KeptStepsTaking none_taken k m events.Mount replies.Done (record k { work = idle c.in-Ok.directory; found = o }) later.blocks later.failures) (sym first)
     (λ m means.
     let says = said k k.work (disk w.medium).blocks m refl (unmounted_work k.work fine) means.files in
     mount_done c.a_step_stays_sound.ensures k (disk w.medium).blocks later.blocks (disk w.medium).failures later.failures m c.in-Ok.directory c.self.invariant.limits means fine
-    (c.in-Ok.ensures.files.holds k.config m.files says.0 says.1 c.directory.ensures.value) c.mount.ensures.no_fewer))
+    (c.in-Ok.ensures.files.holds k.config m.files says.0 says.1 c.directory.ensures.value) c.mount.ensures.no_fewer)))
 
 pub returns-in-Err-BadDirectory-clause-refused : goal.returns-in-Err-BadDirectory-clause-refused
 returns-in-Err-BadDirectory-clause-refused g c =
     let w = c.self.inside in
     let disk = g.M.BlockMedium.disk in
-    let k : Kept = record { config = w.settings; work = work_of w.work; tick = w.tick; last_event = w.last_event; generation = w.generation; taken = w.taken.items; erased = w.erased.items } in
+    let k : Kept = record { config = w.settings; work = work_of w.work; tick = w.tick; last_event = w.last_event; generation = w.generation; taken = w.taken.items; erased = w.erased.items; found = w.found } in
     let fine : first_broken (unmounted_checks (mode_of k.work)) ≡ None = ap (λ mode. first_broken (unmounted_checks mode)) (sym c.mode_in.ensures) ∙ c.in_default.ensures in
     subst (λ (v : RecorderState _ _). RefusesCall disk (first_broken (unmounted_checks (mode_of v.kept.work))) (IsMountRefusal v.kept.config.directory (disk v.medium)) v.kept k v.medium c.mount.new.medium (refusals.BadDirectory c.in-Err-BadDirectory.block)) c.self.view_is
     (lacking disk (first_broken (unmounted_checks (mode_of k.work))) (IsMountRefusal k.config.directory (disk w.medium)) k k w.medium c.mount.new.medium c.in-Err-BadDirectory.block fine
@@ -82,7 +94,7 @@ returns-in-Err-OutOfMemory-clause-steps g c =
     let w = c.self.inside in
     let disk = g.M.BlockMedium.disk in
     let later = disk c.mount.new.medium in
-    let k : Kept = record { config = w.settings; work = work_of w.work; tick = w.tick; last_event = w.last_event; generation = w.generation; taken = w.taken.items; erased = w.erased.items } in
+    let k : Kept = record { config = w.settings; work = work_of w.work; tick = w.tick; last_event = w.last_event; generation = w.generation; taken = w.taken.items; erased = w.erased.items; found = w.found } in
     let fine : first_broken (unmounted_checks (mode_of k.work)) ≡ None = ap (λ mode. first_broken (unmounted_checks mode)) (sym c.mode_in.ensures) ∙ c.in_default.ensures in
     subst (λ (v : RecorderState _ _). (m : Machine) → KeptStandsFor v.kept (disk v.medium).blocks (disk v.medium).failures m
     → KeptStepsTaking none_taken v.kept m events.Mount (replies.Refused refusals.OutOfMemory) k later.blocks later.failures) c.self.view_is
@@ -94,7 +106,7 @@ returns-in-Err-Medium-clause-steps g c =
     let w = c.self.inside in
     let disk = g.M.BlockMedium.disk in
     let later = disk c.mount.new.medium in
-    let k : Kept = record { config = w.settings; work = work_of w.work; tick = w.tick; last_event = w.last_event; generation = w.generation; taken = w.taken.items; erased = w.erased.items } in
+    let k : Kept = record { config = w.settings; work = work_of w.work; tick = w.tick; last_event = w.last_event; generation = w.generation; taken = w.taken.items; erased = w.erased.items; found = w.found } in
     let fine : first_broken (unmounted_checks (mode_of k.work)) ≡ None = ap (λ mode. first_broken (unmounted_checks mode)) (sym c.mode_in.ensures) ∙ c.in_default.ensures in
     subst (λ (v : RecorderState _ _). (m : Machine) → KeptStandsFor v.kept (disk v.medium).blocks (disk v.medium).failures m
     → KeptStepsTaking none_taken v.kept m events.Mount (replies.Refused refusals.Medium) (record k { work = work_of c.turn-in-Err-Medium.new.work }) later.blocks later.failures) c.self.view_is
@@ -108,14 +120,14 @@ pub returns-in-Err-clause-owned : goal.returns-in-Err-clause-owned
 returns-in-Err-clause-owned g c =
     let w = c.self.inside in
     let disk = g.M.BlockMedium.disk in
-    let k : Kept = record { config = w.settings; work = work_of w.work; tick = w.tick; last_event = w.last_event; generation = w.generation; taken = w.taken.items; erased = w.erased.items } in
+    let k : Kept = record { config = w.settings; work = work_of w.work; tick = w.tick; last_event = w.last_event; generation = w.generation; taken = w.taken.items; erased = w.erased.items; found = w.found } in
     subst (λ (v : RecorderState _ _). OwnStay v.kept (disk v.medium).blocks v.kept (disk v.medium).blocks) c.self.view_is (stay_same k (disk w.medium).blocks)
 
 pub returns-in-Err-BadDirectory-clause-owned : goal.returns-in-Err-BadDirectory-clause-owned
 returns-in-Err-BadDirectory-clause-owned g c =
     let w = c.self.inside in
     let disk = g.M.BlockMedium.disk in
-    let k : Kept = record { config = w.settings; work = work_of w.work; tick = w.tick; last_event = w.last_event; generation = w.generation; taken = w.taken.items; erased = w.erased.items } in
+    let k : Kept = record { config = w.settings; work = work_of w.work; tick = w.tick; last_event = w.last_event; generation = w.generation; taken = w.taken.items; erased = w.erased.items; found = w.found } in
     subst (λ (v : RecorderState _ _). OwnStay v.kept (disk v.medium).blocks k (disk c.mount.new.medium).blocks) c.self.view_is
     (subst (λ (image : Image). OwnStay k (disk w.medium).blocks k image) (sym ((rw c.in-Err-BadDirectory.field-0-is at c.in-Err-BadDirectory.ensures.left).reads)) (stay_same k (disk w.medium).blocks))
 
@@ -123,7 +135,7 @@ pub returns-in-Err-OutOfMemory-clause-owned : goal.returns-in-Err-OutOfMemory-cl
 returns-in-Err-OutOfMemory-clause-owned g c =
     let w = c.self.inside in
     let disk = g.M.BlockMedium.disk in
-    let k : Kept = record { config = w.settings; work = work_of w.work; tick = w.tick; last_event = w.last_event; generation = w.generation; taken = w.taken.items; erased = w.erased.items } in
+    let k : Kept = record { config = w.settings; work = work_of w.work; tick = w.tick; last_event = w.last_event; generation = w.generation; taken = w.taken.items; erased = w.erased.items; found = w.found } in
     subst (λ (v : RecorderState _ _). OwnStay v.kept (disk v.medium).blocks k (disk c.mount.new.medium).blocks) c.self.view_is
     (subst (λ (image : Image). OwnStay k (disk w.medium).blocks k image) (sym ((rw c.in-Err-OutOfMemory.field-0-is at c.in-Err-OutOfMemory.ensures.left).reads)) (stay_same k (disk w.medium).blocks))
 
@@ -131,7 +143,7 @@ pub returns-in-Err-Medium-clause-owned : goal.returns-in-Err-Medium-clause-owned
 returns-in-Err-Medium-clause-owned g c =
     let w = c.self.inside in
     let disk = g.M.BlockMedium.disk in
-    let k : Kept = record { config = w.settings; work = work_of w.work; tick = w.tick; last_event = w.last_event; generation = w.generation; taken = w.taken.items; erased = w.erased.items } in
+    let k : Kept = record { config = w.settings; work = work_of w.work; tick = w.tick; last_event = w.last_event; generation = w.generation; taken = w.taken.items; erased = w.erased.items; found = w.found } in
     subst (λ (v : RecorderState _ _). OwnStay v.kept (disk v.medium).blocks (record k { work = work_of c.turn-in-Err-Medium.new.work }) (disk c.mount.new.medium).blocks) c.self.view_is
     (stay_failed k (record k { work = work_of c.turn-in-Err-Medium.new.work }) (disk w.medium).blocks (disk c.mount.new.medium).blocks (ap work_of c.turn-in-Err-Medium.ensures))
 
@@ -139,17 +151,22 @@ pub returns-in-Ok-clause-owned : goal.returns-in-Ok-clause-owned
 returns-in-Ok-clause-owned g c =
     let w = c.self.inside in
     let disk = g.M.BlockMedium.disk in
-    let k : Kept = record { config = w.settings; work = work_of w.work; tick = w.tick; last_event = w.last_event; generation = w.generation; taken = w.taken.items; erased = w.erased.items } in
+    let k : Kept = record { config = w.settings; work = work_of w.work; tick = w.tick; last_event = w.last_event; generation = w.generation; taken = w.taken.items; erased = w.erased.items; found = w.found } in
     let later = disk c.mount.new.medium in
     let fine : first_broken (unmounted_checks (mode_of k.work)) ≡ None = ap (λ mode. first_broken (unmounted_checks mode)) (sym c.mode_in.ensures) ∙ c.in_default.ensures in
     let reserved : c.directory.result ≡ k.config.directory = c.directory.ensures.value in
+    let mounted = subst (λ (n : ℕ). IsMounted n (disk w.medium).blocks c.in-Ok.directory) c.directory.ensures.value c.in-Ok.ensures.mounted in
+    let listed : listed_files c.in-Ok.directory ≡ listed_files mounted.chain = ap (λ (l : List ChainBlock). listed_files l) mounted.made_is ∙ files-with_shutdown 0x00 mounted.chain in
+    let few : min (length (listed_files c.in-Ok.directory)) (2 ^ 64 - 1) ≡ length (listed_files c.in-Ok.directory) =
+    subst (λ (l : List DirectoryEntry). min (length l) (2 ^ 64 - 1) ≡ length l) (sym listed) (few_listed k.config (disk w.medium).blocks mounted.chain c.self.invariant.limits c.self.invariant.blocks mounted.usable) in
+    let first : c.found_first-self-inside.result ≡ option_or k.found (Some (length (listed_files c.in-Ok.directory))) = c.found_first-self-inside.ensures ∙ ap (λ (n : ℕ). option_or k.found (Some n)) few in
     let is = subst (λ (n : ℕ). IsMounted n (disk w.medium).blocks c.in-Ok.directory) reserved c.in-Ok.ensures.mounted in
     let turns = c.mount.ensures.turns is.chain (subst (λ (n : ℕ). IsUsable n (disk w.medium).blocks is.chain) (sym reserved) is.usable) in
-    subst (λ (v : RecorderState _ _). OwnStay v.kept (disk v.medium).blocks (record k { work = work_of c.turn.new.work }) later.blocks) c.self.view_is
-    (stay_by k (record k { work = work_of c.turn.new.work }) (disk w.medium).blocks later.blocks
-    (mounted_own k (record k { work = work_of c.turn.new.work }) (disk w.medium).blocks later.blocks is.chain (unmounted_work k.work fine) (whole_reads (disk w.medium)) is.usable
+    subst (λ (v : RecorderState _ _). OwnStay v.kept (disk v.medium).blocks (record k { work = work_of c.turn.new.work; found = c.found_first-self-inside.result }) later.blocks) c.self.view_is
+    (stay_by k (record k { work = work_of c.turn.new.work; found = c.found_first-self-inside.result }) (disk w.medium).blocks later.blocks
+    (mounted_own k (record k { work = work_of c.turn.new.work; found = c.found_first-self-inside.result }) (disk w.medium).blocks later.blocks is.chain (unmounted_work k.work fine) (whole_reads (disk w.medium)) is.usable
     (one_block k.config.directory (length (disk w.medium).blocks) is.chain (with_shutdown 0x00 is.chain) (disk w.medium) later c.mount.result (some_reserved k.config.directory (disk w.medium).blocks is.chain is.usable) turns)
-    (ap work_of c.turn.ensures ∙ ap idle is.made_is)))
+    (ap work_of c.turn.ensures ∙ ap idle is.made_is) (first ∙ ap (λ (l : List DirectoryEntry). option_or k.found (Some (length l))) listed)))
 
 pub returns-in-Ok-clause-bytes : goal.returns-in-Ok-clause-bytes
 returns-in-Ok-clause-bytes g c =
@@ -172,18 +189,23 @@ returns-in-Ok-clause-effect g c =
     let w = c.self.inside in
     let disk = g.M.BlockMedium.disk in
     let later = disk c.mount.new.medium in
-    let k : Kept = record { config = w.settings; work = work_of w.work; tick = w.tick; last_event = w.last_event; generation = w.generation; taken = w.taken.items; erased = w.erased.items } in
+    let k : Kept = record { config = w.settings; work = work_of w.work; tick = w.tick; last_event = w.last_event; generation = w.generation; taken = w.taken.items; erased = w.erased.items; found = w.found } in
     let reserved : c.directory.result ≡ k.config.directory = c.directory.ensures.value in
-    subst (λ (v : RecorderState _ _). MountEffect v.kept (disk v.medium) (record k { work = work_of c.turn.new.work }) later) c.self.view_is
-    (subst (λ (x : Doing). MountEffect k (disk w.medium) (record k { work = work_of x }) later) (sym c.turn.ensures)
+    let mounted = subst (λ (n : ℕ). IsMounted n (disk w.medium).blocks c.in-Ok.directory) c.directory.ensures.value c.in-Ok.ensures.mounted in
+    let listed : listed_files c.in-Ok.directory ≡ listed_files mounted.chain = ap (λ (l : List ChainBlock). listed_files l) mounted.made_is ∙ files-with_shutdown 0x00 mounted.chain in
+    let few : min (length (listed_files c.in-Ok.directory)) (2 ^ 64 - 1) ≡ length (listed_files c.in-Ok.directory) =
+    subst (λ (l : List DirectoryEntry). min (length l) (2 ^ 64 - 1) ≡ length l) (sym listed) (few_listed k.config (disk w.medium).blocks mounted.chain c.self.invariant.limits c.self.invariant.blocks mounted.usable) in
+    let first : c.found_first-self-inside.result ≡ option_or k.found (Some (length (listed_files c.in-Ok.directory))) = c.found_first-self-inside.ensures ∙ ap (λ (n : ℕ). option_or k.found (Some n)) few in
+    subst (λ (v : RecorderState _ _). MountEffect v.kept (disk v.medium) (record k { work = work_of c.turn.new.work; found = c.found_first-self-inside.result }) later) c.self.view_is
+    (subst (λ (x : Doing). MountEffect k (disk w.medium) (record k { work = work_of x; found = c.found_first-self-inside.result }) later) (sym c.turn.ensures)
     (mount_effect k (disk w.medium) later c.in-Ok.directory c.mount.result (subst (λ (n : ℕ). IsMounted n (disk w.medium).blocks c.in-Ok.directory) reserved c.in-Ok.ensures.mounted)
-    (λ chain usable. c.mount.ensures.turns chain (subst (λ (n : ℕ). IsUsable n (disk w.medium).blocks chain) (sym reserved) usable)) c.in-Ok.ensures.directory))
+    (λ chain usable. c.mount.ensures.turns chain (subst (λ (n : ℕ). IsUsable n (disk w.medium).blocks chain) (sym reserved) usable)) c.in-Ok.ensures.directory c.found_first-self-inside.result first))
 
 pub returns-in-Err-clause-stops : goal.returns-in-Err-clause-stops
 returns-in-Err-clause-stops g c =
     let w = c.self.inside in
     let disk = g.M.BlockMedium.disk in
-    let k : Kept = record { config = w.settings; work = work_of w.work; tick = w.tick; last_event = w.last_event; generation = w.generation; taken = w.taken.items; erased = w.erased.items } in
+    let k : Kept = record { config = w.settings; work = work_of w.work; tick = w.tick; last_event = w.last_event; generation = w.generation; taken = w.taken.items; erased = w.erased.items; found = w.found } in
     subst (λ (v : RecorderState _ _). StaysSafe whichever v.kept events.Mount (replies.Refused c.in-Err.refusal) (disk v.medium) v.kept (disk v.medium)) c.self.view_is
     (refused_safely whichever k k events.Mount c.in-Err.refusal (disk w.medium) (disk w.medium) refl (unchanged (disk w.medium)))
 
@@ -191,17 +213,17 @@ pub returns-in-Ok-clause-stops : goal.returns-in-Ok-clause-stops
 returns-in-Ok-clause-stops g c =
     let w = c.self.inside in
     let disk = g.M.BlockMedium.disk in
-    let k : Kept = record { config = w.settings; work = work_of w.work; tick = w.tick; last_event = w.last_event; generation = w.generation; taken = w.taken.items; erased = w.erased.items } in
+    let k : Kept = record { config = w.settings; work = work_of w.work; tick = w.tick; last_event = w.last_event; generation = w.generation; taken = w.taken.items; erased = w.erased.items; found = w.found } in
     let later = disk c.mount.new.medium in
     let fine : first_broken (unmounted_checks (mode_of k.work)) ≡ None = ap (λ mode. first_broken (unmounted_checks mode)) (sym c.mode_in.ensures) ∙ c.in_default.ensures in
-    subst (λ (v : RecorderState _ _). StaysSafe whichever v.kept events.Mount replies.Done (disk v.medium) (record k { work = work_of c.turn.new.work }) later) c.self.view_is
-    (synced_safely whichever k (record k { work = work_of c.turn.new.work }) events.Mount replies.Done (disk w.medium) later c.in-Ok.ensures.directory.synced (makes_none whichever k events.Mount (disk w.medium) later (unmounted_leaves k (disk w.medium) later (unmounted_work k.work fine) (λ files settled. c.mount.ensures.files.moments k.config files settled))))
+    subst (λ (v : RecorderState _ _). StaysSafe whichever v.kept events.Mount replies.Done (disk v.medium) (record k { work = work_of c.turn.new.work; found = c.found_first-self-inside.result }) later) c.self.view_is
+    (synced_safely whichever k (record k { work = work_of c.turn.new.work; found = c.found_first-self-inside.result }) events.Mount replies.Done (disk w.medium) later c.in-Ok.ensures.directory.synced (makes_none whichever k events.Mount (disk w.medium) later (unmounted_leaves k (disk w.medium) later (unmounted_work k.work fine) (λ files settled. c.mount.ensures.files.moments k.config files settled))))
 
 pub returns-in-Err-BadDirectory-clause-stops : goal.returns-in-Err-BadDirectory-clause-stops
 returns-in-Err-BadDirectory-clause-stops g c =
     let w = c.self.inside in
     let disk = g.M.BlockMedium.disk in
-    let k : Kept = record { config = w.settings; work = work_of w.work; tick = w.tick; last_event = w.last_event; generation = w.generation; taken = w.taken.items; erased = w.erased.items } in
+    let k : Kept = record { config = w.settings; work = work_of w.work; tick = w.tick; last_event = w.last_event; generation = w.generation; taken = w.taken.items; erased = w.erased.items; found = w.found } in
     let later = disk c.mount.new.medium in
     subst (λ (v : RecorderState _ _). StaysSafe whichever v.kept events.Mount (replies.Refused (refusals.BadDirectory c.in-Err-BadDirectory.block)) (disk v.medium) k later) c.self.view_is
     (refused_safely whichever k k events.Mount (refusals.BadDirectory c.in-Err-BadDirectory.block) (disk w.medium) later refl (rw c.in-Err-BadDirectory.field-0-is at c.in-Err-BadDirectory.ensures.left))
@@ -210,7 +232,7 @@ pub returns-in-Err-OutOfMemory-clause-stops : goal.returns-in-Err-OutOfMemory-cl
 returns-in-Err-OutOfMemory-clause-stops g c =
     let w = c.self.inside in
     let disk = g.M.BlockMedium.disk in
-    let k : Kept = record { config = w.settings; work = work_of w.work; tick = w.tick; last_event = w.last_event; generation = w.generation; taken = w.taken.items; erased = w.erased.items } in
+    let k : Kept = record { config = w.settings; work = work_of w.work; tick = w.tick; last_event = w.last_event; generation = w.generation; taken = w.taken.items; erased = w.erased.items; found = w.found } in
     let later = disk c.mount.new.medium in
     subst (λ (v : RecorderState _ _). StaysSafe whichever v.kept events.Mount (replies.Refused refusals.OutOfMemory) (disk v.medium) k later) c.self.view_is
     (refused_safely whichever k k events.Mount refusals.OutOfMemory (disk w.medium) later refl (rw c.in-Err-OutOfMemory.field-0-is at c.in-Err-OutOfMemory.ensures.left))
@@ -219,7 +241,7 @@ pub returns-in-Err-Medium-clause-stops : goal.returns-in-Err-Medium-clause-stops
 returns-in-Err-Medium-clause-stops g c =
     let w = c.self.inside in
     let disk = g.M.BlockMedium.disk in
-    let k : Kept = record { config = w.settings; work = work_of w.work; tick = w.tick; last_event = w.last_event; generation = w.generation; taken = w.taken.items; erased = w.erased.items } in
+    let k : Kept = record { config = w.settings; work = work_of w.work; tick = w.tick; last_event = w.last_event; generation = w.generation; taken = w.taken.items; erased = w.erased.items; found = w.found } in
     let later = disk c.mount.new.medium in
     let fine : first_broken (unmounted_checks (mode_of k.work)) ≡ None = ap (λ mode. first_broken (unmounted_checks mode)) (sym c.mode_in.ensures) ∙ c.in_default.ensures in
     subst (λ (v : RecorderState _ _). StaysSafe whichever v.kept events.Mount (replies.Refused refusals.Medium) (disk v.medium) (record k { work = work_of c.turn-in-Err-Medium.new.work }) later) c.self.view_is

@@ -23,20 +23,20 @@ use Rattle.r10_control.proofs.recorder.Recorder.status.Goals as goal
 pub invariant_of-self : goal.invariant_of-self
 invariant_of-self g c =
     let w = c.self.inside in
-    let k : Kept = record { config = w.settings; work = work_of w.work; tick = w.tick; last_event = w.last_event; generation = w.generation; taken = w.taken.items; erased = w.erased.items } in
+    let k : Kept = record { config = w.settings; work = work_of w.work; tick = w.tick; last_event = w.last_event; generation = w.generation; taken = w.taken.items; erased = w.erased.items; found = w.found } in
     owns_looked g.L.LaneOut.took g.L.LaneOut.spec_of g.L.LaneOut.reached k (g.M.BlockMedium.disk w.medium).blocks w.reader.books w.lanes.items c.lanes_in.new.lanes.items g.met.L.LaneOut.keeps_spec g.met.L.LaneOut.rises c.lanes_in.ensures.took c.self.invariant
 
 pub invariant_of-self-2 : goal.invariant_of-self-2
 invariant_of-self-2 g c =
     let w = c.self.inside in
-    let k : Kept = record { config = w.settings; work = work_of w.work; tick = w.tick; last_event = w.last_event; generation = w.generation; taken = w.taken.items; erased = w.erased.items } in
+    let k : Kept = record { config = w.settings; work = work_of w.work; tick = w.tick; last_event = w.last_event; generation = w.generation; taken = w.taken.items; erased = w.erased.items; found = w.found } in
     owns_looked g.L.LaneOut.took g.L.LaneOut.spec_of g.L.LaneOut.reached k (g.M.BlockMedium.disk w.medium).blocks w.reader.books w.lanes.items c.lanes_in.new.lanes.items g.met.L.LaneOut.keeps_spec g.met.L.LaneOut.rises c.lanes_in.ensures.took c.self.invariant
 
 pub returns-in_default-clause-steps : goal.returns-in_default-clause-steps
 returns-in_default-clause-steps g c =
     let w = c.self.inside in
     let disk = g.M.BlockMedium.disk in
-    let k : Kept = record { config = w.settings; work = work_of w.work; tick = w.tick; last_event = w.last_event; generation = w.generation; taken = w.taken.items; erased = w.erased.items } in
+    let k : Kept = record { config = w.settings; work = work_of w.work; tick = w.tick; last_event = w.last_event; generation = w.generation; taken = w.taken.items; erased = w.erased.items; found = w.found } in
     let now = disk w.medium in
     subst (λ (v : RecorderState _ _). (m : Machine) → KeptStandsFor v.kept (disk v.medium).blocks (disk v.medium).failures m → KeptStepsTaking none_taken v.kept m events.Status (replies.Refused refusals.OutOfMemory) k now.blocks now.failures) c.self.view_is
     (λ m means. memory_leads c.a_step_stays_sound.ensures k now.blocks now.blocks now.failures now.failures m events.Status c.self.invariant.limits means refl (omega arith) refl refl refl)
@@ -45,7 +45,7 @@ pub returns-clause-steps : goal.returns-clause-steps
 returns-clause-steps g c =
     let w = c.self.inside in
     let disk = g.M.BlockMedium.disk in
-    let k : Kept = record { config = w.settings; work = work_of w.work; tick = w.tick; last_event = w.last_event; generation = w.generation; taken = w.taken.items; erased = w.erased.items } in
+    let k : Kept = record { config = w.settings; work = work_of w.work; tick = w.tick; last_event = w.last_event; generation = w.generation; taken = w.taken.items; erased = w.erased.items; found = w.found } in
     let now = disk w.medium in
     subst (λ (v : RecorderState _ _). (m : Machine) → KeptStandsFor v.kept (disk v.medium).blocks (disk v.medium).failures m → KeptStepsTaking none_taken v.kept m events.Status (replies.Status (status_of v.kept.config m)) k now.blocks now.failures) c.self.view_is
     (λ m means. looked c.tellings_are_steps.ensures.status k now.blocks now.failures m c.self.invariant.limits means)
@@ -54,7 +54,7 @@ pub returns-clause-told : goal.returns-clause-told
 returns-clause-told g c =
     let w = c.self.inside in
     let lane = g.L.LaneOut in
-    let k : Kept = record { config = w.settings; work = work_of w.work; tick = w.tick; last_event = w.last_event; generation = w.generation; taken = w.taken.items; erased = w.erased.items } in
+    let k : Kept = record { config = w.settings; work = work_of w.work; tick = w.tick; last_event = w.last_event; generation = w.generation; taken = w.taken.items; erased = w.erased.items; found = w.found } in
     let all : c.count_in.result ≡ length (files_of k.work) = files_all _ _ _ _ _ _ c.blocks-blocks.result c.count_in.result c.self.invariant c.blocks-blocks.ensures.value c.blocks-blocks.ensures.range.0 c.blocks-blocks.ensures.range.1 c.count_in.ensures in
     let channels : TellsLanes lane.quiet lane.spec_of (mode_of k.work) w.lanes.items k.erased c.of.result =
     subst (λ (ts : List LaneStatus). TellsLanes lane.quiet lane.spec_of (mode_of k.work) w.lanes.items k.erased ts) (sym c.of.ensures)
@@ -68,7 +68,7 @@ returns-clause-meant g c =
     let w = c.self.inside in
     let lane = g.L.LaneOut in
     let disk = g.M.BlockMedium.disk in
-    let k : Kept = record { config = w.settings; work = work_of w.work; tick = w.tick; last_event = w.last_event; generation = w.generation; taken = w.taken.items; erased = w.erased.items } in
+    let k : Kept = record { config = w.settings; work = work_of w.work; tick = w.tick; last_event = w.last_event; generation = w.generation; taken = w.taken.items; erased = w.erased.items; found = w.found } in
     let told : RecorderStatus = record { mode = c.mode_in-mode.result; tick = c.tick_in.result; files = c.count_in.result; free = c.free_in.result; channels = c.of.result } in
     let all : c.count_in.result ≡ length (files_of k.work) = files_all _ _ _ _ _ _ c.blocks-blocks.result c.count_in.result c.self.invariant c.blocks-blocks.ensures.value c.blocks-blocks.ensures.range.0 c.blocks-blocks.ensures.range.1 c.count_in.ensures in
     let channels : TellsLanes lane.quiet lane.spec_of (mode_of k.work) w.lanes.items k.erased c.of.result =

@@ -18,7 +18,7 @@ use Rattle.r10_control.proofs.status.Recorder+M+RingLane.status_with_lost.Goals 
 pub returns-clause-told : goal.returns-clause-told
 returns-clause-told g c =
     let w = c.self.inside in
-    let k : Kept = record { config = w.settings; work = work_of w.work; tick = w.tick; last_event = w.last_event; generation = w.generation; taken = w.taken.items; erased = w.erased.items } in
+    let k : Kept = record { config = w.settings; work = work_of w.work; tick = w.tick; last_event = w.last_event; generation = w.generation; taken = w.taken.items; erased = w.erased.items; found = w.found } in
     let all : c.count_in.result ≡ length (files_of k.work) = files_all _ _ _ _ _ _ c.blocks-blocks.result c.count_in.result c.self.invariant c.blocks-blocks.ensures.value c.blocks-blocks.ensures.range.0 c.blocks-blocks.ensures.range.1 c.count_in.ensures in
     let channels : c.of.result ≡ channels_in (mode_of k.work) w.lanes.items k.erased =
     c.of.ensures ∙ c.in-Ok.ensures
@@ -33,7 +33,7 @@ pub returns-clause-steps : goal.returns-clause-steps
 returns-clause-steps g c =
     let w = c.self.inside in
     let disk = g.M.BlockMedium.disk in
-    let k : Kept = record { config = w.settings; work = work_of w.work; tick = w.tick; last_event = w.last_event; generation = w.generation; taken = w.taken.items; erased = w.erased.items } in
+    let k : Kept = record { config = w.settings; work = work_of w.work; tick = w.tick; last_event = w.last_event; generation = w.generation; taken = w.taken.items; erased = w.erased.items; found = w.found } in
     let status : Status = record { mode = c.mode_in-mode.result; tick = c.tick_in.result; files = c.count_in.result; free = c.free_in.result; channels = c.of.result } in
     let all : c.count_in.result ≡ length (files_of k.work) = files_all _ _ _ _ _ _ c.blocks-blocks.result c.count_in.result c.self.invariant c.blocks-blocks.ensures.value c.blocks-blocks.ensures.range.0 c.blocks-blocks.ensures.range.1 c.count_in.ensures in
     let channels : c.of.result ≡ channels_in (mode_of k.work) w.lanes.items k.erased =
