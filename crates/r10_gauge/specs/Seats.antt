@@ -11,8 +11,9 @@ use Rattle.r10_gauge.specs.declared.cell.SeatKnows.{SeatKnows}
 abbrev pub triple_of_words : List ℕ → Glance
 triple_of_words words = triple (slice_index words 0) (slice_index words 1) (slice_index words 2)
 
+-- a seat that met no other
 abbrev pub seat_knowing : Bool → List Glance → SeatKnows
-seat_knowing writes seen = record { writes = writes; seen = seen }
+seat_knowing writes seen = record { writes = writes; seen = seen; met = [] }
 
 -- the seat that publishes
 abbrev pub writing_seat : List Glance → SeatKnows
@@ -26,14 +27,22 @@ reading_seat seen = seat_knowing false seen
 abbrev pub making_seat : SeatKnows
 making_seat = writing_seat nothing_published
 
--- what a seat has seen is a beginning of what is published, and the one that publishes has seen all of it
+-- a seat that met one which had seen so much
+abbrev pub having_met : SeatKnows → List Glance → SeatKnows
+having_met v seen = record v { met = seen }
+
+-- a seat that another met
+abbrev pub spent_seat : SeatKnows
+spent_seat = reading_seat []
+
+-- what a seat has seen is a beginning of what is published, and so is what one that it met had seen; the one that publishes has seen all of it
 abbrev pub SeesFront : ℕ → List Glance → ℕ → SeatKnows → Type 0
-SeesFront writer published by v = IsPrefix v.seen published × (0 < length v.seen) × (v.writes ≡ true → (by ≡ writer) × (v.seen ≡ published))
+SeesFront writer published by v = IsPrefix v.seen published × IsPrefix v.met published × (v.writes ≡ true → (by ≡ writer) × (v.seen ≡ published))
 
 -- the rule: there is one list, numbered, whose last triple the words are, and each seat sees a front of it
 abbrev pub KeepsOneList : List ℕ → List SeatKnows → Type 0
 KeepsOneList words views =
-    (writer : ℕ) × (published : List Glance) × (last_triple published ≡ triple_of_words words) × AreNumbered published
+    (writer : ℕ) × (published : List Glance) × (0 < length published) × (last_triple published ≡ triple_of_words words) × AreNumbered published
     × ((by : ℕ) (v : SeatKnows) → get_elem? views by ≡ some v → SeesFront writer published by v)
 
 -- the list has grown by the triple that the words now are
@@ -44,3 +53,7 @@ GrewByWords v before after w = w ≡ writing_seat (v.seen ++ triple_of_words aft
 abbrev pub SawAll : SeatKnows → List ℕ → List ℕ → SeatKnows → Type 0
 SawAll v before after w =
     (w.writes ≡ v.writes) × IsPrefix v.seen w.seen × (last_triple w.seen ≡ triple_of_words after) × AreNumbered w.seen × (0 < length w.seen)
+
+-- the seat that publishes is again one that met no other; what the one that it met had seen is a beginning of all that was published
+abbrev pub HadSeenAll : SeatKnows → List ℕ → List ℕ → SeatKnows → Type 0
+HadSeenAll v before after w = (w ≡ writing_seat v.seen) × IsPrefix v.met v.seen

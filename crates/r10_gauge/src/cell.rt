@@ -1,14 +1,16 @@
 // The cell, its rule, and the kinds of step.
-use atomic_table::Split;
+use atomic_table::{Join, Split};
 use crossbeam_utils::atomic::seq_cell::{Pass, RuledSeqCell};
 use crossbeam_utils::rule::{Outcome, Protocol};
 use r10_body::Glance;
 use std::collections::LinkedList;
 
-/// What a seat knows: what was published up to its last step, and whether it is the one that publishes. No value of it is made.
+/// What a seat knows: what was published up to its last step, whether it is the one that publishes, and what a seat that it met had seen. No value of
+/// it is made.
 pub(crate) struct SeatKnows {
     pub(crate) writes: bool,
     pub(crate) seen: LinkedList<Glance>,
+    pub(crate) met: LinkedList<Glance>,
 }
 
 /// The rule: what is published is one growing list, which begins with what each seat has seen, and the words are its last triple.
@@ -38,6 +40,26 @@ impl Outcome<[u64; 3], SeatKnows> for Glancing {
     ghost use Rattle.r10_gauge.specs.Seats.{SawAll};
 
     ghost then = { SawAll };
+}
+
+/// A step of the seat that publishes, by which it knows what one that it met had seen.
+pub(crate) struct Comparing;
+
+impl Outcome<[u64; 3], SeatKnows> for Comparing {
+    ghost use Rattle.r10_gauge.specs.Seats.{HadSeenAll};
+
+    ghost then = { HadSeenAll };
+}
+
+/// A step at which a seat meets another, which is spent.
+pub(crate) struct Meeting;
+
+impl Join<SeatKnows> for Meeting {
+    ghost use Rattle.r10_gauge.specs.Seats.{having_met, spent_seat};
+
+    ghost both = { λ v w. having_met v w.seen };
+
+    ghost spent = { spent_seat };
 }
 
 /// A step that cuts off a seat that has seen the same.

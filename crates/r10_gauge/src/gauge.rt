@@ -1,9 +1,10 @@
 //! The publishing end.
 
 ghost use Rattle.std.specs.Prelude.{◌≡◌, ◌^◌, ◌-◌, min, [], ◌∷◌, ◌++◌, length, IfOk};
+ghost use mathlib.Core.List.{IsPrefix};
 ghost use Rattle.r10_gauge.specs.Published.{triple, nothing_published, commits_of};
 
-use crate::cell::{Cell, Publishing, Seat, Splitting};
+use crate::cell::{Cell, Comparing, Meeting, Publishing, Seat, Splitting};
 use crate::pass::Pass;
 use crate::watch::Watch;
 use r10_body::Glance;
@@ -76,6 +77,17 @@ impl Gauge {
         self.cell
             .swap_as::<Publishing, R>(rt, &mut self.seat, [commits, file, bytes]);
         self.commits = commits;
+    }
+
+    /// What a pass has seen is a beginning of what was published at its gauge. This changes nothing, and takes no memory.
+    pub fn meet<R: Wait>(&mut self, rt: &R, pass: &mut Pass)
+        requires { pass.old.cell ≡ self.old.cell }
+        ensures seen { IsPrefix pass.old.seen self.old.published }
+        ensures stays { (self.new ≡ self.old) × (pass.new ≡ pass.old) }
+    {
+        let other = self.cell.split_pass::<Splitting>(&mut pass.seat);
+        self.cell.join_pass::<Meeting>(&mut self.seat, other);
+        let _words = self.cell.load_as::<Comparing, R>(rt, &mut self.seat);
     }
 
     /// How often something was published, up to `u64::MAX`, where it stays.
