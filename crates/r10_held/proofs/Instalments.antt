@@ -1,20 +1,24 @@
 -- What an advance gives a cursor.
-use Rattle.std.proofs.Common.{◌≡◌, ℕ, Bool, true, false, List, [], ◌∷◌, length, None, refl, arith}
-use Rattle.std.specs.Prelude.{◌==◌, Result, Ok, Err, IfOk}
+use Rattle.std.proofs.Common.{◌≡◌, ◌∙◌, ◌<◌, ℕ, Bool, true, false, List, [], ◌∷◌, length, None, refl, sym, subst, ap, arith, length-append}
+use Rattle.std.specs.Prelude.{◌==◌, Result, Ok, Err, IfErr, IfOk}
+use mathlib.Core.List.{IsPrefix}
 use Rattle.std.proofs.lemmas.Bool.Decides.{nat_tests}
 use Rattle.r10_body.specs.declared.refusal.Glance.{Glance}
 use Rattle.r10_body.specs.declared.refusal.Refusal.{Refusal}
-use Rattle.r10_body.specs.declared.refusal.Refusal.TheVariants.{Failed, NotMounted, Stale, Unread}
+use Rattle.r10_body.specs.declared.refusal.Refusal.TheVariants.{Behind, Failed, NotMounted, Stale, Unread}
 use Rattle.r10_control.specs.Checks.{advancing_checks}
 use Rattle.r10_control.specs.State.{RecorderState}
 use Rattle.r10_count.specs.Checks.{first_broken}
 use Rattle.r10_cursor.specs.declared.cursor.Cursor.{Cursor}
+use Rattle.r10_gauge.specs.Published.{LookingEnd, commits_of}
+use Rattle.r10_held.specs.LockFact.{LockFact}
+use Rattle.r10_held.specs.Naming.{ChannelRing}
 use Rattle.r10_held.specs.State.{HeldState}
 use Rattle.r10_machine.specs.Checks.{is_mounted, is_working}
 use Rattle.r10_machine.specs.declared.mode.Mode.{Mode}
 use Rattle.r10_means.specs.Kept.{mode_of}
 use Rattle.r10_medium.specs.Disk.{Disk}
-use Rattle.r10_held.specs.Advancing.{AdvancesHeld, AdvancesRecorder, TakesInstalment}
+use Rattle.r10_held.specs.Advancing.{AdvancesHeld, AdvancesRecorder, AdvancesUnderLock, SaysBehind, TakesInstalment}
 use Rattle.r10_held.proofs.Agreeing.{read_shows as shows}
 
 -- ---- a file that is there shows packets
@@ -45,3 +49,25 @@ taken disk old new c d n a =
 pub taken_held : {M : Type 0} (disk : M → Disk) (seen : List Glance) (old new : HeldState M) (c d : Cursor) (result : Result ℕ Refusal) → AdvancesHeld disk seen old new c d result → IfOk result (λ n. TakesInstalment c d n)
 taken_held disk seen old new c d (Ok n) a = taken disk old.recorder new.recorder c d n (a.advances a.at_least)
 taken_held disk seen old new c d (Err r) a = tt
+
+-- the lock's value and the pass stay as they were while the value is compared with what the pass has seen
+pub under_lock : {M : Type 0} (disk : M → Disk) (rings : List ChannelRing) (p q r : LookingEnd) (old held new : HeldState M) (c d : Cursor) (result : Result ℕ Refusal) → held ≡ old → q ≡ p → r ≡ q
+    → LockFact disk rings old.recorder old.published → old.cell ≡ p.cell → IsPrefix p.seen old.published → AdvancesHeld disk q.seen held new c d result → AdvancesUnderLock disk rings r c d result
+under_lock {M} disk rings p q r old held new c d result same met end fact cell prefix advances =
+    subst (λ (z : LookingEnd). AdvancesUnderLock disk rings z c d result) (sym (end ∙ met))
+    (record {
+      old = old;
+      new = new;
+      fact = fact;
+      gauge = cell;
+      published = prefix;
+      advances = subst (λ (z : LookingEnd). AdvancesHeld disk z.seen old new c d result) met (subst (λ (s : HeldState M). AdvancesHeld disk q.seen s new c d result) same advances);
+    })
+
+-- who has published all that was seen is not behind
+pub not_behind : {M : Type 0} (p q : LookingEnd) (old held : HeldState M) (seen : Glance) (result : Result ℕ Refusal) → held ≡ old → q ≡ p → IsPrefix p.seen old.published
+    → IfErr result (SaysBehind (commits_of held.published < commits_of q.seen)) → result ≡ Err (Behind seen) → ⊥
+not_behind {M} p q old held seen result same met (rest, is) only answer =
+    let less : commits_of held.published < commits_of q.seen = subst (λ (r : Result ℕ Refusal). IfErr r (SaysBehind (commits_of held.published < commits_of q.seen))) answer only in
+    let near : commits_of old.published < commits_of p.seen = subst (λ (z : LookingEnd). commits_of old.published < commits_of z.seen) met (subst (λ (s : HeldState M). commits_of s.published < commits_of q.seen) same less) in
+    omega (arith, near, length-append p.seen rest, ap (λ (l : List Glance). length l) is)

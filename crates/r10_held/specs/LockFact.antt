@@ -1,5 +1,6 @@
 -- What whoever gets the lock knows.
 use Rattle.std.specs.Prelude.{◌≡◌, List, Option, None, Some}
+use Rattle.atomic_table.specs.Seated.{TableId}
 use Rattle.r10_body.specs.declared.entry.Sample.{Sample}
 use Rattle.r10_body.specs.declared.refusal.Glance.{Glance}
 use Rattle.r10_body.specs.declared.spec.ChannelSpec.{ChannelSpec}
@@ -9,6 +10,7 @@ use Rattle.r10_port.specs.Ends.{Receiving, next_known}
 use Rattle.r10_held.specs.Account.{Accounted}
 use Rattle.r10_held.specs.Naming.{ChannelRing, AreNamed}
 use Rattle.r10_held.specs.Publishing.{LastIsShown}
+use Rattle.r10_held.specs.State.{GaugedState}
 
 abbrev pub outlet_spec : Receiving → ChannelSpec
 outlet_spec outlet = outlet.spec
@@ -33,3 +35,8 @@ pub record LanesAccounted {M : Type 0} (disk : M → Disk) (rings : List Channel
 pub record LockFact {M : Type 0} (disk : M → Disk) (rings : List ChannelRing) (r : RecorderState M Receiving) (published : List Glance) : Type 0 where
   pub lanes : LanesAccounted disk rings r
   pub last : LastIsShown r.kept.work published
+
+-- the lanes and the gauge are those that are named, and the recorder alone took from the lanes
+pub record IsNamed {M : Type 0} (disk : M → Disk) (rings : List ChannelRing) (gauge : TableId) (g : GaugedState M) : Type 0 where
+  pub lanes : LanesAccounted disk rings g.recorder
+  pub gauge_is : g.cell ≡ gauge

@@ -10,3 +10,8 @@ pub record HeldState (M : Type 0) : Type 0 where
   pub recorder : RecorderState M Receiving
   pub cell : TableId
   pub published : List Glance
+
+-- a recorder with a gauge of its own, at which nothing was published
+pub record GaugedState (M : Type 0) : Type 0 where
+  pub recorder : RecorderState M Receiving
+  pub cell : TableId

@@ -1,27 +1,26 @@
 //! The lock.
 
-ghost use Rattle.std.specs.Prelude.{◌≡◌, IfErr, IfOk};
+ghost use Rattle.std.specs.Prelude.{◌≡◌};
 ghost use mathlib.Core.List.{IsPrefix};
 ghost use Rattle.r10_gauge.specs.Published.{AreNumbered, last_triple, nothing_published};
-ghost use Rattle.r10_held.specs.LockFact.{LanesAccounted};
+ghost use Rattle.r10_held.specs.LockFact.{IsNamed};
 
+use crate::gauged::{Ends, Gauged};
 use crate::held::Held;
 use crate::rings::Rings;
+use crate::sight::{Publisher, Sight};
 use r10_body::Glance;
-use r10_control::Recorder;
-use r10_gauge::{Gauge, Pass, Watch};
+use r10_gauge::Pass;
 use r10_medium::BlockMedium;
-use r10_port::Outlet;
-use std::alloc::Global;
 use std::marker::Model;
 use std::sync::{Mutex, MutexGuard, Wait};
 
-/// A recorder that threads share, under a lock, and a gauge at which they look without it. The recorder is nowhere else. Contracts see which
-/// gauge it is.
+/// A recorder that threads share, under a lock, and its gauge, at which they look without the lock: the one that `N` names, which
+/// is that of whatever the lock keeps. The recorder is nowhere else. Contracts see which gauge it is.
 #[derive(Drop)]
 pub struct Cabinet<M: BlockMedium, N: Rings> {
     lock: Mutex<Held<M, N>>,
-    watch: Watch,
+    watch: Sight<N>,
 }
 
 impl<M: BlockMedium, N: Rings> Model for Cabinet<M, N> {
@@ -35,28 +34,24 @@ impl<M: BlockMedium, N: Rings> Model for Cabinet<M, N> {
 }
 
 impl<M: BlockMedium, N: Rings> Cabinet<M, N> {
-    /// A cabinet round a recorder, at whose gauge nothing was published, and the first pass. The recorder's lanes are those of the rings that `N`
-    /// names, and it alone took from them. This takes all the memory that the cabinet itself ever takes; where it is refused, the
-    /// recorder comes back.
-    pub fn new(
-        alloc: Global,
-        recorder: Recorder<M, Outlet>,
-    ) -> Result<(Cabinet<M, N>, Pass), Recorder<M, Outlet>>
-        requires lanes { LanesAccounted M.disk N.rings recorder }
-        ensures pass { IfOk result (λ r. (r.1.cell ≡ r.0) × (r.1.seen ≡ nothing_published)) }
-        ensures refused { IfErr result (λ back. back ≡ recorder) }
+    /// A cabinet round a recorder with its gauge, and the first pass. The recorder's lanes are those of the rings that `N` names,
+    /// it alone took from them, and the gauge is the one that `N` names. It takes no memory.
+    pub fn new(gauged: Gauged<M>) -> (Cabinet<M, N>, Pass)
+        requires named { IsNamed M.disk N.rings N.gauge gauged }
+        ensures pass { (result.1.cell ≡ result.0) × (result.1.seen ≡ nothing_published) }
     {
-        match Gauge::new(alloc) {
-            Ok((gauge, watch, pass)) => {
-                let held = Held::new(recorder, gauge);
-                Ok((Cabinet::of_parts(held, watch), pass))
-            }
-            Err(_) => Err(recorder),
-        }
+        let Ends {
+            recorder,
+            gauge,
+            watch,
+            pass,
+        } = gauged.into_ends();
+        let held = Held::new(recorder, Publisher::new(gauge));
+        (Cabinet::of_parts(held, Sight::new(watch)), pass)
     }
 
     /// A cabinet of parts that were one. It takes no memory.
-    pub fn of_parts(held: Held<M, N>, watch: Watch) -> Cabinet<M, N>
+    pub fn of_parts(held: Held<M, N>, watch: Sight<N>) -> Cabinet<M, N>
         ensures { result ≡ watch }
     {
         Cabinet {
@@ -66,11 +61,18 @@ impl<M: BlockMedium, N: Rings> Cabinet<M, N> {
     }
 
     /// What the lock keeps, once no thread shares it, and the end at which threads look.
-    pub fn into_parts(self) -> (Held<M, N>, Watch)
+    pub fn into_parts(self) -> (Held<M, N>, Sight<N>)
         ensures { result.1 ≡ self }
     {
         let Cabinet { lock, watch } = self;
         (lock.into_inner(), watch)
+    }
+
+    /// A law: the gauge is the one that is named.
+    pub fn is_named(&self)
+        ensures { self.now ≡ N.gauge }
+    {
+        self.watch.is_named();
     }
 
     /// Waits for the lock.
@@ -78,8 +80,8 @@ impl<M: BlockMedium, N: Rings> Cabinet<M, N> {
         self.lock.lock(rt)
     }
 
-    /// The last triple of all that is published at this moment. What the pass had seen is a beginning of that list, and the pass has now
-    /// seen all of it. This takes no memory and asks for no lock of the recorder.
+    /// The last triple of all that is published at this moment. What the pass had seen is a beginning of that list, and the pass
+    /// has now seen all of it. This takes no memory and asks for no lock of the recorder.
     pub fn glance<R: Wait>(&self, rt: &R, pass: &mut Pass) -> Glance
         requires { pass.old.cell ≡ self.now }
         ensures same { pass.new.cell ≡ pass.old.cell }

@@ -1,6 +1,7 @@
 //! What the lock keeps.
 
 ghost use Rattle.std.specs.Prelude.{◌≡◌};
+ghost use mathlib.Core.List.{IsPrefix};
 ghost use Rattle.r10_control.specs.State.{RecorderState};
 ghost use Rattle.r10_gauge.specs.Published.{commits_of};
 ghost use Rattle.r10_port.specs.Ends.{Receiving};
@@ -10,26 +11,27 @@ ghost use Rattle.r10_held.specs.Naming.{AreNamed};
 ghost use Rattle.r10_held.specs.Publishing.{LastIsShown};
 
 use crate::rings::Rings;
+use crate::sight::Publisher;
 use r10_control::Recorder;
-use r10_gauge::Gauge;
+use r10_gauge::Pass;
 use r10_medium::BlockMedium;
 use r10_port::Outlet;
-use std::marker::{Model, PhantomData};
+use std::marker::Model;
+use std::sync::Wait;
 
-/// A recorder, with the publishing end of a gauge, as a lock keeps them. Contracts see the recorder, which gauge it is, and all that was
-/// published there.
+/// A recorder, with the publishing end of the gauge which `N` names, as a lock keeps them. Contracts see the recorder, which gauge
+/// it is, and all that was published there.
 ///
-/// By its type it is known, whatever was called: the recorder's lanes are those of the rings which `N` names for their channels. Unless it
-/// failed, each has received what erases took, and then what the recorder's own files have of the channel, each sample once and in order; and
-/// the numbers that it tells of both are theirs, up to `u64::MAX`. If it failed, the numbers are no more than what was received. While it records, and once something was published, the last triple tells of
-/// the file that is recorded.
+/// By its type it is known, whatever was called: the recorder's lanes are those of the rings which `N` names for their channels.
+/// Unless it failed, each has received what erases took, and then what the recorder's own files have of the channel, each sample
+/// once and in order; and the numbers that it tells of both are theirs, up to `u64::MAX`. If it failed, the numbers are no more
+/// than what was received. While it records, and once something was published, the last triple tells of the file that is recorded.
 ///
 /// The calls of a recorder are on this, each refused as the recorder's.
 #[derive(Drop)]
 pub struct Held<M: BlockMedium, N: Rings> {
     pub(crate) recorder: Recorder<M, Outlet>,
-    pub(crate) gauge: Gauge,
-    pub(crate) of: PhantomData<N>,
+    pub(crate) gauge: Publisher<N>,
 }
 
 impl<M: BlockMedium, N: Rings> Model for Held<M, N> {
@@ -45,16 +47,12 @@ impl<M: BlockMedium, N: Rings> Model for Held<M, N> {
 
 impl<M: BlockMedium, N: Rings> Held<M, N> {
     /// The recorder with this publishing end.
-    pub(crate) fn new(recorder: Recorder<M, Outlet>, gauge: Gauge) -> Held<M, N>
+    pub(crate) fn new(recorder: Recorder<M, Outlet>, gauge: Publisher<N>) -> Held<M, N>
         requires lanes { LanesAccounted M.disk N.rings recorder }
         requires last { LastIsShown recorder.kept.work gauge.published }
         ensures { result ≡ record { recorder = recorder; cell = gauge.cell; published = gauge.published } }
     {
-        Held {
-            recorder,
-            gauge,
-            of: PhantomData,
-        }
+        Held { recorder, gauge }
     }
 
     /// A law: what is known of whatever a lock keeps.
@@ -62,6 +60,22 @@ impl<M: BlockMedium, N: Rings> Held<M, N> {
         ensures { LockFact M.disk N.rings self.now.recorder self.now.published }
     {
         let _ = &self.recorder;
+    }
+
+    /// A law: the gauge is the one that is named.
+    pub fn is_named(&self)
+        ensures { self.now.cell ≡ N.gauge }
+    {
+        self.gauge.is_named();
+    }
+
+    /// What a pass has seen is a beginning of what was published. This changes nothing.
+    pub(crate) fn meet<R: Wait>(&mut self, rt: &R, pass: &mut Pass)
+        requires { pass.old.cell ≡ self.old.cell }
+        ensures seen { IsPrefix pass.old.seen self.old.published }
+        ensures stays { (self.new ≡ self.old) × (pass.new ≡ pass.old) }
+    {
+        self.gauge.meet(rt, pass);
     }
 
     /// How often something was published, up to `u64::MAX`, where it stays.

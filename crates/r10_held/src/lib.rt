@@ -6,6 +6,7 @@
 mod auditing;
 mod cabinet;
 mod directory;
+mod gauged;
 mod held;
 mod parting;
 mod player;
@@ -13,13 +14,16 @@ mod publishing;
 mod reading;
 mod recording;
 mod rings;
+mod sight;
 mod taking;
 mod telling;
 mod transcript;
 
 pub use auditing::{audit, audit_all};
 pub use cabinet::Cabinet;
+pub use gauged::Gauged;
 pub use held::{Held, new_recorders_account_for_their_lanes};
 pub use player::Player;
 pub use rings::Rings;
+pub use sight::Sight;
 pub use transcript::{Instalment, Transcript};

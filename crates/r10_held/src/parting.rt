@@ -16,11 +16,7 @@ impl<M: BlockMedium, N: Rings> Held<M, N> {
         ensures same { result ≡ self.recorder }
         ensures lanes { LanesAccounted M.disk N.rings self.recorder }
     {
-        let Held {
-            recorder,
-            gauge: _,
-            of: _,
-        } = self;
+        let Held { recorder, gauge: _ } = self;
         recorder
     }
 
@@ -33,11 +29,7 @@ impl<M: BlockMedium, N: Rings> Held<M, N> {
         ensures accounted { LanesAccounted M.disk N.rings self.recorder }
         ensures refused { IfErr result (λ back. back ≡ self) }
     {
-        let Held {
-            recorder,
-            gauge,
-            of: _,
-        } = self;
+        let Held { recorder, gauge } = self;
         match recorder.apart() {
             Ok(parts) => Ok(parts),
             Err(back) => Err(Held::new(back, gauge)),

@@ -2,6 +2,7 @@
 
 ghost use Rattle.std.specs.Prelude.{◌≡◌, ◌<◌, ◌≤◌, [], length, drop, slice_get, Err, IfErr, IfOk, OnErr, OnOk};
 ghost use mathlib.Core.List.{IsPrefix};
+ghost use Rattle.r10_body.specs.declared.refusal.Glance.{Glance as GlanceValue};
 ghost use Rattle.r10_body.specs.declared.refusal.Refusal.TheVariants as refusals;
 ghost use Rattle.r10_gauge.specs.Published.{commits_of, last_triple};
 ghost use Rattle.r10_held.specs.Publishing.{StaysPublished};
@@ -47,18 +48,19 @@ impl Player {
         self.pass.last()
     }
 
-    /// How many packets of its file it has covered, those of its index not counted: the entries of these, in the order of the file, it gave or
-    /// passed over.
+    /// How many packets of its file it has covered, those of its index not counted: the entries of these, in the order of the file,
+    /// it gave or passed over.
     pub fn covered(&self) -> usize
         ensures { result ≡ self.now.cursor.reading.covered }
     {
         self.cursor.covered()
     }
 
-    /// Looks at what the cabinet published, without its lock, and then takes the next instalment from its recorder under the lock, as `advance_in`.
-    /// It may wait for the lock. What was seen before is a beginning of what is seen then.
+    /// Looks at what the cabinet published, without its lock, and then takes the next instalment from its recorder under the lock,
+    /// as `advance_in`. It may wait for the lock. What was seen before is a beginning of what is seen then, and this of what the
+    /// lock's value had published.
     ///
-    /// Refused as `advance_in`. Where this is refused, the cursor is as it was. Of the recorder it says that it was some one at the time.
+    /// Refused as `advance_in`, but never Behind. Where this is refused, the cursor is as it was.
     pub fn advance<M: BlockMedium, N: Rings, R: Wait>(
         &mut self,
         rt: &R,
@@ -67,22 +69,28 @@ impl Player {
         requires { self.old.pass.cell ≡ cabinet.now }
         ensures same { self.new.pass.cell ≡ self.old.pass.cell }
         ensures seen { IsPrefix self.old.pass.seen self.new.pass.seen }
-        ensures advances { AdvancesUnderLock M.disk N.rings self.new.pass.seen self.old.cursor self.new.cursor result }
+        ensures advances { AdvancesUnderLock M.disk N.rings self.new.pass self.old.cursor self.new.cursor result }
+        ensures ahead { (seen : GlanceValue) → result ≡ Err (refusals.Behind seen) → ⊥ }
         ensures takes { IfOk result (λ n. TakesInstalment self.old.cursor self.new.cursor n) }
         ensures cursor { OnErr result (self.new.cursor ≡ self.old.cursor) }
     {
         let _seen = cabinet.glance(rt, &mut self.pass);
+        cabinet.is_named();
         let mut lock = cabinet.hold(rt);
         let held: &mut Held<M, N> = &mut lock;
         // For the proof: what is known of whatever a lock keeps.
         held.look();
+        held.is_named();
+        // The lock's value has published all that the pass has seen.
+        held.meet(rt, &mut self.pass);
         self.advance_in(held)
     }
 
-    /// Takes the next instalment of its cursor from the recorder that is held, which must have published at least what was seen: else this is
-    /// refused Behind, with the last that was seen, and nothing changes. Else it is the recorder's `advance` of the cursor, and refused as that:
-    /// Failed, NotMounted, Stale where the cursor is of another generation, Unread where its queue is not empty, NoSuchFile, BadFile with
-    /// the file's first fault, OutOfMemory, Medium. Where this is refused, the cursor is as it was.
+    /// Takes the next instalment of its cursor from the recorder that is held, which must have published at least what was seen:
+    /// else this is refused Behind, with the last that was seen, and nothing changes. Else it is the recorder's `advance` of the
+    /// cursor, and refused as that: Failed, NotMounted, Stale where the cursor is of another generation, Unread where its queue is
+    /// not empty, NoSuchFile, BadFile with the file's first fault, OutOfMemory, Medium. Where this is refused, the cursor is as it
+    /// was.
     pub fn advance_in<M: BlockMedium, N: Rings>(
         &mut self,
         held: &mut Held<M, N>,
