@@ -34,7 +34,8 @@ closing test b = cond (test b) [] b.samples
 
 -- what passes is closed, and nothing else; where the call failed, the same of some first channels
 abbrev pub Closes : {T E : Type 0} → (BuilderState → Bool) → List BuilderState → List BuilderState → Result T E → Type 0
-Closes test old new result = MatchResult result (λ _. LeavesOpen (closing test) old new) (λ _. LeavesOpenUpTo (closing test) old new)
+Closes test old new result =
+    MatchResult result (λ _. LeavesOpen (closing test) old new) (λ _. LeavesOpenUpTo (closing test) old new)
 
 -- ---- samples that are taken
 
@@ -58,7 +59,8 @@ with_taken more b = filled b.spec b.samples (map sample_of (on_channel b.spec.id
 -- ---- one builder
 
 -- The first builder that passes changed so. Its channel is the same, and all other builders are as they were.
-pub record ChangesFirst (test : BuilderState → Bool) (Change : BuilderState → BuilderState → Type 0) (old new : List BuilderState) : Type 0 where
+pub record ChangesFirst (test : BuilderState → Bool) (Change : BuilderState → BuilderState → Type 0)
+    (old new : List BuilderState) : Type 0 where
   pub before : List BuilderState
   pub was : BuilderState
   pub later : BuilderState
@@ -70,7 +72,8 @@ pub record ChangesFirst (test : BuilderState → Bool) (Change : BuilderState �
   pub spec : later.spec ≡ was.spec
   pub changed : Change was later
 
--- A sample went into the builder of its channel, and what it closed there was handed out. So it is on the others, on which nothing was closed.
+-- A sample went into the builder of its channel, and what it closed there was handed out.
+-- On all other channels nothing was closed.
 pub record TakesOne (channel : ℕ) (s : Sample) (closed : Option Closed) (old new : List BuilderState) : Type 0 where
   pub one : ChangesFirst (is_of channel) (λ was later. Pushed was s closed later) old new
   pub leaves : LeavesOpen (with_taken (entry_on channel s ∷ [])) old new

@@ -48,7 +48,7 @@ nothing-open = refl
 pub first-old : find (is_old 1000501) three ≡ Some (holding 9 (text_at 500 ∷ []))
 first-old = refl
 
--- there it is closed, and nothing else; a count earlier nothing is
+-- it is closed then, and nothing else; a count earlier nothing is
 pub closes-old : map (closing (is_old 1000501)) three ≡ [] ∷ (text_at 1000 ∷ text_at 2000 ∷ []) ∷ [] ∷ []
 closes-old = refl
 
@@ -56,7 +56,8 @@ pub closes-none : map (closing (is_old 1000500)) three ≡ [] ∷ (text_at 1000 
 closes-none = refl
 
 -- a sample joins its channel's packet; a late one closes it and begins the next; the others stay
-pub joins-its-packet : map (with_taken (entry_on 9 (text_at 3000) ∷ [])) three ≡ [] ∷ (text_at 1000 ∷ text_at 2000 ∷ []) ∷ (text_at 500 ∷ text_at 3000 ∷ []) ∷ []
+pub joins-its-packet : map (with_taken (entry_on 9 (text_at 3000) ∷ [])) three
+    ≡ [] ∷ (text_at 1000 ∷ text_at 2000 ∷ []) ∷ (text_at 500 ∷ text_at 3000 ∷ []) ∷ []
 joins-its-packet = refl
 
 pub begins-the-next : map (with_taken (entry_on 6 (text_at 1001001) ∷ entry_on 9 (text_at 3000) ∷ entry_on 6 (text_at 1001002) ∷ [])) three

@@ -77,7 +77,8 @@ abbrev pub StartEffect : List ℕ → List ℕ → Kept → Disk → Kept → Di
 StartEffect name setup k old later new =
     WhereIdle k.work (λ chain. WhereRecording later.work (λ made o. IsSomeAnd k.tick (λ (tick : Tick). StartEffectAt name setup tick chain o k old later new)))
 
--- a commit: the last file is listed with its bytes, and as many blocks as they need; whatever it carried, it shows all of that, and nothing is open
+-- a commit: the last file is listed with its bytes, and as many blocks as they need; whatever it carried, it shows all of that
+-- nothing is open then
 pub record CommitEffectAt (chain : List ChainBlock) (o p : Open) (k : Kept) (old : Disk) (later : Kept) (new : Disk) : Type 0 where
   pub effect : Effect (first_of o.recording.out.blocks) (record k { work = recording (updated (sized (size_of p.recording.out.blocks) (last_listed chain)) chain) p })
       (IsPublished (updated (sized (size_of p.recording.out.blocks) (last_listed chain)) chain)) old.blocks later new
@@ -103,8 +104,10 @@ StopEffect k old later new = WhereRecording k.work (λ chain o. IsSomeAnd k.tick
 
 -- ---- what is put into the file that is recorded, and not shown yet
 
--- the file that is recorded goes on with this entry behind all that it carried, and shows what it showed; this is left in the open packet of each channel
-pub record EntryEffect (entry : Entry) (left : BuilderState → List Sample) (chain : List ChainBlock) (o p : Open) (made : Kept) (old : Image) (later : Kept) (new : Disk) : Type 0 where
+-- the file that is recorded goes on with this entry behind all that it carried, and shows what it showed
+-- this is left in the open packet of each channel
+pub record EntryEffect (entry : Entry) (left : BuilderState → List Sample)
+    (chain : List ChainBlock) (o p : Open) (made : Kept) (old : Image) (later : Kept) (new : Disk) : Type 0 where
   pub effect : Effect (first_of o.recording.out.blocks) made (HasDirectory chain) old later new
   pub takes : (text : List ℕ) (entries : List Entry) (n : ℕ) → IsShown old o text entries n → IsShown new.blocks p text (entries ++ entry ∷ []) n
   pub closes : LeavesOpen left o.recording.builders p.recording.builders
@@ -113,17 +116,20 @@ pub record EntryEffect (entry : Entry) (left : BuilderState → List Sample) (ch
 abbrev pub TickEffectIn : Work → Work → Tick → Kept → Disk → Kept → Disk → Type 0
 TickEffectIn (idle chain) now tick k old later new = Effect (length old.blocks) (record k { tick = Some tick }) (HasDirectory chain) old.blocks later new
 TickEffectIn (recording chain o) (recording made p) tick k old later new =
-    EntryEffect (time_entry_at k.config.time tick.count tick.civil) (closing (is_old tick.count)) chain o p (record k { work = recording chain p; tick = Some tick }) old.blocks later new
+    EntryEffect (time_entry_at k.config.time tick.count tick.civil) (closing (is_old tick.count)) chain o p
+    (record k { work = recording chain p; tick = Some tick }) old.blocks later new
 TickEffectIn was now tick k old later new = ⊥
 
 abbrev pub TickEffect : Tick → Kept → Disk → Kept → Disk → Type 0
 TickEffect tick k old later new = TickEffectIn k.work later.work tick k old later new
 
--- an event: the last event's count is set, and the file takes in the event, which tells how many of its number came before it; no packet is closed
+-- an event: the last event's count is set, and the file takes in the event, which tells how many of its number came before it
+-- no packet is closed
 abbrev pub EventEffect : ℕ → ℕ → Kept → Disk → Kept → Disk → Type 0
 EventEffect number count k old later new =
     WhereRecording k.work (λ chain o. WhereRecording later.work (λ made p.
-    EntryEffect (next_event o.recording number count) still_open chain o p (record k { work = recording chain p; last_event = Some count }) old.blocks later new))
+    EntryEffect (next_event o.recording number count) still_open chain o p
+    (record k { work = recording chain p; last_event = Some count }) old.blocks later new))
 
 -- a pump: the channel's number of what was taken in rises
 abbrev pub PumpEffect : Kept → Disk → Kept → Disk → Type 0
