@@ -93,7 +93,7 @@ own_on k later old new more none grows = record { more = []; own = subst (OwnGro
 
 pub own_same : (k later : Kept) (old new : Image) → later ≡ k → new ≡ old → OwnStay k old later new
 own_same k later old new kept reads = own_on k later old new [] refl (inr (λ own are.
-    subst (AreOwn later.work new) (sym (append-nil own)) (subst (λ (i : Image). AreOwn later.work i own) (sym reads) (subst (λ (x : Kept). AreOwn x.work old own) (sym kept) are))))
+    subst (AreOwn later new) (sym (append-nil own)) (subst (λ (i : Image). AreOwn later i own) (sym reads) (subst (λ (x : Kept). AreOwn x old own) (sym kept) are))))
 
 pub own_none : (k later : Kept) (old new : Image) (parts : List Part) → AllByRecursion (λ (p : Part). p.samples ≡ []) parts → OwnGrow k old later new (entries_of parts) → OwnStay k old later new
 own_none k later old new parts all grows = own_on k later old new (entries_of parts) (none_in parts all) grows

@@ -1,5 +1,5 @@
 -- A new recorder over a medium that has files.
-use Rattle.std.proofs.Common.{◌≡◌, ℕ, List, [], ◌∷◌, length, map, replicate, refl}
+use Rattle.std.proofs.Common.{◌≡◌, ℕ, inl, false, List, [], ◌∷◌, length, map, replicate, refl}
 use Rattle.std.specs.List.{AllByRecursion}
 use Rattle.r10_body.specs.declared.spec.ChannelSpec.{ChannelSpec}
 use Rattle.r10_means.specs.Means.{OthersAreFound, LanesAreCounted}
@@ -21,6 +21,10 @@ none_own : (image : Image) (files : List File) → AreFound image files → own_
 none_own image [] found = refl
 none_own image (f ∷ files) (first, found) = rw first.own (none_own image files found)
 
+others_all : (image : Image) (files : List File) → AreFound image files → map (λ (f : File). f.own) files ≡ replicate (length files) false
+others_all image [] found = refl
+others_all image (f ∷ files) (first, found) = rw (first.own, others_all image files found) refl
+
 none_taken : (files : List File) → own_files files ≡ [] → (specs : List ChannelSpec) → LanesAreCounted files specs (replicate (length specs) 0) (replicate (length specs) 0) (map fresh_lane specs)
 none_taken files none [] = tt
 none_taken files none (x ∷ specs) = (
@@ -39,7 +43,7 @@ begins sound are s image files failures has =
         tick = refl;
         counted = refl;
         files = (has.0, others_found image files has.1);
-        numbers = (refl, refl, none_taken files (none_own image files has.1) s.channels);
+        numbers = (refl, refl, none_taken files (none_own image files has.1) s.channels, inl (refl, others_all image files has.1));
         sound = sound s files failures found.0 found.1;
       };
       stand = record { each = λ id. tt };

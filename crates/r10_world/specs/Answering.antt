@@ -234,7 +234,7 @@ DoesSo disk old slots Stop (replies.Stopped said) new later =
     StopEffect old.kept (disk old.medium) new.kept (disk new.medium)
     × TakesParts (rising (channel_ids old.kept.config.channels)) (most_of old.kept.config.channels) (IsStopped said) old.kept (disk old.medium) old.lanes new.kept (disk new.medium) new.lanes × (later ≡ slots)
 DoesSo disk old slots Seal replies.Done new later = DoesAlone (SealsSo disk old new) (KeepsOwn disk old new) old.lanes slots new.lanes later
-DoesSo disk old slots Erase replies.Done new later = DoesAlone (EraseEffect old.kept (disk old.medium) new.kept (disk new.medium)) (AreOwn new.kept.work (disk new.medium).blocks []) old.lanes slots new.lanes later
+DoesSo disk old slots Erase replies.Done new later = DoesAlone (EraseEffect old.kept (disk old.medium) new.kept (disk new.medium)) (AreOwn new.kept (disk new.medium).blocks []) old.lanes slots new.lanes later
 DoesSo disk old slots Files (replies.Files files) new later = (files ≡ map info_in (files_of old.kept.work)) × (new ≡ old) × (later ≡ slots)
 DoesSo disk old slots Status (replies.Status status) new later = (status ≡ status_in old.kept old.lanes) × (new ≡ old) × (later ≡ slots)
 DoesSo disk old slots (Cursor file channels from to) (replies.Cursor id) new later =

@@ -24,6 +24,7 @@ new_kept s = record {
   generation = 0;
   taken = replicate (length s.channels) 0;
   erased = replicate (length s.channels) 0;
+  found = None;
 }
 
 -- a new world over a medium: fresh lanes, and no readers
