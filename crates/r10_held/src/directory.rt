@@ -1,14 +1,13 @@
 //! The calls on the directory, on the recorder under the lock: a mount, a dismount, a seal and an erase.
 
-ghost use Rattle.std.specs.Prelude.{IfErr, IsErrOf, MatchResult, None, OnOk, [], ◌∷◌, take, ◌≡◌};
+ghost use Rattle.std.specs.Prelude.{IfErr, IsErrOf, MatchResult, None, OnOk, [], take, ◌≡◌};
 ghost use Rattle.r10_body.specs.declared.refusal.Refusal.TheVariants as refusals;
 ghost use Rattle.r10_control.specs.Own.{AreOwn, OwnStay};
 ghost use Rattle.r10_control.specs.Checks.{recorder_refusal};
 ghost use Rattle.r10_control.specs.Effects.{DismountEffect, EraseEffect, MountEffect};
-ghost use Rattle.r10_control.specs.Fronts.{MountSpares, SealSpares};
+ghost use Rattle.r10_control.specs.Fronts.{Spares};
 ghost use Rattle.r10_control.specs.Leading.{CallStepsTaking, MachinesKeepShown, none_taken};
 ghost use Rattle.r10_control.specs.Refused.{IsMountRefusal, RefusesCall, nothing_lacks};
-ghost use Rattle.r10_dirchain.specs.OnMedium.{SameButIn};
 ghost use Rattle.r10_means.specs.Left.{AnswersSafely};
 ghost use Rattle.r10_machine.specs.declared.event.Event.TheVariants as events;
 ghost use Rattle.r10_machine.specs.declared.reply.Reply.TheVariants as replies;
@@ -35,7 +34,8 @@ impl<M: BlockMedium, N: Rings> Held<M, N> {
         ensures effect { OnOk result (MountEffect self.old.recorder.kept (M.disk self.old.recorder.medium) self.new.recorder.kept (M.disk self.new.recorder.medium)) }
         ensures owned { OwnStay self.old.recorder.kept (M.disk self.old.recorder.medium).blocks self.new.recorder.kept (M.disk self.new.recorder.medium).blocks }
         ensures beside { StaysBeside self.old self.new }
-        ensures spares { MountSpares self.old.recorder.kept.config.directory (M.disk self.old.recorder.medium) (M.disk self.new.recorder.medium) }
+        ensures spares { Spares self.old.recorder.kept (M.disk self.old.recorder.medium) events.Mount
+            (M.disk self.new.recorder.medium) }
     {
         self.recorder.mount()
     }
@@ -53,7 +53,8 @@ impl<M: BlockMedium, N: Rings> Held<M, N> {
         ensures effect { OnOk result (DismountEffect self.old.recorder.kept (M.disk self.old.recorder.medium) self.new.recorder.kept (M.disk self.new.recorder.medium)) }
         ensures owned { OwnStay self.old.recorder.kept (M.disk self.old.recorder.medium).blocks self.new.recorder.kept (M.disk self.new.recorder.medium).blocks }
         ensures beside { StaysBeside self.old self.new }
-        ensures front { SameButIn (1 ∷ []) (M.disk self.old.recorder.medium).blocks (M.disk self.new.recorder.medium).blocks }
+        ensures spares { Spares self.old.recorder.kept (M.disk self.old.recorder.medium) events.Dismount
+            (M.disk self.new.recorder.medium) }
     {
         self.recorder.dismount()
     }
@@ -72,7 +73,8 @@ impl<M: BlockMedium, N: Rings> Held<M, N> {
         ensures stops { AnswersSafely self.old.recorder.kept (M.disk self.old.recorder.medium) events.Seal (λ _. replies.Done) result self.new.recorder.kept (M.disk self.new.recorder.medium) }
         ensures owned { OwnStay self.old.recorder.kept (M.disk self.old.recorder.medium).blocks self.new.recorder.kept (M.disk self.new.recorder.medium).blocks }
         ensures beside { StaysBeside self.old self.new }
-        ensures spares { SealSpares self.old.recorder.kept.config self.old.recorder.kept.work (M.disk self.old.recorder.medium) (M.disk self.new.recorder.medium) }
+        ensures spares { Spares self.old.recorder.kept (M.disk self.old.recorder.medium) events.Seal
+            (M.disk self.new.recorder.medium) }
     {
         self.recorder.seal()
     }
@@ -90,7 +92,8 @@ impl<M: BlockMedium, N: Rings> Held<M, N> {
         ensures owned { MatchResult result (λ _. AreOwn self.new.recorder.kept.work (M.disk self.new.recorder.medium).blocks []) (λ _. OwnStay self.old.recorder.kept (M.disk self.old.recorder.medium).blocks self.new.recorder.kept (M.disk self.new.recorder.medium).blocks) }
         ensures config { self.new.recorder.kept.config ≡ self.old.recorder.kept.config }
         ensures publishes { Publishes result self.old self.new }
-        ensures front { SameButIn (1 ∷ []) (M.disk self.old.recorder.medium).blocks (M.disk self.new.recorder.medium).blocks }
+        ensures spares { Spares self.old.recorder.kept (M.disk self.old.recorder.medium) events.Erase
+            (M.disk self.new.recorder.medium) }
     {
         let emptied = self.recorder.erase();
         publish_if_done(rt, &emptied, &self.recorder, &mut self.gauge);

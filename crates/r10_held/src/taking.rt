@@ -3,7 +3,7 @@
 ghost use Rattle.std.specs.Prelude.{IfErr, None, OnOk, [], ◌∷◌, ◌≡◌};
 ghost use Rattle.r10_control.specs.Checks.{recorder_refusal};
 ghost use Rattle.r10_control.specs.Effects.{PumpEffect, StopEffect};
-ghost use Rattle.r10_control.specs.Fronts.{WritesFrom, recorded_from};
+ghost use Rattle.r10_control.specs.Fronts.{Spares};
 ghost use Rattle.r10_control.specs.Leading.{MachinesKeepShown};
 ghost use Rattle.r10_control.specs.Refused.{nothing_lacks};
 ghost use Rattle.r10_means.specs.Left.{AnswersSafely};
@@ -44,7 +44,8 @@ impl<M: BlockMedium, N: Rings> Held<M, N> {
         ensures effect { OnOk result (PumpEffect self.old.recorder.kept (M.disk self.old.recorder.medium) self.new.recorder.kept (M.disk self.new.recorder.medium)) }
         ensures config { self.new.recorder.kept.config ≡ self.old.recorder.kept.config }
         ensures gauge { StaysPublished self.old self.new }
-        ensures front { WritesFrom 0 (recorded_from self.old.recorder.kept.work) (M.disk self.old.recorder.medium).blocks (M.disk self.new.recorder.medium).blocks }
+        ensures spares { Spares self.old.recorder.kept (M.disk self.old.recorder.medium) (events.Pump channel most)
+            (M.disk self.new.recorder.medium) }
     {
         self.recorder.pump(channel, most)
     }
@@ -67,7 +68,8 @@ impl<M: BlockMedium, N: Rings> Held<M, N> {
         ensures effect { OnOk result (StopEffect self.old.recorder.kept (M.disk self.old.recorder.medium) self.new.recorder.kept (M.disk self.new.recorder.medium)) }
         ensures config { self.new.recorder.kept.config ≡ self.old.recorder.kept.config }
         ensures publishes { Publishes result self.old self.new }
-        ensures front { WritesFrom self.old.recorder.kept.config.directory (recorded_from self.old.recorder.kept.work) (M.disk self.old.recorder.medium).blocks (M.disk self.new.recorder.medium).blocks }
+        ensures spares { Spares self.old.recorder.kept (M.disk self.old.recorder.medium) events.Stop
+            (M.disk self.new.recorder.medium) }
     {
         let stopped = self.recorder.stop_file();
         publish_if_done(rt, &stopped, &self.recorder, &mut self.gauge);
