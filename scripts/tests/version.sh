@@ -18,5 +18,6 @@ check "so have the declarations for Rust" is \
 for crate in r10-sys r10; do
     check "so has the crate $crate" is "$(sed -n 's/^version = "\(.*\)"$/\1/p' "$top/ffi/rust/$crate/Cargo.toml")" "$version"
 done
+check "so has the service" is "$(sed -n 's/^version = "\(.*\)"$/\1/p' "$top/recorder/Cargo.toml" | head -n 1)" "$version"
 # shellcheck disable=SC2154
 exit "$failed"
