@@ -55,7 +55,8 @@ def missing(call: str, has_server: bool) -> str:
     words = call.split(' ')
     if any(word in call for word in SERVER) and not has_server:
         return 'no server of PostgreSQL'
-    if words[0] == SYSTEM and subprocess.run([SYSTEM, '-c', 'import psycopg2'], stderr=subprocess.DEVNULL).returncode:
+    # (what psql asks for was loaded by a line that needs the driver)
+    if words[0] in (SYSTEM, 'psql') and subprocess.run([SYSTEM, '-c', 'import psycopg2'], stderr=subprocess.DEVNULL).returncode:
         return 'no driver of PostgreSQL'
     return '' if shutil.which(words[0]) or os.path.exists(HERE.parent / words[0]) else 'no %s here' % words[0]
 

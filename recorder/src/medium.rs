@@ -22,6 +22,9 @@ const GONE: Duration = Duration::from_secs(2);
 /// The bytes of a plain read.
 const PART: u64 = 1 << 20;
 
+/// The letters with which block 1 begins, if it is a directory's.
+const LETTERS: &[u8; 8] = b"FORTYtwo";
+
 pub struct Medium {
     path: PathBuf,
     blocks: usize,
@@ -116,9 +119,30 @@ impl Medium {
                 self.name()
             )));
         }
+        if self.has_letters()? {
+            return Err(self.does_not_fit());
+        }
         let region = recorder.close();
         let mut recorder = Recorder::format(region, ROOM, &self.script).map_err(|it| Refusal::Wrong(it.0.to_string()))?;
         recorder.settle().map_err(|it| Refusal::Failed(format!("the medium {} cannot be written: {it}", self.name())))
+    }
+
+    /// Whether block 1 begins as a directory does, whatever follows.
+    fn has_letters(&self) -> Result<bool, Refusal> {
+        let mut front = [0; LETTERS.len()];
+        File::open(&self.path)
+            .and_then(|file| file.read_exact_at(&mut front, 512))
+            .map_err(|it| Refusal::Failed(format!("the medium {} cannot be read: {it}", self.name())))?;
+        Ok(&front == LETTERS)
+    }
+
+    /// A directory that a mount refuses may list recordings: nothing here writes over it.
+    fn does_not_fit(&self) -> Refusal {
+        Refusal::Wrong(format!(
+            "the medium {} has a directory that does not fit these settings: it was made with another `directory` or with more \
+             `blocks`, or it is damaged; give the numbers that it was made with, or copy it and make another medium",
+            self.name()
+        ))
     }
 
     /// Says what the disk is like: the size of its sectors, its cache, its free room.
@@ -193,10 +217,10 @@ impl Medium {
             .map_err(|(error, _)| Refusal::Wrong(format!("the recorder cannot be opened: {error}")))?;
         match recorder.mount() {
             Ok(()) => (),
+            Err(Error::BAD_DIRECTORY) if self.has_letters()? => return Err(self.does_not_fit()),
             Err(Error::BAD_DIRECTORY) => {
                 return Err(Refusal::Wrong(format!(
-                    "the medium {} has no directory of this recorder: a new device wants `r10d --format SETTINGS`; \
-                     of one that has recordings keep a copy first",
+                    "the medium {} has no directory of this recorder: a new device wants `r10d --format SETTINGS`",
                     self.name()
                 )));
             }

@@ -482,6 +482,9 @@ def on_a_device(room: Room, sector: int) -> int:
         service.until_durable(500)
         load.wait()
         service.end()
+        (room.folder / 'other.toml').write_text(text.replace('directory = 63', 'directory = 31'))
+        ran = subprocess.run([room.programs / 'r10d', '--format', 'other.toml'], cwd=room.folder, capture_output=True, text=True)
+        must(ran.returncode == 3 and 'does not fit these settings' in ran.stderr, f'--format over recordings: {ran}')
         image, device = device.close(), None
     finally:
         room.end_all()
