@@ -17,9 +17,10 @@ use Rattle.r10_dirchain.specs.OnMedium.{Turned}
 use Rattle.r10_dirchain.specs.Steps.{last_listing}
 use Rattle.r10_dirchain.proofs.FileLists.{last_listing_is, last_of}
 use Rattle.r10_dirchain.proofs.Standing.{Stand, usable_of}
-use Rattle.r10_dirchain.proofs.Usable.{none_broken, place_rules_hold, placed}
+use Rattle.r10_dirchain.proofs.Usable.{place_rules_hold, placed}
 use Rattle.r10_volume.proofs.Staying.{bytes_behind}
 use Rattle.r10_volume.specs.Mounting.{IsUsable}
+use Rattle.r10_count.proofs.Rules.{none_broken}
 
 -- a file behind the reserved blocks, whose bytes are inside the medium
 pub record Placed (blocks reserved : ℕ) (e : Entry) : Type 0 where
