@@ -1,5 +1,5 @@
 -- A line goes on in a further ring.
-use Rattle.std.proofs.Common.{◌≡◌, ◌⊎◌, ℕ, ◌+◌, ◌≤◌, Bool, true, false, List, [], ◌∷◌, ◌++◌, inl, inr, refl, sym, ap, subst, arith, ◌∙◌, ◌<◌, true≢false}
+use Rattle.std.proofs.Common.{◌≡◌, ◌⊎◌, ℕ, ◌+◌, ◌≤◌, Bool, List, [], ◌∷◌, ◌++◌, inl, inr, refl, sym, ap, subst, arith, ◌∙◌, ◌<◌}
 use Rattle.std.proofs.lemmas.List.{append-nil, append_assoc}
 use Rattle.std.proofs.lemmas.Bool.{cases_lt}
 use Rattle.rtrb.specs.Ends.{SameRing}
@@ -54,9 +54,6 @@ keeps_behind told old mid new links spares ring same none k = record {
   spares = subst (λ (c : _). SameConsumer c new.spares) spares k.spares;
   no_spare = k.no_spare;
 }
-
-pub not_true : true ≡ false → ⊥
-not_true e = absurd (true≢false e)
 
 pub none_of : (n : ℕ) → (0 < n → ⊥) → n ≡ 0
 none_of n f = elim (cases_lt 0 n) [

@@ -42,18 +42,6 @@ joins_on first most old mid new before between after count blocks j same t = rec
   lent = t.lent ∙ ap (put_in_run first t.op) j.lent ∙ sym (put_more first j.ops t.op before);
 }
 
--- none more does
-pub joins_none : (first most : ℕ) (old mid new : OrdersValue) (before between after : List ℕ) (count : ℕ) → JoinsMore first most old mid before between count → IsSameEnd mid new
-    → taken new ≡ taken mid → after ≡ between → JoinsMore first most old new before after count
-joins_none first most old mid new before between after count j same no_more lent = record {
-  queue = end_on old mid new j.queue same;
-  ops = j.ops;
-  more = no_more ∙ j.more;
-  all_join = j.all_join;
-  blocks_are = j.blocks_are;
-  lent = lent ∙ j.lent;
-}
-
 pub nothing_known : {X : Type 0} (xs ys : List X) → IsPrefix xs ys → length ys ≡ 0 → xs ≡ []
 nothing_known xs ys p none = nil_from_length xs (omega (arith, none, length-append xs p.0, ap length p.1))
 

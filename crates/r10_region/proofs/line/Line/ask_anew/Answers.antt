@@ -1,8 +1,9 @@
 use Rattle.std.proofs.Common.{refl, arith, inr, ap, ◌∙◌, ◌++◌, ◌∷◌, [], List}
 use Rattle.rtrb.specs.Ring.{sent}
-use Rattle.r10_region.proofs.Lines.{told_anew, producer_on, ring_back, not_true}
+use Rattle.r10_region.proofs.Lines.{told_anew, producer_on, ring_back}
 use Rattle.r10_region.specs.declared.line.Link.{Link}
 use Rattle.r10_region.proofs.line.Line.ask_anew.Goals as goal
+use Rattle.std.proofs.lemmas.Bool.{true≢false}
 
 pub returns-clause-told : goal.returns-clause-told
 returns-clause-told c =
@@ -23,7 +24,7 @@ returns-clause-keeps c = let link : Link = record { next = c.in-Some.spare.next;
     fresh = c.in-Some.spare.fresh.1;
   });
   places = omega (arith, c.requires);
-  full = λ e. absurd (not_true e);
+  full = λ e. absurd (true≢false e);
   spares = c.further.ensures.spares;
-  no_spare = λ e. absurd (not_true e);
+  no_spare = λ e. absurd (true≢false e);
 }
