@@ -8,13 +8,13 @@ use Rattle.r10_body.specs.Messages.{channel_refusal}
 use Rattle.r10_body.specs.declared.entry.Sample.{Sample}
 use Rattle.r10_body.specs.declared.refusal.Refusal.TheVariants.{CountBack, CountRange}
 use Rattle.r10_body.specs.declared.spec.ChannelSpec.{ChannelSpec}
-use Rattle.r10_machine.proofs.Steady.{checks_pass, parts_pass}
 use Rattle.r10_machine.specs.Checks.{count_checks, in_48_bits, is_not_before, message_checks}
 use Rattle.r10_machine.specs.SoundParts.{count_or_0}
 use Rattle.r10_lane.proofs.Waiting.{passed}
 use Rattle.r10_port.specs.declared.item.Item.{Item}
 use Rattle.r10_port.specs.declared.item.Item.TheVariants.{Announce, Entry}
 use Rattle.r10_port.specs.Items.{samples, last_count_or, MayJoin, ItemMayFollow}
+use Rattle.r10_count.proofs.Rules.{none_broken, rules_parts}
 
 pub samples_joined : (xs ys : List Item) → samples (xs ++ ys) ≡ samples xs ++ samples ys
 samples_joined [] ys = refl
@@ -51,8 +51,8 @@ has_room items spec x first may = (subst (λ (o : Option Item). MayJoin o (sampl
 pub bounded : (items : List Item) (spec : ChannelSpec) (x : Sample) → slice_get items 0 ≡ Some (Announce spec) → ItemMayFollow items (Entry x) → IsCount (count_or_0 (last_count_or None (samples (items ++ Entry x ∷ []))))
 bounded items spec x first may =
     let fine = (subst (λ (o : Option Item). MayJoin o (samples items) (Entry x)) first may).1 in
-    let parts = parts_pass (message_checks spec x.message) (count_checks (last_count_or None (samples items)) x.count) fine in
-    let range = checks_pass (in_48_bits x.count).0 CountRange ((is_not_before (last_count_or None (samples items)) x.count, CountBack) ∷ []) parts.1 in
+    let parts = rules_parts (message_checks spec x.message) (count_checks (last_count_or None (samples items)) x.count) fine in
+    let range = none_broken (in_48_bits x.count).0 CountRange ((is_not_before (last_count_or None (samples items)) x.count, CountBack) ∷ []) parts.1 in
     subst IsCount (sym (ap count_or_0 (last_pushed items x))) (ltb-true x.count 281474976710656 range.0)
 
 -- ---- both ends

@@ -1,5 +1,5 @@
 -- What one item sent or received makes of the two ends.
-use Rattle.std.proofs.Common.{◌≡◌, ℕ, ◌+◌, ◌≤◌, ◌<◌, List, [], ◌∷◌, ◌++◌, Option, Some, None, Result, Ok, Err, IsOk, zero, suc, true, false, slice_get, refl, sym, ap, subst, arith, ◌∙◌}
+use Rattle.std.proofs.Common.{◌≡◌, ℕ, ◌+◌, ◌≤◌, List, [], ◌∷◌, ◌++◌, Option, Some, None, Ok, Err, slice_get, refl, sym, ap, arith, ◌∙◌}
 use Rattle.r10_count.specs.Checks.{first_broken}
 use Rattle.r10_body.specs.Gaps.{gap_after}
 use Rattle.r10_body.specs.declared.entry.Sample.{Sample}
@@ -40,13 +40,6 @@ pub loses : (ring ring2 : Ring) (spec : ChannelSpec) (items items2 : List Item) 
     → Offered (sending ring spec items last missed lost free) count message (Err Overflow) (sending ring2 spec items2 last missed2 lost2 free2)
 loses ring ring2 spec items items2 last missed missed2 lost lost2 free free2 count message same stays full full2 more all fine =
     rw fine (refl, full, λ i. sending (same i) spec (stays i) last (more i) (all i) ((full2 ∙ sym full) i))
-
--- what fails though it succeeds where there is room had none
-pub none_free : {T E : Type 0} (free : ℕ) (r : Result T E) (e : E) → r ≡ Err e → (0 < free → IsOk r) → free ≡ 0
-none_free zero r e is succeeds = refl
-none_free (suc free) r e is succeeds =
-    let wrong : false ≡ true = subst IsOk is (succeeds (omega arith)) in
-    absurd (cc)
 
 -- ---- the receiving end
 
