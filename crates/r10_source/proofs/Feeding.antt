@@ -1,5 +1,5 @@
 -- What offers and turns come to, one after the other.
-use Rattle.std.proofs.Common.{◌≡◌, ℕ, ◌+◌, ◌-◌, ◌≤◌, Bool, true, false, cond, List, [], ◌∷◌, ◌++◌, map, length, count_by, is_ok, is_err, Option, Some, None, Result, Ok, Err, MatchOption, MatchResult, refl, sym, ap, subst, ◌∙◌, append_assoc, length-append, arith}
+use Rattle.std.proofs.Common.{◌≡◌, ℕ, ◌+◌, ◌-◌, ◌≤◌, Bool, true, false, cond, List, [], ◌∷◌, ◌++◌, map, is_ok, is_err, Option, Some, None, Result, Ok, Err, MatchOption, MatchResult, refl, sym, ap, subst, ◌∙◌, append_assoc, length-append, arith}
 use Rattle.std.specs.List.{AllByRecursion}
 use Rattle.std.proofs.lemmas.List.{append-nil, map-append}
 use Rattle.std.proofs.lemmas.List.Sums.{sum_by-append, sum_by-cons}
@@ -17,19 +17,17 @@ use Rattle.r10_source.specs.declared.pump.Pumped.{Pumped}
 use Rattle.r10_source.specs.declared.source.Turn.{Turn}
 use Rattle.r10_source.specs.declared.source.Turn.TheVariants as brings
 use Rattle.r10_source.specs.Pumps.{Tried, tries, counts, turn_of, OffersAll, PumpsSource, is_accepted, is_refused, is_overflow, missed_after, accepted_with, accepted_of}
+use Rattle.std.proofs.lemmas.Option.{same_Some}
 
 -- ---- one offer
 
 abbrev pub missed_at : Sending → ℕ
 missed_at port = port.lane.missed
 
-some_is : {X : Type 0} {a b : X} → Some a ≡ Some b → a ≡ b
-some_is is = cc
-
 none_of : (checks : List (Bool × Refusal)) (r : Refusal) → AllByRecursion (λ c. is_overflow c.1 ≡ false) checks → first_broken checks ≡ Some r → is_overflow r ≡ false
 none_of [] r all is = absurd (cc)
 none_of ((true, f) ∷ checks) r (here, all) is = none_of checks r all is
-none_of ((false, f) ∷ checks) r (here, all) is = subst (λ (r : Refusal). is_overflow r ≡ false) (some_is is) here
+none_of ((false, f) ∷ checks) r (here, all) is = subst (λ (r : Refusal). is_overflow r ≡ false) (same_Some _ _ is) here
 
 -- one more where the answer is such a refusal
 abbrev more_if : ℕ → Bool → ℕ
@@ -89,20 +87,6 @@ offers_same old new (counts n ∷ tried) all = offers_same (with_losses n old) n
 abbrev turns_of : List Tried → List Turn
 turns_of tried = map turn_of tried
 
-one_or_none : (t : Tried) → cond (is_accepted t) 1 0 + cond (is_refused t) 1 0 ≤ 1
-one_or_none (tries item (Ok x)) = omega arith
-one_or_none (tries item (Err r)) = omega arith
-one_or_none (counts n) = omega arith
-
-accepted_or_refused : (tried : List Tried) → count_by is_accepted tried + count_by is_refused tried ≤ length tried
-accepted_or_refused [] = omega arith
-accepted_or_refused (t ∷ tried) =
-    omega (arith, sum_by-cons (λ (t : Tried). cond (is_accepted t) 1 0) t tried, sum_by-cons (λ (t : Tried). cond (is_refused t) 1 0) t tried, one_or_none t, accepted_or_refused tried)
-
--- no more is accepted and refused than there are turns
-pub in_turns : (turns : ℕ) (a b : List Turn) (p q : Sending) (pumped : Pumped) → PumpsSource turns a b p q pumped → pumped.accepted + pumped.refused ≤ turns
-in_turns turns a b p q pumped pumps = omega (arith, pumps.accepted, pumps.refused, accepted_or_refused pumps.tried, pumps.turns)
-
 -- turns, and then more
 pub pumps_join : (n m : ℕ) (a b c : List Turn) (p q r : Sending) (x y : Pumped) → PumpsSource n a b p q x → PumpsSource m b c q r y
     → PumpsSource (n + m) a c p r (record { accepted = x.accepted + y.accepted; refused = x.refused + y.refused; ended = y.ended })
@@ -121,20 +105,6 @@ pumps_join n m a b c p q r x y first second =
       turns = omega (arith, first.turns, second.turns, length-append first.tried second.tried);
       ended = second.ended;
     }
-
--- a turn without a message
-pub pumps_nothing : (turns : ℕ) (a b : List Turn) (p : Sending) (ended : Bool) → b ≡ a → (ended ≡ true → b ≡ []) → PumpsSource turns a b p p (record { accepted = 0; refused = 0; ended = ended })
-pumps_nothing turns a b p ended same none = record {
-  tried = [];
-  given = sym same;
-  offers = refl;
-  same = (refl, refl);
-  sent = sym (append-nil (sent p));
-  accepted = refl;
-  refused = refl;
-  turns = omega arith;
-  ended = none;
-}
 
 -- more turns may be made
 pub pumps_most : (n m : ℕ) (a b : List Turn) (p q : Sending) (x : Pumped) → n ≤ m → PumpsSource n a b p q x → PumpsSource m a b p q x
