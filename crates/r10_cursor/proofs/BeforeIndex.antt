@@ -4,13 +4,13 @@ use Rattle.std.specs.Prelude.{count_by, filter}
 use Rattle.std.specs.List.{concat}
 use Rattle.std.proofs.lemmas.List.{append-nil, length-append, length-take, take-take, take_at}
 use Rattle.std.proofs.lemmas.List.Concat.{flat_map-append}
-use Rattle.std.proofs.lemmas.List.Elements.{filter-append}
 use Rattle.r10_medium.specs.Disk.{Image}
 use Rattle.r10_blockout.specs.Blocks.{Shows, bytes_from}
 use Rattle.r10_body.specs.Content.{Content, setup, time, event, uart, bus, arinc, discrete, message, node, root, report}
 use Rattle.r10_body.specs.Packets.{Packet, packet_bytes, file_bytes}
 use Rattle.r10_body.specs.Rules.{MayFollow, EachFollows, KeepsIndex, is_data, is_index, is_node, is_root}
-use Rattle.r10_body.proofs.Indexes.{Part, datum, node_here, root_here, part_of, counted, counted_yes, counted_no, no_nodes, no_roots}
+use Rattle.r10_body.proofs.Indexes.{Part, datum, node_here, root_here, part_of, counted, counted_yes, counted_no, no_nodes, no_roots, datas_yes, datas_no}
+use Rattle.std.proofs.lemmas.Bool.{true≢false}
 
 -- ---- the index stands at the end
 
@@ -18,15 +18,6 @@ use Rattle.r10_body.proofs.Indexes.{Part, datum, node_here, root_here, part_of, 
 data Fronted (ps : List Packet) : Type 0 where
   plain : count_by is_node ps ≡ 0 → count_by is_root ps ≡ 0 → filter is_data ps ≡ ps → Fronted ps
   indexed : (index : List Packet) → ps ≡ filter is_data ps ++ index → 0 < count_by is_node ps + count_by is_root ps → Fronted ps
-
-kept_yes : (ps : List Packet) (p : Packet) → is_index p ≡ false → filter is_data (ps ++ p ∷ []) ≡ filter is_data ps ++ p ∷ []
-kept_yes ps p is = let one : filter is_data (p ∷ []) ≡ p ∷ [] = rw is refl in filter-append is_data ps (p ∷ []) ∙ ap (λ (qs : List Packet). filter is_data ps ++ qs) one
-
-kept_no : (ps : List Packet) (p : Packet) → is_index p ≡ true → filter is_data (ps ++ p ∷ []) ≡ filter is_data ps
-kept_no ps p is = let none : filter is_data (p ∷ []) ≡ [] = rw is refl in filter-append is_data ps (p ∷ []) ∙ ap (λ (qs : List Packet). filter is_data ps ++ qs) none ∙ append-nil (filter is_data ps)
-
-pub unlike : true ≡ false → ⊥
-unlike e = absurd (cc)
 
 -- no index packet stands before a packet that is none of an index
 no_index : (ps : List Packet) (p : Packet) → is_index p ≡ false → KeepsIndex ps p → count_by is_index ps ≡ 0
@@ -42,22 +33,22 @@ no_index ps p i keeps = by p.content refl
     by (discrete bits es) e = rw e at keeps
     by (message es) e = rw e at keeps
     by (report loss) e = rw e at keeps
-    by (node es) e = let yes : is_index p ≡ true = rw e refl in absurd (unlike (sym yes ∙ i))
-    by (root es) e = let yes : is_index p ≡ true = rw e refl in absurd (unlike (sym yes ∙ i))
+    by (node es) e = let yes : is_index p ≡ true = rw e refl in absurd (true≢false (sym yes ∙ i))
+    by (root es) e = let yes : is_index p ≡ true = rw e refl in absurd (true≢false (sym yes ∙ i))
 
 -- an index packet behind others
 behind : (ps : List Packet) (p : Packet) → is_index p ≡ true → Fronted ps → (index : List Packet) × (ps ++ p ∷ [] ≡ filter is_data (ps ++ p ∷ []) ++ index)
-behind ps p i (plain nodes roots all) = (p ∷ [], ap (λ (qs : List Packet). qs ++ p ∷ []) (sym all ∙ sym (kept_no ps p i)))
+behind ps p i (plain nodes roots all) = (p ∷ [], ap (λ (qs : List Packet). qs ++ p ∷ []) (sym all ∙ sym (datas_no ps p i)))
 behind ps p i (indexed index is some) = (
   index ++ p ∷ [],
-  ap (λ (qs : List Packet). qs ++ p ∷ []) is ∙ append_assoc (filter is_data ps) index (p ∷ []) ∙ ap (λ (qs : List Packet). qs ++ (index ++ p ∷ [])) (sym (kept_no ps p i)),
+  ap (λ (qs : List Packet). qs ++ p ∷ []) is ∙ append_assoc (filter is_data ps) index (p ∷ []) ∙ ap (λ (qs : List Packet). qs ++ (index ++ p ∷ [])) (sym (datas_no ps p i)),
 )
 
 more_fronted : (ps : List Packet) (p : Packet) → MayFollow ps p → Part p → Fronted ps → Fronted (ps ++ p ∷ [])
 more_fronted ps p may (datum i n r len) (plain nodes roots all) = plain
     (omega (arith, nodes, counted is_node ps p, counted_no is_node p n))
     (omega (arith, roots, counted is_root ps p, counted_no is_root p r))
-    (kept_yes ps p i ∙ ap (λ (qs : List Packet). qs ++ p ∷ []) all)
+    (datas_yes ps p i ∙ ap (λ (qs : List Packet). qs ++ p ∷ []) all)
 more_fronted ps p may (datum i n r len) (indexed index is some) = absurd (omega (arith, some, no_nodes ps (no_index ps p i may.index), no_roots ps (no_index ps p i may.index)))
 more_fronted ps p may (node_here es e i n r len) fronted =
     let b = behind ps p i fronted in

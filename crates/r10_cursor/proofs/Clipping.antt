@@ -1,5 +1,5 @@
 -- Files as far as a medium goes, and files by number.
-use Rattle.std.proofs.Common.{◌≡◌, ℕ, zero, suc, ◌+◌, ◌*◌, ◌-◌, ◌<◌, ◌≤◌, List, [], ◌∷◌, ◌++◌, length, take, drop, get_or, min, Some, None, refl, sym, ap, ◌∙◌, arith, drop-cons}
+use Rattle.std.proofs.Common.{◌≡◌, ℕ, zero, suc, ◌+◌, ◌*◌, ◌-◌, ◌<◌, ◌≤◌, List, [], ◌∷◌, ◌++◌, length, take, drop, get_or, min, Some, None, refl, sym, ap, ◌∙◌, arith}
 use Rattle.std.specs.Prelude.{slice_get}
 use Rattle.std.specs.List.{concat}
 use Rattle.std.proofs.lemmas.List.{drop_min, take_min, length-drop, length-take}
@@ -10,6 +10,7 @@ use Rattle.r10_dirchain.specs.declared.chain.ChainBlock.{ChainBlock}
 use Rattle.r10_medium.specs.Disk.{Image, IsWhole}
 use Rattle.r10_medium.proofs.Bytes.{length-concat, whole_drop}
 use Rattle.r10_blockout.specs.Blocks.{bytes_from}
+use Rattle.r10_dirchain.proofs.FileLists.{files_from}
 
 -- the bytes of a file that reaches past the medium's end are those that the medium has
 pub clipped : (image : Image) (blocks first size f n : ℕ) → IsWhole image → length image ≡ blocks → f ≡ min first blocks → n ≡ min size (512 * (blocks - f)) → bytes_from image f n ≡ bytes_from image first size
@@ -52,19 +53,13 @@ past_first (x ∷ xs) (suc n) (suc k) le = past_first xs n k (omega (arith, le))
 
 -- ---- in a chain of directory blocks
 
-chain_at : (items : List ChainBlock) (i : ℕ) (b : ChainBlock) → i < length items → b ≡ get_or items i b → listed_files (drop i items) ≡ b.block.entries ++ listed_files (drop (i + 1) items)
-chain_at items i b lt is =
-    let one : suc i ≡ i + 1 = omega arith in
-    let next : drop (suc i) items ≡ drop (i + 1) items = ap (λ (k : ℕ). drop k items) one in
-    ap listed_files (drop-cons items i b lt ∙ ap (λ (x : ChainBlock). x ∷ drop (suc i) items) (sym is)) ∙ ap (λ (bs : List ChainBlock). b.block.entries ++ listed_files bs) next
-
 -- the file is one of a block, or stands behind its files
 pub entry_here : (items : List ChainBlock) (i left : ℕ) (b : ChainBlock) (d : DirectoryEntry) → i < length items → b ≡ get_or items i b → left < length b.block.entries
     → slice_get (listed_files (drop i items)) left ≡ Some (get_or b.block.entries left d)
 entry_here items i left b d lt is within =
-    ap (λ (es : List DirectoryEntry). slice_get es left) (chain_at items i b lt is) ∙ among_those b.block.entries (listed_files (drop (i + 1) items)) left within ∙ slice_get-get_or b.block.entries left d within
+    ap (λ (es : List DirectoryEntry). slice_get es left) (files_from items i b lt is) ∙ among_those b.block.entries (listed_files (drop (i + 1) items)) left within ∙ slice_get-get_or b.block.entries left d within
 
 pub entry_past : (items : List ChainBlock) (i left : ℕ) (b : ChainBlock) → i < length items → b ≡ get_or items i b → length b.block.entries ≤ left
     → slice_get (listed_files (drop (i + 1) items)) (left - length b.block.entries) ≡ slice_get (listed_files (drop i items)) left
 entry_past items i left b lt is past =
-    sym (ap (λ (es : List DirectoryEntry). slice_get es left) (chain_at items i b lt is) ∙ behind_those b.block.entries (listed_files (drop (i + 1) items)) left past)
+    sym (ap (λ (es : List DirectoryEntry). slice_get es left) (files_from items i b lt is) ∙ behind_those b.block.entries (listed_files (drop (i + 1) items)) left past)

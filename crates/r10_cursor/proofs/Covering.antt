@@ -1,6 +1,6 @@
 -- How far a cursor has come in a file of the machine.
 use Rattle.std.proofs.Common.{◌≡◌, ℕ, ◌≤◌, List, [], ◌++◌, length, take, drop, refl, sym, ap, subst, ◌∙◌, arith}
-use Rattle.std.proofs.lemmas.List.{length-append, take_all, take-append-drop, take-append-le, take-take}
+use Rattle.std.proofs.lemmas.List.{take_all, take-append-drop, take-take}
 use Rattle.std.proofs.lemmas.List.Concat.{flat_map-append}
 use Rattle.r10_body.specs.Packets.{Packet, packet_entries, file_entries}
 use Rattle.r10_body.specs.declared.entry.Entry.{Entry}
@@ -40,14 +40,3 @@ goes_on packets f n old new inside agree covered advances =
 
 pub none_covered : (packets : List Packet) (f : File) → IsCovered packets f 0 0
 none_covered packets f = record { within = omega arith; inside = omega arith; agree = agree-is [] [] refl }
-
-pub covered_still : (packets more : List Packet) (f later : File) (entries : List Entry) (count n : ℕ) → IsCovered packets f count n → f.shown ≤ length f.entries → later.entries ≡ f.entries ++ entries → f.shown ≤ later.shown
-    → IsCovered (packets ++ more) later count n
-covered_still packets more f later entries count n covered inside behind shown =
-    let front : take count packets ≡ take count (packets ++ more) = sym (take-append-le count packets more covered.within) in
-    let first : take n f.entries ≡ take n later.entries = sym (ap (take n) behind ∙ take-append-le n f.entries entries (omega (arith, covered.inside, inside))) in
-    record {
-      within = omega (arith, covered.within, length-append packets more);
-      inside = omega (arith, covered.inside, shown);
-      agree = subst (λ (l : List Packet). Agree (file_entries l) (take n later.entries)) front (subst (Agree (file_entries (take count packets))) first covered.agree);
-    }

@@ -111,9 +111,6 @@ begun_anew image files before generation slots cursors stand earlier later = rec
   each = λ id. past image files before generation (slot_at slots id) (cursor_at cursors id) (stand.each id) (earlier id) later;
 }
 
-pub nothing : (image : Image) (files : List File) (generation : ℕ) → HaveRead image files generation [] []
-nothing image files generation = record { each = λ id. tt }
-
 pub none_stand : SlotsStandFor [] []
 none_stand = record { each = λ id. tt }
 
@@ -125,26 +122,6 @@ still f = record { first = refl; shown = omega arith; entries = refl }
 pub same : (image : Image) (files : List File) → GrowsShown image image files files
 same image [] = tt
 same image (f ∷ files) = (record { more = still f; size = omega arith; bytes = refl }, same image files)
-
-more_twice : (f g h : File) → ShowsMore f g → ShowsMore g h → ShowsMore f h
-more_twice f g h one two = record {
-  first = two.first ∙ one.first;
-  shown = omega (arith, one.shown, two.shown);
-  entries = sym (take-take f.shown g.shown h.entries one.shown) ∙ ap (take f.shown) two.entries ∙ take-take f.shown g.shown g.entries one.shown ∙ one.entries;
-}
-
-keeps_twice : (old mid new : Image) (f g h : File) → KeepsShown old mid f g → KeepsShown mid new g h → KeepsShown old new f h
-keeps_twice old mid new f g h one two =
-    let here : bytes_from new f.first_block f.size ≡ bytes_from mid f.first_block f.size =
-    ap (λ (k : ℕ). bytes_from new k f.size) (sym one.more.first) ∙ sym (take-take f.size g.size _ one.size) ∙ ap (take f.size) two.bytes ∙ take-take f.size g.size _ one.size
-    ∙ ap (λ (k : ℕ). bytes_from mid k f.size) one.more.first in
-    record { more = more_twice f g h one.more two.more; size = omega (arith, one.size, two.size); bytes = here ∙ one.bytes }
-
-pub twice : (old mid new : Image) (files then later : List File) → GrowsShown old mid files then → GrowsShown mid new then later → GrowsShown old new files later
-twice old mid new [] then later one two = tt
-twice old mid new (f ∷ files) [] later one two = absurd one
-twice old mid new (f ∷ files) (g ∷ then) [] one two = absurd two
-twice old mid new (f ∷ files) (g ∷ then) (h ∷ later) one two = (keeps_twice old mid new f g h one.0 two.0, twice old mid new files then later one.1 two.1)
 
 -- where files show more, of no fewer bytes, and the image keeps the bytes
 pub grows : (old new : Image) (files later : List File) → ShowMore files later → NoneShrinks files later → KeepsBytes old new files → GrowsShown old new files later

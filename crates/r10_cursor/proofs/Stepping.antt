@@ -1,5 +1,5 @@
 -- What each step of the machine keeps of what its files show.
-use Rattle.std.proofs.Common.{◌≡◌, ◌≤◌, ◌⊎◌, inl, inr, ℕ, ◌+◌, Bool, true, false, List, [], ◌∷◌, ◌++◌, map, take, length, Option, Some, None, refl, sym, ap, ◌∙◌, subst, arith, IsSomeAnd, slice_get, cond, is_none}
+use Rattle.std.proofs.Common.{◌≡◌, ◌≤◌, ◌⊎◌, inl, inr, ℕ, ◌+◌, Bool, true, false, List, [], ◌∷◌, ◌++◌, map, take, length, Option, Some, None, refl, sym, ap, ◌∙◌, subst, arith, slice_get, cond, is_none}
 use Rattle.std.specs.Prelude.{◌≢◌, IfSome, eqb}
 use Rattle.std.specs.List.{AllByRecursion, last_or}
 use Rattle.std.proofs.lemmas.Bool.Decides.{eqb_tells}
@@ -31,6 +31,8 @@ use Rattle.r10_cursor.specs.Read.{HaveRead, KeepsBytes, ShowsMore, ShowMore}
 use Rattle.r10_cursor.specs.Staying.{NoneShrinks}
 use Rattle.r10_cursor.specs.Standing.{SlotsStandFor}
 use Rattle.r10_cursor.proofs.HowFar.{begun_anew, grown, grows, still}
+use Rattle.r10_machine.proofs.Keeping.{some_then}
+use Rattle.r10_machine.proofs.Steps.{refused_files}
 
 all_still : (files : List File) → ShowMore files files
 all_still [] = tt
@@ -66,10 +68,6 @@ now_shown f size inside = record { first = refl; shown = inside; entries = refl 
 
 now_closed : (f : File) (es : List Entry) (size : ℕ) → f.shown ≤ length f.entries → ShowsMore f (closed_whole size (with_entries es f))
 now_closed f es size inside = record { first = refl; shown = omega (arith, inside, length-append f.entries es); entries = take-append-le f.shown f.entries es inside }
-
-some_then : {A : Type 0} (C : Type 0) (o : Option A) (P : A → Type 0) → IsSomeAnd o P → ((x : A) → o ≡ Some x → P x → C) → C
-some_then C None P holds then = absurd holds
-some_then C (Some x) P holds then = then x refl holds
 
 inside_last : (files : List File) (f : File) → AllByRecursion (λ f. f.shown ≤ length f.entries) files → last_or None files ≡ Some f → f.shown ≤ length f.entries
 inside_last files f inside last = last_of (λ f. f.shown ≤ length f.entries) files f last inside
@@ -162,32 +160,6 @@ fails_more s old event new inside fails again =
 
 -- ---- steps
 
-refused_same : (event : EventValue) (m : Machine) → (after_refusal event m).files ≡ m.files
-refused_same Mount m = refl
-refused_same Dismount m = refl
-refused_same (Tick count parts) m = refl
-refused_same (Start name setup) m = refl
-refused_same (Offer channel count message) m = by (is_none (first_broken (offer_checks (lane_of channel m) count message)))
-  where
-    by : (b : Bool) → (cond b (with_lane channel overflowed m) m).files ≡ m.files
-    by true = refl
-    by false = refl
-refused_same (Lose channel lost) m = refl
-refused_same (Pump channel most) m = refl
-refused_same (Event number count) m = refl
-refused_same Commit m = refl
-refused_same Stop m = refl
-refused_same Seal m = refl
-refused_same Erase m = refl
-refused_same Files m = refl
-refused_same Status m = refl
-refused_same (Cursor file channels from to) m = refl
-refused_same (Advance id) m = refl
-refused_same (Next id) m = refl
-refused_same (Close id) m = refl
-refused_same (Find file channel count) m = refl
-refused_same (CountAt file parts) m = refl
-
 gives_up_more : (s : Config) (before : ℕ) (old : Machine) (event : EventValue) (r : Refusal) (new : Machine) → AllByRecursion (λ f. f.shown ≤ length f.entries) old.files → GivesUp s before old event r new
     → new.generation ≡ old.generation → ShowMore old.files new.files
 gives_up_more s before old event Medium new inside (uses, room, rose, fails) again = fails_more s old event new inside fails again
@@ -200,7 +172,7 @@ replies_more s before old event (replies.Refused r) new inside refuses again = b
   where
     by : (o : Option Refusal) → Refuses o s before old event r new → ShowMore old.files new.files
     by None gives = gives_up_more s before old event r new inside gives again
-    by (Some first) (same, after) = same_files old new (ap (λ (m : Machine). m.files) after ∙ refused_same event old)
+    by (Some first) (same, after) = same_files old new (ap (λ (m : Machine). m.files) after ∙ refused_files event old)
 replies_more s before old event reply new inside (fine, does) again = does_more s old event reply new inside does again
 
 pub step_more : (s : Config) (old : Machine) (event : EventValue) (reply : ReplyValue) (new : Machine) → AllByRecursion (λ f. f.shown ≤ length f.entries) old.files → Step s old event reply new

@@ -1,7 +1,7 @@
 -- Lists that agree on every channel have the same times, where times stand on one channel.
 use Rattle.std.proofs.Common.{◌≡◌, ℕ, zero, suc, Bool, true, false, List, [], ◌∷◌, take, refl, sym, ap, ◌∙◌}
 use Rattle.std.specs.List.{AllByRecursion}
-use Rattle.std.proofs.lemmas.Bool.{eq-eqb}
+use Rattle.std.proofs.lemmas.Bool.{eq-eqb, false≢true}
 use Rattle.std.proofs.lemmas.List.Elements.{All-from_recursion, recursion_from_All}
 use Rattle.std.proofs.lemmas.List.Sorted.{All-permutation}
 use Rattle.r10_body.specs.Files.{on_channel}
@@ -32,9 +32,6 @@ time_on s e is = by e.message refl
     by (messages.Time civil) at = (let here = rw at at is in rw at here.2.0)
     by (messages.Event a b) at = rw at tt
 
-unlike : false ≡ true → ⊥
-unlike e = cc
-
 ticks_on : (t : ℕ) (es : List Entry) → AllByRecursion (IsTimeOn t) es → ticks_of es ≡ ticks_of (on_channel t es)
 ticks_on t [] all = refl
 ticks_on t (e ∷ es) all = by e.message refl (is_entry_on t e) refl (ticks_on t es all.1)
@@ -51,7 +48,7 @@ ticks_on t (e ∷ es) all = by e.message refl (is_entry_on t e) refl (ticks_on t
     by (messages.Message a b c d) at true on rest = rw (on, at) rest
     by (messages.Message a b c d) at false on rest = rw (on, at) rest
     by (messages.Time civil) at true on rest = rw (on, at) (ap (λ (ts : List Tick). record { count = e.count; civil = civil } ∷ ts) rest)
-    by (messages.Time civil) at false on rest = (let here : e.channel ≡ t = rw at at all.0 in absurd (unlike (sym on ∙ eq-eqb e.channel t here)))
+    by (messages.Time civil) at false on rest = (let here : e.channel ≡ t = rw at at all.0 in absurd (false≢true (sym on ∙ eq-eqb e.channel t here)))
     by (messages.Event a b) at true on rest = rw (on, at) rest
     by (messages.Event a b) at false on rest = rw (on, at) rest
 

@@ -1,19 +1,14 @@
 //! What is known of files, as calls that do nothing.
 
-ghost use Rattle.std.specs.Prelude.{◌≡◌, ◌+◌, ◌≤◌, ◌<◌, ℕ, Option, None, Some, List, [], ◌++◌, length, slice_get, IfSome, All};
+ghost use Rattle.std.specs.Prelude.{◌≡◌, ◌≤◌, ◌<◌, ℕ, Option, Some, List, [], length, slice_get, IfSome};
 ghost use Rattle.std.specs.List.{AllByRecursion};
-ghost use Rattle.r10_count.specs.Checks.{first_broken};
-ghost use Rattle.r10_medium.specs.Disk.{Image, IsWhole};
-ghost use Rattle.r10_medium.specs.Stop.{SameBelow};
+ghost use Rattle.r10_medium.specs.Disk.{Image};
 ghost use Rattle.r10_dirblock.specs.Block.{is_closed};
 ghost use Rattle.r10_dirblock.specs.declared.entry.Entry.{Entry as DirectoryEntry};
 ghost use Rattle.r10_dirchain.specs.Chain.{IsDirectory, listed_files};
-ghost use Rattle.r10_dirchain.specs.Mount.{blocks_in, mount_rules};
-ghost use Rattle.r10_dirchain.specs.OnMedium.{SameButIn};
 ghost use Rattle.r10_dirchain.specs.declared.chain.ChainBlock.{ChainBlock};
 ghost use Rattle.r10_body.specs.Faults.{IsAtFault};
 ghost use Rattle.r10_body.specs.Packets.{Packet, file_entries};
-ghost use Rattle.r10_body.specs.declared.entry.Entry.{Entry};
 ghost use Rattle.r10_body.specs.declared.fault.FileFault.{FileFault};
 ghost use Rattle.r10_machine.specs.Cuts.{Agree};
 ghost use Rattle.r10_machine.specs.Config.{Config};
@@ -21,9 +16,9 @@ ghost use Rattle.r10_machine.specs.Machine.{File, shown_entries};
 ghost use Rattle.r10_machine.specs.Says.{IsFound, MediumSays};
 ghost use Rattle.r10_machine.specs.Sound.{IsEntry};
 ghost use Rattle.r10_cursor.specs.Files.{IsShownWith, bytes_in, finished};
-ghost use Rattle.r10_cursor.specs.Held.{IsCovered, IsHeldFile};
+ghost use Rattle.r10_cursor.specs.Held.{IsHeldFile};
 ghost use Rattle.r10_cursor.specs.Knowing.{IsWriting, Knows};
-ghost use Rattle.r10_cursor.specs.Staying.{KeepListed, Stay};
+ghost use Rattle.r10_cursor.specs.Staying.{Stay};
 ghost use Rattle.r10_cursor.specs.declared.books.Books.{Books};
 ghost use Rattle.r10_cursor.specs.declared.written.Written.{Written};
 
@@ -33,23 +28,6 @@ pub fn what_is_known_stays()
     ensures none { (image : Image) (chain : List ChainBlock) (written : Option Written) (books : Books) → books.kept.items ≡ [] → IsWriting image written → Knows image chain written books }
     ensures stays { (old : Image) (new : Image) (chain : List ChainBlock) (made : List ChainBlock) (written : Option Written) (now : Option Written) (books : Books)
         → Knows old chain written books → Stay old new (finished written (listed_files chain)) (finished now (listed_files made)) → IsWriting new now → Knows new made now books }
-{}
-
-/// The files of a directory that a recorder takes into use keep their bytes, where no block below the one behind them changes, or none
-/// but the reserved ones.
-pub fn listed_files_keep_their_bytes()
-    ensures below { (reserved : ℕ) (old : Image) (new : Image) (chain : List ChainBlock) (written : Option Written) (n : ℕ) (kept : ℕ) → IsWhole old → first_broken (mount_rules reserved (length old) chain) ≡ None
-        → SameBelow n kept old new → reserved + 1 + blocks_in (finished written (listed_files chain)) ≤ n → KeepListed old new (finished written (listed_files chain)) }
-    ensures directory { (reserved : ℕ) (old : Image) (new : Image) (chain : List ChainBlock) (written : Option Written) (numbers : List ℕ) → IsWhole old → first_broken (mount_rules reserved (length old) chain) ≡ None
-        → SameButIn numbers old new → All (λ k. k ≤ reserved) numbers → KeepListed old new (finished written (listed_files chain)) }
-{}
-
-/// A cursor that has covered nothing has covered no packet and no entry; and what it has covered, it still has where packets and entries
-/// come behind.
-pub fn what_is_covered_stays()
-    ensures none { (packets : List Packet) (f : File) → IsCovered packets f 0 0 }
-    ensures stays { (packets : List Packet) (more : List Packet) (f : File) (later : File) (entries : List Entry) (count : ℕ) (n : ℕ) → IsCovered packets f count n → f.shown ≤ length f.entries
-        → later.entries ≡ f.entries ++ entries → f.shown ≤ later.shown → IsCovered (packets ++ more) later count n }
 {}
 
 /// What a medium says of a file that isn't being written is read: the file isn't at fault, and its packets say on each channel what the file

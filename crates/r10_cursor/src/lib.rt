@@ -25,9 +25,7 @@ mod written;
 pub use count::count_at;
 pub use cursor::Cursor;
 pub use fault::ReplayFault;
-pub use laws::{
-    files_that_are_said, listed_files_keep_their_bytes, what_is_covered_stays, what_is_known_stays,
-};
+pub use laws::{files_that_are_said, what_is_known_stays};
 pub use listing::entry_at;
 pub use packet::read_packet;
 pub use reader::Reader;
@@ -35,8 +33,5 @@ pub use refusal::ReadRefusal;
 pub use replay::Reading;
 pub use search::find;
 pub use table::{check_read, close_cursor, next_entry, open_cursor};
-pub use table_laws::{
-    advances_are_the_machines, cursors_stay_over_steps, what_is_held_was_read, what_is_read_stays,
-    what_is_shown_stays,
-};
+pub use table_laws::{advances_are_the_machines, cursors_stay_over_steps};
 pub use written::Written;
