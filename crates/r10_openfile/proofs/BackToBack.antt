@@ -1,8 +1,6 @@
 -- Where files stand that lie back to back, and where the next one begins.
-use Rattle.std.proofs.Common.{◌≡◌, ℕ, suc, ◌+◌, ◌-◌, ◌/◌, ◌<◌, Bool, true, false, ◌&&◌, List, [], ◌∷◌, length, take, drop, Option, None, Some, refl, sym, ap, subst, ◌∙◌, arith, ext_get_or, get_or-drop}
-use Rattle.std.specs.Prelude.{nat_lt, nat_le, ◌==◌}
+use Rattle.std.proofs.Common.{◌≡◌, ℕ, suc, ◌+◌, ◌-◌, ◌<◌, Bool, true, List, [], ◌∷◌, length, take, drop, Option, None, Some, refl, sym, ap, subst, ◌∙◌, arith, ext_get_or, get_or-drop}
 use Rattle.std.specs.List.{All, concat, last_or}
-use Rattle.std.proofs.lemmas.Bool.{eqb-true}
 use Rattle.std.proofs.lemmas.List.{length-drop}
 use Rattle.std.proofs.lemmas.List.Elements.{All-nil, All-cons, All-head, All-tail}
 use Rattle.std.proofs.lemmas.List.Sums.{sum_by-cons}
@@ -10,7 +8,7 @@ use Rattle.r10_medium.specs.Disk.{Image}
 use Rattle.r10_blockout.specs.Blocks.{bytes_from}
 use Rattle.r10_dirblock.specs.Block.{is_closed}
 use Rattle.r10_dirblock.specs.declared.entry.Entry.{Entry as DirectoryEntry}
-use Rattle.r10_dirchain.specs.Mount.{blocks_in, stands}
+use Rattle.r10_dirchain.specs.Mount.{blocks_in}
 use Rattle.r10_dirchain.specs.OnMedium.{SameButIn}
 use Rattle.r10_dirchain.proofs.Standing.{Stand}
 use Rattle.r10_machine.specs.Config.{Config}
@@ -18,18 +16,12 @@ use Rattle.r10_machine.specs.Machine.{File}
 use Rattle.r10_machine.specs.Room.{blocks_of}
 use Rattle.r10_machine.specs.Says.{SaysEach}
 pub use Rattle.r10_volume.proofs.Staying.{bytes_behind}
+use Rattle.r10_machine.proofs.Said.{stands_at}
 
 -- ---- where the next file begins
 
 abbrev pub behind : Config → Option File → ℕ
 behind s d = elim d [ None ↦ 1 + s.directory | Some f ↦ f.first_block + blocks_of f.size ]
-
-pub stands_at : (blocks n : ℕ) (e : DirectoryEntry) → stands blocks n e ≡ true → e.first_block ≡ n
-stands_at blocks n e is = eqb-true e.first_block n (first (e.first_block == n) (nat_lt 0 e.size) (e.block_count == (e.size + 511) / 512) (nat_le (n + e.block_count) blocks) is)
-  where
-    first : (a b c d : Bool) → (a && b && c && d) ≡ true → a ≡ true
-    first true b c d is = refl
-    first false b c d is = absurd (cc)
 
 pub behind_all : (s : Config) (image : Image) (blocks : ℕ) (d : Option File) (entries : List DirectoryEntry) (files : List File) → Stand blocks (behind s d) entries → SaysEach image entries files
     → behind s (last_or d files) ≡ behind s d + blocks_in entries

@@ -17,7 +17,7 @@ use Rattle.r10_packetout.specs.Carries.{Records, Recording}
 use Rattle.r10_packetout.proofs.Closing.{has_length}
 use Rattle.r10_dirblock.specs.declared.entry.Entry.{Entry as DirectoryEntry}
 use Rattle.r10_dirchain.specs.Chain.{HoldsBlock, IsDirectory, at, blank_block}
-use Rattle.r10_dirchain.specs.OnMedium.{HasNext, SameButIn, Turned, Turns}
+use Rattle.r10_dirchain.specs.OnMedium.{SameButIn, Turned, Turns}
 use Rattle.r10_dirchain.specs.Steps.{added, last_block, last_place, spare}
 use Rattle.r10_dirchain.specs.declared.chain.ChainBlock.{ChainBlock}
 use Rattle.r10_dirchain.proofs.Directories.{some_block, still_holds}
@@ -42,9 +42,6 @@ directory_stays old new sure chain first blocks there below put same =
       linked = there.linked;
       holds = All-from_get_or (HoldsBlock new.blocks) chain blank_block (λ i lt. still_holds old.blocks new.blocks (at chain i) (there.holds i blank_block lt) kept.size (kept.blocks (at chain i).number (below i blank_block lt)));
     })
-
-pub next_stays : (old new sure : Disk) (chain : List ChainBlock) → HasNext old.blocks chain → length new.blocks ≡ length old.blocks → Unchanged new sure → HasNext sure.blocks chain
-next_stays old new sure chain next long same = record { in_order = next.in_order; within = omega (arith, next.within, long, ap (λ (l : Image). length l) same.reads) }
 
 -- what is carried and shown stays where blocks below it change
 carried_behind : (r : Recording) (numbers : List ℕ) (old new : Image) (text : List ℕ) (entries : List Entry) (carried : Records r old text entries) → Shows old (first_of r.out.blocks) (file_bytes carried.packets) → SameButIn numbers old new

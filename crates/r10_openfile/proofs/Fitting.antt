@@ -21,6 +21,7 @@ use Rattle.r10_mux.specs.declared.fault.Full.{Full}
 use Rattle.r10_mux.specs.declared.fault.Full.TheVariants as lacking
 use Rattle.r10_openfile.specs.Pumping.{PumpEnds, SampleLacks, entries_on}
 use Rattle.r10_openfile.specs.Machines.{IsPumpedInto, refusal_of_full}
+use Rattle.r10_machine.proofs.Recording.{fitting_short}
 
 -- ---- how many fit
 
@@ -47,14 +48,6 @@ next_stops room spent (x ∷ xs) y ys lt = by (nat_le (spent + entry_cost x) roo
     by true is rest = rw is (omega (arith, rest))
     by false is rest = rw is (omega arith)
 
-all_fit : (room spent : ℕ) (xs : List Entry) → fitting room spent xs ≤ length xs
-all_fit room spent [] = omega arith
-all_fit room spent (x ∷ xs) = by (nat_le (spent + entry_cost x) room) refl (all_fit room (spent + entry_cost x) xs)
-  where
-    by : (b : Bool) → nat_le (spent + entry_cost x) room ≡ b → fitting room (spent + entry_cost x) xs ≤ length xs → fitting room spent (x ∷ xs) ≤ suc (length xs)
-    by true is rest = rw is (omega (arith, rest))
-    by false is rest = rw is (omega arith)
-
 pub take_front : {X : Type 0} (xs ys : List X) → take (length xs) (xs ++ ys) ≡ xs
 take_front [] ys = refl
 take_front (x ∷ xs) ys = ap (λ (l : List _). x ∷ l) (take_front xs ys)
@@ -75,7 +68,7 @@ takes_in s f front back cost is room why = omega (arith, within front is room, m
     within (x ∷ xs) is room = front_fits (area s f) (cost_of f) (x ∷ xs) back (omega (arith, is, room (omega arith)))
 
     most : (back : List Entry) → (back ≡ []) ⊎ IsSomeAnd (slice_get back 0) (λ e. area s f < cost + entry_cost e) → room_for s f (front ++ back) ≤ length front
-    most [] why = omega (arith, all_fit (area s f) (cost_of f) (front ++ []), ap (λ (es : List Entry). length es) (append-nil front))
+    most [] why = omega (arith, fitting_short (area s f) (cost_of f) (front ++ []), ap (λ (es : List Entry). length es) (append-nil front))
     most (e ∷ back) (inl none) = absurd (omega (arith, ap (λ (es : List Entry). length es) none))
     most (e ∷ back) (inr much) = next_stops (area s f) (cost_of f) front e back (omega (arith, is, much))
 

@@ -41,7 +41,8 @@ use Rattle.r10_machine.specs.Says.{IsFound, Lists, MediumSays, SaysEach, SaysFil
 use Rattle.r10_openfile.specs.Begun.{IsBegun}
 use Rattle.r10_openfile.proofs.BehindAll.{held_mounts, stand_from}
 use Rattle.r10_openfile.proofs.BackToBack.{all_closed, behind_all, bytes_behind, each_length}
-use Rattle.r10_openfile.proofs.Ends.{last_is, all_with}
+use Rattle.r10_openfile.proofs.Ends.{all_with}
+use Rattle.r10_machine.proofs.Growing.{append_last}
 
 longer : (chain : List ChainBlock) (i : ℕ) (b c : ChainBlock) → length (slice_set chain i b ++ c ∷ []) ≡ length chain + 1
 longer chain i b c = omega (arith, length-append (slice_set chain i b) (c ∷ []), length-set chain i b)
@@ -194,5 +195,5 @@ module _ (s : Config) (old : Image) (chain : List ChainBlock) (files : List File
         says = begun_says new turned;
         directory = turned.directory;
         found = all_with (λ (g : File). g.own ≡ false → IsFound new g) files f (found_stays old new files keep held.found) (λ other. absurd (false≢true (sym other ∙ begun.own)));
-        last = subst (λ (l : Option File). IsSomeAnd l (IsWritten s new o)) (sym (last_is None files f)) (begun_written new turned);
+        last = subst (λ (l : Option File). IsSomeAnd l (IsWritten s new o)) (sym (append_last None files f)) (begun_written new turned);
       }

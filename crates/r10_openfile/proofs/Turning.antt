@@ -1,5 +1,5 @@
 -- The directory written anew with another entry of the last file: what the medium says at every moment, and then.
-use Rattle.std.proofs.Common.{◌≡◌, ℕ, ◌<◌, ◌≤◌, ◌⊎◌, inl, inr, ⊎_elim, true, List, [], ◌∷◌, ◌++◌, Result, sym, subst, ◌∙◌, arith, ext_get_or}
+use Rattle.std.proofs.Common.{◌≡◌, ℕ, ◌≤◌, ◌⊎◌, inl, inr, ⊎_elim, true, List, [], ◌∷◌, ◌++◌, Result, sym, subst, ◌∙◌, arith, ext_get_or}
 use Rattle.std.specs.Prelude.{◌≢◌, OnOk}
 use Rattle.std.specs.List.{All}
 use Rattle.std.proofs.lemmas.List.Elements.{All-nil}
@@ -22,9 +22,6 @@ use Rattle.r10_machine.specs.Says.{MediumSays}
 use Rattle.r10_openfile.specs.Keeping.{Becomes, StopKeepsFiles, Keeps}
 
 -- ---- blocks behind the reserved ones
-
-pub others : (reserved k : ℕ) (numbers : List ℕ) → reserved < k → All (λ (n : ℕ). n ≤ reserved) numbers → All (λ (n : ℕ). k ≢ n) numbers
-others reserved k numbers less all i d lt is = omega (arith, is, less, all i d lt)
 
 pub none_zeroth : (numbers : List ℕ) → All (λ (n : ℕ). 1 ≤ n) numbers → All (λ (n : ℕ). 0 ≢ n) numbers
 none_zeroth numbers some i d lt is = omega (arith, is, some i d lt)

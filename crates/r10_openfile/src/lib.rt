@@ -26,8 +26,7 @@ pub use listed::list_file;
 pub use moved::PumpStop;
 pub use opening::{begin, has_room_to_begin};
 pub use pump_laws::{
-    failed_pumps_take_few, failed_stops_take_few, full_pumps_are_refused, pumps_are_steps,
-    pumps_end_alike, stops_are_steps, stops_are_whole_steps, stops_count_the_rest,
-    stops_leave_the_rest,
+    failed_pumps_take_few, full_pumps_are_refused, pumps_are_steps, pumps_end_alike,
+    stops_are_whole_steps,
 };
 pub use start_laws::{begun_files_are_held, files_in_front_stay};

@@ -1,22 +1,20 @@
 //! What a pump moved, as the machine sees it: calls that do nothing.
 
-ghost use Rattle.std.specs.Prelude.{◌≡◌, ◌≤◌, ◌++◌, ◌==◌, ℕ, List, Option, None, Some, IfSome, count_by, length, map, min, take};
-ghost use Rattle.std.specs.List.{AllByRecursion, sum_by};
+ghost use Rattle.std.specs.Prelude.{◌≡◌, ◌≤◌, ◌++◌, ℕ, List, Option, None, Some, IfSome, length, map, min};
+ghost use Rattle.std.specs.List.{sum_by};
 ghost use Rattle.r10_body.specs.declared.entry.Sample.{Sample as SampleValue};
-ghost use Rattle.r10_body.specs.declared.spec.ChannelSpec.{ChannelSpec as ChannelSpecValue};
 ghost use Rattle.r10_packetout.specs.Carries.{Recording};
-ghost use Rattle.r10_machine.specs.Calls.{Pumps, Stops, all_waiting, closed_whole, lanes_without, waiting_count, without};
+ghost use Rattle.r10_machine.specs.Calls.{Pumps, Stops, closed_whole, lanes_without, without};
 ghost use Rattle.r10_machine.specs.Config.{Config};
-ghost use Rattle.r10_machine.specs.Machine.{File, Lane, Machine, change_first, change_last, is_channel, lane_of, last_file, last_size, rising, with_entries, with_lane, with_last};
-ghost use Rattle.r10_machine.specs.Room.{TakesIn};
+ghost use Rattle.r10_machine.specs.Machine.{File, Lane, Machine, change_first, change_last, is_channel, lane_of, last_file, last_size, with_entries, with_lane, with_last};
 ghost use Rattle.r10_machine.specs.declared.mode.Mode.TheVariants.{Idle};
 ghost use Rattle.r10_machine.specs.declared.mode.Stopped.{Stopped as StoppedValue};
 ghost use Rattle.r10_mux.specs.declared.fault.Full.{Full as FullValue};
 ghost use Rattle.r10_machine.specs.Step.{Lacks, LanesAfter};
-ghost use Rattle.r10_machine.specs.declared.event.Event.TheVariants.{Pump, Stop};
-ghost use Rattle.r10_openfile.specs.Machines.{AreMoved, HasWaiting, IsPumpedInto, refusal_of_full};
+ghost use Rattle.r10_machine.specs.declared.event.Event.TheVariants.{Pump};
+ghost use Rattle.r10_openfile.specs.Machines.{AreMoved, IsPumpedInto, refusal_of_full};
 ghost use Rattle.r10_openfile.specs.Pumping.{PumpEnds, entries_on};
-ghost use Rattle.r10_openfile.specs.Stopping.{ChannelsAreApart, Part, entries_of, most_of, samples_on};
+ghost use Rattle.r10_openfile.specs.Stopping.{ChannelsAreApart, Part, entries_of};
 
 /// What a pump moved is what the machine's pump moves: its entries join the file, and the lane is without them.
 pub fn pumps_are_steps()
@@ -44,12 +42,6 @@ pub fn failed_pumps_take_few()
     ensures { (channel most n : ℕ) (lanes : List Lane) → n ≤ most → LanesAfter (Pump channel most) lanes lanes (change_first (is_channel channel) (without n) lanes) }
 {}
 
-/// What a stop moved is what the machine's stop takes in.
-pub fn stops_are_steps()
-    ensures { (s : Config) (f : File) (lanes : List Lane) (parts : List Part) (n : ℕ) (r : Recording) → AreMoved s f lanes parts n r
-        → TakesIn s f (all_waiting lanes) n × (take n (all_waiting lanes) ≡ entries_of parts) }
-{}
-
 /// Where each lane is of a channel of its own, and as many are said to be left as parts leave, the step is
 /// that of the machine's stop.
 pub fn stops_are_whole_steps()
@@ -57,24 +49,4 @@ pub fn stops_are_whole_steps()
         → said.left ≡ sum_by (λ p. length p.rest) parts
         → new ≡ record m { mode = Idle; lanes = lanes_without (entries_of parts) m.lanes; files = change_last (λ g. closed_whole (last_size new) (with_entries (entries_of parts) g)) m.files }
         → Stops s m said new }
-{}
-
-/// Each lane is without the samples of its channel.
-pub fn stops_leave_the_rest()
-    ensures { (lanes : List Lane) (parts : List Part) → lanes_without (entries_of parts) lanes ≡ map (λ lane. without (length (samples_on lane.spec.id parts)) lane) lanes }
-{}
-
-/// Where each lane is of a channel of its own, what a stop leaves is what is left of each channel.
-pub fn stops_count_the_rest()
-    ensures { (lanes : List Lane) (parts : List Part) → ChannelsAreApart (map (λ lane. lane.spec) lanes) → map (λ p. p.channel) parts ≡ rising (map (λ lane. lane.spec.id) lanes) → AllByRecursion (HasWaiting lanes) parts
-        → waiting_count (map (λ lane. without (length (samples_on lane.spec.id parts)) lane) lanes) ≡ sum_by (λ p. length p.rest) parts }
-{}
-
-/// Where a channel comes once, and no part of it has more samples than its lane has room for, what a stop
-/// took from the lane is no more than it may.
-pub fn failed_stops_take_few()
-    ensures few { (specs : List ChannelSpecValue) (parts : List Part) (channel : ℕ) → count_by (λ c. c == channel) (map (λ p. p.channel) parts) ≤ 1 → AllByRecursion (λ p. length p.samples ≤ most_of specs p.channel) parts
-        → length (samples_on channel parts) ≤ most_of specs channel }
-    ensures lanes { (parts : List Part) (lanes : List Lane) → AllByRecursion (λ lane. length (samples_on lane.spec.id parts) ≤ lane.spec.capacity) lanes
-        → LanesAfter Stop lanes lanes (map (λ lane. without (length (samples_on lane.spec.id parts)) lane) lanes) }
 {}
