@@ -26,7 +26,6 @@ mod Exits
 mod Checked
 mod Recordings
 mod Commits
-mod Rings
 mod Entered
 mod Ticks
 mod Closes

@@ -3,7 +3,6 @@
 #![tactic(auto)]
 
 mod clock;
-mod lanes;
 mod mounting;
 mod numbers;
 mod offering;
@@ -22,7 +21,6 @@ mod telling;
 mod work;
 mod written_laws;
 
-pub use lanes::lanes_stay_the_machines;
 pub use own_laws::{own_entries_are_meant, own_entries_stay};
 pub use r10_machine::{
     ChannelStatus, FileInfo, Found, Mode, Settings, SettingsFault, Status, Stopped,
