@@ -21,7 +21,7 @@ ghost use Rattle.r10_cursor.specs.Staying.{NoneShrinks};
 ghost use Rattle.r10_cursor.specs.Read.{KeepsBytes};
 ghost use Rattle.r10_cursor.specs.Steps.{StepsTo};
 ghost use Rattle.r10_means.specs.Kept.{Kept};
-ghost use Rattle.r10_means.specs.Means.{KeptStepsTo, KeptStandsFor};
+ghost use Rattle.r10_means.specs.Means.{KeptStepsTo};
 ghost use Rattle.r10_world.specs.Answering.{AnswersSo, ChangesNothing};
 ghost use Rattle.r10_world.specs.Joined.{KeptAndSlotsStandFor, SlotsStepTo, KeptAndSlotsStepTo, new_kept};
 
@@ -38,11 +38,6 @@ pub fn a_new_recorder_stands()
     a_new_recorder_is_sound();
     files_on_a_medium_are_found();
 }
-
-/// A recorder that stands for a machine without cursors is joined by an empty table.
-pub fn a_recorder_without_readers()
-    ensures { (k : Kept) (image : Image) (failures : ℕ) (m : Machine) → KeptStandsFor k image failures m → m.cursors ≡ [] → KeptAndSlotsStandFor k image failures [] m }
-{}
 
 /// A recorder's call, which leaves the cursors, is a step of the machine that both stand for. In the same generation no file may have fewer
 /// bytes afterwards, and the medium shows those that it showed; a call that leaves files and medium needs nothing more.

@@ -10,8 +10,8 @@ mod whole;
 mod world;
 
 pub use laws::{
-    a_new_recorder_stands, a_recorder_without_readers, recorders_calls_are_steps,
-    refusals_change_nothing, tables_calls_are_steps,
+    a_new_recorder_stands, recorders_calls_are_steps, refusals_change_nothing,
+    tables_calls_are_steps,
 };
 pub use r10_machine::{
     ChannelStatus, Event, FileInfo, Found, Mode, Reply, Settings, SettingsFault, Status, Stopped,
