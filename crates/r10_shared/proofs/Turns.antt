@@ -57,11 +57,6 @@ fed_join n a b c p q r x tally accepted refused (fed, left) pumps more others =
       refl,
     )
 
--- where it has come to an end, which is known by other names
-pub fed_ends : (a b : List Turn) (p q r : Sending) (accepted refused accepted' refused' : ℕ) → FedTo a b p q (record { accepted = accepted; refused = refused }) → r ≡ q → accepted' ≡ accepted → refused' ≡ refused
-    → FedFrom a p r (record { accepted = accepted'; refused = refused' })
-fed_ends a b p q r accepted refused accepted' refused' (fed, left) at more others = rw (at, more, others) fed
-
 -- where the source has ended, all that it had was offered
 pub fed_whole : (n : ℕ) (a b c : List Turn) (p q r : Sending) (x : Pumped) (tally : Tally) (accepted refused : ℕ) → FedTo a b p q tally → PumpsSource n b c q r x → accepted ≡ saturated (tally.accepted + x.accepted) → refused ≡ saturated (tally.refused + x.refused) → x.ended ≡ true
     → FedWhole a p r (record { accepted = accepted; refused = refused })

@@ -1,5 +1,5 @@
 -- What a player wrote down, turn by turn.
-use Rattle.std.proofs.Common.{◌≡◌, ℕ, ◌<◌, List, [], ◌∷◌, ◌++◌, map, length, get_or, take, drop, refl, sym, ap, subst, ◌∙◌, append_assoc, arith}
+use Rattle.std.proofs.Common.{◌≡◌, ℕ, ◌<◌, List, [], ◌∷◌, ◌++◌, map, length, get_or, take, drop, sym, ap, subst, ◌∙◌, append_assoc, arith}
 use Rattle.std.specs.List.{AllByRecursion}
 use Rattle.atomic_table.specs.Seated.{TableId}
 use Rattle.std.proofs.lemmas.List.{append-nil, drop_all, get_or-map, length-map, map-append, take_all}
@@ -20,11 +20,6 @@ reads_none player before new gauge alike covered written = record { gauge = gaug
 pub reads_nothing : (player : Player) (before : List Instalment) (new : Reading) → new.player.pass.cell ≡ player.pass.cell → new.player.cursor ≡ player.cursor → new.instalments.items ≡ before → ReadsFrom player before new
 reads_nothing player before new gauge same written =
     reads_none player before new gauge (subst (IsAlike player.cursor) (sym same) (alike_stays player.cursor)) (ap (λ (c : Cursor). c.reading.covered) same) written
-
--- what was still to be given is dropped
-pub reads_over : (player : Player) (before : List Instalment) (new : Reading) → new.player.pass ≡ player.pass → new.player.cursor ≡ record player.cursor { reading = record player.cursor.reading { queue = [] } } → new.instalments.items ≡ before → ReadsFrom player before new
-reads_over player before new pass dropped written =
-    reads_none player before new (ap (λ p. p.cell) pass) (subst (IsAlike player.cursor) (sym dropped) (record { file = refl; generation = refl; channels = refl; first = refl; last = refl })) (ap (λ (c : Cursor). c.reading.covered) dropped) written
 
 module _ (player : Player) (b : Cursor) (n : ℕ) (takes : TakesInstalment player.cursor b n) where
   alike_then : IsAlike player.cursor b
