@@ -1,11 +1,12 @@
 -- A builder stays behind its lane.
-use Rattle.std.proofs.Common.{◌≡◌, ◌≤◌, ℕ, List, [], ◌∷◌, ◌++◌, Option, None, MatchOption, refl, sym, ap, subst, ◌∙◌, arith}
+use Rattle.std.proofs.Common.{◌≡◌, ◌≤◌, ℕ, Option, None, MatchOption, sym, ap, subst, ◌∙◌, arith}
 use Rattle.r10_body.specs.declared.entry.Sample.{Sample}
 use Rattle.r10_body.specs.declared.spec.ChannelSpec.{ChannelSpec}
 use Rattle.r10_builder.specs.Packing.{last_sample_count}
 use Rattle.r10_builder.specs.State.{BuilderState, HasRoomForTwo, IsReadyWith, Pushed}
 use Rattle.r10_builder.specs.declared.closed.Closed.{Closed}
 use Rattle.r10_bench.specs.Behind.{IsBehind}
+use Rattle.r10_builder.proofs.Lists.{last_more}
 
 -- what comes at this count comes later too, or at once
 pub later : (spec next : ChannelSpec) (n m : ℕ) (b : BuilderState) → IsBehind spec n b → next ≡ spec → n ≤ m → IsBehind next m b
@@ -15,11 +16,6 @@ later spec next n m b behind same up = record {
   ready = behind.ready;
 }
 
--- the last of samples
-last_of : (before : ℕ) (samples : List Sample) (s : Sample) → last_sample_count before (samples ++ s ∷ []) ≡ s.count
-last_of before [] s = refl
-last_of before (x ∷ samples) s = last_of x.count samples s
-
 -- a sample that joined the others is the last one
 pub joined : (old new : BuilderState) (s : Sample) (closed : Option Closed) → closed ≡ None → new.spec ≡ old.spec → Pushed old s closed new → MatchOption closed (HasRoomForTwo new) (λ closed. IsReadyWith closed new) → IsBehind old.spec s.count new
 joined old new s closed none same pushed ready =
@@ -27,6 +23,6 @@ joined old new s closed none same pushed ready =
     let r : HasRoomForTwo new = subst (λ o. MatchOption o (HasRoomForTwo new) (λ closed. IsReadyWith closed new)) none ready in
     record {
       same = same;
-      later = omega (arith, ap (λ samples. last_sample_count 0 samples) p.1, last_of 0 old.samples s);
+      later = omega (arith, ap (λ samples. last_sample_count 0 samples) p.1, last_more 0 old.samples s);
       ready = r;
     }
