@@ -15,7 +15,7 @@ lines_join done later (r ∷ rs) ss at =
     let next : later ≡ done + 1 + length rs = omega (arith, at) in
     ap (λ t. reply_lines (done + 1) r ++ t) (lines_join (done + 1) later rs ss next) ∙ sym (append_assoc (reply_lines (done + 1) r) (all_lines (done + 1) rs) (all_lines later ss))
 
-appends_join : (a b c : Option (List ℕ)) (x y : List ℕ) → Appends a b x → Appends b c y → Appends a c (x ++ y)
+pub appends_join : (a b c : Option (List ℕ)) (x y : List ℕ) → Appends a b x → Appends b c y → Appends a c (x ++ y)
 appends_join None b c x y first second = tt
 appends_join (Some a) None c x y first second = absurd first
 appends_join (Some a) (Some b) None x y first second = absurd second
