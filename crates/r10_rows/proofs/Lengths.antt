@@ -4,11 +4,6 @@ use Rattle.std.specs.Prelude.{if◌then◌else◌}
 use Rattle.std.specs.List.{starts_with}
 use Rattle.r10_rows.specs.Case.{case_length}
 
--- the next case begins behind this byte
-pub mark_ends : (ys : List ℕ) → 0 < length ys → starts_with nat_eq ys (codes "\n== ") ≡ true → case_length ys ≡ 1
-mark_ends [] some found = absurd (omega (arith, some))
-mark_ends (b ∷ bs) some found = ap (λ r. if r then 1 else (1 + case_length bs)) found
-
 -- this byte is one more of the case
 pub goes_on : (ys : List ℕ) → 0 < length ys → starts_with nat_eq ys (codes "\n== ") ≡ false → case_length ys ≡ 1 + case_length (drop 1 ys)
 goes_on [] some found = absurd (omega (arith, some))

@@ -7,12 +7,7 @@ use Rattle.r10_rows.specs.Answer.{IsAnswer, printed, AreCases, ArePrinted, Answe
 use Rattle.r10_rows.proofs.Lengths.{length_some, length_within}
 use Rattle.r10_rows.specs.declared.answer.Answer.{Answer}
 use Rattle.r10_rows.specs.declared.case.Case.{Case}
-
-pub appends_join : (a b c : Option (List ℕ)) (x y : List ℕ) → Appends a b x → Appends b c y → Appends a c (x ++ y)
-appends_join None b c x y first second = tt
-appends_join (Some a) None c x y first second = absurd first
-appends_join (Some a) (Some b) None x y first second = absurd second
-appends_join (Some a) (Some b) (Some c) x y first second = second ∙ ap (λ t. t ++ y) first ∙ append_assoc a x y
+use Rattle.r10_command.proofs.Rounds.{appends_join}
 
 appends_nothing : (a : Option (List ℕ)) → Appends a a []
 appends_nothing None = tt
@@ -57,9 +52,6 @@ pub all_done : (text : List ℕ) (at : ℕ) (old new : Option (List ℕ)) → le
 all_done text at old new end so_far =
     let empty : drop at text ≡ [] = nil_from_length (drop at text) (omega (arith, length-drop at text, end)) in
     (so_far.0 ++ [], so_far.4 [] empty, so_far.1, rw (append-nil so_far.0) so_far.2, so_far.3)
-
-pub appends_three : (a b c d : Option (List ℕ)) (x y z : List ℕ) → Appends a b x → Appends b c y → Appends c d z → Appends a d (x ++ y ++ z)
-appends_three a b c d x y z first second third = appends_join a c d (x ++ y) z (appends_join a b c x y first second) third
 
 -- the first case has some bytes, and no more than there are
 pub first_some : (text : List ℕ) (at count : ℕ) (now new : Option (List ℕ)) → at < length text → AnswersFirst (drop at text) count now new → 0 < count
