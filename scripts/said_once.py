@@ -3,7 +3,7 @@
 
     scripts/said_once.py            prints what is found by kind, file by file, and how many there are
     scripts/said_once.py CRATE..    only what one of these crates has a part in
-    scripts/said_once.py --check    prints all, with status 1 if there is one that `ALLOWED` does not name
+    scripts/said_once.py --check    prints all if more is found than `MOST` says, with status 1
 
 Statements are compared up to the names of their variables. Of each that stands twice one line says where it can stay: in the
 lowest crate that has it, if the others stand on that one, or else in the highest crate on which all of them stand. Crates come
@@ -11,7 +11,8 @@ lowest first, as in crates.txt: that is the order in which they are proved again
 
 A use is a word in the lemma's own file or in a file that imports it, or its path in a function's `tactic`. A worked value (a
 statement without variables) needs none. A law is a public function whose body is empty or only calls laws. If nobody calls it, its
-crate's README has to name it. It reads the files as they stand, in some seconds, and proves nothing.
+crate's README or a page of docs has to name it (not docs/PROVING.md, which is about lemmas). It reads the files as they stand, in
+some seconds, and proves nothing.
 """
 import collections
 import re
@@ -37,6 +38,9 @@ ALLOWED = {
     "crates/r10_strict/proofs/Spelled.antt all_made",
     "crates/r10_strict/proofs/Spelled.antt flags_made",
 }
+
+# So much may be found, and no more. Who takes some away lowers the number.
+MOST = {"copies": 41, "unused": 0, "idle": 0}
 
 Lemma = collections.namedtuple("Lemma", "path name statement lines")
 
@@ -136,13 +140,14 @@ def without_use(files, lemmas):
 
 
 def idle_laws(top, files):
-    """The laws that no function calls and no README names."""
+    """The laws that no function calls, and that neither their crate's README nor a page of docs names."""
     items = re.compile(r"(?ms)^\s*(?:pub |ghost )*(?:use|mod) [^;]*;")
     codes = {path: items.sub("", text) for path, text in files.items() if path.endswith(".rt")}
+    pages = "".join(page.read_text(encoding="utf-8") for page in sorted((top / "docs").glob("*.md")) if page.name != "PROVING.md")
     calls = collections.Counter(name for text in codes.values() for name in re.findall(r"(?<!fn )\b(\w+)(?:::<\w+>)?\(", text))
     for path, text in codes.items():
         readme = top / "crates" / path.split("/")[1] / "README.md"
-        told = readme.read_text(encoding="utf-8") if readme.is_file() else ""
+        told = pages + (readme.read_text(encoding="utf-8") if readme.is_file() else "")
         for name in LAW.findall(text) if "/src/" in path else ():
             if not calls[name] and f"`{name}`" not in told:
                 yield f"{path} {name}"
@@ -208,7 +213,7 @@ def by_file(pairs, crates):
 
 
 def main(words, top=TOP):
-    """Prints what is found; the status says whether something is that is not allowed."""
+    """Prints what is found; the status of a check says whether it is more than may be."""
     is_check, only = words == ["--check"], [] if words == ["--check"] else words
     if any(not (top / "crates" / word).is_dir() or word.startswith("-") for word in only):
         print("usage: scripts/said_once.py [--check | CRATE..]", file=sys.stderr)
@@ -226,16 +231,20 @@ def main(words, top=TOP):
     unused = [(it.path, it.name) for it in without_use(files, lemmas) if counts(it.path, it.name)]
     idle = [pair for pair in map(str.split, idle_laws(top, files)) if counts(*pair)]
     copies = sum(len(group) - 1 for group in doubled)
+    found = {"copies": copies, "unused": len(unused), "idle": len(idle)}
+    is_more = any(found[kind] > MOST[kind] for kind in MOST)
     for head, lines in (
         (f"{len(doubled)} statements stand twice or more, in {copies} lemmas too many; where each can stay:",
          twice(doubled, crates)),
         (f"{len(unused)} lemmas without a use:", by_file(unused, crates)),
-        (f"{len(idle)} laws that nobody calls and no README names:", by_file(idle, crates)),
+        (f"{len(idle)} laws that nobody calls, and no README or page names:", by_file(idle, crates)),
     ):
-        if lines:
+        if lines and (is_more or not is_check):
             print("\n".join([head, *lines]))
     print(f"said_once: {len(lemmas)} lemmas, {copies} too many and {len(unused)} without a use; {len(idle)} idle laws")
-    return int(is_check and bool(doubled or unused or idle))
+    if is_check and is_more:
+        print("said_once: that is more than the {copies}, {unused} and {idle} that may be".format_map(MOST))
+    return int(is_check and is_more)
 
 
 if __name__ == "__main__":

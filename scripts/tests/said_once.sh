@@ -8,6 +8,7 @@ anew() {
     rm -rf "$room/crates" "$room/scripts"
     mkdir -p "$room/scripts" "$low/src" "$low/proofs" "$high/src" "$high/proofs/calls/f"
     cp "$top/scripts/said_once.py" "$top/scripts/reads.py" "$room/scripts"
+    most 0
     printf 'r10_low:\nr10_high: r10_low\nr10_side: r10_low\n' >"$room/crates.txt"
     printf 'Laws: `a_law`.\n' >"$low/README.md"
     printf '/// A law.\npub fn a_law()\n    ensures { (n : ℕ) → n ≡ n }\n{}\n' >"$low/src/laws.rt"
@@ -16,6 +17,7 @@ anew() {
     printf 'use Rattle.r10_low.proofs.Same.{itself as same}\n\npub returns : goal.returns\nreturns c = same c.n\n' \
         >"$high/proofs/calls/f/Answers.antt"
 }
+most() { sed -i '/^MOST/s/"copies": [0-9]*/"copies": '"$1"'/' "$room/scripts/said_once.py"; }
 says() {
     said=$("$room/scripts/said_once.py" --check)
     status=$?
@@ -30,6 +32,8 @@ printf '%b' '\npub also : (other : ℕ) → other ≡ other\nalso other = itself
 check "a statement that stands twice, under other names" says 1 \
     "1 statements stand twice or more, in 1 lemmas too many; where each can stay:
     r10_low/proofs/Same.antt itself, also r10_low/proofs/Same.antt also"
+most 1
+check "as much as may be" says 0 "said_once: 5 lemmas, 1 too many and 0 without a use; 0 idle laws"
 check "nothing of it is of another crate" test "$("$room/scripts/said_once.py" r10_high | grep -c .)" = 1
 anew
 printf 'also : (other : ℕ) → other ≡ other\nalso other = refl\n\nlast : 2 ≡ 2\nlast = also 2\n' >"$high/proofs/More.antt"
@@ -54,8 +58,14 @@ printf '#[tactic(auto, using(r10_low::proofs::Same::idle))]\n' >"$high/src/lib.r
 check "a lemma that a function's tactic names" says 0 "0 without a use"
 anew
 echo >"$low/README.md"
-check "a law that nobody calls and no README names" says 1 "1 laws that nobody calls and no README names:
+check "a law that nobody calls and no README names" says 1 "1 laws that nobody calls, and no README or page names:
     r10_low/src/laws.rt: a_law"
+mkdir -p "$room/docs"
+printf 'It is `a_law`.\n' >"$room/docs/PROVING.md"
+check "nor a page of docs but that about lemmas" says 1 "1 idle laws"
+mv "$room/docs/PROVING.md" "$room/docs/MODEL.md"
+check "a law that a page of docs names" says 0 "0 idle laws"
+rm -rf "$room/docs"
 printf 'pub fn f() {\n    a_law();\n    g();\n}\n' >"$high/src/lib.rt"
 check "a law that a function calls" says 0 "0 idle laws"
 check "other words are refused" test "$("$room/scripts/said_once.py" --all 2>/dev/null; echo $?)" = 2
