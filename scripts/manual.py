@@ -195,7 +195,7 @@ def tables(page: pathlib.Path, heading: str) -> list[tuple[str, str]]:
         raise Wrong('%s has no part "%s"' % (page, heading))
     rows, heads = [], []
     for line in text[1].splitlines():
-        plain = re.sub(r'\[([^]]*)\]\([^)]*\)', r'\1', line).replace('`', '')
+        plain = re.sub(r'\*(\w+)\*', r'\1', re.sub(r'\[([^]]*)\]\([^)]*\)', r'\1', line).replace('`', ''))
         cells = [it.strip() for it in plain.strip('|').split('|')] if line.startswith('|') else []
         if not cells:
             heads = []
