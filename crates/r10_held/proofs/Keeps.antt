@@ -58,7 +58,7 @@ module _ {M L : Type 0} (disk : M → Disk) (spec_of : L → ChannelSpec) (recei
   })) owned.own) was
 
   -- an erase that answered Ok
-  erased_accounted : (new.kept.taken ≡ old.kept.taken) × (new.kept.erased ≡ old.kept.taken) → AreOwn new.kept.work (disk new.medium).blocks [] → (old.kept.work ≡ failed → ⊥) → new.lanes ≡ old.lanes → new.kept.config ≡ old.kept.config
+  erased_accounted : (new.kept.taken ≡ old.kept.taken) × (new.kept.erased ≡ old.kept.taken) → AreOwn new.kept (disk new.medium).blocks [] → (old.kept.work ≡ failed → ⊥) → new.lanes ≡ old.lanes → new.kept.config ≡ old.kept.config
       → Before → After
   erased_accounted turned owned able lanes config was = ⊎_elim (λ bounded. absurd (able bounded.fails)) (λ accounted. inr (record {
     own = [];
@@ -68,7 +68,7 @@ module _ {M L : Type 0} (disk : M → Disk) (spec_of : L → ChannelSpec) (recei
 
   pub erases_account : (lacks : Refusal → Type 0) (result : Result (Unit {0}) Refusal) → OnOk result (recorder_refusal old.kept events.Erase ≡ None) → OnOk result (EraseEffect old.kept (disk old.medium) new.kept (disk new.medium))
       → IfErr result (RefusesCall disk (recorder_refusal old.kept events.Erase) lacks old.kept new.kept old.medium new.medium)
-      → MatchResult result (λ v. AreOwn new.kept.work (disk new.medium).blocks []) (λ r. OwnStay old.kept (disk old.medium).blocks new.kept (disk new.medium).blocks) → new.lanes ≡ old.lanes → new.kept.config ≡ old.kept.config → Before → After
+      → MatchResult result (λ v. AreOwn new.kept (disk new.medium).blocks []) (λ r. OwnStay old.kept (disk old.medium).blocks new.kept (disk new.medium).blocks) → new.lanes ≡ old.lanes → new.kept.config ≡ old.kept.config → Before → After
   erases_account lacks (Ok v) passed effect refused owned lanes config was =
       erased_accounted (erase_turns old.kept new.kept (disk old.medium) (disk new.medium) effect) owned (works old.kept.work _ passed) lanes config was
   erases_account lacks (Err r) passed effect refused owned lanes config was =
@@ -133,7 +133,7 @@ none_behind (spec ∷ specs) = (refl, none_behind specs)
 pub reads_own : (k later : Kept) (old new : Image) → SameOrFailed k later → new ≡ old → OwnStay k old later new
 reads_own k later old new left same = record {
   more = [];
-  own = ⊎_elim (λ kept. inr (λ own is. subst (λ (x : Kept). AreOwn x.work new (own ++ [])) (sym kept) (rw (same, append-nil own) is))) (λ fails. inl (ap (λ (x : Kept). x.work) fails)) left;
+  own = ⊎_elim (λ kept. inr (λ own is. subst (λ (x : Kept). AreOwn x new (own ++ [])) (sym kept) (rw (same, append-nil own) is))) (λ fails. inl (ap (λ (x : Kept). x.work) fails)) left;
   others = none_behind k.config.channels;
 }
 
@@ -158,7 +158,7 @@ module _ {M : Type 0} (disk : M → Disk) (rings : List ChannelRing) (old new : 
 
   pub lanes_erase : (lacks : Refusal → Type 0) (result : Result (Unit {0}) Refusal) → OnOk result (recorder_refusal old.kept events.Erase ≡ None) → OnOk result (EraseEffect old.kept (disk old.medium) new.kept (disk new.medium))
       → IfErr result (RefusesCall disk (recorder_refusal old.kept events.Erase) lacks old.kept new.kept old.medium new.medium)
-      → MatchResult result (λ v. AreOwn new.kept.work (disk new.medium).blocks []) (λ r. OwnStay old.kept (disk old.medium).blocks new.kept (disk new.medium).blocks) → new.lanes ≡ old.lanes → new.kept.config ≡ old.kept.config
+      → MatchResult result (λ v. AreOwn new.kept (disk new.medium).blocks []) (λ r. OwnStay old.kept (disk old.medium).blocks new.kept (disk new.medium).blocks) → new.lanes ≡ old.lanes → new.kept.config ≡ old.kept.config
       → LanesAccounted disk rings old → LanesAccounted disk rings new
   lanes_erase lacks result passed effect refused owned lanes config was = record {
     named = subst (AreNamed rings) (sym lanes) was.named;
@@ -263,7 +263,7 @@ module _ {M : Type 0} (disk : M → Disk) (rings : List ChannelRing) (old new : 
   -- an erase
   pub erase_known : (lacks : Refusal → Type 0) (result : Result (Unit {0}) Refusal) (later : List Glance) → OnOk result (recorder_refusal old.kept events.Erase ≡ None)
       → OnOk result (EraseEffect old.kept (disk old.medium) new.kept (disk new.medium)) → IfErr result (RefusesCall disk (recorder_refusal old.kept events.Erase) lacks old.kept new.kept old.medium new.medium)
-      → MatchResult result (λ v. AreOwn new.kept.work (disk new.medium).blocks []) (λ r. OwnStay old.kept (disk old.medium).blocks new.kept (disk new.medium).blocks) → new.lanes ≡ old.lanes → new.kept.config ≡ old.kept.config
+      → MatchResult result (λ v. AreOwn new.kept (disk new.medium).blocks []) (λ r. OwnStay old.kept (disk old.medium).blocks new.kept (disk new.medium).blocks) → new.lanes ≡ old.lanes → new.kept.config ≡ old.kept.config
       → MatchResult result (λ v. later ≡ published ++ next_triple published new.kept.work ∷ []) (λ r. later ≡ published) → LockFact disk rings old published → LockFact disk rings new later
   erase_known lacks result later passed effect refused owned lanes config grows was =
       published_known result later grows (lanes_erase disk rings old new lacks result passed effect refused owned lanes config was.lanes) refused (call_tells disk lacks old.kept new.kept old.medium new.medium (recorder_refusal old.kept events.Erase)) was

@@ -32,7 +32,7 @@ ChannelAccounts spec_of received_of own specs taken erased lanes = ⊥
 -- over the entries of the recorder's own files
 pub record IsAccounted {M L : Type 0} (disk : M → Disk) (spec_of : L → ChannelSpec) (received_of : L → List Sample) (r : RecorderState M L) : Type 0 where
   pub own : List Entry
-  pub is_own : AreOwn r.kept.work (disk r.medium).blocks own
+  pub is_own : AreOwn r.kept (disk r.medium).blocks own
   pub each : ChannelAccounts spec_of received_of own r.kept.config.channels r.kept.taken r.kept.erased r.lanes
 
 -- A channel's part once the recorder failed: of what its lane received no more was counted as taken in than there is, and of that no more as erased. What the failed call took isn't counted.
@@ -61,4 +61,4 @@ pub record IsNew {M L : Type 0} (disk : M → Disk) (spec_of : L → ChannelSpec
   pub received : AllByRecursion (λ (lane : L). received_of lane ≡ []) r.lanes
   pub taken : r.kept.taken ≡ replicate (length r.kept.config.channels) 0
   pub erased : r.kept.erased ≡ replicate (length r.kept.config.channels) 0
-  pub owned : AreOwn r.kept.work (disk r.medium).blocks []
+  pub owned : AreOwn r.kept (disk r.medium).blocks []

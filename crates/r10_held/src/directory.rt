@@ -89,7 +89,7 @@ impl<M: BlockMedium, N: Rings> Held<M, N> {
         ensures stops { AnswersSafely self.old.recorder.kept (M.disk self.old.recorder.medium) events.Erase (λ _. replies.Done) result self.new.recorder.kept (M.disk self.new.recorder.medium) }
         ensures lanes { self.new.recorder.lanes ≡ self.old.recorder.lanes }
         ensures effect { OnOk result (EraseEffect self.old.recorder.kept (M.disk self.old.recorder.medium) self.new.recorder.kept (M.disk self.new.recorder.medium)) }
-        ensures owned { MatchResult result (λ _. AreOwn self.new.recorder.kept.work (M.disk self.new.recorder.medium).blocks []) (λ _. OwnStay self.old.recorder.kept (M.disk self.old.recorder.medium).blocks self.new.recorder.kept (M.disk self.new.recorder.medium).blocks) }
+        ensures owned { MatchResult result (λ _. AreOwn self.new.recorder.kept (M.disk self.new.recorder.medium).blocks []) (λ _. OwnStay self.old.recorder.kept (M.disk self.old.recorder.medium).blocks self.new.recorder.kept (M.disk self.new.recorder.medium).blocks) }
         ensures config { self.new.recorder.kept.config ≡ self.old.recorder.kept.config }
         ensures publishes { Publishes result self.old self.new }
         ensures spares { Spares self.old.recorder.kept (M.disk self.old.recorder.medium) events.Erase

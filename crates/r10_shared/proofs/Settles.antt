@@ -86,7 +86,7 @@ module _ (rings : List ChannelRing) (k : Kept) (lanes : List Receiving) (own : L
         )
 
   module _ {F : Type 0} (line_of : F → SendingLine) (tally_of : F → Tally) (feeds : List F) (reports : List FeedReport) (ready : AreReady line_of tally_of rings k feeds reports) where
-    pub settles : (image : Image) (later : List FeedReport) → AreOwn k.work image own → HasDrained line_of lanes feeds reports later → Settles line_of tally_of k image feeds later
+    pub settles : (image : Image) (later : List FeedReport) → AreOwn k image own → HasDrained line_of lanes feeds reports later → Settles line_of tally_of k image feeds later
     settles image later is_own drained = record {
       own = own;
       is_own = is_own;

@@ -121,7 +121,7 @@ LanesStayBut order old new = new.recorder.lanes ≡ old.recorder.lanes
 abbrev pub OwnsAs : {M : Type 0} → (M → Disk) → Order → HeldState M → HeldState M → Result Reply Refusal → Type 0
 OwnsAs disk orders.Stop old new result = Unit {0}
 OwnsAs disk orders.Erase old new result =
-    MatchResult result (λ _. AreOwn new.recorder.kept.work (disk new.recorder.medium).blocks []) (λ _. OwnStay old.recorder.kept (disk old.recorder.medium).blocks new.recorder.kept (disk new.recorder.medium).blocks)
+    MatchResult result (λ _. AreOwn new.recorder.kept (disk new.recorder.medium).blocks []) (λ _. OwnStay old.recorder.kept (disk old.recorder.medium).blocks new.recorder.kept (disk new.recorder.medium).blocks)
 OwnsAs disk order old new result = OwnStay old.recorder.kept (disk old.recorder.medium).blocks new.recorder.kept (disk new.recorder.medium).blocks
 
 -- at every moment of it a stop of the medium leaves what the call's own clauses say

@@ -47,7 +47,7 @@ pub record TellsKept (k : Kept) (line : SendingLine) (report : FeedReport) : Typ
 -- each feed has its report, by the entries of the recorder's own files and by the numbers that it kept
 pub record Settles {F : Type 0} (line_of : F → SendingLine) (tally_of : F → Tally) (k : Kept) (image : Image) (feeds : List F) (reports : List FeedReport) : Type 0 where
   pub own : List Entry
-  pub is_own : AreOwn k.work image own
+  pub is_own : AreOwn k image own
   pub number : length reports ≡ length feeds
   pub each : (place : ℕ) (f : F) (r : FeedReport) → place < length feeds → IsSettledReport own (line_of (slice_index_or feeds place f)) (tally_of (slice_index_or feeds place f)) (slice_index_or reports place r)
   pub numbers : (place : ℕ) (f : F) (r : FeedReport) → place < length feeds → TellsKept k (line_of (slice_index_or feeds place f)) (slice_index_or reports place r)
