@@ -1,7 +1,7 @@
 //! What a recorder does, and over which medium.
 
 use crate::fault::TrialFault;
-use crate::scene::{formatted, image_behind, medium_of, told};
+use crate::scene::{formatted, image_recorded, medium_of, told};
 use crate::title::{Act, Task};
 use r10_machine::{Event, Reply, Settings};
 use r10_medium::{Crashing, Faulty, Memory};
@@ -56,8 +56,9 @@ impl Course {
         for event in events {
             self.add(event, task.first)?;
         }
-        self.image = formatted(alloc, &self.settings)?;
-        if !is_ended_by_another(task.act) {
+        if is_ended_by_another(task.act) {
+            self.image = formatted(alloc, &self.settings)?;
+        } else {
             self.go_on(alloc)?;
         }
         let medium = self.medium(alloc)?;
@@ -66,10 +67,9 @@ impl Course {
         Ok(())
     }
 
-    /// Does the steps, and takes the rest in their place, with a status at the end.
+    /// Does the steps on a formatted medium, and takes the rest in their place, with a status at the end.
     fn go_on(&mut self, alloc: Global) -> Result<(), TrialFault> {
-        let (image, events) = (self.image.as_slice(), self.events.as_slice());
-        self.image = image_behind(alloc, &self.settings, image, events)?;
+        self.image = image_recorded(alloc, &self.settings, self.events.as_slice())?;
         self.events = std::mem::replace(&mut self.rest, Vec::new(alloc));
         self.events.push(Event::Status)?;
         Ok(())

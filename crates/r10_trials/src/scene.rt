@@ -3,7 +3,7 @@
 use crate::fault::{TrialFault, fault_of};
 use r10_machine::{Event, Reply, Settings};
 use r10_medium::{BlockMedium, Choice, Crashing, Memory};
-use r10_world::{World, record_all};
+use r10_world::{World, format_and_record, record_all};
 use std::alloc::{AllocError, Global};
 
 /// The same settings once more.
@@ -84,6 +84,21 @@ pub fn image_behind(
     let mut replies = Vec::new(alloc);
     let medium = told(alloc, settings, medium, events, &mut replies)?;
     Ok(medium.image(alloc)?)
+}
+
+/// The bytes that a new recorder leaves after events, on a medium that was formatted for it and never fails.
+pub fn image_recorded(
+    alloc: Global,
+    settings: &Settings,
+    events: &[Event],
+) -> Result<Vec<u8>, TrialFault> {
+    let settings = copy_of(alloc, settings)?;
+    let medium = Memory::new(alloc, settings.blocks())?;
+    let mut replies = Vec::new(alloc);
+    match format_and_record(alloc, settings, medium, events, &mut replies) {
+        Ok((done, medium)) if done == events.len() => Ok(medium.image(alloc)?),
+        _ => Err(TrialFault::Memory(AllocError)),
+    }
 }
 
 /// The bytes of an image that a stop may leave.
