@@ -1,5 +1,5 @@
 -- What turns of a feed come to.
-use Rattle.std.proofs.Common.{◌≡◌, ℕ, Bool, true, false, subst, ◌+◌, List, [], ◌++◌, map, cond, refl, sym, ap, ◌∙◌, append_assoc, arith}
+use Rattle.std.proofs.Common.{◌≡◌, ℕ, Bool, true, false, subst, ◌+◌, List, [], ◌++◌, map, cond, refl, sym, ap, inl, inr, ⊎_elim, true≢false, Option, Some, None, ◌∙◌, append_assoc, arith}
 use Rattle.std.proofs.lemmas.List.{append-nil, map-append}
 use Rattle.std.proofs.lemmas.List.Sums.{sum_by-append}
 use Rattle.r10_machine.specs.Machine.{saturated}
@@ -8,7 +8,8 @@ use Rattle.r10_source.specs.declared.pump.Pumped.{Pumped}
 use Rattle.r10_source.specs.Pumps.{Tried, PumpsSource, is_accepted, is_refused, turn_of}
 use Rattle.r10_source.specs.declared.source.Turn.{Turn}
 use Rattle.r10_source.proofs.Feeding.{offers_join, offers_sent, offers_same}
-use Rattle.r10_shared.specs.Feeding.{FedBehind, FedFrom, FedWhole}
+use Rattle.r10_shared.specs.Feeding.{FedBehind, FedFrom, FedUnless, FedUntil, HasRunUntil, HasRunWhole, never}
+use Rattle.r10_shared.specs.Naming.{SendingLine}
 use Rattle.r10_shared.specs.declared.source.Tally.{Tally}
 
 -- so much was done, and this is left
@@ -58,17 +59,22 @@ fed_join n a b c p q r x tally accepted refused (fed, left) pumps more others =
     )
 
 -- where the source has ended, all that it had was offered
-pub fed_whole : (n : ℕ) (a b c : List Turn) (p q r : Sending) (x : Pumped) (tally : Tally) (accepted refused : ℕ) → FedTo a b p q tally → PumpsSource n b c q r x → accepted ≡ saturated (tally.accepted + x.accepted) → refused ≡ saturated (tally.refused + x.refused) → x.ended ≡ true
-    → FedWhole a p r (record { accepted = accepted; refused = refused })
-fed_whole n a b c p q r x tally accepted refused so pumps more others ended =
-    subst (λ (l : List Turn). FedTo a l p r (record { accepted = accepted; refused = refused })) (pumps.ended ended) (fed_join n a b c p q r x tally accepted refused so pumps more others)
+pub fed_whole : (stops : Bool → Type 0) (n : ℕ) (a b c : List Turn) (p q r : Sending) (x : Pumped) (tally : Tally) (accepted refused : ℕ) → FedTo a b p q tally → PumpsSource n b c q r x → accepted ≡ saturated (tally.accepted + x.accepted) → refused ≡ saturated (tally.refused + x.refused) → x.ended ≡ true
+    → FedUnless stops a p r (record { accepted = accepted; refused = refused })
+fed_whole stops n a b c p q r x tally accepted refused so pumps more others ended =
+    let done = subst (λ (l : List Turn). FedTo a l p r (record { accepted = accepted; refused = refused })) (pumps.ended ended) (fed_join n a b c p q r x tally accepted refused so pumps more others) in
+    (done.0, inl done.1)
+
+-- where a stop was asked, so much was offered
+pub fed_stopped : (stops : Bool → Type 0) (a b : List Turn) (p q r : Sending) (tally : Tally) → FedTo a b p q tally → r ≡ q → stops true → FedUnless stops a p r tally
+fed_stopped stops a b p q r tally so same asked = subst (λ (s : Sending). FedUnless stops a p s tally) (sym same) (so.0, inr asked)
 
 -- behind the gate: all that the source had was offered, or nothing
-pub fed_let : (answers : Bool → Type 0) (a : List Turn) (p q : Sending) (tally : Tally) (answer : Bool) → answers answer → answer ≡ true → FedWhole a p q tally → FedBehind answers a p q tally
-fed_let answers a p q tally answer answered is (fed, whole) = record { fed = fed; answer = answer; answered = answered; whole = λ let_in. whole; none = λ shut. absurd (cc) }
+pub fed_let : (answers stops : Bool → Type 0) (a : List Turn) (p q : Sending) (tally : Tally) (answer : Bool) → answers answer → answer ≡ true → FedUnless stops a p q tally → FedUntil answers stops a p q tally
+fed_let answers stops a p q tally answer answered is (fed, whole) = record { fed = fed; answer = answer; answered = answered; whole = λ let_in. whole; none = λ shut. absurd (cc) }
 
-pub fed_shut : (answers : Bool → Type 0) (a : List Turn) (p q : Sending) (tally : Tally) (answer : Bool) → answers answer → answer ≡ false → q ≡ p → tally ≡ none_tallied → FedBehind answers a p q tally
-fed_shut answers a p q tally answer answered is same none = subst (λ (s : Sending). FedBehind answers a p s tally) (sym same) (subst (λ (t : Tally). FedBehind answers a p p t) (sym none) (record {
+pub fed_shut : (answers stops : Bool → Type 0) (a : List Turn) (p q : Sending) (tally : Tally) (answer : Bool) → answers answer → answer ≡ false → q ≡ p → tally ≡ none_tallied → FedUntil answers stops a p q tally
+fed_shut answers stops a p q tally answer answered is same none = subst (λ (s : Sending). FedUntil answers stops a p s tally) (sym same) (subst (λ (t : Tally). FedUntil answers stops a p p t) (sym none) (record {
   fed = record {
     tried = [];
     left = a;
@@ -84,3 +90,17 @@ fed_shut answers a p q tally answer answered is same none = subst (λ (s : Sendi
   whole = λ let_in. absurd (cc);
   none = λ shut. refl;
 }))
+
+-- a stop that is never asked leaves nothing of a source
+pub until_whole : (answers : Bool → Type 0) (a : List Turn) (p q : Sending) (tally : Tally) → FedUntil answers never a p q tally → FedBehind answers a p q tally
+until_whole answers a p q tally f = record {
+  fed = f.fed;
+  answer = f.answer;
+  answered = f.answered;
+  whole = λ let_in. ⊎_elim (λ (done : f.fed.left ≡ []). done) (λ (asked : true ≡ false). absurd (true≢false asked)) (f.whole let_in);
+  none = f.none;
+}
+
+pub run_whole : {S : Type 0} (answers : Bool → Type 0) (rest_of : S → List Turn) (source : Option S) (line line' : SendingLine) (tally : Tally) → HasRunUntil answers never rest_of source line line' tally → HasRunWhole answers rest_of source line line' tally
+run_whole answers rest_of (Some source) line line' tally ran = (ran.0, until_whole answers (rest_of source) line.port line'.port tally ran.1)
+run_whole answers rest_of None line line' tally ran = tt

@@ -1,5 +1,5 @@
 -- What became of a feed.
-use Rattle.std.specs.Prelude.{◌≡◌, ℕ, Bool, true, false, ◌++◌, List, [], map, count_by, Option, Some, None}
+use Rattle.std.specs.Prelude.{◌≡◌, ◌⊎◌, ℕ, Bool, true, false, ◌++◌, List, [], map, count_by, Option, Some, None}
 use Rattle.r10_machine.specs.Machine.{saturated}
 use Rattle.r10_port.specs.Ends.{Sending, sent}
 use Rattle.r10_source.specs.Pumps.{Tried, OffersAll, is_accepted, is_refused, accepted_of, turn_of}
@@ -19,9 +19,17 @@ pub record FedFrom (before : List Turn) (old new : Sending) (tally : Tally) : Ty
   pub accepted_is : tally.accepted ≡ saturated (count_by is_accepted tried)
   pub refused_is : tally.refused ≡ saturated (count_by is_refused tried)
 
--- all that the source had was offered so
-abbrev pub FedWhole : List Turn → Sending → Sending → Tally → Type 0
-FedWhole before old new tally = (fed : FedFrom before old new tally) × (fed.left ≡ [])
+-- all that the source had was offered so, unless a stop was asked
+abbrev pub FedUnless : (Bool → Type 0) → List Turn → Sending → Sending → Tally → Type 0
+FedUnless stops before old new tally = (fed : FedFrom before old new tally) × ((fed.left ≡ []) ⊎ stops true)
+
+-- A feed behind a gate, with a stop. If the gate let it through, all that the source had was offered, up to its end, unless the stop was asked. Else nothing was.
+pub record FedUntil (answers stops : Bool → Type 0) (before : List Turn) (old new : Sending) (tally : Tally) : Type 0 where
+  pub fed : FedFrom before old new tally
+  pub answer : Bool
+  pub answered : answers answer
+  pub whole : answer ≡ true → (fed.left ≡ []) ⊎ stops true
+  pub none : answer ≡ false → fed.tried ≡ []
 
 -- A feed behind a gate. If the gate let it through, all that the source had was offered, up to its end. Else nothing was.
 pub record FedBehind (answers : Bool → Type 0) (before : List Turn) (old new : Sending) (tally : Tally) : Type 0 where
@@ -44,3 +52,12 @@ HasRun rest_of None line tally line' tally' = (line' ≡ line) × (tally' ≡ ta
 abbrev pub HasRunWhole : {S : Type 0} → (Bool → Type 0) → (S → List Turn) → Option S → SendingLine → SendingLine → Tally → Type 0
 HasRunWhole answers rest_of (Some source) line line' tally' = (line'.channel ≡ line.channel) × FedBehind answers (rest_of source) line.port line'.port tally'
 HasRunWhole answers rest_of None line line' tally' = Unit {0}
+
+-- the same with a stop
+abbrev pub HasRunUntil : {S : Type 0} → (Bool → Type 0) → (Bool → Type 0) → (S → List Turn) → Option S → SendingLine → SendingLine → Tally → Type 0
+HasRunUntil answers stops rest_of (Some source) line line' tally' = (line'.channel ≡ line.channel) × FedUntil answers stops (rest_of source) line.port line'.port tally'
+HasRunUntil answers stops rest_of None line line' tally' = Unit {0}
+
+-- the answers of a stop that is never asked
+abbrev pub never : Bool → Type 0
+never answer = answer ≡ false

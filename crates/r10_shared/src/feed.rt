@@ -30,4 +30,30 @@ impl<N: Rings> Feed<N> {
             tally: Tally::default(),
         }
     }
+
+    /// The same line with another source, for a further session of the same cabinet. What was sent on the line stays sent, and
+    /// counts in the end's report; the messages that were refused are counted anew.
+    pub fn again(self, source: AnySource) -> Feed<N>
+        ensures line { result.line ≡ self.line }
+        ensures source { IsSomeAnd result.source (λ s. rest s ≡ rest source) }
+        ensures tally { result.tally ≡ record { accepted = 0; refused = 0 } }
+    {
+        let Feed {
+            source: _,
+            line,
+            tally: _,
+        } = self;
+        Feed {
+            source: Some(source),
+            line,
+            tally: Tally::default(),
+        }
+    }
+
+    /// How many messages of the source the last session sent, and how many the lane had no room for.
+    pub fn tally(&self) -> Tally
+        ensures { result ≡ self.now.tally }
+    {
+        self.tally
+    }
 }

@@ -3,11 +3,12 @@
 ghost use Rattle.std.specs.Prelude.{◌≡◌, ◌-◌, ◌++◌, Some, length, take, vec_capacity};
 ghost use Rattle.r10_machine.specs.Machine.{saturated};
 ghost use Rattle.r10_port.specs.Ends.{TookReceived, sent, unreceived};
-ghost use Rattle.r10_shared.specs.Feeding.{FedBehind};
+ghost use Rattle.r10_shared.specs.Feeding.{FedUntil};
 ghost use Rattle.r10_held.specs.Naming.{ring_for};
 
 use crate::gate::Gate;
 use crate::source::{AnySource, Tally, feed_port};
+use crate::stop::Stop;
 use crate::waiting::Progress;
 use r10_body::Sample;
 use r10_held::Rings;
@@ -69,19 +70,20 @@ impl<N: Rings> Line<N> {
         let _ = &self.port;
     }
 
-    /// Passes the gate, and then offers to the port what the source gives, until the source ends.
-    pub(crate) fn feed<R: Wait, G: Gate>(
+    /// Passes the gate, and then offers to the port what the source gives, until the source ends or the stop is asked.
+    pub(crate) fn feed<R: Wait, G: Gate, S: Stop>(
         &mut self,
         rt: &R,
         gate: &G,
         worker: usize,
+        stop: &S,
         source: AnySource,
         progress: &Progress,
     ) -> Tally
         ensures channel { self.new.channel ≡ self.old.channel }
-        ensures fed { FedBehind (G.answers gate.now worker) (rest source) self.old.port self.new.port result }
+        ensures fed { FedUntil (G.answers gate.now worker) (S.answers stop.now) (rest source) self.old.port self.new.port result }
     {
-        feed_port(rt, gate, worker, source, &mut self.port, progress)
+        feed_port(rt, gate, worker, stop, source, &mut self.port, progress)
     }
 
     /// Moves what is left between the two ends behind what `into` has, as much of it as `into` has room for. It takes no memory.

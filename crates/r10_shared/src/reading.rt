@@ -46,6 +46,18 @@ impl Reading {
         }
     }
 
+    /// The player, which goes on in a further session of the same cabinet, and the instalments that it wrote down.
+    pub fn into_parts(self) -> (Player, Vec<Instalment>)
+        ensures player { result.0 ≡ self.player }
+        ensures instalments { result.1.items ≡ self.instalments.items }
+    {
+        let Reading {
+            player,
+            instalments,
+        } = self;
+        (player, instalments)
+    }
+
     /// Drops what was still to be given.
     pub(crate) fn pass_over(&mut self, alloc: Global)
         ensures reads { ReadsOn self.old self.new }

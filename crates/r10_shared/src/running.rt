@@ -1,10 +1,11 @@
 //! All feeds at the same time.
 
 ghost use Rattle.std.specs.Prelude.{◌≡◌, ◌<◌, ℕ, slice_index_or, length};
-ghost use Rattle.r10_shared.specs.Feeding.{HasRun, HasRunWhole};
+ghost use Rattle.r10_shared.specs.Feeding.{HasRun, HasRunUntil};
 
 use crate::feed::Feed;
 use crate::gate::Gate;
+use crate::stop::Stop;
 use crate::waiting::Progress;
 use r10_held::Rings;
 use std::sync::Wait;
@@ -12,31 +13,32 @@ use std::thread;
 use std::thread::Threads;
 
 /// Runs a feed that waits. Then one more is over, also if the feed was run before.
-fn work<N: Rings, R: Wait, G: Gate>(
+fn work<N: Rings, R: Wait, G: Gate, S: Stop>(
     rt: &R,
     gate: &G,
     worker: usize,
+    stop: &S,
     feed: &mut Feed<N>,
     progress: &Progress,
 )
-    ensures whole { HasRunWhole (G.answers gate.now worker) (λ s. rest s) feed.old.source feed.old.line feed.new.line feed.new.tally }
+    ensures until { HasRunUntil (G.answers gate.now worker) (S.answers stop.now) (λ s. rest s) feed.old.source feed.old.line feed.new.line feed.new.tally }
     ensures run { HasRun (λ s. rest s) feed.old.source feed.old.line feed.old.tally feed.new.line feed.new.tally }
 {
     if let Some(source) = feed.source.take() {
-        feed.tally = feed.line.feed(rt, gate, worker, source, progress);
+        feed.tally = feed.line.feed(rt, gate, worker, stop, source, progress);
     }
     progress.end_one();
 }
 
 /// Runs all feeds that wait at the same time, each by a worker of its own, as far as threads can be made. This takes no memory but
 /// what the sources take.
-pub(crate) fn run_feeds<N: Rings + Send + Sync, R: Threads + Wait + Sync, G: Gate + Sync>(
-    rt: &R,
-    gate: &G,
-    feeds: &mut [Feed<N>],
-    progress: &Progress,
-)
-    ensures whole { (i : ℕ) (d : _) → i < length feeds.old → HasRunWhole (G.answers gate.now i) (λ s. rest s) (slice_index_or feeds.old i d).source (slice_index_or feeds.old i d).line (slice_index_or feeds.new i d).line (slice_index_or feeds.new i d).tally }
+pub(crate) fn run_feeds<
+    N: Rings + Send + Sync,
+    R: Threads + Wait + Sync,
+    G: Gate + Sync,
+    S: Stop + Sync,
+>(rt: &R, gate: &G, stop: &S, feeds: &mut [Feed<N>], progress: &Progress)
+    ensures until { (i : ℕ) (d : _) → i < length feeds.old → HasRunUntil (G.answers gate.now i) (S.answers stop.now) (λ s. rest s) (slice_index_or feeds.old i d).source (slice_index_or feeds.old i d).line (slice_index_or feeds.new i d).line (slice_index_or feeds.new i d).tally }
     ensures run { (i : ℕ) (d : _) → i < length feeds.old → HasRun (λ s. rest s) (slice_index_or feeds.old i d).source (slice_index_or feeds.old i d).line (slice_index_or feeds.old i d).tally (slice_index_or feeds.new i d).line (slice_index_or feeds.new i d).tally }
 {
     let threads = feeds.len();
@@ -46,8 +48,8 @@ pub(crate) fn run_feeds<N: Rings + Send + Sync, R: Threads + Wait + Sync, G: Gat
             feeds,
             threads,
             &|worker: usize, feed: &mut Feed<N>|
-                ensures { HasRunWhole (G.answers gate.entry.now worker) (λ s. rest s) feed.old.source feed.old.line feed.new.line feed.new.tally × HasRun (λ s. rest s) feed.old.source feed.old.line feed.old.tally feed.new.line feed.new.tally }
-            { work(rt, gate, worker, feed, progress) },
+                ensures { HasRunUntil (G.answers gate.entry.now worker) (S.answers stop.entry.now) (λ s. rest s) feed.old.source feed.old.line feed.new.line feed.new.tally × HasRun (λ s. rest s) feed.old.source feed.old.line feed.old.tally feed.new.line feed.new.tally }
+            { work(rt, gate, worker, stop, feed, progress) },
         );
     }
 }

@@ -2,7 +2,7 @@
 
 ghost use Rattle.std.specs.Prelude.{◌≡◌, ◌<◌, ◌≤◌, ℕ, All, IfErr, IfOk, OnOk, [], length, map, slice_index_or, vec_capacity, vec_len};
 ghost use Rattle.r10_shared.specs.Desk.{IsNoted, WasAsked, WasTurned, Worked, number_after};
-ghost use Rattle.r10_shared.specs.Feeding.{HasRun, HasRunWhole};
+ghost use Rattle.r10_shared.specs.Feeding.{HasRun, HasRunUntil, HasRunWhole};
 ghost use Rattle.r10_shared.specs.Giving.{GivesInTurn};
 ghost use Rattle.r10_shared.specs.Readings.{HasReadAll, ReadsOn};
 ghost use Rattle.r10_shared.specs.Rounds.{IsWriting};
@@ -14,6 +14,7 @@ use crate::order::Order;
 use crate::readers::read_all;
 use crate::reading::Reading;
 use crate::running::run_feeds;
+use crate::stop::{Never, Stop};
 use crate::waiting::Progress;
 use crate::working::{give_orders, write_on};
 use r10_held::{Cabinet, Player, Rings};
@@ -28,6 +29,18 @@ use std::thread::Threads;
 pub struct Session<N: Rings> {
     pub(crate) feeds: Vec<Feed<N>>,
     pub(crate) readings: Vec<Reading>,
+}
+
+impl<N: Rings> Session<N> {
+    /// The feeds as they were run, and the players with what they wrote down: for a further session of the same cabinet, and to
+    /// hand out what was written down so far.
+    pub fn apart(self) -> (Vec<Feed<N>>, Vec<Reading>)
+        ensures feeds { result.0.items ≡ self.feeds.items }
+        ensures readings { result.1.items ≡ self.readings.items }
+    {
+        let Session { feeds, readings } = self;
+        (feeds, readings)
+    }
 }
 
 /// Writes, gives the orders and reads, all at the same time. The workers' numbers go on from the first.
@@ -80,18 +93,25 @@ fn write_and_read<
 }
 
 /// All workers at the same time.
-fn run_all<M: BlockMedium + Send, N: Rings + Send + Sync, R: Threads + Wait + Sync, G: Gate + Sync>(
+fn run_all<
+    M: BlockMedium + Send,
+    N: Rings + Send + Sync,
+    R: Threads + Wait + Sync,
+    G: Gate + Sync,
+    S: Stop + Sync,
+>(
     rt: &R,
     alloc: Global,
     cabinet: &Cabinet<M, N>,
     gate: &G,
+    stop: &S,
     feeds: &mut [Feed<N>],
     orders: &[Order],
     readings: &mut [Reading],
 )
     requires { All (λ reading. reading.player.pass.cell ≡ cabinet.now) readings.old }
     ensures feeds { (i : ℕ) (d : _) → i < length feeds.old → HasRun (λ s. rest s) (slice_index_or feeds.old i d).source (slice_index_or feeds.old i d).line (slice_index_or feeds.old i d).tally (slice_index_or feeds.new i d).line (slice_index_or feeds.new i d).tally }
-    ensures whole { (i : ℕ) (d : _) → i < length feeds.old → HasRunWhole (G.answers gate.now i) (λ s. rest s) (slice_index_or feeds.old i d).source (slice_index_or feeds.old i d).line (slice_index_or feeds.new i d).line (slice_index_or feeds.new i d).tally }
+    ensures until { (i : ℕ) (d : _) → i < length feeds.old → HasRunUntil (G.answers gate.now i) (S.answers stop.now) (λ s. rest s) (slice_index_or feeds.old i d).source (slice_index_or feeds.old i d).line (slice_index_or feeds.new i d).line (slice_index_or feeds.new i d).tally }
     ensures writes { Worked (G.answers gate.now (length feeds.old)) IsWriting (WasTurned M.disk N.rings) }
     ensures gives { Worked (G.answers gate.now (number_after (length feeds.old) 1)) (GivesInTurn orders.now) (WasAsked M.disk N.rings) }
     ensures watch { (i : ℕ) → i < length readings.old → Worked (G.answers gate.now (number_after (number_after (length feeds.old) 2) i)) IsWatching IsNoted }
@@ -101,9 +121,9 @@ fn run_all<M: BlockMedium + Send, N: Rings + Send + Sync, R: Threads + Wait + Sy
     let progress = Progress::of(first);
     let along = &progress;
     let mut feeding = ||
-        ensures { ((i : ℕ) (d : _) → i < length feeds.entry.now → HasRunWhole (G.answers gate.entry.now i) (λ s. rest s) (slice_index_or feeds.entry.now i d).source (slice_index_or feeds.entry.now i d).line (slice_index_or feeds.exit.now i d).line (slice_index_or feeds.exit.now i d).tally)
+        ensures { ((i : ℕ) (d : _) → i < length feeds.entry.now → HasRunUntil (G.answers gate.entry.now i) (S.answers stop.entry.now) (λ s. rest s) (slice_index_or feeds.entry.now i d).source (slice_index_or feeds.entry.now i d).line (slice_index_or feeds.exit.now i d).line (slice_index_or feeds.exit.now i d).tally)
             × ((i : ℕ) (d : _) → i < length feeds.entry.now → HasRun (λ s. rest s) (slice_index_or feeds.entry.now i d).source (slice_index_or feeds.entry.now i d).line (slice_index_or feeds.entry.now i d).tally (slice_index_or feeds.exit.now i d).line (slice_index_or feeds.exit.now i d).tally) }
-    { run_feeds(rt, gate, feeds, along) };
+    { run_feeds(rt, gate, stop, feeds, along) };
     let mut others = ||
         requires { All (λ reading. reading.player.pass.cell ≡ cabinet.now) readings.now }
         ensures { Worked (G.answers gate.entry.now first) IsWriting (WasTurned M.disk N.rings)
@@ -131,13 +151,61 @@ fn unread(alloc: Global, players: Vec<Player>, room: Vec<Reading>) -> Vec<Readin
     readings
 }
 
-/// Runs feeds, orders and players at the same time, beside a writer, each in a worker of its own as far as threads can be made. Each worker passes
-/// the gate first, by its number: the feeds from 0 on, then the writer, then the one that gives the orders, then the players. A feed is
-/// pumped one turn each time until its source ends. The writer goes round the channels, takes in at most 64 messages of each, and commits
-/// after a round that moved something. After one that moved nothing it sleeps until a feed has sent a message or has ended, or an order was asked.
-/// A player drops what it has still to give, and then takes instalments and writes them down. When feeds and orders have ended
-/// and a round has moved nothing, the writer commits once more and ends; and then each player takes one more instalment.
-/// Failed or OutOfMemory ends the worker that meets it; other refusals are passed over.
+/// As `run_session`, with a stop from outside. Once it is asked each feed ends before its next turn, though its source has not.
+/// Then the writer takes in what waits, commits and ends, as soon as the orders have ended too; and then each player takes one more
+/// instalment. So what was sent until then is accounted for as in a session whose sources ended.
+///
+/// Memory is asked for before any worker starts; where it is refused, all come back.
+pub fn run_session_until<
+    M: BlockMedium + Send,
+    N: Rings + Send + Sync,
+    R: Threads + Wait + Sync,
+    G: Gate + Sync,
+    S: Stop + Sync,
+>(
+    rt: &R,
+    alloc: Global,
+    cabinet: &Cabinet<M, N>,
+    gate: &G,
+    stop: &S,
+    feeds: Vec<Feed<N>>,
+    orders: Vec<Order>,
+    players: Vec<Player>,
+) -> Result<Session<N>, (Vec<Feed<N>>, Vec<Order>, Vec<Player>)>
+    requires { All (λ player. player.pass.cell ≡ cabinet.now) players.items }
+    ensures feeds { IfOk result (λ session. (length session.feeds.items ≡ length feeds.items) × ((i : ℕ) (d : _) → i < length feeds.items → HasRun (λ s. rest s) (slice_index_or feeds.items i d).source (slice_index_or feeds.items i d).line (slice_index_or feeds.items i d).tally (slice_index_or session.feeds.items i d).line (slice_index_or session.feeds.items i d).tally)) }
+    ensures players { IfOk result (λ session. (length session.readings.items ≡ length players.items) × ((i : ℕ) (d : _) (e : _) → i < length players.items → HasReadAll (slice_index_or players.items i d) (slice_index_or session.readings.items i e))) }
+    ensures until { IfOk result (λ session. (i : ℕ) (d : _) → i < length feeds.items → HasRunUntil (G.answers gate.now i) (S.answers stop.now) (λ s. rest s) (slice_index_or feeds.items i d).source (slice_index_or feeds.items i d).line (slice_index_or session.feeds.items i d).line (slice_index_or session.feeds.items i d).tally) }
+    ensures writes { OnOk result (Worked (G.answers gate.now (length feeds.items)) IsWriting (WasTurned M.disk N.rings)) }
+    ensures gives { OnOk result (Worked (G.answers gate.now (number_after (length feeds.items) 1)) (GivesInTurn orders.items) (WasAsked M.disk N.rings)) }
+    ensures watch { OnOk result ((i : ℕ) → i < length players.items → Worked (G.answers gate.now (number_after (number_after (length feeds.items) 2) i)) IsWatching IsNoted) }
+    ensures refused { IfErr result (λ back. (back.0.items ≡ feeds.items) × (back.1.items ≡ orders.items) × (back.2.items ≡ players.items)) }
+{
+    let Ok(room) = Vec::with_capacity(alloc, players.len()) else {
+        return Err((feeds, orders, players));
+    };
+    let mut readings = unread(alloc, players, room);
+    let mut feeds = feeds;
+    run_all(
+        rt,
+        alloc,
+        cabinet,
+        gate,
+        stop,
+        feeds.as_mut_slice(),
+        orders.as_slice(),
+        readings.as_mut_slice(),
+    );
+    Ok(Session { feeds, readings })
+}
+
+/// Runs feeds, orders and players at the same time, beside a writer, each in a worker of its own as far as threads can be made.
+/// Each worker passes the gate first, by its number: the feeds from 0 on, then the writer, then the one that gives the orders, then
+/// the players. A feed is pumped one turn each time until its source ends. The writer goes round the channels, takes in at most 64
+/// messages of each, and commits after a round that moved something. After one that moved nothing it sleeps until a feed has sent a
+/// message or has ended, or an order was asked. A player drops what it has still to give, and then takes instalments and writes
+/// them down. When feeds and orders have ended and a round has moved nothing, the writer commits once more and ends; and then each
+/// player takes one more instalment. Failed or OutOfMemory ends the worker that meets it; other refusals are passed over.
 ///
 /// Memory is asked for before any worker starts; where it is refused, all come back.
 pub fn run_session<
@@ -163,19 +231,5 @@ pub fn run_session<
     ensures watch { OnOk result ((i : ℕ) → i < length players.items → Worked (G.answers gate.now (number_after (number_after (length feeds.items) 2) i)) IsWatching IsNoted) }
     ensures refused { IfErr result (λ back. (back.0.items ≡ feeds.items) × (back.1.items ≡ orders.items) × (back.2.items ≡ players.items)) }
 {
-    let Ok(room) = Vec::with_capacity(alloc, players.len()) else {
-        return Err((feeds, orders, players));
-    };
-    let mut readings = unread(alloc, players, room);
-    let mut feeds = feeds;
-    run_all(
-        rt,
-        alloc,
-        cabinet,
-        gate,
-        feeds.as_mut_slice(),
-        orders.as_slice(),
-        readings.as_mut_slice(),
-    );
-    Ok(Session { feeds, readings })
+    run_session_until(rt, alloc, cabinet, gate, &Never, feeds, orders, players)
 }

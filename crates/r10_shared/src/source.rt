@@ -1,8 +1,9 @@
 //! Sources, and what becomes of the messages that they give.
 
-ghost use Rattle.r10_shared.specs.Feeding.{FedBehind, FedWhole};
+ghost use Rattle.r10_shared.specs.Feeding.{FedUnless, FedUntil};
 
 use crate::gate::Gate;
+use crate::stop::Stop;
 use crate::waiting::Progress;
 use r10_port::Port;
 use r10_source::{ChannelSource, pump_source};
@@ -19,21 +20,22 @@ pub struct Tally {
     pub refused: u64,
 }
 
-/// Passes the gate, and then offers to the port what the source gives, one turn each time, until the source ends. Each accepted message
-/// wakes the writer.
-pub(crate) fn feed_port<R: Wait, G: Gate>(
+/// Passes the gate, and then offers to the port what the source gives, one turn each time, until the source ends or the stop is
+/// asked. Each accepted message wakes the writer.
+pub(crate) fn feed_port<R: Wait, G: Gate, S: Stop>(
     rt: &R,
     gate: &G,
     worker: usize,
+    stop: &S,
     source: AnySource,
     port: &mut Port,
     progress: &Progress,
 ) -> Tally
-    ensures { FedBehind (G.answers gate.now worker) (rest source) port.old port.new result }
+    ensures { FedUntil (G.answers gate.now worker) (S.answers stop.now) (rest source) port.old port.new result }
 {
     let passed = gate.pass(worker);
     if passed {
-        feed_all(rt, source, port, progress)
+        feed_all(rt, stop, source, port, progress)
     } else {
         Tally {
             accepted: 0,
@@ -42,14 +44,24 @@ pub(crate) fn feed_port<R: Wait, G: Gate>(
     }
 }
 
-/// Offers to the port what the source gives, one turn each time, until the source ends. Each accepted message wakes the writer.
-fn feed_all<R: Wait>(rt: &R, source: AnySource, port: &mut Port, progress: &Progress) -> Tally
-    ensures { FedWhole (rest source) port.old port.new result }
+/// Offers to the port what the source gives, one turn each time, until the source ends or the stop is asked. Each accepted message
+/// wakes the writer.
+fn feed_all<R: Wait, S: Stop>(
+    rt: &R,
+    stop: &S,
+    source: AnySource,
+    port: &mut Port,
+    progress: &Progress,
+) -> Tally
+    ensures { FedUnless (S.answers stop.now) (rest source) port.old port.new result }
 {
     let mut source = source;
     let mut accepted = 0u64;
     let mut refused = 0u64;
     for _ in rt.forever() {
+        if stop.is_asked() {
+            return Tally { accepted, refused };
+        }
         let pumped = pump_source(&mut source, port, 1);
         accepted = accepted.saturating_add(pumped.accepted);
         refused = refused.saturating_add(pumped.refused);
