@@ -5,11 +5,12 @@
     scripts/waits.py --old      the order that the sources had once, and a shortest way into its dead end
     scripts/waits.py --slips    each of the wrong orders in SLIPS, one at a time: each has to be found
 
-A session has up to two feeds, two readers, an order and three messages, though no session has all of them. A step is one that no
-other worker sees half done: a load or a store of a number that workers share, the taking of a lock, a message put into a lane or
-taken out of it, the falling asleep on a number. Each worker may be stopped by its gate; each call under the lock may end its
-worker, as where the recorder failed or memory was refused; a pump takes nothing while nothing is recorded, and the order begins or
-ends that. A thread that can't be made runs its work when its maker has done its own. Sleepers wake only where they are woken.
+A session has up to two feeds, two readers, an order and three messages, though no session has all of them. A step is one that
+no other worker sees half done: a load or a store of a number that workers share, the taking of a lock, a message put into a
+lane or taken out of it, the falling asleep on a number. Each worker may be stopped by its gate; each call under the lock may
+end its worker, as where the recorder failed or memory was refused; a pump takes nothing while nothing is recorded, and the
+order begins or ends that. A feed that a stop ends is one whose source has fewer messages. A thread that can't be made runs its
+work when its maker has done its own. Sleepers wake only where they are woken.
 
 Of the states that can be reached it says that
   - in each some worker can do a step, until all have ended (no dead end);
@@ -50,13 +51,14 @@ TEXTS: dict[str, list[tuple[str, str]]] = {
     ],
     SHARED + 'source.rt': [
         ('feed: passes the gate, is stopped',
-         'let passed = gate.pass(worker); if passed { feed_all(rt, source, port, progress) } else {'),
+         'let passed = gate.pass(worker); if passed { feed_all(rt, stop, source, port, progress) } else {'),
+        ('feed: has no more', 'if stop.is_asked() { return Tally { accepted, refused }; }'),
         ('feed: has more, pushes, is refused', 'let pumped = pump_source(&mut source, port, 1);'),
         ('feed: has no more', 'if pumped.ended { return Tally { accepted, refused }; }'),
         ('feed: looks for who waits', 'if pumped.accepted > 0 { progress.come(); }'),
     ],
     SHARED + 'running.rt': [
-        ('feed: pushes', 'feed.tally = feed.line.feed(rt, gate, worker, source, progress);'),
+        ('feed: pushes', 'feed.tally = feed.line.feed(rt, gate, worker, stop, source, progress);'),
         ('feed: over', 'progress.end_one();'),
     ],
     SHARED + 'rounds.rt': [

@@ -13,7 +13,7 @@ use r10_count::{Bytes, Count, Items, Parts};
 use r10_held::new_recorders_account_for_their_lanes;
 use r10_medium::{BlockMedium, Memory};
 use r10_port::{Outlet, Port, lane};
-use r10_shared::{Cabinet, Pass, Rings};
+use r10_shared::{Cabinet, Gauged, Pass, Rings};
 use r10_source::{ChannelSource, Given, Turn};
 use r10_volume::format;
 use std::alloc::{AllocError, Global};
@@ -124,12 +124,9 @@ pub(crate) fn formatted(alloc: Global) -> Result<Memory, Fail> {
 }
 
 /// A recorder of channel 5 over a medium, of whose lane nothing was received, and the sending end of this lane.
-pub(crate) fn recorder_over(
-    alloc: Global,
-    medium: Memory,
-) -> Result<(Recorder<Memory, Outlet>, Port), Fail>
-    ensures new { IfOk result (λ r. IsNew memory_disk outlet_spec outlet_received r.0) }
-    ensures named { IfOk result (λ r. AreNamed (record { channel = 5; ring = r.1.ring } ∷ []) r.0.lanes) }
+pub(crate) fn recorder_over(alloc: Global, medium: Memory) -> Result<(Gauged<Memory>, Port), Fail>
+    ensures new { IfOk result (λ r. IsNew memory_disk outlet_spec outlet_received r.0.recorder) }
+    ensures named { IfOk result (λ r. AreNamed (record { channel = 5; ring = r.1.ring } ∷ []) r.0.recorder.lanes) }
 {
     let settings = settings(alloc, CHANNEL)?;
     if medium.blocks() != settings.blocks() {
@@ -138,32 +135,30 @@ pub(crate) fn recorder_over(
     let (port, outlet) = lane(alloc, CHANNEL)?;
     let lanes = alone(alloc, outlet)?;
     let recorder = over(alloc, settings, medium, lanes)?;
-    Ok((recorder, port))
+    match Gauged::new(alloc, recorder) {
+        Ok(gauged) => Ok((gauged, port)),
+        Err(_) => Err(Fail::new("no memory")),
+    }
 }
 
 /// The same over a formatted medium.
-pub(crate) fn new_recorder(alloc: Global) -> Result<(Recorder<Memory, Outlet>, Port), Fail>
-    ensures new { IfOk result (λ r. IsNew memory_disk outlet_spec outlet_received r.0) }
-    ensures named { IfOk result (λ r. AreNamed (record { channel = 5; ring = r.1.ring } ∷ []) r.0.lanes) }
+pub(crate) fn new_recorder(alloc: Global) -> Result<(Gauged<Memory>, Port), Fail>
+    ensures new { IfOk result (λ r. IsNew memory_disk outlet_spec outlet_received r.0.recorder) }
+    ensures named { IfOk result (λ r. AreNamed (record { channel = 5; ring = r.1.ring } ∷ []) r.0.recorder.lanes) }
 {
     recorder_over(alloc, formatted(alloc)?)
 }
 
 /// The lock round a recorder, and the first pass.
-pub(crate) fn locked<N: Rings>(
-    alloc: Global,
-    recorder: Recorder<Memory, Outlet>,
-) -> Result<(Cabinet<Memory, N>, Pass), Fail>
-    requires new { IsNew memory_disk outlet_spec outlet_received recorder }
-    requires named { AreNamed N.rings recorder.lanes }
-    ensures { IfOk result (λ made. made.1.cell ≡ made.0) }
+pub(crate) fn locked<N: Rings>(gauged: Gauged<Memory>) -> (Cabinet<Memory, N>, Pass)
+    requires new { IsNew memory_disk outlet_spec outlet_received gauged.recorder }
+    requires named { AreNamed N.rings gauged.recorder.lanes }
+    requires gauge { gauged.cell ≡ N.gauge }
+    ensures { result.1.cell ≡ result.0 }
 {
     // For the proof: of a new recorder all that is taken is accounted for.
     new_recorders_account_for_their_lanes::<Memory, N>();
-    match Cabinet::new(alloc, recorder) {
-        Ok(made) => Ok(made),
-        Err(_) => Err(Fail::new("no memory")),
-    }
+    Cabinet::new(gauged)
 }
 
 /// Sends a message at 1001, and lets the sending end go: whether it was accepted.

@@ -8,11 +8,10 @@ ghost use Rattle.r10_medium.specs.MemoryDisk.{memory_disk};
 
 use crate::between::{LAST, LEAP_DAY, channels, locked, new_recorder, send};
 use r10_body::{Glance, Refusal};
-use r10_control::Recorder;
 use r10_cursor::Cursor;
 use r10_medium::Memory;
-use r10_port::{Outlet, Port};
-use r10_shared::{Cabinet, Held, Pass, Rings};
+use r10_port::Port;
+use r10_shared::{Cabinet, Gauged, Held, Pass, Rings};
 use std::alloc::Global;
 use std::marker::Brand;
 use std::sync::Wait;
@@ -168,14 +167,15 @@ fn advanced<N: Rings>(alloc: Global, held: &mut Held<Memory, N>) -> Result<usize
 fn asked<N: Rings, R: Wait>(
     rt: &R,
     alloc: Global,
-    recorder: Recorder<Memory, Outlet>,
+    gauged: Gauged<Memory>,
     port: Port,
 ) -> Result<([usize; 3], Result<usize, Refusal>), Fail>
-    requires new { IsNew memory_disk outlet_spec outlet_received recorder }
-    requires named { AreNamed N.rings recorder.lanes }
+    requires new { IsNew memory_disk outlet_spec outlet_received gauged.recorder }
+    requires named { AreNamed N.rings gauged.recorder.lanes }
+    requires gauge { gauged.cell ≡ N.gauge }
 {
     let _sent = send(alloc, port);
-    let (cabinet, _pass) = locked::<N>(alloc, recorder)?;
+    let (cabinet, _pass) = locked::<N>(gauged);
     let mut held = cabinet.hold(rt);
     let begun = otherwise(rt, &mut held, BEGUN);
     let shown = otherwise(rt, &mut held, SHOWN);
@@ -187,8 +187,8 @@ fn asked<N: Rings, R: Wait>(
 #[test]
 fn the_lock_has_the_recorders_calls(rt: HostRuntime) -> Result<(), Fail> {
     let alloc = rt.alloc();
-    let (recorder, port) = new_recorder(alloc)?;
-    let told = asked::<Brand, HostRuntime>(&rt, alloc, recorder, port)?;
+    let (gauged, port) = new_recorder(alloc)?;
+    let told = asked::<Brand, HostRuntime>(&rt, alloc, gauged, port)?;
     assert_eq!(rt; told, ([0; 3], Ok(1)));
     Ok(())
 }
@@ -209,14 +209,15 @@ fn glances<N: Rings, R: Wait>(rt: &R, cabinet: &Cabinet<Memory, N>, pass: Pass) 
 fn seen<N: Rings, R: Wait>(
     rt: &R,
     alloc: Global,
-    recorder: Recorder<Memory, Outlet>,
+    gauged: Gauged<Memory>,
     port: Port,
 ) -> Result<[Glance; 2], Fail>
-    requires new { IsNew memory_disk outlet_spec outlet_received recorder }
-    requires named { AreNamed N.rings recorder.lanes }
+    requires new { IsNew memory_disk outlet_spec outlet_received gauged.recorder }
+    requires named { AreNamed N.rings gauged.recorder.lanes }
+    requires gauge { gauged.cell ≡ N.gauge }
 {
     let _sent = send(alloc, port);
-    let (cabinet, pass) = locked::<N>(alloc, recorder)?;
+    let (cabinet, pass) = locked::<N>(gauged);
     otherwise(rt, &mut cabinet.hold(rt), BEGUN);
     otherwise(rt, &mut cabinet.hold(rt), SHOWN);
     Ok(glances(rt, &cabinet, pass))
@@ -225,8 +226,8 @@ fn seen<N: Rings, R: Wait>(
 #[test]
 fn a_glance_sees_what_was_published(rt: HostRuntime) -> Result<(), Fail> {
     let alloc = rt.alloc();
-    let (recorder, port) = new_recorder(alloc)?;
-    let told = seen::<Brand, HostRuntime>(&rt, alloc, recorder, port)?;
+    let (gauged, port) = new_recorder(alloc)?;
+    let told = seen::<Brand, HostRuntime>(&rt, alloc, gauged, port)?;
     let glance = Glance {
         commits: 2,
         file: 0,

@@ -9,10 +9,9 @@ ghost use Rattle.r10_medium.specs.MemoryDisk.{memory_disk};
 use crate::between::{locked, new_recorder, send};
 use crate::locks::{BEGUN, SHOWN, opened, otherwise};
 use r10_body::Refusal;
-use r10_control::Recorder;
 use r10_medium::Memory;
-use r10_port::{Outlet, Port};
-use r10_shared::{Cabinet, Pass, Player, Rings};
+use r10_port::Port;
+use r10_shared::{Cabinet, Gauged, Pass, Player, Rings};
 use std::alloc::Global;
 use std::marker::Brand;
 use std::sync::Wait;
@@ -62,14 +61,15 @@ fn read<N: Rings, R: Wait>(
 fn watched<N: Rings, R: Wait>(
     rt: &R,
     alloc: Global,
-    recorder: Recorder<Memory, Outlet>,
+    gauged: Gauged<Memory>,
     port: Port,
 ) -> Result<([Result<usize, Refusal>; 2], [Option<u64>; 2]), Fail>
-    requires new { IsNew memory_disk outlet_spec outlet_received recorder }
-    requires named { AreNamed N.rings recorder.lanes }
+    requires new { IsNew memory_disk outlet_spec outlet_received gauged.recorder }
+    requires named { AreNamed N.rings gauged.recorder.lanes }
+    requires gauge { gauged.cell ≡ N.gauge }
 {
     let _sent = send(alloc, port);
-    let (cabinet, pass) = locked::<N>(alloc, recorder)?;
+    let (cabinet, pass) = locked::<N>(gauged);
     otherwise(rt, &mut cabinet.hold(rt), BEGUN);
     otherwise(rt, &mut cabinet.hold(rt), SHOWN);
     let player = reader(rt, alloc, &cabinet, pass)?;
@@ -79,8 +79,8 @@ fn watched<N: Rings, R: Wait>(
 #[test]
 fn a_player_reads_beside_the_lock(rt: HostRuntime) -> Result<(), Fail> {
     let alloc = rt.alloc();
-    let (recorder, port) = new_recorder(alloc)?;
-    let told = watched::<Brand, HostRuntime>(&rt, alloc, recorder, port)?;
+    let (gauged, port) = new_recorder(alloc)?;
+    let told = watched::<Brand, HostRuntime>(&rt, alloc, gauged, port)?;
     assert_eq!(rt; told, ([Ok(1), Ok(0)], [Some(1001), None]));
     Ok(())
 }

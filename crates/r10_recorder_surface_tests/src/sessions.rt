@@ -8,12 +8,11 @@ ghost use Rattle.r10_medium.specs.MemoryDisk.{memory_disk};
 
 use crate::between::{LAST, LEAP_DAY, formatted, locked, new_recorder, recorder_over, text, two};
 use crate::locks::{BEGUN, otherwise};
-use r10_control::Recorder;
 use r10_count::Items;
 use r10_medium::Memory;
-use r10_port::{Outlet, Port};
+use r10_port::Port;
 use r10_shared::{
-    Cabinet, Feed, FeedReport, Gate, Instalment, Open, Order, Pass, Player, Rings, Session,
+    Cabinet, Feed, FeedReport, Gate, Gauged, Instalment, Open, Order, Pass, Player, Rings, Session,
     SessionReport, Transcript, audit, end_session, run_session,
 };
 use r10_source::ChannelSource;
@@ -70,15 +69,16 @@ fn ended<N: Rings>(
 fn ordered<N: Rings + Send + Sync, R: Threads + Wait + Sync>(
     rt: &R,
     alloc: Global,
-    recorder: Recorder<Memory, Outlet>,
+    gauged: Gauged<Memory>,
     port: Port,
     orders: Vec<Order>,
 ) -> Result<SessionReport<Memory>, Fail>
-    requires new { IsNew memory_disk outlet_spec outlet_received recorder }
-    requires named { AreNamed N.rings recorder.lanes }
+    requires new { IsNew memory_disk outlet_spec outlet_received gauged.recorder }
+    requires named { AreNamed N.rings gauged.recorder.lanes }
+    requires gauge { gauged.cell ≡ N.gauge }
 {
     let _unused = port;
-    let (cabinet, _pass) = locked::<N>(alloc, recorder)?;
+    let (cabinet, _pass) = locked::<N>(gauged);
     let (feeds, players) = (Vec::new(alloc), Vec::new(alloc));
     match run_session(rt, alloc, &cabinet, &OrdersAlone, feeds, orders, players) {
         Ok(session) => ended(alloc, cabinet, session),
@@ -93,8 +93,8 @@ fn left_by<R: Threads + Wait + Sync>(
     medium: Memory,
     orders: Vec<Order>,
 ) -> Result<(Option<(usize, u64)>, Memory), Fail> {
-    let (recorder, port) = recorder_over(alloc, medium)?;
-    let report = ordered::<Brand, R>(rt, alloc, recorder, port, orders)?;
+    let (gauged, port) = recorder_over(alloc, medium)?;
+    let report = ordered::<Brand, R>(rt, alloc, gauged, port, orders)?;
     let recorder = report.recorder;
     Ok((recorder.last_shown(), recorder.into_medium()))
 }
@@ -181,16 +181,17 @@ fn reader<N: Rings, R: Wait>(
 fn fed<N: Rings + Send + Sync, R: Threads + Wait + Sync>(
     rt: &R,
     alloc: Global,
-    recorder: Recorder<Memory, Outlet>,
+    gauged: Gauged<Memory>,
     port: Port,
 ) -> Result<SessionReport<Memory>, Fail>
-    requires new { IsNew memory_disk outlet_spec outlet_received recorder }
-    requires named { AreNamed N.rings recorder.lanes }
+    requires new { IsNew memory_disk outlet_spec outlet_received gauged.recorder }
+    requires named { AreNamed N.rings gauged.recorder.lanes }
+    requires gauge { gauged.cell ≡ N.gauge }
     requires ring { ring_for 5 N.rings ≡ Some port.ring }
 {
     let source: Box<dyn ChannelSource + Send> = Box::new(alloc, two(alloc)?)?;
     let feeds = feeds(alloc, source, port)?;
-    let (cabinet, pass) = locked::<N>(alloc, recorder)?;
+    let (cabinet, pass) = locked::<N>(gauged);
     otherwise(rt, &mut cabinet.hold(rt), BEGUN);
     let player = reader(rt, alloc, &cabinet, pass)?;
     let players = players(alloc, player)?;
@@ -256,8 +257,8 @@ fn written(transcripts: &[Transcript]) -> Option<(usize, usize, [u64; 2], usize)
 #[test]
 fn a_feed_is_filed_and_read(rt: HostRuntime) -> Result<(), Fail> {
     let alloc = rt.alloc();
-    let (recorder, port) = new_recorder(alloc)?;
-    let mut report = fed::<Brand, HostRuntime>(&rt, alloc, recorder, port)?;
+    let (gauged, port) = new_recorder(alloc)?;
+    let mut report = fed::<Brand, HostRuntime>(&rt, alloc, gauged, port)?;
     assert_eq!(rt; told(report.feeds.as_slice()), Some((5, [2, 0, 0, 2], 0)));
     assert_eq!(rt;
         written(report.transcripts.as_slice()),

@@ -20,7 +20,7 @@ use crate::feeds::run_tables;
 use crate::readers::{Begun, begin, players_of};
 use crate::reports::settle;
 use r10_control::Recorder;
-use r10_held::{Cabinet, Rings, new_recorders_account_for_their_lanes};
+use r10_held::{Cabinet, Gauged, Rings, new_recorders_account_for_their_lanes};
 use r10_machine::Settings;
 use r10_medium::Memory;
 use r10_port::Outlet;
@@ -41,21 +41,22 @@ struct Asked {
 }
 
 /// Asks for the steps, and then runs feeds, orders and readers at the same time, each feed with a source of its messages. The senders are the
-/// sending ends of the recorder's lanes, whose rings `N` names.
+/// sending ends of the recorder's lanes, whose rings `N` names, as it names the recorder's gauge.
 fn run_between<N: Rings + Send + Sync, T: Threads + Wait + Sync>(
     rt: &T,
     alloc: Global,
-    recorder: Recorder<Memory, Outlet>,
+    gauged: Gauged<Memory>,
     senders: Vec<Sender>,
     asked: Asked,
 ) -> Result<Left, SessionFault>
-    requires new { IsNew memory_disk outlet_spec outlet_received recorder }
-    requires lanes { AreNamed N.rings recorder.lanes }
+    requires new { IsNew memory_disk outlet_spec outlet_received gauged.recorder }
+    requires lanes { AreNamed N.rings gauged.recorder.lanes }
+    requires gauge { gauged.cell ≡ N.gauge }
     requires named { All (IsRingNamed N.rings) senders.items }
-    requires fresh { All (IsFresh recorder.kept.config.channels) senders.items }
+    requires fresh { All (IsFresh gauged.recorder.kept.config.channels) senders.items }
     requires there { AllByRecursion (λ table. HasSender senders.items table.channel) asked.feeds.items }
     requires apart { AreApart asked.feeds.items }
-    ensures { IfOk result (λ left. CameOf recorder.kept.config.channels asked.steps.items asked.feeds.items asked.readers.items (memory_disk left.medium).blocks left.ended) }
+    ensures { IfOk result (λ left. CameOf gauged.recorder.kept.config.channels asked.steps.items asked.feeds.items asked.readers.items (memory_disk left.medium).blocks left.ended) }
 {
     new_recorders_account_for_their_lanes::<Memory, N>();
     let Asked {
@@ -64,9 +65,7 @@ fn run_between<N: Rings + Send + Sync, T: Threads + Wait + Sync>(
         orders,
         readers,
     } = asked;
-    let Ok((cabinet, first)) = Cabinet::<Memory, N>::new(alloc, recorder) else {
-        return Err(SessionFault::Memory(AllocError));
-    };
+    let (cabinet, first) = Cabinet::<Memory, N>::new(gauged);
     let mut pass = first;
     let Begun {
         replies,
@@ -100,6 +99,19 @@ fn recorder_of(
     }
 }
 
+/// The recorder with a gauge of its own.
+fn gauged_of(
+    alloc: Global,
+    recorder: Recorder<Memory, Outlet>,
+) -> Result<Gauged<Memory>, SessionFault>
+    ensures { IfOk result (λ gauged. gauged.recorder ≡ recorder) }
+{
+    match Gauged::new(alloc, recorder) {
+        Ok(gauged) => Ok(gauged),
+        Err(_) => Err(SessionFault::Memory(AllocError)),
+    }
+}
+
 /// Runs a session script on a fresh medium in memory, which it formats, and hands out this medium with what came of it.
 pub fn run_script<T: Threads + Wait + Sync>(
     rt: &T,
@@ -129,5 +141,6 @@ pub fn run_script<T: Threads + Wait + Sync>(
         orders,
         readers,
     };
-    run_between::<Brand, T>(rt, alloc, recorder, senders, asked)
+    let gauged = gauged_of(alloc, recorder)?;
+    run_between::<Brand, T>(rt, alloc, gauged, senders, asked)
 }

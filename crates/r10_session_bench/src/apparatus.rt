@@ -1,16 +1,16 @@
 //! A recorder over a medium in memory, with a lane between threads for each of four UART channels.
 
-ghost use Rattle.std.specs.Prelude.{◌≡◌, [], ◌∷◌, length, IfOk};
+ghost use Rattle.std.specs.Prelude.{◌≡◌, [], ◌∷◌, IfOk};
 ghost use Rattle.r10_held.specs.Account.{IsNew};
 ghost use Rattle.r10_held.specs.LockFact.{outlet_received, outlet_spec};
 ghost use Rattle.r10_held.specs.Naming.{AreNamed};
-ghost use Rattle.r10_medium.specs.MemoryDisk.{memory_disk};
 
 use crate::fault::Fault;
 use r10_body::{ChannelSpec, Kind};
 use r10_control::Recorder;
+use r10_held::Gauged;
 use r10_machine::Settings;
-use r10_medium::Memory;
+use r10_medium::{BlockMedium, Memory};
 use r10_port::{Outlet, Port, lane};
 use r10_volume::format;
 use std::alloc::{AllocError, Global};
@@ -32,10 +32,10 @@ const COST: u64 = 124;
 /// How many blocks a medium may have.
 const MOST_BLOCKS: u64 = 16_777_216;
 
-/// The recorder, and the sending ends of its lanes.
+/// The recorder with its gauge, and the sending ends of its lanes.
 #[derive(Drop)]
-pub struct Apparatus {
-    pub recorder: Recorder<Memory, Outlet>,
+pub struct Apparatus<M: BlockMedium> {
+    pub gauged: Gauged<M>,
     pub three: Port,
     pub four: Port,
     pub five: Port,
@@ -60,12 +60,11 @@ fn settings_for(alloc: Global, blocks: usize, channels: [ChannelSpec; 4]) -> Res
     Ok(settings)
 }
 
-/// A formatted medium.
-fn medium_for(alloc: Global, settings: &Settings) -> Result<Memory, Fault>
-    ensures { IfOk result (λ medium. length (memory_disk medium).blocks ≡ settings.now.blocks) }
-{
+/// A medium that is formatted for a recorder with room for so many messages of each feed.
+pub fn medium_for(alloc: Global, messages: u32) -> Result<Memory, Fault> {
+    let settings = settings_of(alloc, messages)?;
     let mut medium = Memory::new(alloc, settings.blocks())?;
-    format(&mut medium, settings)?;
+    format(&mut medium, &settings)?;
     Ok(medium)
 }
 
@@ -87,10 +86,26 @@ fn lanes_of(
     Ok(lanes)
 }
 
-/// A new recorder over a formatted medium with room for so many messages of each feed.
-pub fn made(alloc: Global, messages: u32) -> Result<Apparatus, Fault>
-    ensures new { IfOk result (λ a. IsNew memory_disk outlet_spec outlet_received a.recorder) }
-    ensures named { IfOk result (λ a. AreNamed (record { channel = 3; ring = a.three.ring } ∷ record { channel = 4; ring = a.four.ring } ∷ record { channel = 5; ring = a.five.ring } ∷ record { channel = 6; ring = a.six.ring } ∷ []) a.recorder.lanes) }
+/// Settings with room for so many messages of each feed.
+fn settings_of(alloc: Global, messages: u32) -> Result<Settings, Fault> {
+    let at_four = ChannelSpec { id: 4, ..CHANNEL };
+    let at_five = ChannelSpec { id: 5, ..CHANNEL };
+    let at_six = ChannelSpec { id: 6, ..CHANNEL };
+    settings_for(
+        alloc,
+        blocks_for(messages),
+        [CHANNEL, at_four, at_five, at_six],
+    )
+}
+
+/// A new recorder over a medium that was formatted with room for so many messages of each feed.
+pub fn made<M: BlockMedium + Drop>(
+    alloc: Global,
+    messages: u32,
+    medium: M,
+) -> Result<Apparatus<M>, Fault>
+    ensures new { IfOk result (λ a. IsNew M.disk outlet_spec outlet_received a.gauged.recorder) }
+    ensures named { IfOk result (λ a. AreNamed (record { channel = 3; ring = a.three.ring } ∷ record { channel = 4; ring = a.four.ring } ∷ record { channel = 5; ring = a.five.ring } ∷ record { channel = 6; ring = a.six.ring } ∷ []) a.gauged.recorder.lanes) }
 {
     let at_three = CHANNEL;
     let at_four = ChannelSpec { id: 4, ..CHANNEL };
@@ -101,15 +116,20 @@ pub fn made(alloc: Global, messages: u32) -> Result<Apparatus, Fault>
         blocks_for(messages),
         [at_three, at_four, at_five, at_six],
     )?;
-    let medium = medium_for(alloc, &settings)?;
+    if medium.blocks() != settings.blocks() {
+        return Err(Fault::Settings);
+    }
     let (three, first) = lane(alloc, at_three)?;
     let (four, second) = lane(alloc, at_four)?;
     let (five, third) = lane(alloc, at_five)?;
     let (six, fourth) = lane(alloc, at_six)?;
     let lanes = lanes_of(alloc, first, second, third, fourth)?;
-    match Recorder::new(alloc, settings, medium, lanes) {
-        Ok(recorder) => Ok(Apparatus {
-            recorder,
+    let Ok(recorder) = Recorder::new(alloc, settings, medium, lanes) else {
+        return Err(Fault::Memory(AllocError));
+    };
+    match Gauged::new(alloc, recorder) {
+        Ok(gauged) => Ok(Apparatus {
+            gauged,
             three,
             four,
             five,

@@ -1,5 +1,6 @@
-//! The program `r10_session_bench`, run by hand: how many messages a second a session takes in, without bytes and of 8 bytes, with four feeds, a writer, two readers and a file
-//! that is closed in the middle while another begins; whether the accounts of the feeds add up, and whether the audit passes.
+//! The program `r10_session_bench`, run by hand: how many messages a second a session takes in, without bytes and of 8 bytes, with
+//! four feeds, a writer, two readers and a file that is closed in the middle while another begins; whether the accounts of the
+//! feeds add up, and whether the audit passes. And what offers, glances and advances wait for while a medium syncs slowly.
 #![tactic(auto)]
 
 mod apparatus;
@@ -7,24 +8,30 @@ mod fault;
 mod figures;
 mod halfway;
 mod session;
+mod slow;
 
 use fault::Fault;
 use std::io;
 use std::process::ExitCode;
 use std::rt::Env;
 
-/// How many messages of each feed the command line asks for.
-fn number_of<R: Env + AllocGlobal>(rt: &R) -> io::Result<Option<u32>> {
-    match std::env::args(rt)?.nth(1) {
+/// The number that the command line has at a place.
+fn number_at<R: Env + AllocGlobal>(rt: &R, place: usize) -> io::Result<Option<u32>> {
+    match std::env::args(rt)?.nth(place) {
         Some(word) => Ok(word.parse().ok()),
         None => Ok(None),
     }
 }
 
 fn main(rt: HostRuntime) -> Result<ExitCode, Fault> {
-    let Some(number) = number_of(&rt)? else {
-        println!(rt; "usage: r10_session_bench MESSAGES")?;
-        return Ok(ExitCode::from(2));
+    let Some(number) = number_at(&rt, 1)? else {
+        let Some(millis) = number_at(&rt, 2)? else {
+            println!(rt; "usage: r10_session_bench MESSAGES | slow MILLISECONDS")?;
+            return Ok(ExitCode::from(2));
+        };
+        let waits = slow::run(&rt, rt.alloc(), millis)?;
+        print!(rt; "{waits}")?;
+        return Ok(ExitCode::SUCCESS);
     };
     let empty = session::run(&rt, rt.alloc(), number, &[])?;
     print!(rt; "{empty}")?;

@@ -6,7 +6,7 @@ ghost use Rattle.r10_held.specs.LockFact.{outlet_received, outlet_spec};
 ghost use Rattle.r10_held.specs.Naming.{AreNamed, ring_for};
 ghost use Rattle.r10_medium.specs.MemoryDisk.{memory_disk};
 
-use crate::apparatus::{Apparatus, made};
+use crate::apparatus::{Apparatus, made, medium_for};
 use crate::fault::Fault;
 use crate::figures::Figures;
 use crate::halfway::{Halfway, Listed, source_of};
@@ -14,7 +14,7 @@ use r10_body::Refusal;
 use r10_count::{Items, Parts};
 use r10_gauge::Pass;
 use r10_held::{Cabinet, Held, Player, Rings, new_recorders_account_for_their_lanes};
-use r10_medium::Memory;
+use r10_medium::{BlockMedium, Memory};
 use r10_shared::{
     AnySource, Feed, FeedReport, Order, Session, SessionReport, audit, end_session, run_session,
 };
@@ -43,7 +43,10 @@ const LAST: u64 = 281_474_976_710_655;
 const CONTROL: usize = 5;
 
 /// Mounts the medium, and begins a file.
-fn begin<N: Rings, R: Wait>(rt: &R, held: &mut Held<Memory, N>) -> Result<(), Refusal> {
+pub fn begin<M: BlockMedium, N: Rings, R: Wait>(
+    rt: &R,
+    held: &mut Held<M, N>,
+) -> Result<(), Refusal> {
     held.mount()?;
     held.tick(0, START)?;
     held.start_file(rt, b"FIRST", b"ABCD")
@@ -184,14 +187,15 @@ fn run_over<N: Rings + Send + Sync, R: Threads + Wait + Clock + Sync>(
     rt: &R,
     alloc: Global,
     gate: &Halfway<R>,
-    made: Apparatus,
+    made: Apparatus<Memory>,
     first: AnySource,
     second: AnySource,
     third: AnySource,
     fourth: AnySource,
 ) -> Result<(SessionReport<Memory>, Duration), Fault>
-    requires new { IsNew memory_disk outlet_spec outlet_received made.recorder }
-    requires named { AreNamed N.rings made.recorder.lanes }
+    requires new { IsNew memory_disk outlet_spec outlet_received made.gauged.recorder }
+    requires named { AreNamed N.rings made.gauged.recorder.lanes }
+    requires gauge { made.gauged.cell ≡ N.gauge }
     requires three { ring_for 3 N.rings ≡ Some made.three.ring }
     requires four { ring_for 4 N.rings ≡ Some made.four.ring }
     requires five { ring_for 5 N.rings ≡ Some made.five.ring }
@@ -199,15 +203,13 @@ fn run_over<N: Rings + Send + Sync, R: Threads + Wait + Clock + Sync>(
 {
     new_recorders_account_for_their_lanes::<Memory, N>();
     let Apparatus {
-        recorder,
+        gauged,
         three,
         four,
         five,
         six,
     } = made;
-    let Ok((cabinet, pass)) = Cabinet::<Memory, N>::new(alloc, recorder) else {
-        return Err(Fault::Memory(AllocError));
-    };
+    let (cabinet, pass) = Cabinet::<Memory, N>::new(gauged);
     begin(rt, &mut cabinet.hold(rt))?;
     let players = players_of(rt, alloc, &cabinet, pass)?;
     let mut feeds = Vec::with_capacity(alloc, 4)?;
@@ -248,7 +250,7 @@ pub fn run<R: Threads + Wait + Clock + Sync>(
         worker: CONTROL,
         signal,
     };
-    let made = made(alloc, messages)?;
+    let made = made(alloc, messages, medium_for(alloc, messages)?)?;
     let (report, time) = run_over::<Brand, _>(
         rt, alloc, &gate, made, first, second, third, fourth,
     )?;

@@ -10,7 +10,7 @@ use r10_body::{ChannelSpec, Kind, Message};
 use r10_control::Recorder;
 use r10_count::{Bytes, Count, Parts};
 use r10_gauge::Pass;
-use r10_held::{Cabinet, Rings, new_recorders_account_for_their_lanes};
+use r10_held::{Cabinet, Gauged, Rings, new_recorders_account_for_their_lanes};
 use r10_machine::Settings;
 use r10_medium::{BlockMedium, Memory};
 use r10_port::{Outlet, Port, lane};
@@ -68,12 +68,9 @@ fn alone(alloc: Global, lane: Outlet) -> Result<Vec<Outlet>, AllocError>
 }
 
 /// A recorder over a medium of so many blocks, of which nothing was asked, and the sending end of its lane.
-pub fn recorder_over(
-    alloc: Global,
-    medium: Memory,
-) -> Result<(Recorder<Memory, Outlet>, Port), Fail>
-    ensures new { IfOk result (λ r. IsNew memory_disk outlet_spec outlet_received r.0) }
-    ensures named { IfOk result (λ r. AreNamed (record { channel = 5; ring = r.1.ring } ∷ []) r.0.lanes) }
+pub fn recorder_over(alloc: Global, medium: Memory) -> Result<(Gauged<Memory>, Port), Fail>
+    ensures new { IfOk result (λ r. IsNew memory_disk outlet_spec outlet_received r.0.recorder) }
+    ensures named { IfOk result (λ r. AreNamed (record { channel = 5; ring = r.1.ring } ∷ []) r.0.recorder.lanes) }
 {
     let settings = settings(alloc, CHANNEL)?;
     if medium.blocks() != settings.blocks() {
@@ -81,26 +78,24 @@ pub fn recorder_over(
     }
     let (port, outlet) = lane(alloc, CHANNEL)?;
     let lanes = alone(alloc, outlet)?;
-    match Recorder::new(alloc, settings, medium, lanes) {
-        Ok(recorder) => Ok((recorder, port)),
+    let Ok(recorder) = Recorder::new(alloc, settings, medium, lanes) else {
+        return Err(Fail::new("no memory"));
+    };
+    match Gauged::new(alloc, recorder) {
+        Ok(gauged) => Ok((gauged, port)),
         Err(_) => Err(Fail::new("no memory")),
     }
 }
 
 /// The lock round it, and the first pass.
-pub fn cabinet_of<N: Rings>(
-    alloc: Global,
-    recorder: Recorder<Memory, Outlet>,
-) -> Result<(Cabinet<Memory, N>, Pass), Fail>
-    requires new { IsNew memory_disk outlet_spec outlet_received recorder }
-    requires named { AreNamed N.rings recorder.lanes }
-    ensures { IfOk result (λ made. made.1.cell ≡ made.0) }
+pub fn cabinet_of<N: Rings>(gauged: Gauged<Memory>) -> (Cabinet<Memory, N>, Pass)
+    requires new { IsNew memory_disk outlet_spec outlet_received gauged.recorder }
+    requires named { AreNamed N.rings gauged.recorder.lanes }
+    requires gauge { gauged.cell ≡ N.gauge }
+    ensures { result.1.cell ≡ result.0 }
 {
     new_recorders_account_for_their_lanes::<Memory, N>();
-    match Cabinet::<Memory, N>::new(alloc, recorder) {
-        Ok(made) => Ok(made),
-        Err(_) => Err(Fail::new("no memory")),
-    }
+    Cabinet::<Memory, N>::new(gauged)
 }
 
 /// Offers a message of a byte at a count. Whether it was accepted.

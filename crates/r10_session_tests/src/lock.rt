@@ -8,11 +8,10 @@ ghost use Rattle.r10_medium.specs.MemoryDisk.{memory_disk};
 use crate::asks::{Ask, otherwise};
 use crate::beside::{LEAP_DAY, cabinet_of, formatted, offer, recorder_over};
 use r10_body::Refusal;
-use r10_control::Recorder;
 use r10_count::Items;
-use r10_held::{Held, Rings};
+use r10_held::{Gauged, Held, Rings};
 use r10_medium::{BlockMedium, Memory};
-use r10_port::{Outlet, Port};
+use r10_port::Port;
 use std::alloc::Global;
 use std::marker::Brand;
 use std::sync::Wait;
@@ -103,13 +102,14 @@ fn take_to<M: BlockMedium, N: Rings>(
 fn record<N: Rings, R: Wait>(
     rt: &R,
     alloc: Global,
-    recorder: Recorder<Memory, Outlet>,
+    gauged: Gauged<Memory>,
     port: Port,
 ) -> Result<(usize, Told, Found, Memory), Fail>
-    requires new { IsNew memory_disk outlet_spec outlet_received recorder }
-    requires named { AreNamed N.rings recorder.lanes }
+    requires new { IsNew memory_disk outlet_spec outlet_received gauged.recorder }
+    requires named { AreNamed N.rings gauged.recorder.lanes }
+    requires gauge { gauged.cell ≡ N.gauge }
 {
-    let (cabinet, _pass) = cabinet_of::<N>(alloc, recorder)?;
+    let (cabinet, _pass) = cabinet_of::<N>(gauged);
     let mut port = port;
     let _accepted = offer(alloc, &mut port, 1001)?;
     let wrong = otherwise(rt, &cabinet, RECORDED);
@@ -127,13 +127,14 @@ fn record<N: Rings, R: Wait>(
 fn close<N: Rings, R: Wait>(
     rt: &R,
     alloc: Global,
-    recorder: Recorder<Memory, Outlet>,
+    gauged: Gauged<Memory>,
     port: Port,
 ) -> Result<(usize, Told), Fail>
-    requires new { IsNew memory_disk outlet_spec outlet_received recorder }
-    requires named { AreNamed N.rings recorder.lanes }
+    requires new { IsNew memory_disk outlet_spec outlet_received gauged.recorder }
+    requires named { AreNamed N.rings gauged.recorder.lanes }
+    requires gauge { gauged.cell ≡ N.gauge }
 {
-    let (cabinet, _pass) = cabinet_of::<N>(alloc, recorder)?;
+    let (cabinet, _pass) = cabinet_of::<N>(gauged);
     let mut port = port;
     let _accepted = offer(alloc, &mut port, 1001)?;
     let wrong = otherwise(rt, &cabinet, CLOSED);
@@ -144,10 +145,10 @@ fn close<N: Rings, R: Wait>(
 #[test]
 fn each_call_under_the_lock_answers(rt: HostRuntime) -> Result<(), Fail> {
     let alloc = rt.alloc();
-    let (recorder, port) = recorder_over(alloc, formatted(alloc)?)?;
-    let (wrong, told, found, medium) = record::<Brand, _>(&rt, alloc, recorder, port)?;
-    let (recorder, port) = recorder_over(alloc, medium)?;
-    let (wrong_then, told_then) = close::<Brand, _>(&rt, alloc, recorder, port)?;
+    let (gauged, port) = recorder_over(alloc, formatted(alloc)?)?;
+    let (wrong, told, found, medium) = record::<Brand, _>(&rt, alloc, gauged, port)?;
+    let (gauged, port) = recorder_over(alloc, medium)?;
+    let (wrong_then, told_then) = close::<Brand, _>(&rt, alloc, gauged, port)?;
     assert_eq!(rt; (wrong, wrong_then), (0, 0));
     assert_eq!(rt;
         told,

@@ -8,7 +8,7 @@ ghost use Rattle.r10_medium.specs.MemoryDisk.{memory_disk};
 
 use r10_body::{ChannelSpec, Kind};
 use r10_control::Recorder;
-use r10_held::new_recorders_account_for_their_lanes;
+use r10_held::{Gauged, new_recorders_account_for_their_lanes};
 use r10_machine::Settings;
 use r10_medium::{BlockMedium, Memory};
 use r10_port::{Outlet, Port, lane};
@@ -47,15 +47,15 @@ fn both(alloc: Global, one: Outlet, other: Outlet) -> Result<Vec<Outlet>, AllocE
 /// A recorder of the UART channels 5 and 6, of which nothing was asked, and the sending ends of its lanes.
 #[derive(Drop)]
 pub struct Made {
-    pub recorder: Recorder<Memory, Outlet>,
+    pub gauged: Gauged<Memory>,
     pub five: Port,
     pub six: Port,
 }
 
 /// A recorder over a medium without files, with lanes of this capacity.
 pub fn make(alloc: Global, capacity: usize) -> Result<Made, Fail>
-    ensures new { IfOk result (λ made. IsNew memory_disk outlet_spec outlet_received made.recorder) }
-    ensures named { IfOk result (λ made. AreNamed (record { channel = 5; ring = made.five.ring } ∷ record { channel = 6; ring = made.six.ring } ∷ []) made.recorder.lanes) }
+    ensures new { IfOk result (λ made. IsNew memory_disk outlet_spec outlet_received made.gauged.recorder) }
+    ensures named { IfOk result (λ made. AreNamed (record { channel = 5; ring = made.five.ring } ∷ record { channel = 6; ring = made.six.ring } ∷ []) made.gauged.recorder.lanes) }
 {
     let one = ChannelSpec {
         id: 5,
@@ -75,28 +75,22 @@ pub fn make(alloc: Global, capacity: usize) -> Result<Made, Fail>
     let (five, first) = lane(alloc, one)?;
     let (six, second) = lane(alloc, other)?;
     let lanes = both(alloc, first, second)?;
-    match Recorder::new(alloc, settings, medium, lanes) {
-        Ok(recorder) => Ok(Made {
-            recorder,
-            five,
-            six,
-        }),
+    let Ok(recorder) = Recorder::new(alloc, settings, medium, lanes) else {
+        return Err(Fail::new("no memory"));
+    };
+    match Gauged::new(alloc, recorder) {
+        Ok(gauged) => Ok(Made { gauged, five, six }),
         Err(_) => Err(Fail::new("no memory")),
     }
 }
 
 /// The lock round it, and the first pass.
-pub fn cabinet_of<N: Rings>(
-    alloc: Global,
-    recorder: Recorder<Memory, Outlet>,
-) -> Result<(Cabinet<Memory, N>, Pass), Fail>
-    requires new { IsNew memory_disk outlet_spec outlet_received recorder }
-    requires named { AreNamed N.rings recorder.lanes }
-    ensures { IfOk result (λ made. made.1.cell ≡ made.0) }
+pub fn cabinet_of<N: Rings>(gauged: Gauged<Memory>) -> (Cabinet<Memory, N>, Pass)
+    requires new { IsNew memory_disk outlet_spec outlet_received gauged.recorder }
+    requires named { AreNamed N.rings gauged.recorder.lanes }
+    requires gauge { gauged.cell ≡ N.gauge }
+    ensures { result.1.cell ≡ result.0 }
 {
     new_recorders_account_for_their_lanes::<Memory, N>();
-    match Cabinet::<Memory, N>::new(alloc, recorder) {
-        Ok(made) => Ok(made),
-        Err(_) => Err(Fail::new("no memory")),
-    }
+    Cabinet::<Memory, N>::new(gauged)
 }

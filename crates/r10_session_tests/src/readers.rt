@@ -9,13 +9,12 @@ ghost use Rattle.r10_medium.specs.MemoryDisk.{memory_disk};
 use crate::asks::{Ask, otherwise};
 use crate::beside::{cabinet_of, formatted, offer, recorder_over};
 use r10_body::{Glance, Refusal};
-use r10_control::Recorder;
 use r10_count::Items;
 use r10_cursor::Cursor;
 use r10_gauge::Pass;
-use r10_held::{Cabinet, Player, Rings};
+use r10_held::{Cabinet, Gauged, Player, Rings};
 use r10_medium::{BlockMedium, Memory};
-use r10_port::{Outlet, Port};
+use r10_port::Port;
 use std::alloc::Global;
 use std::marker::Brand;
 use std::sync::Wait;
@@ -101,13 +100,14 @@ struct Seen {
 fn watch<N: Rings, R: Wait>(
     rt: &R,
     alloc: Global,
-    recorder: Recorder<Memory, Outlet>,
+    gauged: Gauged<Memory>,
     port: Port,
 ) -> Result<(usize, Seen, [Reading; 3], Player), Fail>
-    requires new { IsNew memory_disk outlet_spec outlet_received recorder }
-    requires named { AreNamed N.rings recorder.lanes }
+    requires new { IsNew memory_disk outlet_spec outlet_received gauged.recorder }
+    requires named { AreNamed N.rings gauged.recorder.lanes }
+    requires gauge { gauged.cell ≡ N.gauge }
 {
-    let (cabinet, mut pass) = cabinet_of::<N>(alloc, recorder)?;
+    let (cabinet, mut pass) = cabinet_of::<N>(gauged);
     let mut port = port;
     let _accepted = offer(alloc, &mut port, 1001)?;
     let wrong = otherwise(rt, &cabinet, TAKEN);
@@ -135,14 +135,15 @@ fn watch<N: Rings, R: Wait>(
 fn beside<N: Rings, R: Wait>(
     rt: &R,
     alloc: Global,
-    recorder: Recorder<Memory, Outlet>,
+    gauged: Gauged<Memory>,
     port: Port,
     player: Player,
 ) -> Result<Result<usize, Refusal>, Fail>
-    requires new { IsNew memory_disk outlet_spec outlet_received recorder }
-    requires named { AreNamed N.rings recorder.lanes }
+    requires new { IsNew memory_disk outlet_spec outlet_received gauged.recorder }
+    requires named { AreNamed N.rings gauged.recorder.lanes }
+    requires gauge { gauged.cell ≡ N.gauge }
 {
-    let (cabinet, _pass) = cabinet_of::<N>(alloc, recorder)?;
+    let (cabinet, _pass) = cabinet_of::<N>(gauged);
     let _port = port;
     let mut player = player;
     let answer = player.advance_in(&mut cabinet.hold(rt));
@@ -152,10 +153,10 @@ fn beside<N: Rings, R: Wait>(
 #[test]
 fn a_reader_takes_what_was_published(rt: HostRuntime) -> Result<(), Fail> {
     let alloc = rt.alloc();
-    let (recorder, port) = recorder_over(alloc, formatted(alloc)?)?;
-    let (wrong, seen, reads, player) = watch::<Brand, _>(&rt, alloc, recorder, port)?;
-    let (recorder, port) = recorder_over(alloc, formatted(alloc)?)?;
-    let beside = beside::<Brand, _>(&rt, alloc, recorder, port, player)?;
+    let (gauged, port) = recorder_over(alloc, formatted(alloc)?)?;
+    let (wrong, seen, reads, player) = watch::<Brand, _>(&rt, alloc, gauged, port)?;
+    let (gauged, port) = recorder_over(alloc, formatted(alloc)?)?;
+    let beside = beside::<Brand, _>(&rt, alloc, gauged, port, player)?;
     let glance = |commits, bytes| Glance {
         commits,
         file: 0,

@@ -14,8 +14,8 @@ use r10_cursor::Cursor;
 use r10_medium::{BlockMedium, Memory};
 use r10_port::Port;
 use r10_shared::{
-    AnySource, Cabinet, Feed, FeedReport, Gate, Open, Order, Player, Rings, SessionReport, audit,
-    end_session, run_session,
+    AnySource, Cabinet, Feed, FeedReport, Gate, Open, Order, Player, Rings, SessionReport,
+    StopFlag, audit, end_session, run_session, run_session_until,
 };
 use std::alloc::{AllocError, Global};
 use std::sync::Wait;
@@ -154,17 +154,14 @@ pub fn run_two<N: Rings + Send + Sync, R: Threads + Wait + Sync, G: Gate + Sync>
     first: AnySource,
     second: AnySource,
 ) -> Result<SessionReport<Memory>, Fail>
-    requires new { IsNew memory_disk outlet_spec outlet_received made.recorder }
-    requires named { AreNamed N.rings made.recorder.lanes }
+    requires new { IsNew memory_disk outlet_spec outlet_received made.gauged.recorder }
+    requires named { AreNamed N.rings made.gauged.recorder.lanes }
+    requires gauge { made.gauged.cell ≡ N.gauge }
     requires five { ring_for 5 N.rings ≡ Some made.five.ring }
     requires six { ring_for 6 N.rings ≡ Some made.six.ring }
 {
-    let Made {
-        recorder,
-        five,
-        six,
-    } = made;
-    let (cabinet, pass) = cabinet_of::<N>(alloc, recorder)?;
+    let Made { gauged, five, six } = made;
+    let (cabinet, pass) = cabinet_of::<N>(gauged);
     let cursor = begun(rt, alloc, &cabinet)?;
     let feeds = two_feeds(alloc, five, six, first, second)?;
     let players = alone(alloc, Player::new(cursor, pass))?;
@@ -179,16 +176,53 @@ pub fn run_recorded<N: Rings + Send + Sync, R: Threads + Wait + Sync, G: Gate + 
     made: Made,
     source: AnySource,
 ) -> Result<SessionReport<Memory>, Fail>
-    requires new { IsNew memory_disk outlet_spec outlet_received made.recorder }
-    requires named { AreNamed N.rings made.recorder.lanes }
+    requires new { IsNew memory_disk outlet_spec outlet_received made.gauged.recorder }
+    requires named { AreNamed N.rings made.gauged.recorder.lanes }
+    requires gauge { made.gauged.cell ≡ N.gauge }
     requires five { ring_for 5 N.rings ≡ Some made.five.ring }
 {
-    let Made { recorder, five, .. } = made;
-    let (cabinet, pass) = cabinet_of::<N>(alloc, recorder)?;
+    let Made { gauged, five, .. } = made;
+    let (cabinet, pass) = cabinet_of::<N>(gauged);
     let cursor = begun(rt, alloc, &cabinet)?;
     let feeds = one_feed(alloc, five, source)?;
     let players = alone(alloc, Player::new(cursor, pass))?;
     run_and_end(rt, alloc, gate, cabinet, feeds, Vec::new(alloc), players)
+}
+
+/// The same with a stop, and then a further session of the feed with another source: how many messages were sent until the stop was
+/// asked, and what is told of both.
+pub fn run_twice<N: Rings + Send + Sync, R: Threads + Wait + Sync>(
+    rt: &R,
+    alloc: Global,
+    stop: &StopFlag,
+    made: Made,
+    source: AnySource,
+    other: AnySource,
+) -> Result<(u64, SessionReport<Memory>), Fail>
+    requires new { IsNew memory_disk outlet_spec outlet_received made.gauged.recorder }
+    requires named { AreNamed N.rings made.gauged.recorder.lanes }
+    requires gauge { made.gauged.cell ≡ N.gauge }
+    requires five { ring_for 5 N.rings ≡ Some made.five.ring }
+{
+    let Made { gauged, five, .. } = made;
+    let (cabinet, pass) = cabinet_of::<N>(gauged);
+    let cursor = begun(rt, alloc, &cabinet)?;
+    let feeds = one_feed(alloc, five, source)?;
+    let players = alone(alloc, Player::new(cursor, pass))?;
+    let orders = Vec::new(alloc);
+    let Ok(session) = run_session_until(rt, alloc, &cabinet, &Open, stop, feeds, orders, players)
+    else {
+        return Err(Fail::new("no memory"));
+    };
+    let (mut feeds, _readings) = session.apart();
+    let Some(feed) = feeds.pop() else {
+        return Err(Fail::new("no feed"));
+    };
+    let sent = feed.tally().accepted;
+    feeds.push_reserved(feed.again(other));
+    let (orders, players) = (Vec::new(alloc), Vec::new(alloc));
+    let report = run_and_end(rt, alloc, &Open, cabinet, feeds, orders, players)?;
+    Ok((sent, report))
 }
 
 /// A feed of the channel 5, while no file is recorded.
@@ -198,12 +232,13 @@ pub fn run_one<N: Rings + Send + Sync, R: Threads + Wait + Sync>(
     made: Made,
     source: AnySource,
 ) -> Result<SessionReport<Memory>, Fail>
-    requires new { IsNew memory_disk outlet_spec outlet_received made.recorder }
-    requires named { AreNamed N.rings made.recorder.lanes }
+    requires new { IsNew memory_disk outlet_spec outlet_received made.gauged.recorder }
+    requires named { AreNamed N.rings made.gauged.recorder.lanes }
+    requires gauge { made.gauged.cell ≡ N.gauge }
     requires five { ring_for 5 N.rings ≡ Some made.five.ring }
 {
-    let Made { recorder, five, .. } = made;
-    let (cabinet, _pass) = cabinet_of::<N>(alloc, recorder)?;
+    let Made { gauged, five, .. } = made;
+    let (cabinet, _pass) = cabinet_of::<N>(gauged);
     let feeds = one_feed(alloc, five, source)?;
     let orders = mount_and_tick(alloc)?;
     run_and_end(rt, alloc, &Open, cabinet, feeds, orders, Vec::new(alloc))

@@ -3,10 +3,11 @@
 use crate::losing::{ALL, Barrier, LOST, Losing};
 use crate::made::make;
 use crate::meeting::{Meet, Meeting, Place, Shut};
-use crate::run::{Outcome, end_of, run_one, run_recorded, run_two, seen_in};
-use crate::sources::Listed;
-use r10_shared::{AnySource, Open};
+use crate::run::{Outcome, end_of, run_one, run_recorded, run_twice, run_two, seen_in};
+use crate::sources::{Listed, Stopping};
+use r10_shared::{AnySource, Open, StopFlag};
 use std::marker::Brand;
+use std::sync::Arc;
 use std::test::Fail;
 
 /// What is told of two feeds of ten messages that were all filed, and all read by one reader.
@@ -71,6 +72,33 @@ fn nobody_works_behind_a_shut_gate(rt: HostRuntime) -> Result<(), Fail> {
         end_of(alloc, report),
         Outcome {
             feeds: [Some((5, 0, 0, 0, 0, 0)), Some((6, 0, 0, 0, 0, 0))],
+            entries: 0,
+            audited: Ok(true),
+        }
+    );
+    Ok(())
+}
+
+#[test]
+fn a_feed_ends_at_a_stop_and_goes_on_in_another_session(rt: HostRuntime) -> Result<(), Fail> {
+    let alloc = rt.alloc();
+    let stop = Arc::new(alloc, StopFlag::new())?;
+    let first: AnySource = Box::new(
+        alloc,
+        Stopping {
+            listed: Listed::of(alloc, 10)?,
+            at: 4,
+            stop: Arc::try_clone(&stop)?,
+        },
+    )?;
+    let other: AnySource = Box::new(alloc, Listed::from(alloc, 3000, 5)?)?;
+    let made = make(alloc, 1000)?;
+    let (sent, report) = run_twice::<Brand, _>(&rt, alloc, &*stop, made, first, other)?;
+    assert_eq!(rt; sent, 6);
+    assert_eq!(rt;
+        end_of(alloc, report),
+        Outcome {
+            feeds: [Some((5, 11, 0, 0, 11, 0)), None],
             entries: 0,
             audited: Ok(true),
         }

@@ -11,6 +11,7 @@ use crate::scene::{formatted, medium_of};
 use r10_body::{ChannelSpec, Kind};
 use r10_control::Recorder;
 use r10_count::Parts;
+use r10_held::Gauged;
 use r10_machine::Settings;
 use r10_medium::{BlockMedium, Memory};
 use r10_port::{Outlet, Port, lane};
@@ -45,6 +46,14 @@ const FIVE: ChannelSpec = ChannelSpec {
 #[derive(Drop)]
 pub struct Apparatus<M: BlockMedium> {
     pub recorder: Recorder<M, Outlet>,
+    pub five: Port,
+    pub six: Port,
+}
+
+/// The recorder with its gauge, and the sending ends of its lanes.
+#[derive(Drop)]
+pub struct Ready<M: BlockMedium> {
+    pub gauged: Gauged<M>,
     pub five: Port,
     pub six: Port,
 }

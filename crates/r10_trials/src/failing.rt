@@ -6,14 +6,14 @@ ghost use Rattle.r10_held.specs.LockFact.{outlet_received, outlet_spec};
 ghost use Rattle.r10_held.specs.Naming.{AreNamed, ring_for};
 ghost use Rattle.r10_medium.specs.FaultyParts.{faulty_disk};
 
-use crate::apparatus::{Apparatus, formatted_image, over, over_image};
+use crate::apparatus::{Apparatus, Ready, formatted_image, over, over_image};
 use crate::fault::{TrialFault, fault_of};
 use crate::listed::{Listed, MESSAGES, source};
 use crate::notes::Notes;
 use crate::plan::{Plan, before};
 use crate::recovered::{Recovered, recovered_from};
 use crate::scene::medium_of;
-use crate::session::{alone, open, two_feeds};
+use crate::session::{alone, gauged_now, open, two_feeds};
 use crate::settled::{filed_from, is_rest, read_in};
 use r10_body::Refusal;
 use r10_control::Recorder;
@@ -132,26 +132,21 @@ fn left_by(report: SessionReport<Faulty<Memory>>) -> Broken {
 fn run_failing<N: Rings + Send + Sync, R: Threads + Wait + Sync>(
     rt: &R,
     alloc: Global,
-    made: Apparatus<Faulty<Memory>>,
+    made: Ready<Faulty<Memory>>,
     first: AnySource,
     second: AnySource,
     plan: Plan,
 ) -> Result<Option<Broken>, TrialFault>
-    requires new { IsNew faulty_disk outlet_spec outlet_received made.recorder }
-    requires named { AreNamed N.rings made.recorder.lanes }
+    requires new { IsNew faulty_disk outlet_spec outlet_received made.gauged.recorder }
+    requires named { AreNamed N.rings made.gauged.recorder.lanes }
+    requires gauge { made.gauged.cell ≡ N.gauge }
     requires five { ring_for 5 N.rings ≡ Some made.five.ring }
     requires six { ring_for 6 N.rings ≡ Some made.six.ring }
 {
     new_recorders_account_for_their_lanes::<Faulty<Memory>, N>();
-    let Apparatus {
-        recorder,
-        five,
-        six,
-    } = made;
+    let Ready { gauged, five, six } = made;
     let feeds = two_feeds(alloc, five, six, first, second)?;
-    let Ok((cabinet, pass)) = Cabinet::<Faulty<Memory>, N>::new(alloc, recorder) else {
-        return Err(TrialFault::Memory(AllocError));
-    };
+    let (cabinet, pass) = Cabinet::<Faulty<Memory>, N>::new(gauged);
     let session = run_plan(rt, alloc, &cabinet, pass, feeds, plan)?;
     let report = end(alloc, cabinet, session)?;
     Ok(report.map(left_by))
@@ -176,7 +171,13 @@ fn try_call<R: Threads + Wait + Sync>(
     let medium = Faulty::new(medium_of(alloc, image.as_slice())?, call);
     let first = boxed(alloc)?;
     let second = boxed(alloc)?;
-    let made = over(alloc, medium)?;
+    let Apparatus {
+        recorder,
+        five,
+        six,
+    } = over(alloc, medium)?;
+    let gauged = gauged_now(alloc, recorder)?;
+    let made = Ready { gauged, five, six };
     run_failing::<Brand, _>(rt, alloc, made, first, second, plan)
 }
 

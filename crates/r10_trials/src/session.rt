@@ -2,11 +2,11 @@
 
 ghost use Rattle.std.specs.Prelude.{◌≡◌, [], ◌∷◌, All, IfOk, Some};
 ghost use Rattle.r10_held.specs.Account.{IsNew};
-ghost use Rattle.r10_held.specs.LockFact.{LanesAccounted, outlet_received, outlet_spec};
+ghost use Rattle.r10_held.specs.LockFact.{outlet_received, outlet_spec};
 ghost use Rattle.r10_held.specs.Naming.{AreNamed, ring_for};
 ghost use Rattle.r10_medium.specs.MemoryDisk.{memory_disk};
 
-use crate::apparatus::{Apparatus, LAST};
+use crate::apparatus::{LAST, Ready};
 use crate::fault::{TrialFault, fault_of};
 use crate::notes::Notes;
 use crate::plan::{First, Plan, before};
@@ -16,7 +16,7 @@ use r10_control::Recorder;
 use r10_count::Items;
 use r10_cursor::Cursor;
 use r10_gauge::Pass;
-use r10_held::{Cabinet, Held, Player, Rings, new_recorders_account_for_their_lanes};
+use r10_held::{Cabinet, Gauged, Held, Player, Rings, new_recorders_account_for_their_lanes};
 use r10_medium::{BlockMedium, Memory};
 use r10_port::{Outlet, Port};
 use r10_shared::{AnySource, Feed, Order, Session, SessionReport, end_session, run_session};
@@ -24,33 +24,32 @@ use std::alloc::{AllocError, Global};
 use std::sync::Wait;
 use std::thread::Threads;
 
-/// The lock round a recorder, and the first pass.
-fn cabinet_of<N: Rings>(
+/// A recorder with a gauge of its own. What comes back where memory is refused is given one again.
+pub fn gauged_of(
     alloc: Global,
     recorder: Recorder<Memory, Outlet>,
     notes: &mut Notes,
-) -> Result<(Cabinet<Memory, N>, Pass), TrialFault>
-    requires { LanesAccounted memory_disk N.rings recorder }
-    ensures { IfOk result (λ made. made.1.cell ≡ made.0) }
+) -> Result<Gauged<Memory>, TrialFault>
+    ensures { IfOk result (λ gauged. gauged.recorder ≡ recorder) }
 {
-    match Cabinet::<Memory, N>::new(alloc, recorder) {
-        Ok(made) => Ok(made),
+    match Gauged::new(alloc, recorder) {
+        Ok(gauged) => Ok(gauged),
         Err(recorder) => {
             notes.do_again("the lock was made again");
-            cabinet_now(alloc, recorder)
+            gauged_now(alloc, recorder)
         }
     }
 }
 
-fn cabinet_now<N: Rings>(
+/// A recorder with a gauge of its own.
+pub fn gauged_now<M: BlockMedium + Drop>(
     alloc: Global,
-    recorder: Recorder<Memory, Outlet>,
-) -> Result<(Cabinet<Memory, N>, Pass), TrialFault>
-    requires { LanesAccounted memory_disk N.rings recorder }
-    ensures { IfOk result (λ made. made.1.cell ≡ made.0) }
+    recorder: Recorder<M, Outlet>,
+) -> Result<Gauged<M>, TrialFault>
+    ensures { IfOk result (λ gauged. gauged.recorder ≡ recorder) }
 {
-    match Cabinet::<Memory, N>::new(alloc, recorder) {
-        Ok(made) => Ok(made),
+    match Gauged::new(alloc, recorder) {
+        Ok(gauged) => Ok(gauged),
         Err(_) => Err(TrialFault::Memory(AllocError)),
     }
 }
@@ -309,25 +308,22 @@ fn run_in<N: Rings + Send + Sync, R: Threads + Wait + Sync>(
 pub fn run_over<N: Rings + Send + Sync, R: Threads + Wait + Sync>(
     rt: &R,
     alloc: Global,
-    made: Apparatus<Memory>,
+    made: Ready<Memory>,
     first: AnySource,
     second: AnySource,
     plan: Plan,
     notes: &mut Notes,
 ) -> Result<(SessionReport<Memory>, Standing), TrialFault>
-    requires new { IsNew memory_disk outlet_spec outlet_received made.recorder }
-    requires named { AreNamed N.rings made.recorder.lanes }
+    requires new { IsNew memory_disk outlet_spec outlet_received made.gauged.recorder }
+    requires named { AreNamed N.rings made.gauged.recorder.lanes }
+    requires gauge { made.gauged.cell ≡ N.gauge }
     requires five { ring_for 5 N.rings ≡ Some made.five.ring }
     requires six { ring_for 6 N.rings ≡ Some made.six.ring }
 {
     new_recorders_account_for_their_lanes::<Memory, N>();
-    let Apparatus {
-        recorder,
-        five,
-        six,
-    } = made;
+    let Ready { gauged, five, six } = made;
     let feeds = two_feeds(alloc, five, six, first, second)?;
-    let (cabinet, pass) = cabinet_of::<N>(alloc, recorder, notes)?;
+    let (cabinet, pass) = Cabinet::<Memory, N>::new(gauged);
     let session = run_in(rt, alloc, &cabinet, pass, feeds, plan, notes)?;
     end_again(rt, alloc, cabinet, session, notes)
 }

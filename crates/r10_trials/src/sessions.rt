@@ -1,13 +1,13 @@
 //! Sessions in order.
 
-use crate::apparatus::over_formatted;
+use crate::apparatus::{Apparatus, Ready, over_formatted};
 use crate::asks::{ask, ask_behind, push_refused};
 use crate::failing::try_calls;
 use crate::fault::TrialFault;
 use crate::listed::{Listed, source};
 use crate::notes::Notes;
 use crate::plan::Plan;
-use crate::session::run_over;
+use crate::session::{gauged_of, run_over};
 use crate::settled::{Ended, finish, settle};
 use std::alloc::{AllocError, Global};
 use std::io::Write;
@@ -38,7 +38,13 @@ fn try_once<R: Threads + Wait + Sync>(
 ) -> Result<Ended, TrialFault> {
     let first = boxed(alloc)?;
     let second = boxed(alloc)?;
-    let made = over_formatted(alloc)?;
+    let Apparatus {
+        recorder,
+        five,
+        six,
+    } = over_formatted(alloc)?;
+    let gauged = gauged_of(alloc, recorder, notes)?;
+    let made = Ready { gauged, five, six };
     let (report, standing) = run_over::<Brand, _>(rt, alloc, made, first, second, plan, notes)?;
     finish(alloc, report, standing, plan, notes)
 }

@@ -1,6 +1,6 @@
 use Rattle.std.specs.Prelude.{[], ◌∷◌}
 use Rattle.r10_recorder_surface_tests.proofs.locks.a_glance_sees_what_was_published.Given as goal
 
--- the one ring is named for the channel
+-- the one ring is named for the channel, and the gauge is the recorder's
 abbrev pub ghosts-seen : goal.ghosts-seen
-ghosts-seen g a = record { rings = record { channel = 5; ring = a.port.ring } ∷ [] }
+ghosts-seen g a = record { rings = record { channel = 5; ring = a.port.ring } ∷ []; gauge = a.gauged.cell }

@@ -1,6 +1,6 @@
 use Rattle.std.proofs.Common.{List, [], ◌∷◌}
 use Rattle.r10_trials.proofs.sessions.try_once.Given as goal
 
--- the rings are named for the channels of their ports
+-- the rings are named for the channels of their ports, and the gauge is the recorder's
 abbrev pub ghosts-run_over : goal.ghosts-run_over
-ghosts-run_over a b = record { rings = record { channel = 5; ring = b.made.five.ring } ∷ record { channel = 6; ring = b.made.six.ring } ∷ [] }
+ghosts-run_over a b = record { rings = record { channel = 5; ring = b.made.five.ring } ∷ record { channel = 6; ring = b.made.six.ring } ∷ []; gauge = b.made.gauged.cell }
