@@ -11,7 +11,7 @@ use Rattle.r10_session.specs.declared.ended.FeedEnd.{FeedEnd}
 use Rattle.r10_session.specs.declared.ended.Left.{Left}
 use Rattle.r10_session.specs.declared.ended.ReaderEnd.{ReaderEnd}
 use Rattle.r10_machine.specs.declared.reply.Reply.{Reply}
-use Rattle.r10_means.specs.Kept.{Work}
+use Rattle.r10_means.specs.Kept.{Kept}
 use Rattle.r10_medium.specs.Disk.{Image}
 use Rattle.r10_medium.specs.MemoryDisk.{memory_disk}
 use Rattle.r10_script.specs.declared.session.FeedTable.{FeedTable}
@@ -26,19 +26,19 @@ use Rattle.r10_shared.specs.declared.report.FeedReport.{FeedReport}
 use Rattle.r10_held.specs.Transcripts.{AllAgree}
 use Rattle.r10_held.specs.declared.transcript.Transcript.{Transcript}
 
-pub put_together : {X : Type 0} (r : Result Left X) (specs : List ChannelSpec) (steps : List Order) (tables : List FeedTable) (readers : List ReaderTable) (work : Work) (image : Image) (own : List Entry) (replies : List Reply) (refused : List (Option Refusal))
-    (cursors : List Cursor) (reports : List FeedReport) (transcripts : List Transcript) → BeginsReading memory_disk steps readers replies refused cursors → AreOwn work image own → AllZip (FeedCame specs own) tables (map feed_end reports)
+pub put_together : {X : Type 0} (r : Result Left X) (specs : List ChannelSpec) (steps : List Order) (tables : List FeedTable) (readers : List ReaderTable) (kept : Kept) (image : Image) (own : List Entry) (replies : List Reply) (refused : List (Option Refusal))
+    (cursors : List Cursor) (reports : List FeedReport) (transcripts : List Transcript) → BeginsReading memory_disk steps readers replies refused cursors → AreOwn kept image own → AllZip (FeedCame specs own) tables (map feed_end reports)
     → AllZip IsReadOf cursors transcripts → IfOk r (λ l. l.ended.replies.items ≡ replies) → IfOk r (λ l. l.ended.feeds.items ≡ map feed_end reports)
     → IfOk r (λ l. l.ended.readers.items ≡ fill refused (map (λ t. entries_in t.instalments.items) transcripts))
-    → IfOk r (λ l. IfOk l.ended.audit (λ yes. IsTrue yes ↔ AllAgree work image transcripts)) → IfOk r (λ l. (memory_disk l.medium).blocks ≡ image)
+    → IfOk r (λ l. IfOk l.ended.audit (λ yes. IsTrue yes ↔ AllAgree kept.work image transcripts)) → IfOk r (λ l. (memory_disk l.medium).blocks ≡ image)
     → IfOk r (λ l. CameOf specs steps tables readers (memory_disk l.medium).blocks l.ended)
-put_together (Err x) specs steps tables readers work image own replies refused cursors reports transcripts begun is_own came read a b c d m = tt
-put_together (Ok l) specs steps tables readers work image own replies refused cursors reports transcripts begun is_own came read a b c d m =
+put_together (Err x) specs steps tables readers kept image own replies refused cursors reports transcripts begun is_own came read a b c d m = tt
+put_together (Ok l) specs steps tables readers kept image own replies refused cursors reports transcripts begun is_own came read a b c d m =
     let ends : CameOf specs steps tables readers image l.ended = record {
       refused = refused;
       cursors = cursors;
       begun = subst (λ (l : List Reply). BeginsReading memory_disk steps readers l refused cursors) (sym a) begun;
-      work = work;
+      kept = kept;
       own = own;
       is_own = is_own;
       came = subst (λ (l : List FeedEnd). AllZip (FeedCame specs own) tables l) (sym b) came;

@@ -7,7 +7,7 @@ use Rattle.r10_body.specs.declared.spec.ChannelSpec.{ChannelSpec}
 use Rattle.r10_control.specs.Own.{AreOwn}
 use Rattle.r10_cursor.specs.declared.cursor.Cursor.{Cursor}
 use Rattle.r10_session.specs.declared.ended.Ended.{Ended}
-use Rattle.r10_means.specs.Kept.{Work}
+use Rattle.r10_means.specs.Kept.{Kept}
 use Rattle.r10_medium.specs.Disk.{Image}
 use Rattle.r10_medium.specs.MemoryDisk.{memory_disk}
 use Rattle.r10_script.specs.declared.session.FeedTable.{FeedTable}
@@ -26,10 +26,10 @@ pub record CameOf (specs : List ChannelSpec) (steps : List Order) (feeds : List 
   pub refused : List (Option Refusal)
   pub cursors : List Cursor
   pub begun : BeginsReading memory_disk steps readers ended.replies.items refused cursors
-  pub work : Work
+  pub kept : Kept
   pub own : List Entry
-  pub is_own : AreOwn work image own
+  pub is_own : AreOwn kept image own
   pub came : AllZip (FeedCame specs own) feeds ended.feeds.items
   pub transcripts : List Transcript
   pub read : AreRead readers ended.readers.items transcripts
-  pub audited : IfOk ended.audit (λ yes. IsTrue yes ↔ AllAgree work image transcripts)
+  pub audited : IfOk ended.audit (λ yes. IsTrue yes ↔ AllAgree kept.work image transcripts)

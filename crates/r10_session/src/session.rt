@@ -43,7 +43,7 @@ pub(crate) fn run_to_end<N: Rings + Send + Sync, T: Threads + Wait + Sync>(
     players: Vec<Player>,
 ) -> Result<SessionReport<Memory>, SessionFault>
     requires { All (λ player. player.pass.cell ≡ cabinet) players.items }
-    ensures feeds { IfOk result (λ report. (own : List EntryValue) × AreOwn report.recorder.kept.work (memory_disk report.recorder.medium).blocks own × Zipped feeds.items report.feeds.items (λ feed told. (items : List TurnValue) → IsSomeAnd feed.source (λ s. rest (s.vtable, s.value) ≡ items) → Comes own items feed.line told)) }
+    ensures feeds { IfOk result (λ report. (own : List EntryValue) × AreOwn report.recorder.kept (memory_disk report.recorder.medium).blocks own × Zipped feeds.items report.feeds.items (λ feed told. (items : List TurnValue) → IsSomeAnd feed.source (λ s. rest (s.vtable, s.value) ≡ items) → Comes own items feed.line told)) }
     ensures readers { IfOk result (λ report. AllZip (λ player transcript. IsReadOf player.cursor transcript) players.items report.transcripts.items) }
 {
     let Ok(session) = run_session(rt, alloc, &cabinet, &Open, feeds, orders, players) else {
