@@ -1,4 +1,5 @@
-//! How long a recording takes by the length of its messages: the whole recorder, as in `whole`, with messages of one length each time.
+//! How long a recording takes by the length of its messages: the whole recorder, as in `whole`, with messages of one length each
+//! time.
 
 use crate::fault::Fault;
 use crate::whole;
@@ -6,7 +7,8 @@ use crate::whole::WholeFigures;
 use std::alloc::Global;
 use std::time::CpuClock;
 
-/// The lengths of messages that are measured, in bytes: short ones, which stand in the value, odd ones, and ones in memory of their own.
+/// The lengths of messages that are measured, in bytes: short ones, which stand in the value, odd ones, and ones in memory of
+/// their own.
 pub(crate) const LENGTHS: [u16; 9] = [8, 16, 32, 39, 64, 255, 256, 1000, 60_000];
 
 /// The least number of messages.

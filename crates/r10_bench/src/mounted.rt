@@ -122,7 +122,7 @@ fn make_recorder(alloc: Global, settings: Settings) -> Result<InMemory, Fault> {
     }
 }
 
-/// A recorder that records a file, with room for so many messages of so many bytes each, of which so many stand in a packet at most.
+/// A recorder that records a file, with room for so many messages of so many bytes each. A packet has so many of them at most.
 pub(crate) fn begin(
     alloc: Global,
     messages: u32,
