@@ -1,5 +1,6 @@
 // Each call under the lock.
 
+ghost use Rattle.std.specs.Prelude.{◌≡◌};
 ghost use Rattle.r10_held.specs.Account.{IsNew};
 ghost use Rattle.r10_held.specs.LockFact.{outlet_received, outlet_spec};
 ghost use Rattle.r10_held.specs.Naming.{AreNamed};

@@ -16,14 +16,14 @@ pub recorder_of-requires-clause-received : goal.recorder_of-requires-clause-rece
 recorder_of-requires-clause-received g c = nothing_received _ _ _ c.in_ok-senders.ensures
 
 pub run_between-requires-clause-lanes : goal.run_between-requires-clause-lanes
-run_between-requires-clause-lanes g c κs within = rw c.in_ok-recorder.ensures.lanes (lanes_named _ _ _ _ _ c.in_ok-senders.ensures c.channels.ensures.ids)
+run_between-requires-clause-lanes g c κs within = rw (c.in_ok-gauged.ensures, c.in_ok-recorder.ensures.lanes) (lanes_named _ _ _ _ _ c.in_ok-senders.ensures c.channels.ensures.ids)
 
 pub run_between-requires-clause-named : goal.run_between-requires-clause-named
-run_between-requires-clause-named g c κs within = rw c.in_ok-recorder.ensures.lanes (senders_named _ _ _ _ _ c.in_ok-senders.ensures c.channels.ensures.ids)
+run_between-requires-clause-named g c κs within = rw (c.in_ok-gauged.ensures, c.in_ok-recorder.ensures.lanes) (senders_named _ _ _ _ _ c.in_ok-senders.ensures c.channels.ensures.ids)
 
 pub run_between-requires-clause-fresh : goal.run_between-requires-clause-fresh
 run_between-requires-clause-fresh g c κs within =
-    subst (λ (l : List ChannelSpec). All (IsFresh l) c.in_ok-senders.senders.items) (c.channels.ensures.value ∙ sym (ap (λ (s : Config). s.channels) c.in_ok-recorder.ensures.config)) (senders_fresh _ _ _ _ _ c.in_ok-senders.ensures c.channels.ensures.ids)
+    rw (c.in_ok-gauged.ensures) (subst (λ (l : List ChannelSpec). All (IsFresh l) c.in_ok-senders.senders.items) (c.channels.ensures.value ∙ sym (ap (λ (s : Config). s.channels) c.in_ok-recorder.ensures.config)) (senders_fresh _ _ _ _ _ c.in_ok-senders.ensures c.channels.ensures.ids))
 
 pub run_between-requires-clause-there : goal.run_between-requires-clause-there
 run_between-requires-clause-there g c κs within =
@@ -34,5 +34,5 @@ returns g c =
     ok_so c.run_between.result c.run_between.ensures (λ left came. (
       c.in_ok-steps.steps.items,
       c.in_ok-steps.ensures,
-      subst (λ (s : Config). CameOf s.channels c.in_ok-steps.steps.items c.args.script.feeds.items c.args.script.readers.items (memory_disk left.medium).blocks left.ended) c.in_ok-recorder.ensures.config came,
+      subst (λ (s : Config). CameOf s.channels c.in_ok-steps.steps.items c.args.script.feeds.items c.args.script.readers.items (memory_disk left.medium).blocks left.ended) c.in_ok-recorder.ensures.config (rw (c.in_ok-gauged.ensures) at came),
     ))
