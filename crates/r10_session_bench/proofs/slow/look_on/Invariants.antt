@@ -3,4 +3,4 @@ use Rattle.r10_session_bench.proofs.slow.look_on.Given as goal
 
 -- pass and player are of the cabinet's gauge
 abbrev pub invariant-loop-number : goal.invariant-loop-number
-invariant-loop-number g l = (l.pass.cell ≡ l.fn.cabinet.now) × (l.player.pass.cell ≡ l.fn.cabinet.now)
+invariant-loop-number g l = (l.pass.cell ≡ l.fn.cabinet) × (l.player.pass.cell ≡ l.fn.cabinet)
