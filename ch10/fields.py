@@ -54,15 +54,16 @@ class Reader:
 
     def __init__(self, names: Names, turned: bool = False) -> None:
         self.names, self.turned = names, turned
-        self.buses: Dict[Tuple[int, Optional[int]], str] = {}
+        self.buses: Dict[Tuple[int, Optional[int]], Optional[str]] = {}
         self.readers = {UART: self.uart, MESSAGE: self.message, BUS: self.bus, ARINC: self.arinc, DISCRETE: self.discrete,
                         TIME: self.time, EVENT: self.event}
 
-    def bus_name(self, channel: int, number: Optional[int]) -> str:
-        found = self.buses.get((channel, number))
-        if found is None:
-            found = self.buses[channel, number] = self.names.bus(channel, number)
-        return found
+    def bus_name(self, channel: int, number: Optional[int]) -> Optional[str]:
+        """The name of a bus, if the setup text has one."""
+        key = channel, number
+        if key not in self.buses:
+            self.buses[key] = self.names.bus(channel, number) or None
+        return self.buses[key]
 
     def entries(self, packet: Packet, before: Optional[int] = None) -> Iterator[Tuple[int, tuple]]:
         """The entries of a packet: of each its count and the columns of its kind."""

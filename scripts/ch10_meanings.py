@@ -89,7 +89,7 @@ def bus_429() -> Tuple[object, object]:
     wanted = [dict(common, count=2000, value='%08x' % odd, bus=1, bus_name='ADC LEFT', errors='', parity=odd >> 31, high=False),
               dict(common, count=2010, value='%08x' % (odd ^ 1 << 31), bus=2, bus_name='ADC RIGHT', errors='even parity',
                    parity=1 - (odd >> 31), high=False),
-              dict(common, count=2015, value='%08x' % odd, bus=9, bus_name='', errors='format error+parity error',
+              dict(common, count=2015, value='%08x' % odd, bus=9, bus_name=None, errors='format error+parity error',
                    parity=odd >> 31, high=True)]
     rows = [json.loads(line) for line in run(['json', '--kind', 'arinc'], b''.join(make.parts))[1].splitlines()]
     turned = [json.loads(line)['label']
