@@ -28,7 +28,7 @@ from typing import NoReturn
 
 sys.dont_write_bytecode = True
 
-from quick_build import PROGRAM, TOP, Fault, Kept, PROVED, below, give_up, kit, tool  # noqa: E402
+from quick_build import PROGRAM, TOP, Fault, Kept, PROVED, below, give_up, kit, note, remove, say, tool  # noqa: E402
 
 # What one proof is reckoned to take: most take 1 to 3 GB, and few are so large at the same time.
 MEMORY = 2_500_000_000
@@ -63,9 +63,10 @@ def place_of_lanes() -> pathlib.Path:
     if said:
         return pathlib.Path(said).resolve()
     with contextlib.suppress(OSError):
-        git = subprocess.run(['git', '-C', TOP, 'rev-parse', '--absolute-git-dir'], capture_output=True, text=True)
-        if git.returncode == 0 and git.stdout.strip():
-            return pathlib.Path(git.stdout.strip()) / 'r10-lanes'
+        git = subprocess.run(['git', '-C', str(TOP), 'rev-parse', '--absolute-git-dir'], capture_output=True)
+        folder = os.fsdecode(git.stdout.rstrip(b'\n'))
+        if git.returncode == 0 and folder:
+            return pathlib.Path(folder) / 'r10-lanes'
     return TOP / 'out' / 'lanes'
 
 
@@ -175,7 +176,7 @@ class Build:
                 if other.is_dir():
                     shutil.rmtree(other)
                 else:
-                    other.unlink(missing_ok=True)
+                    remove(other)
                 if one.is_dir():
                     shutil.copytree(one, other)
                 elif one.is_file() and name == self.name:
@@ -272,16 +273,14 @@ class Build:
         else:
             hand(folder / 'out' / 'rlib', self.store(name))
         done.add(name)
-        print('%5d s  %s took %d s (%d of %d proved, %d more at work)' % (time.time() - self.since, name, time.time() - since,
-                                                                          len(done), len(self.named),
-                                                                          len(self.running)), flush=True)
+        say('%5d s  %s took %d s (%d of %d proved, %d more at work)' % (time.time() - self.since, name, time.time() - since,
+                                                                        len(done), len(self.named), len(self.running)))
 
     def run(self) -> None:
         """Proves all."""
         done = self.take_over()
         lanes = min(self.lanes, len(self.named) - len(done))
-        print('(%s: crates in all %d, proved already %d; side by side %d)' % (self.name, len(self.named), len(done), lanes),
-              flush=True)
+        say('(%s: crates in all %d, proved already %d; side by side %d)' % (self.name, len(self.named), len(done), lanes))
         for number in range(lanes):
             self.copy_sources(self.lane(number))
         while len(done) < len(self.named):
@@ -333,7 +332,7 @@ def main() -> None:
             try:
                 fcntl.flock(lock, fcntl.LOCK_EX | fcntl.LOCK_NB)
             except BlockingIOError:
-                print('(another call proves: this one waits for it)', file=sys.stderr, flush=True)
+                note('(another call proves: this one waits for it)')
                 fcntl.flock(lock, fcntl.LOCK_EX)
             kept = Kept(PROVED, PROGRAM)
             before = kept.named()
@@ -352,7 +351,7 @@ def main() -> None:
         give_up(str(fault))
     except OSError as error:
         give_up('%s: %s' % (error.filename or 'a folder for the proofs', error.strerror))
-    print('(done after %d s%s)' % (time.time() - since, ': ./r10 starts it at once' if words.crate == PROGRAM else ''))
+    say('(done after %d s%s)' % (time.time() - since, ': ./r10 starts it at once' if words.crate == PROGRAM else ''))
 
 
 if __name__ == '__main__':

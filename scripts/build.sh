@@ -9,8 +9,7 @@
 set -u
 
 top=$(cd "$(dirname "$(readlink -f "${BASH_SOURCE[0]}")")/.." && pwd)
-command -v python3 >/dev/null || {
-    echo "r10: there is no python3 to prove with" >&2
-    exit 3
-}
+# shellcheck source=scripts/wants.sh
+. "$top/scripts/wants.sh"
+want_python r10
 exec "$top/scripts/build.py" "$@"

@@ -18,7 +18,7 @@
 #     scripts/ffi.sh behind-ci         # `rt ci`; after it `check` over its libraries, an installation of what was proved, the
 #                                        service, and sessions: the gate
 #
-# With --quick as the word after it, `build`, `examples` and `check` take a library that is not proved: it is made once, in one to
+# With --quick as the word after it, `build`, `examples` and `check` take a library that is not proved: it is made once, in some
 # three minutes, and kept (scripts/quick_build.py). `build` prints where the library is.
 #
 # Without `rt ci` before it, scripts/build.py proves what is not proved, side by side. It wants a C compiler, `cc`; for the program
@@ -38,7 +38,9 @@ give_up() {
     exit 1
 }
 
-rt=$(command -v rt) || give_up "there is no rt to build or to prove with"
+rt=$(command -v rt) || give_up "there is no rt to build or to prove with: install the toolchain, and put its folder bin on the PATH"
+# shellcheck source=scripts/wants.sh
+. "$top/scripts/wants.sh"
 kit=$(dirname "$(dirname "$(readlink -f "$rt")")")
 quick=
 if [ "${2:-}" = --quick ]; then
@@ -65,6 +67,7 @@ is_proved() {
 build() {
     local now
     [ -z "${R10_FFI_LIBRARY:-}" ] || return 0
+    want_python ffi
     if [ -n "$quick" ]; then
         library=$("$top/scripts/quick_build.py" --library) || exit
         return
@@ -104,6 +107,7 @@ EOF
 # Of the static library a static and a shared one that show the names of the header and no others, in a folder.
 share() {
     local names="$room/names"
+    want_commands ffi cc ld ar nm objcopy
     sed -n 's/^\(uint32_t\|void\) \(r10_[a-z0-9_]*\)(.*/\2/p' "$top/ffi/r10.h" >"$names"
     ld -r -o "$room/all.o" --whole-archive "$library" --no-whole-archive "${below[@]}" &&
         objcopy --keep-global-symbols="$names" "$room/all.o" "$room/r10.o" &&
@@ -123,7 +127,8 @@ install_for() {
     mkdir -p "$2/include" "$2/lib/pkgconfig" || give_up "can't make folders in $2"
     share "$2/lib"
     install -m 644 "$top/ffi/r10.h" "$top/ffi/r10_posix.h" "$2/include" || give_up "can't write into $2"
-    sed "s|@PREFIX@|$1|; s|@VERSION@|$version|" "$top/ffi/r10.pc.in" >"$2/lib/pkgconfig/r10.pc" || give_up "can't write into $2"
+    sed "s|@PREFIX@|$(for_sed "$1")|; s|@VERSION@|$version|" "$top/ffi/r10.pc.in" >"$2/lib/pkgconfig/r10.pc" ||
+        give_up "can't write into $2"
 }
 
 # A program in C over the library; what follows are words for the compiler.
@@ -315,7 +320,7 @@ behind_ci() {
 }
 
 must=1
-room=$(mktemp -d)
+room=$(mktemp -d 2>/dev/null) || give_up "no folder can be made in ${TMPDIR:-/tmp}; TMPDIR names another"
 trap 'rm -rf "$room"' EXIT
 case ${1:-} in
 build)

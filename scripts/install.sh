@@ -71,7 +71,10 @@ fi
 
 may_write
 version=$(cat "$top/VERSION")
-command -v cc >/dev/null || give_up 3 "there is no cc to link the shared library with"
+# shellcheck source=scripts/wants.sh
+. "$top/scripts/wants.sh"
+want_python install
+want_commands install cc ld ar nm objcopy
 program=$("$top/scripts/quick_build.py") || exit 3
 case $program in
 */proved-*) ;;

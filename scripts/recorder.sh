@@ -17,6 +17,8 @@
 set -u
 
 top=$(cd "$(dirname "$(readlink -f "${BASH_SOURCE[0]}")")/.." && pwd)
+# shellcheck source=scripts/wants.sh
+. "$top/scripts/wants.sh"
 readonly PACKAGES="librust-clap-dev librust-nix-dev librust-sd-notify-dev librust-serde-dev librust-serde-derive-dev \
 librust-serde-json-dev librust-signal-hook-dev librust-time-dev librust-toml-dev"
 readonly REGISTRY=/usr/share/cargo/registry
@@ -97,9 +99,10 @@ install)
         exit 0
     }
     made=$top/out/recorder/target/release
+    bin=$(for_sed "${prefix// /\\x20}/bin") # as a unit has it
     mkdir -p "$to/bin" "$to/lib/systemd/system" "$to/lib/sysusers.d" "$to/share/doc/r10/examples" &&
         install -m 755 "$made/r10d" "$made/r10ctl" "$to/bin" &&
-        sed "s|/usr/local/bin/|$prefix/bin/|" "$top/recorder/r10d.service" >"$to/lib/systemd/system/r10d.service" &&
+        sed "s|/usr/local/bin/|$bin/|" "$top/recorder/r10d.service" >"$to/lib/systemd/system/r10d.service" &&
         install -m 644 "$top/recorder/sysusers.conf" "$to/lib/sysusers.d/r10.conf" &&
         install -m 644 "$top/recorder/recorder.toml" "$to/share/doc/r10/examples" || give_up "not all could be written below $to"
     ;;

@@ -3,6 +3,7 @@
 
     scripts/tour.py PROGRAM    # by this program
 """
+import os
 import pathlib
 import subprocess
 import sys
@@ -60,9 +61,21 @@ def main(words):
         print(__doc__)
         return 2
     tour = list(stops())
-    for (title, line, _, _), output in zip(tour, by_program(words[0], tour)):
-        print('# %s\n$ %s\n%s' % (title, line, said_of(output)))
+    outputs = by_program(words[0], tour)
+    try:
+        for (title, line, _, _), output in zip(tour, outputs):
+            print('# %s\n$ %s\n%s' % (title, line, said_of(output)), flush=True)
+    except OSError as error:
+        return unread(error)
     return 0
+
+
+def unread(error):
+    """Ends what cannot be printed: with a line, unless the reader has gone."""
+    if not isinstance(error, BrokenPipeError):
+        print('r10: cannot write: %s' % error.strerror, file=sys.stderr)
+    os.dup2(os.open(os.devnull, os.O_WRONLY), 1)  # so that nothing is said of it when Python ends
+    return 3
 
 
 if __name__ == '__main__':

@@ -1,5 +1,5 @@
 #!/usr/bin/env bash
-# Runs each test of this folder, and prints what failed, what was not tried, and how many checks there were. A minute and a half;
+# Runs each test of this folder, and prints what failed, what was not tried, and how many checks there were. Two minutes;
 # status 1 where one fails.
 set -u
 here=$(cd "$(dirname "$(readlink -f "${BASH_SOURCE[0]}")")" && pwd)

@@ -58,6 +58,22 @@ check "without a cargo the rest is installed" is "$? $("$room/without/usr/bin/r1
 check "and a line says so" is "$(grep -c '^(r10d and r10ctl are not installed: ' "$room/said")" 1
 check "and nothing of the service is there" is "$(find "$room/without" -name 'r10d*' -o -name 'r10ctl*' -o -name '*.service')" ""
 
+# A prefix with letters that mean something to a shell, to sed or to systemd.
+odd="/opt/r 10 & co"
+"$top/scripts/install.sh" "$odd" "$room/odd" >"$room/said" 2>&1
+check "it installs below a prefix with spaces" is "$? $("$room/odd$odd/bin/r10" --version)" "0 r10 $version"
+if command -v pkg-config >/dev/null; then
+    check "r10.pc names it" is "$(PKG_CONFIG_PATH="$room/odd$odd/lib/pkgconfig" pkg-config --variable=prefix r10)" "$odd"
+    check "and gives words that a shell takes apart right" is \
+        "$(eval "printf '%s\n' $(PKG_CONFIG_PATH="$room/odd$odd/lib/pkgconfig" pkg-config --cflags --libs r10)" | head -n 2)" \
+        "$(printf '%s\n' "-I$odd/include" "-L$odd/lib")"
+fi
+unit=$room/odd$odd/lib/systemd/system/r10d.service
+[ ! -f "$unit" ] || check "the unit names it" is "$(sed -n 's/^ExecStart=//p' "$unit")" \
+    '/opt/r\x2010\x20&\x20co/bin/r10d /etc/r10/recorder.toml'
+"$top/scripts/install.sh" --uninstall "$odd" "$room/odd" >/dev/null
+check "it is removed from there too" is "$(find "$room/odd" -type f -o -type l)" ""
+
 flags() { PKG_CONFIG_PATH="$root/usr/lib/pkgconfig" PKG_CONFIG_SYSROOT_DIR="$root" pkg-config "$@" r10; }
 if command -v pkg-config >/dev/null && command -v cc >/dev/null; then
     check "r10.pc has the version" is "$(flags --modversion)" "$version"
