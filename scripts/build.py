@@ -5,8 +5,9 @@
                                                 named)
 
 The tool locks each crate below the one that it proves, so one checkout proves one crate at a time. Here each lane has a copy of the
-sources, and a library that one lane has proved is handed to the others by links: the crate that has most above it goes first. Lanes
-lie in the folder of git (or in that which R10_LANES names), since the gate refuses sources that no crate has anywhere else.
+sources, and a library that one lane has proved is handed to the others by links. The crate with the longest chain above it goes
+first, by the seconds in build_costs.txt, and all others yield to it. Lanes lie in the folder of git (or in that which R10_LANES
+names), since the gate refuses sources that no crate has anywhere else.
 
 LANES is how many crates side by side: as many as there are processors, and as the free memory has room for, where it is not said.
 What is proved is handed over at once, so that a call that was stopped goes on where it was. Of two calls at once the second waits.
@@ -18,6 +19,7 @@ import contextlib
 import fcntl
 import os
 import pathlib
+import resource
 import shutil
 import signal
 import subprocess
@@ -32,6 +34,15 @@ from quick_build import PROGRAM, TOP, Fault, Kept, PROVED, below, give_up, kit, 
 
 # What one proof is reckoned to take: most take 1 to 3 GB, and few are so large at the same time.
 MEMORY = 2_500_000_000
+
+# Seconds of a processor that the proof of each crate took when it was measured. They decide what begins first, and nothing else.
+COSTS = pathlib.Path(__file__).resolve().with_name('build_costs.txt')
+
+# How many bytes of a crate's files are reckoned to a second, if the crate was never measured.
+BYTES_A_SECOND = 2_000
+
+# How far a proof yields to the one at the head of the longest chain (as `nice` has it).
+LESS = 15
 
 
 def named() -> dict[str, list[str]]:
@@ -89,6 +100,34 @@ def hand(source: pathlib.Path, to: pathlib.Path) -> None:
     given.rename(to)
 
 
+def measured() -> dict[str, float]:
+    """The seconds that were measured, by crate."""
+    found = {}
+    with contextlib.suppress(OSError):
+        for line in COSTS.read_text(encoding='utf-8').splitlines():
+            words = line.partition('#')[0].split()
+            if len(words) == 2 and words[1].isdecimal():
+                found[words[0]] = float(words[1])
+    return found
+
+
+def yield_to_others(session: int, less: int) -> None:
+    """Has the processes of a session yield so far to others, where that is allowed: who lowered them may not raise them again."""
+    try:
+        # (where the system schedules sessions as groups, `nice` counts within one alone)
+        with open('/proc/%d/autogroup' % session, 'w', encoding='ascii') as it:
+            it.write('%d' % less)
+    except OSError:
+        with contextlib.suppress(OSError):
+            os.setpriority(os.PRIO_PGRP, session, less)
+
+
+def spent() -> float:
+    """The seconds of a processor that ended children took."""
+    used = resource.getrusage(resource.RUSAGE_CHILDREN)
+    return used.ru_utime + used.ru_stime
+
+
 class Crates:
     """What the tool knows of the crates of a copy."""
 
@@ -117,11 +156,14 @@ class Build:
         self.under: dict[str, set[str]] = {}
         for it in self.named:
             self.below(it)
-        self.cost = {it: self.size(it) for it in self.named}
-        self.longest: dict[str, int] = {}
+        known = measured()
+        self.cost = {it: known.get(it) or self.size(it) / BYTES_A_SECOND for it in self.named}
+        self.longest: dict[str, float] = {}
         for it in self.named:
             self.above(it)
         self.running: dict[int, tuple[str, int, subprocess.Popen, float]] = {}
+        self.yields: dict[int, int] = {}
+        self.spent = spent()
         self.since = time.time()
         made, seen = self.rtlib.Crate.stamp, {}
 
@@ -143,13 +185,13 @@ class Build:
         return self.under[name]
 
     def size(self, name: str) -> int:
-        """How long a proof is reckoned to take, by the sizes of its files."""
+        """How large a crate that was never measured is, and so what it may take."""
         folder = TOP / 'crates' / name
         return 20_000 + sum(it.stat().st_size for part in ('src', 'specs', 'proofs') for it in (folder / part).rglob('*')
                             if it.is_file())
 
-    def above(self, name: str) -> int:
-        """The longest chain that begins with this crate."""
+    def above(self, name: str) -> float:
+        """The longest chain that begins with this crate, in seconds of a processor."""
         if name not in self.longest:
             over = [self.above(it) for it in self.named if name in self.named[it]]
             self.longest[name] = self.cost[name] + max(over, default=0)
@@ -227,6 +269,16 @@ class Build:
             # (in a session of its own, so that all that it started can be ended)
             made = subprocess.Popen(words, cwd=folder, stdin=stdin, stdout=log, stderr=log, start_new_session=True)
         self.running[number] = (name, jobs, made, time.time())
+        self.yields[number] = 0
+
+    def prefer(self) -> None:
+        """Has each proof yield to the one that has the longest chain above it: all wait for that one at last."""
+        first = max(self.running, key=lambda it: self.longest[self.running[it][0]], default=None)
+        for number, (_, _, made, _) in self.running.items():
+            less = 0 if number == first else LESS
+            if self.yields[number] != less:
+                yield_to_others(made.pid, less)
+                self.yields[number] = less
 
     def log(self, name: str) -> pathlib.Path:
         """Where what the tool says of a crate is kept."""
@@ -273,8 +325,10 @@ class Build:
         else:
             hand(folder / 'out' / 'rlib', self.store(name))
         done.add(name)
-        say('%5d s  %s took %d s (%d of %d proved, %d more at work)' % (time.time() - self.since, name, time.time() - since,
-                                                                        len(done), len(self.named), len(self.running)))
+        before, self.spent = self.spent, spent()
+        said = (time.time() - self.since, name, time.time() - since, self.spent - before, len(done), len(self.named),
+                len(self.running))
+        say('%5d s  %s took %d s, %d of a processor (%d of %d proved, %d more at work)' % said)
 
     def run(self) -> None:
         """Proves all."""
@@ -290,17 +344,17 @@ class Build:
                 give_up('crates.txt has a circle')
             free = [it for it in range(lanes) if it not in self.running]
             chosen = sorted(ready, key=lambda it: -self.longest[it])[:len(free)]
-            # A proof keeps the jobs that it begins with. All wait at last for the longest chain: what begins it gets a job for
-            # each processor, if memory has room, whatever else is at work. What is left over goes to the others.
-            jobs = self.jobs - sum(it for _, it, _, _ in self.running.values()) - len(chosen)
+            # A proof keeps the jobs that it begins with. More than one take two to three times as much of a processor in all: they
+            # are for processors that would else be idle, and for the longest chain, which all wait for at last.
+            idle = lanes - len(self.running) - len(chosen)
             longest = max(self.longest[it] for it in self.named if it not in done)
             for name in chosen:
-                more = max(0, min(lanes - 1, jobs if self.longest[name] == longest else lanes - self.jobs + jobs))
-                jobs -= more
+                more = max(0, min(idle, self.jobs - len(self.running) - len(chosen))) if self.longest[name] == longest else 0
                 # (a lane that kept work on this crate when it was stopped)
                 number = next((it for it in free if (self.lane(it) / 'crates' / name / 'out' / 'incremental').is_dir()), free[0])
                 free.remove(number)
                 self.start(name, number, 1 + more)
+            self.prefer()
             time.sleep(0.2)
             for number in [it for it, (_, _, made, _) in self.running.items() if made.poll() is not None]:
                 self.ended(number, done)

@@ -1,8 +1,9 @@
 """Wrong bodies: changes of a crate's source that its contracts have to refuse, tried by the prover in copies of the repository.
 
 `slips.py` tries the slips of the must-fail edits, `mutants.py` small changes that it makes. A function is proved by itself, over
-the contracts of those that it calls. So changes of different functions are tried in one check, and each is judged by the goals of
-its own function. A change that no goal of its function refuses there is tried once more alone.
+the contracts of those that it calls. So changes of different functions are tried in one check of those functions alone, and each
+is judged by the goals of its own. A change that no goal of its function refuses there is tried once more by itself, and one that
+stands in no body, as in a definition, by a check of the whole crate.
 """
 from __future__ import annotations
 
@@ -10,6 +11,7 @@ import fcntl
 import hashlib
 import json
 import re
+import shutil
 import subprocess
 import sys
 import threading
@@ -45,6 +47,10 @@ class Function:
         module = self.file[len('src/'):-len('.rt')]
         parts = [] if module in ('lib', 'main') else module.split('/')
         return '/'.join([*parts, *([self.owner] if self.owner else []), self.name])
+
+    def said(self) -> str:
+        """Its name, as a check takes it."""
+        return self.path().replace('/', '::')
 
 
 @dataclass(frozen=True)
@@ -197,13 +203,21 @@ class Lane:
         subprocess.run([sys.executable, str(TOP / 'scripts' / 'share_libraries.py'), str(folder), str(TOP)], check=True,
                        stdout=subprocess.DEVNULL)
 
-    def check(self, crate: str, seconds: int) -> tuple[int, str]:
-        """Checks the crate, and returns the status and what was printed."""
+    def take_work(self, crate: str) -> None:
+        """What a check of the crate kept at the top, so that the first check here is no slower than the next."""
+        source, to = (it / 'crates' / crate / 'out' / 'incremental' for it in (TOP, self.folder))
+        if source.is_dir() and not to.is_dir():
+            to.parent.mkdir(exist_ok=True)
+            shutil.copytree(source, to)
+
+    def check(self, crate: str, seconds: int, functions: Iterable[str] = ()) -> tuple[int, str]:
+        """Checks the crate, or these functions of it alone, and returns the status and what was printed."""
         place = self.folder / 'crates' / crate
+        words = [it for name in functions for it in ('--only', name)]
         try:
-            ran = subprocess.run(['rt', 'check', '--jobs', '1'], cwd=place, stdin=subprocess.DEVNULL, stdout=subprocess.PIPE,
-                                 stderr=subprocess.STDOUT,
-                                 timeout=seconds, check=False)
+            ran = subprocess.run([sys.executable, str(TOP / 'scripts' / 'rt_once.py'), 'check', '--jobs', '1', *words], cwd=place,
+                                 stdin=subprocess.DEVNULL, stdout=subprocess.PIPE, stderr=subprocess.STDOUT, timeout=seconds,
+                                 check=False)
         except subprocess.TimeoutExpired as it:
             return 124, (it.stdout or b'').decode(errors='replace')
         return ran.returncode, ran.stdout.decode(errors='replace')
@@ -244,7 +258,7 @@ def outcome(status: int, said: str) -> Outcome:
     made, lines = Outcome(), said.rstrip('\n').split('\n')
     made.proved = status == 0
     made.limited = status in (3, 124, -9)
-    made.read = status == 0 or any(it.startswith('logic=not-proved') for it in lines) or made.limited
+    made.read = status == 0 or any(it.startswith(('logic=not-proved', 'only=')) for it in lines) or made.limited
     for line in lines:
         of_proof = re.match(r'(?:note: )?(?:\./)?proofs/(.*)/\w+\.antt:\d+:\d+: error(.*)', line)
         of_source = re.match(r'(?:note: )?(?:\./)?(src/\S+\.rt):(\d+):\d+: error(.*)', line)
@@ -277,7 +291,9 @@ class Trial:
         self.changes = changes
 
     def run(self) -> None:
-        status, said = self.lane.check(self.crate, self.seconds)
+        self.lane.take_work(self.crate)
+        own = {it.said() for it in (change.function(self.functions) for change in self.changes) if it}
+        status, said = self.lane.check(self.crate, self.seconds, sorted(own))
         if status:
             raise RuntimeError(f'{self.crate} itself is not proved in {self.lane.folder}: {said[-400:]}')
         left, alone = list(self.changes), []
@@ -319,7 +335,7 @@ class Trial:
         """Tries changes of different functions at once, and returns those that are to be tried alone."""
         while group:
             self.lane.put(self.crate, group, self.texts)
-            status, said = self.lane.check(self.crate, self.seconds)
+            status, said = self.lane.check(self.crate, self.seconds, sorted(it.function(self.functions).said() for it in group))
             made = outcome(status, said)
             in_source = self.at_line(made, group)
             if made.read:
@@ -351,7 +367,8 @@ class Trial:
     def single(self, change: Change) -> None:
         """Tries one change alone."""
         self.lane.put(self.crate, [change], self.texts)
-        status, said = self.lane.check(self.crate, self.seconds)
+        it = change.function(self.functions)
+        status, said = self.lane.check(self.crate, self.seconds, [it.said()] if it and not change.more else [])
         made = outcome(status, said)
         errors = [it for all_ in made.goals.values() for it in all_] + [it[2] for it in made.broken] + made.others
         if made.proved:
