@@ -182,6 +182,14 @@ one_line "r10 without standard output" 3 "cannot write: "
 "$program" <&- 2>"$room/errors" >/dev/null
 status=$? errors=$(cat "$room/errors")
 one_line "r10 without standard input" 3 "cannot read: "
+on "$first" "$program" --image
+one_line "r10 --image" 2 "r10 sim --image < SCRIPT"
+on "$first" "$program" --channel 5
+one_line "r10 --channel" 2 "r10 play --channel"
+check "no line of help has more than 80 columns" is "$(for command in "" sim run format files play check; do
+    # shellcheck disable=SC2086
+    "$program" $command --help
+done | awk 'length > 80')" ""
 
 ch10=$sources/scripts/ch10.py
 for command in summary csv "file FLT1"; do

@@ -12,36 +12,41 @@ const ABOUT: &str = "A solid-state flight recorder that writes IRIG 106-17 Chapt
 const ABOUT_SIM: &str = "Runs a script on a recorder in memory and prints a line for each step";
 
 const MORE_SIM: &str =
-    "Without a command r10 does the same; r10 --help has a whole script. A step that is refused has a line that says so,
-and the status stays 0. So run a script in this way first. This finds its refused steps, and prints nothing if there are none:
+    "Without a command r10 does the same; r10 --help has a whole script. A step that
+is refused has a line that says so, and the status stays 0. So run a script in
+this way first. This finds its refused steps, and prints nothing if there are
+none:
 
   r10 sim < examples/first.toml | grep ' refused '
 
-With --image the medium's image is written in place of the lines: its blocks of 512 bytes, one after the other. Of a refused
-step nothing is printed then. This keeps the medium, and lists its files:
+With --image the medium's image is written in place of the lines: its blocks of
+512 bytes, one after the other. Of a refused step nothing is printed then. This
+keeps the medium, and lists its files:
 
   r10 sim --image < examples/first.toml > medium.img
   r10 files < medium.img";
 
-const ABOUT_RUN: &str =
-    "Runs a session script on a recorder between threads and prints what came of it";
+const ABOUT_RUN: &str = "Runs a session script between threads and prints what came of it";
 
-const MORE_RUN: &str =
-    "A session script is read from standard input: a script, whose steps are done first, in turn. After them its
-[[feed]], [[order]] and [[reader]] tables go at the same time, each feed and each reader in a thread of its
-own. Printed are a line for each step, a line for each feed and each reader, and whether what the readers
-read is what the files have, all of the channels and counts that they want, in order:
+const MORE_RUN: &str = "A session script is read from standard input: a script, whose steps are done
+first, in turn. After them its [[feed]], [[order]] and [[reader]] tables go at
+the same time, each feed and each reader in a thread of its own. A line is
+printed for each step, each feed and each reader. The last line says whether
+what the readers read is what the files have, all of the channels and counts
+that they want, in order:
 
   feed CHANNEL accepted A refused R erased E filed F rest K
   reader NUMBER entries K
   audit yes
 
-With audit no the status is 1. A reader whose cursor is refused has the refusal for its line. An example:
+With audit no the status is 1. A reader whose cursor is refused has the refusal
+for its line. An example:
 
   r10 run < examples/session.toml
 
-With --image the medium's image is written in place of the lines: its blocks of 512 bytes, one after the other,
-as the session leaves them. The status is the same. This keeps the medium, and lists its files:
+With --image the medium's image is written in place of the lines: its blocks of
+512 bytes, one after the other, as the session leaves them. The status is the
+same. This keeps the medium, and lists its files:
 
   r10 run --image < examples/session.toml > session.img
   r10 files < session.img";
@@ -49,47 +54,54 @@ as the session leaves them. The status is the same. This keeps the medium, and l
 const ABOUT_FORMAT: &str = "Writes the image of a formatted medium";
 
 const MORE_FORMAT: &str =
-    "A medium has 2 blocks more than its directory at least, and 16777216 at most; a directory
-1 to 64; a volume's name is 1 to 32 letters, digits, '.', '_' and '-'. An example:
+    "A medium has 2 blocks more than its directory at least, and 16777216 at most; a
+directory 1 to 64. A volume's name is 1 to 32 letters, digits, '.', '_' and
+'-'. An example:
 
   r10 format --blocks 64 --directory 2 --volume VOL > medium.img";
 
 const ABOUT_FILES: &str = "Reads an image and prints a line for each of its files";
 
 const MORE_FILES: &str =
-    "An image is read from standard input. A line has the file's number, name, size in bytes, blocks, and 1
-where it is closed or else 0. An image without a directory is refused, with status 1. An example:
+    "An image is read from standard input. A line has the file's number, name, size
+in bytes, blocks, and 1 if it is closed, else 0. An image without a directory is
+refused, with status 1. An example:
 
-  r10 format --blocks 64 --directory 2 --volume VOL | r10 files";
+  r10 sim --image < examples/first.toml | r10 files";
 
 const ABOUT_PLAY: &str = "Reads an image and prints the entries of one of its files";
 
 const MORE_PLAY: &str =
-    "An image is read from standard input. The file must be strict, and closed as its directory entry says; else not
-strict is printed, with status 1. Its entries are printed by count, then by channel, a line each:
+    "An image is read from standard input. The file must be strict, and closed as its
+directory entry says; else not strict is printed, with status 1. Its entries are
+printed by count, then by channel, a line each:
 
   entry CHANNEL COUNT GAP KIND VALUES
 
-An image without a directory, a number that no file has and a count of more than 48 bits are refused, with
-status 1. r10 files prints the numbers of an image's files. An example:
+An image without a directory, a number that no file has and a count of more than
+48 bits are refused, with status 1. r10 files prints the numbers of an image's
+files. An example:
 
   r10 sim --image < examples/first.toml | r10 play --file 0 --channel 5";
 
 const ABOUT_CHECK: &str = "Reads a recording and prints the verdict on it";
 
-const MORE_CHECK: &str =
-    "A recording is read from standard input. Printed is strict where this recorder may have written it;
-lenient N where any recorder may have, and N of its packets are passed over unread; else faulty
-OFFSET FAULT, with status 1: where the first packet at fault begins, in bytes, and what is wrong
-there. An example, a recording of a setup and a time packet, which is strict:
+const MORE_CHECK: &str = "A recording is read from standard input. One of these is printed:
+
+  strict               this recorder may have written it
+  lenient N            another may have, and N of its packets are not read
+  faulty OFFSET FAULT  the first packet at fault begins after OFFSET bytes, and
+                       what is wrong there; the status is 1
+
+An example, a recording of a setup and a time packet, which is strict:
 
   echo 25eb00001c0000000400000008000001e8030000000035f00c000000 \\
     25eb0100240000000c00000008000011e803000000004600010300007856341229022420 |
     xxd -r -p | r10 check";
 
-const MORE: &str =
-    "Without a command r10 does sim: it reads a script from standard input, and prints a line for each of its steps.
-In the folder of the sources these run as they stand:
+const MORE: &str = "Without a command r10 does sim: it reads a script from standard input, and
+prints a line for each of its steps. In the folder of the sources these run as
+they stand:
 
   r10 < examples/first.toml
   r10 sim --image < examples/first.toml > medium.img
@@ -136,15 +148,18 @@ A whole script:
   [[step]]
   do = \"stop\"
 
-What a step may do: mount, dismount, tick, start, offer, lose, pump, event, commit, stop, seal, erase,
-files, status, cursor, advance, next, close, find, count_at.
-nodes is how many node packets of an index a root names: a file ends with groups of so many nodes and a root.
+What a step may do: mount, dismount, tick, start, offer, lose, pump, event,
+commit, stop, seal, erase, files, status, cursor, advance, next, close, find,
+count_at.
+nodes is how many node packets of an index a root names: a file ends with groups
+of so many nodes and a root.
 docs/FORMAT.md has the keys of scripts, the form of the lines, the format of the
-files and the refusals by number; examples/ has a script for each kind of channel.
+files and the refusals by number; examples/ has a script for each kind of
+channel.
 
-Exit status: 0; 1 where an image is refused, a file of it is not strict, a recording is
-faulty, or an audit says no; 2 for a wrong command line or script; 3 where memory, reading or
-writing fails.";
+Exit status: 0; 1 if an image is refused, a file of it is not strict, a
+recording is faulty, or an audit says no; 2 for a wrong command line or script;
+3 if memory, reading or writing fails.";
 
 /// What is said of words that are not refused and ask for nothing.
 pub(crate) const ASK_NOTHING: &str = "these words ask for nothing";
@@ -368,8 +383,9 @@ fn without_quotes(text: &str) -> &str {
     }
 }
 
-/// The first line of what `clap` says, without its first word. After it stand the word that may be meant, the options that are missing, for
-/// a word that looks like a file where such a file goes, and for another word that is no command the commands.
+/// The first line of what `clap` says, without its first word. After it stand the word that may be meant, the command that an option
+/// without one goes after, the options that are missing, for a word that looks like a file where such a file goes, and for another word
+/// that is no command the commands.
 fn fault_line(alloc: Global, error: &clap::Error, called: Called) -> Result<String, AllocError> {
     if is_memory(error.kind()) {
         return Err(AllocError);
@@ -388,6 +404,9 @@ fn fault_line(alloc: Global, error: &clap::Error, called: Called) -> Result<Stri
         line.push_str(number_hint(said))?;
     }
     push_tip(&mut line, text.as_str())?;
+    if called == Called::Program {
+        push_owner(&mut line, said)?;
+    }
     if is_unknown_command(error.kind(), said) {
         push_commands(&mut line, said)?;
     } else if is_file_like(error.kind(), said) {
@@ -459,6 +478,43 @@ fn push_commands(line: &mut String, said: &str) -> Result<(), AllocError> {
         }
     }
     line.push_str(COMMANDS)
+}
+
+/// The options, each with the command that it goes after.
+const OWNERS: [(&str, &str); 8] = [
+    (
+        "argument '--image'",
+        "; it goes after sim or run: r10 sim --image < SCRIPT > IMAGE",
+    ),
+    (
+        "argument '--file'",
+        "; it goes after play: r10 play --file <N> < IMAGE",
+    ),
+    (
+        "argument '--channel'",
+        "; it goes after play: r10 play --channel <N> < IMAGE",
+    ),
+    (
+        "argument '--from'",
+        "; it goes after play: r10 play --from <N> < IMAGE",
+    ),
+    (
+        "argument '--to'",
+        "; it goes after play: r10 play --to <N> < IMAGE",
+    ),
+    ("argument '--blocks'", "; it goes after format"),
+    ("argument '--directory'", "; it goes after format"),
+    ("argument '--volume'", "; it goes after format"),
+];
+
+/// Adds the command that an option goes after, where it was given without one.
+fn push_owner(line: &mut String, said: &str) -> Result<(), AllocError> {
+    for (option, owner) in OWNERS {
+        if said.contains(option) {
+            line.push_str(owner)?;
+        }
+    }
+    Ok(())
 }
 
 /// Adds the words that `clap` finds alike.
