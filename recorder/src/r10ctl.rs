@@ -118,13 +118,11 @@ fn main() -> ExitCode {
     match run(&words) {
         Ok(()) => ExitCode::SUCCESS,
         Err(why) => {
-            if words.json {
-                println!(
-                    "{}",
-                    json!({ "error": why, "number": why.strip_prefix("E ").and_then(|it| it.get(..2)?.parse::<u8>().ok()) })
-                );
-            } else {
-                eprintln!("r10ctl: {why}");
+            let number = why.strip_prefix("E ").and_then(|it| it.get(..2)?.parse::<u8>().ok());
+            let line = format!("{}\n", json!({ "error": why, "number": number }));
+            if !words.json || print(&line).is_err() {
+                // (where even this cannot be written the status says it)
+                let _ = writeln!(io::stderr(), "r10ctl: {why}");
             }
             ExitCode::FAILURE
         }

@@ -1,5 +1,6 @@
 //! `r10d`: the recorder as a service. See docs/RECORDER.md.
 #![forbid(unsafe_code)]
+use std::io::{self, Write};
 use std::path::{Path, PathBuf};
 use std::process::ExitCode;
 use std::sync::Arc;
@@ -50,24 +51,35 @@ fn read(path: &Path) -> Result<Settings, Vec<String>> {
     settings::read(&text, &folder).map_err(|faults| faults.iter().map(|it| format!("{}: {it}", path.display())).collect())
 }
 
+/// Says a line on standard error, if that takes one.
+fn complain(line: &str) {
+    let _ = writeln!(io::stderr(), "{line}");
+}
+
 fn main() -> ExitCode {
     let words = Words::parse();
     let settings = match read(&words.settings) {
         Ok(it) => it,
         Err(faults) => {
-            faults.iter().for_each(|it| eprintln!("{it}"));
+            faults.iter().for_each(|it| complain(it));
             return WRONG.into();
         }
     };
     if words.check {
-        println!("{}: good, {} channels", words.settings.display(), settings.channels.len());
-        return ExitCode::SUCCESS;
+        let line = format!("{}: good, {} channels\n", words.settings.display(), settings.channels.len());
+        return match io::stdout().write_all(line.as_bytes()) {
+            Ok(()) => ExitCode::SUCCESS,
+            Err(error) => {
+                complain(&format!("cannot print: {error}"));
+                NO_START.into()
+            }
+        };
     }
     if words.format {
         return match Medium::new(&settings).format() {
             Ok(()) => ExitCode::SUCCESS,
             Err(refusal) => {
-                eprintln!("{}", refusal.text());
+                complain(refusal.text());
                 NO_START.into()
             }
         };

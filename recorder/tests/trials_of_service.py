@@ -3,6 +3,7 @@ import fcntl
 import os
 import signal
 import socket
+import subprocess
 import threading
 
 from trying import HOST, LONG, Room, Service, channel, entries, files, load_numbers, must, settings, trial, udp_channels, until
@@ -146,6 +147,26 @@ def a_pipe_that_goes(room: Room) -> str:
     found = [it.words[-1] for it in entries((room.folder / 'medium').read_bytes(), 0, 13)]
     must(found == ['00000001', '00000002', '00000003'], f'{found}')
     return 'removed twice'
+
+
+@trial
+def outputs_that_take_nothing(room: Room) -> str:
+    """Where an answer, a verdict or a fault cannot be printed, each program ends with a status, and says so if it can."""
+    service = Service(room, settings(channel(5, 'message', 'lines = "pipe"'), start='wait'))
+    ctl = [str(room.programs / 'r10ctl'), '--socket']
+    there, nowhere = str(room.folder / 'control'), str(room.folder / 'nowhere')
+    daemon, good = str(room.programs / 'r10d'), str(room.folder / 'settings.toml')
+    calls = [([*ctl, there, 'status'], 1), ([*ctl, there, '--json', 'status'], 1), ([*ctl, nowhere, 'status'], 1),
+             ([*ctl, nowhere, '--json', 'status'], 1), ([daemon, '--check', good], 3), ([daemon, '--check', nowhere], 2)]
+    with open('/dev/full', 'w') as full:
+        for words, status in calls:
+            ran = subprocess.run(words, stdout=full, stderr=subprocess.PIPE, text=True, timeout=LONG)
+            must(ran.returncode == status and ran.stderr.count('\n') == 1 and 'panicked' not in ran.stderr,
+                 f'{words}: {ran.returncode}, {ran.stderr}')
+            ran = subprocess.run(words, stdout=full, stderr=full, timeout=LONG)
+            must(ran.returncode == status, f'{words}, with nothing that takes a line: {ran.returncode}')
+    service.end()
+    return f'{len(calls)} calls'
 
 
 @trial
