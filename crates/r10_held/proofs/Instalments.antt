@@ -6,6 +6,7 @@ use Rattle.std.proofs.lemmas.Bool.Decides.{nat_tests}
 use Rattle.r10_body.specs.declared.refusal.Glance.{Glance}
 use Rattle.r10_body.specs.declared.refusal.Refusal.{Refusal}
 use Rattle.r10_body.specs.declared.refusal.Refusal.TheVariants.{Behind, Failed, NotMounted, Stale, Unread}
+use Rattle.r10_held.specs.Calls.{AdvancesRecorder}
 use Rattle.r10_control.specs.Checks.{advancing_checks}
 use Rattle.r10_control.specs.State.{RecorderState}
 use Rattle.r10_count.specs.Checks.{first_broken}
@@ -18,7 +19,7 @@ use Rattle.r10_machine.specs.Checks.{is_mounted, is_working}
 use Rattle.r10_machine.specs.declared.mode.Mode.{Mode}
 use Rattle.r10_means.specs.Kept.{mode_of}
 use Rattle.r10_medium.specs.Disk.{Disk}
-use Rattle.r10_held.specs.Advancing.{AdvancesHeld, AdvancesRecorder, AdvancesUnderLock, SaysBehind, TakesInstalment}
+use Rattle.r10_held.specs.Advancing.{AdvancesHeld, AdvancesUnderLock, SaysBehind, TakesInstalment}
 use Rattle.r10_held.proofs.Agreeing.{read_shows as shows}
 
 -- ---- a file that is there shows packets

@@ -1,15 +1,11 @@
 -- How a player takes its next instalment.
-use Rattle.std.specs.Prelude.{◌≡◌, ℕ, ◌<◌, ◌≤◌, List, [], length, None, Result, Err, IfErr, IfOk, OnErr, OnOk}
+use Rattle.std.specs.Prelude.{◌≡◌, ℕ, ◌<◌, ◌≤◌, List, [], length, Result, Err, IfErr, OnOk}
 use mathlib.Core.List.{IsPrefix}
 use Rattle.r10_body.specs.Packets.{Packet}
 use Rattle.r10_body.specs.declared.refusal.Glance.{Glance}
 use Rattle.r10_body.specs.declared.refusal.Refusal.{Refusal}
 use Rattle.r10_body.specs.declared.refusal.Refusal.TheVariants.{Behind}
-use Rattle.r10_control.specs.Checks.{advancing_checks}
-use Rattle.r10_control.specs.Reading.{IsReadAt, IsReadFileRefusal, ShowsAt}
-use Rattle.r10_control.specs.Refused.{RefusesCall}
-use Rattle.r10_control.specs.State.{RecorderState}
-use Rattle.r10_count.specs.Checks.{first_broken}
+use Rattle.r10_held.specs.Calls.{AdvancesRecorder}
 use Rattle.r10_cursor.specs.Replays.{AdvancesReading}
 use Rattle.r10_cursor.specs.declared.cursor.Cursor.{Cursor}
 use Rattle.r10_gauge.specs.Published.{LookingEnd, commits_of, last_triple}
@@ -17,23 +13,7 @@ use Rattle.r10_held.specs.LockFact.{LockFact}
 use Rattle.r10_held.specs.Naming.{ChannelRing}
 use Rattle.r10_held.specs.Publishing.{StaysPublished}
 use Rattle.r10_held.specs.State.{HeldState}
-use Rattle.r10_means.specs.Kept.{mode_of}
-use Rattle.r10_medium.specs.Disk.{Disk, Unchanged}
-
--- the recorder's advance of a cursor, with this answer
-pub record AdvancesRecorder {M L : Type 0} (disk : M → Disk) (old new : RecorderState M L) (cursor later : Cursor) (result : Result ℕ Refusal) : Type 0 where
-  pub passed : OnOk result (first_broken (advancing_checks (mode_of old.kept.work) old.kept.generation cursor) ≡ None)
-  pub refused : IfErr result (RefusesCall disk (first_broken (advancing_checks (mode_of old.kept.work) old.kept.generation cursor)) (IsReadFileRefusal old.kept.work (disk old.medium).blocks cursor.file) old.kept new.kept old.medium new.medium)
-  pub advances : (packets : List Packet) → ShowsAt old.kept.work (disk old.medium).blocks cursor.file packets → OnOk result (AdvancesReading cursor.reading later.reading packets)
-  pub queued : IfOk result (λ n. n ≡ length later.reading.queue)
-  pub stays : OnErr result (later ≡ cursor)
-  pub place : (later.file ≡ cursor.file) × (later.generation ≡ cursor.generation)
-  pub there : OnOk result (IsReadAt old.kept.work (disk old.medium).blocks cursor.file)
-  pub kept : OnOk result (new.kept ≡ old.kept)
-  pub same : Unchanged (disk old.medium) (disk new.medium)
-  pub no_fewer : (disk old.medium).failures ≤ (disk new.medium).failures
-  pub lanes : new.lanes ≡ old.lanes
-  pub config : new.kept.config ≡ old.kept.config
+use Rattle.r10_medium.specs.Disk.{Disk}
 
 -- a refusal is Behind only where this is so
 abbrev pub SaysBehind : Type 0 → Refusal → Type 0

@@ -27,12 +27,6 @@ LastIsShown work published = Unit {0}
 abbrev pub StaysPublished : {M : Type 0} → HeldState M → HeldState M → Type 0
 StaysPublished old new = (new.cell ≡ old.cell) × (new.published ≡ old.published)
 
--- nothing is published, and the lanes and the settings stay
-pub record StaysBeside {M : Type 0} (old new : HeldState M) : Type 0 where
-  pub lanes : new.recorder.lanes ≡ old.recorder.lanes
-  pub config : new.recorder.kept.config ≡ old.recorder.kept.config
-  pub gauge : StaysPublished old new
-
 -- where the call answers Ok one triple is published, of the recorder as it is then; else none
 pub record Publishes {M T : Type 0} (result : Result T Refusal) (old new : HeldState M) : Type 0 where
   pub cell : new.cell ≡ old.cell

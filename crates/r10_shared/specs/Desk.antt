@@ -78,7 +78,7 @@ pub record WasGiven {M : Type 0} (disk : M → Disk) (rings : List ChannelRing) 
   pub effect : OnOk answer (HasDone disk order old new)
   pub lanes : LanesStayBut order old new
   pub owned : OwnsAs disk order old new answer
-  pub stops : LeavesAs disk order old new answer
+  pub power_loss : LeavesAs disk order old new answer
   pub publishes : PublishesAs order old new answer
 
 -- ---- each thing that a worker asked, as it was done

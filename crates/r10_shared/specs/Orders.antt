@@ -1,15 +1,11 @@
 -- What an order asks of the recorder under the lock.
-use Rattle.std.specs.Prelude.{◌≡◌, List, [], Option, None, Some, Result, Ok, Err, MatchResult}
+use Rattle.std.specs.Prelude.{◌≡◌, Option, None, Some, Result, Ok, Err}
 use Rattle.r10_body.specs.declared.refusal.Refusal.{Refusal}
+use Rattle.r10_held.specs.Calls.{EffectBy, OwnsBy, RefusesBy}
 use Rattle.r10_control.specs.Checks.{recorder_refusal}
-use Rattle.r10_control.specs.Effects.{CommitEffect, DismountEffect, EraseEffect, EventEffect, MountEffect, StartEffect, StopEffect, TickEffect}
 use Rattle.r10_control.specs.Leading.{CallStepsTaking, none_taken}
-use Rattle.r10_control.specs.Own.{AreOwn, OwnStay}
-use Rattle.r10_control.specs.Recording.{IsCommitRefusal, IsEntryRefusal}
-use Rattle.r10_control.specs.Refused.{IsMountRefusal, RefusesCall, RefusesOpen, nothing_lacks}
+use Rattle.r10_control.specs.Refused.{nothing_lacks}
 use Rattle.r10_control.specs.Safely.{LeavesTaking, StopsSafely}
-use Rattle.r10_control.specs.SealRefusals.{IsSealRefusal, IsSealed}
-use Rattle.r10_control.specs.Started.{IsStartRefusal}
 use Rattle.r10_control.specs.Taking.{IsStopped, LeftNone, RefusesReadied, StepsByTaking, most_of}
 use Rattle.r10_held.specs.LockFact.{outlet_quiet, outlet_spec}
 use Rattle.r10_held.specs.Publishing.{Publishes, StaysPublished}
@@ -22,7 +18,7 @@ use Rattle.r10_machine.specs.declared.mode.Stopped.{Stopped}
 use Rattle.r10_machine.specs.declared.reply.Reply.{Reply}
 use Rattle.r10_machine.specs.declared.reply.Reply.TheVariants as replies
 use Rattle.r10_means.specs.Left.{AnswersSafely}
-use Rattle.r10_medium.specs.Disk.{Disk, IsSynced}
+use Rattle.r10_medium.specs.Disk.{Disk}
 use Rattle.r10_port.specs.Ends.{TookReceived, reached_by_outlet}
 use Rattle.r10_shared.specs.declared.order.Order.{Order}
 use Rattle.r10_shared.specs.declared.order.Order.TheVariants as orders
@@ -79,38 +75,13 @@ PublishesAs order old new result = StaysPublished old new
 
 -- refused as the call: the first check that doesn't hold, which leaves all; else for the cause that the call has for this refusal
 abbrev pub RefusesAs : {M : Type 0} → (M → Disk) → Order → HeldState M → HeldState M → Refusal → Type 0
-RefusesAs disk orders.Mount old new r =
-    RefusesCall disk (recorder_refusal old.recorder.kept events.Mount) (IsMountRefusal old.recorder.kept.config.directory (disk old.recorder.medium)) old.recorder.kept new.recorder.kept old.recorder.medium new.recorder.medium r
-RefusesAs disk orders.Dismount old new r = RefusesCall disk (recorder_refusal old.recorder.kept events.Dismount) nothing_lacks old.recorder.kept new.recorder.kept old.recorder.medium new.recorder.medium r
-RefusesAs disk (orders.Tick count parts) old new r =
-    RefusesOpen disk (recorder_refusal old.recorder.kept (events.Tick count parts)) (IsEntryRefusal old.recorder.kept.config old.recorder.kept.work 112) old.recorder.kept new.recorder.kept old.recorder.medium new.recorder.medium r
-RefusesAs disk (orders.Start name setup) old new r =
-    RefusesCall disk (recorder_refusal old.recorder.kept (events.Start name setup)) (IsStartRefusal old.recorder.kept setup) old.recorder.kept new.recorder.kept old.recorder.medium new.recorder.medium r
-RefusesAs disk orders.Stop old new r = RefusesReadied disk (recorder_refusal old.recorder.kept events.Stop) nothing_lacks old.recorder.kept new.recorder.kept old.recorder.medium new.recorder.medium r
-RefusesAs disk (orders.Event number count) old new r =
-    RefusesOpen disk (recorder_refusal old.recorder.kept (events.Event number count)) (IsEntryRefusal old.recorder.kept.config old.recorder.kept.work 116) old.recorder.kept new.recorder.kept old.recorder.medium new.recorder.medium r
-RefusesAs disk orders.Commit old new r = RefusesOpen disk (recorder_refusal old.recorder.kept events.Commit) IsCommitRefusal old.recorder.kept new.recorder.kept old.recorder.medium new.recorder.medium r
-RefusesAs disk orders.Seal old new r =
-    RefusesCall disk (recorder_refusal old.recorder.kept events.Seal) (IsSealRefusal old.recorder.kept (disk old.recorder.medium)) old.recorder.kept new.recorder.kept old.recorder.medium new.recorder.medium r
-RefusesAs disk orders.Erase old new r = RefusesCall disk (recorder_refusal old.recorder.kept events.Erase) nothing_lacks old.recorder.kept new.recorder.kept old.recorder.medium new.recorder.medium r
-
--- a seal closed the last file, surely, and all else that is kept stays
-pub record SealEffect {M : Type 0} (disk : M → Disk) (old new : HeldState M) : Type 0 where
-  pub sealed : IsSealed old.recorder.kept.config (disk old.recorder.medium).blocks old.recorder.kept.work (disk new.recorder.medium).blocks new.recorder.kept.work
-  pub sure : IsSynced (disk new.recorder.medium)
-  pub rest : new.recorder.kept ≡ record old.recorder.kept { work = new.recorder.kept.work }
+RefusesAs disk orders.Stop old new r =
+    RefusesReadied disk (recorder_refusal old.recorder.kept events.Stop) nothing_lacks old.recorder.kept new.recorder.kept old.recorder.medium new.recorder.medium r
+RefusesAs disk order old new r = RefusesBy disk (event_of order) old.recorder.kept new.recorder.kept old.recorder.medium new.recorder.medium r
 
 -- what was done, whatever files the medium has
 abbrev pub HasDone : {M : Type 0} → (M → Disk) → Order → HeldState M → HeldState M → Type 0
-HasDone disk orders.Mount old new = MountEffect old.recorder.kept (disk old.recorder.medium) new.recorder.kept (disk new.recorder.medium)
-HasDone disk orders.Dismount old new = DismountEffect old.recorder.kept (disk old.recorder.medium) new.recorder.kept (disk new.recorder.medium)
-HasDone disk (orders.Tick count parts) old new = TickEffect (record { count = count; civil = parts }) old.recorder.kept (disk old.recorder.medium) new.recorder.kept (disk new.recorder.medium)
-HasDone disk (orders.Start name setup) old new = StartEffect name setup old.recorder.kept (disk old.recorder.medium) new.recorder.kept (disk new.recorder.medium)
-HasDone disk orders.Stop old new = StopEffect old.recorder.kept (disk old.recorder.medium) new.recorder.kept (disk new.recorder.medium)
-HasDone disk (orders.Event number count) old new = EventEffect number count old.recorder.kept (disk old.recorder.medium) new.recorder.kept (disk new.recorder.medium)
-HasDone disk orders.Commit old new = CommitEffect old.recorder.kept (disk old.recorder.medium) new.recorder.kept (disk new.recorder.medium)
-HasDone disk orders.Seal old new = SealEffect disk old new
-HasDone disk orders.Erase old new = EraseEffect old.recorder.kept (disk old.recorder.medium) new.recorder.kept (disk new.recorder.medium)
+HasDone disk order old new = EffectBy (event_of order) old.recorder.kept (disk old.recorder.medium) new.recorder.kept (disk new.recorder.medium)
 
 -- the lanes stay, but for what a stop takes from them
 abbrev pub LanesStayBut : {M : Type 0} → Order → HeldState M → HeldState M → Type 0
@@ -120,11 +91,9 @@ LanesStayBut order old new = new.recorder.lanes ≡ old.recorder.lanes
 -- Of the recorder's own files: behind an erase they have no entry; a stop puts what it took behind theirs, as its step says (`Performs`); no other order adds an entry of a channel.
 abbrev pub OwnsAs : {M : Type 0} → (M → Disk) → Order → HeldState M → HeldState M → Result Reply Refusal → Type 0
 OwnsAs disk orders.Stop old new result = Unit {0}
-OwnsAs disk orders.Erase old new result =
-    MatchResult result (λ _. AreOwn new.recorder.kept (disk new.recorder.medium).blocks []) (λ _. OwnStay old.recorder.kept (disk old.recorder.medium).blocks new.recorder.kept (disk new.recorder.medium).blocks)
-OwnsAs disk order old new result = OwnStay old.recorder.kept (disk old.recorder.medium).blocks new.recorder.kept (disk new.recorder.medium).blocks
+OwnsAs disk order old new result = OwnsBy (event_of order) result old.recorder.kept (disk old.recorder.medium).blocks new.recorder.kept (disk new.recorder.medium).blocks
 
--- at every moment of it a stop of the medium leaves what the call's own clauses say
+-- at every moment of it a loss of power leaves what the call's own clauses say
 abbrev pub LeavesAs : {M : Type 0} → (M → Disk) → Order → HeldState M → HeldState M → Result Reply Refusal → Type 0
 LeavesAs disk orders.Stop old new result =
     ((stopped : Result Stopped Refusal) × IsToldAs stopped result × StopsSafely outlet_quiet outlet_spec old.recorder.lanes old.recorder.kept (disk old.recorder.medium) stopped new.recorder.kept (disk new.recorder.medium))

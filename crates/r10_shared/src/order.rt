@@ -57,8 +57,8 @@ impl Order {
         ensures effect { OnOk result (HasDone M.disk self.now held.old held.new) }
         ensures lanes { LanesStayBut self.now held.old held.new }
         ensures owned { OwnsAs M.disk self.now held.old held.new result }
-        ensures bytes { MachinesKeepShown held.old.recorder.kept (M.disk held.old.recorder.medium).blocks (M.disk held.old.recorder.medium).failures (M.disk held.new.recorder.medium).blocks }
-        ensures stops { LeavesAs M.disk self.now held.old held.new result }
+        ensures shown { MachinesKeepShown held.old.recorder.kept (M.disk held.old.recorder.medium).blocks (M.disk held.old.recorder.medium).failures (M.disk held.new.recorder.medium).blocks }
+        ensures power_loss { LeavesAs M.disk self.now held.old held.new result }
         ensures publishes { PublishesAs self.now held.old held.new result }
         ensures config { held.new.recorder.kept.config ≡ held.old.recorder.kept.config }
     {

@@ -5,12 +5,12 @@ pub returns : goal.returns
 returns g c = (
   c.commit.new.self,
   record {
-    passed = c.commit.ensures.passed;
-    steps = c.commit.ensures.steps;
-    effect = c.commit.ensures.effect;
+    passed = c.commit.ensures.does.passed;
+    steps = c.commit.ensures.does.steps;
+    effect = c.commit.ensures.does.effect;
     publishes = c.commit.ensures.publishes;
-    lanes = c.commit.ensures.lanes;
-    config = c.commit.ensures.config;
+    lanes = c.commit.ensures.does.lanes;
+    config = c.commit.ensures.does.config;
   },
   refl,
 )

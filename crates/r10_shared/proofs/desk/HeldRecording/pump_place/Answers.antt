@@ -8,11 +8,11 @@ returns g c = (
   record {
     channel = _;
     is = λ d. same_channel _ _ c.args.place d _ c.requires c.channels.ensures;
-    passed = c.pump.ensures.passed;
-    takes = c.pump.ensures.takes;
-    effect = c.pump.ensures.effect;
+    passed = c.pump.ensures.does.passed;
+    takes = c.pump.ensures.does.takes;
+    effect = c.pump.ensures.does.effect;
     gauge = c.pump.ensures.gauge;
-    config = c.pump.ensures.config;
+    config = c.pump.ensures.does.config;
   },
   refl,
 )
