@@ -51,14 +51,14 @@ TEXTS: dict[str, list[tuple[str, str]]] = {
     ],
     SHARED + 'source.rt': [
         ('feed: passes the gate, is stopped',
-         'let passed = gate.pass(worker); if passed { feed_all(rt, stop, source, port, progress) } else {'),
+         'let passed = gate.pass(worker); if passed { feed_all(rt, stop, source, port, gauge, progress) } else {'),
         ('feed: has no more', 'if stop.is_asked() { return Tally { accepted, refused }; }'),
         ('feed: has more, pushes, is refused', 'let pumped = pump_source(&mut source, port, 1);'),
         ('feed: has no more', 'if pumped.ended { return Tally { accepted, refused }; }'),
         ('feed: looks for who waits', 'if pumped.accepted > 0 { progress.come(); }'),
     ],
     SHARED + 'running.rt': [
-        ('feed: pushes', 'feed.tally = feed.line.feed(rt, gate, worker, stop, source, progress);'),
+        ('feed: pushes', 'feed.tally = feed .line .feed(rt, gate, worker, stop, source, &mut feed.gauge, progress);'),
         ('feed: over', 'progress.end_one();'),
     ],
     SHARED + 'rounds.rt': [

@@ -8,7 +8,7 @@ use Rattle.crossbeam_utils.specs.Register.{Turns, Forks, Merges}
 use Rattle.atomic_table.proofs.Lists.{at_set, at_snoc, set_again}
 use Rattle.r10_body.specs.declared.refusal.Glance.{Glance}
 use Rattle.r10_gauge.specs.declared.cell.SeatKnows.{SeatKnows}
-use Rattle.r10_gauge.specs.Published.{triple, last_triple, commits_of, AreNumbered}
+use Rattle.r10_gauge.specs.Published.{triple, nothing_published, last_triple, commits_of, AreNumbered}
 use Rattle.r10_gauge.specs.Seats.{triple_of_words, seat_knowing, writing_seat, reading_seat, making_seat, spent_seat, having_met, SeesFront, KeepsOneList, GrewByWords, SawAll, HadSeenAll}
 
 pub last_triple_push : (xs : List Glance) (x : Glance) → last_triple (xs ++ x ∷ []) ≡ x
@@ -25,15 +25,11 @@ at_end [] x y (suc i) e = absurd (cc)
 at_end (z ∷ xs) x y zero e = inl e
 at_end (z ∷ xs) x y (suc i) e = ⊎_elim (λ (h : slice_get xs i ≡ Some y). inl h) (λ (h : (i ≡ length xs) × (x ≡ y)). inr (ap suc h.0, h.1)) (at_end xs x y i e)
 
-numbered_push : (log : List Glance) (x : Glance) → AreNumbered log → x.commits ≡ min (length log) (2 ^ 64 - 1) → AreNumbered (log ++ x ∷ [])
+pub numbered_push : (log : List Glance) (x : Glance) → AreNumbered log → x.commits ≡ min (length log) (2 ^ 64 - 1) → AreNumbered (log ++ x ∷ [])
 numbered_push log x num at i y e =
     ⊎_elim (λ (h : slice_get log i ≡ Some y). num i y h)
     (λ (h : (i ≡ length log) × (x ≡ y)). ap (λ (g : Glance). g.commits) (sym h.1) ∙ at ∙ ap (λ n. min n (2 ^ 64 - 1)) (sym h.0))
     (at_end log x y i e)
-
-numbered_one : AreNumbered ((triple 0 0 0) ∷ [])
-numbered_one zero y e = ap (λ (g : Glance). g.commits) (sym (some_is (triple 0 0 0) y e))
-numbered_one (suc i) y e = absurd (cc)
 
 prefix_longer : (xs ys zs : List Glance) → IsPrefix xs ys → IsPrefix xs (ys ++ zs)
 prefix_longer xs ys zs (rest, is) = (rest ++ zs, sym (append_assoc xs rest zs) ∙ ap (λ l. l ++ zs) is)
@@ -54,15 +50,15 @@ fits_set seat log now views by w others mine j u e =
 prefix_none : (xs : List Glance) → IsPrefix [] xs
 prefix_none xs = (xs, refl)
 
-pub begins : KeepsOneList (0 ∷ 0 ∷ 0 ∷ []) (making_seat ∷ [])
-begins = (0, (triple 0 0 0) ∷ [], omega arith, refl, numbered_one, one)
+pub begins : (keeps : List Glance → Type 0) → keeps nothing_published → KeepsOneList keeps (0 ∷ 0 ∷ 0 ∷ []) (making_seat ∷ [])
+begins keeps first = (0, (triple 0 0 0) ∷ [], omega arith, refl, first, one)
   where
     one : (by : ℕ) (v : SeatKnows) → get_elem? (making_seat ∷ []) by ≡ some v → SeesFront 0 ((triple 0 0 0) ∷ []) by v
     one zero v e = subst (SeesFront 0 ((triple 0 0 0) ∷ []) 0) (some-injective _ _ e) (prefix_self ((triple 0 0 0) ∷ []), prefix_none ((triple 0 0 0) ∷ []), (λ _. (refl, refl)))
     one (suc by) v e = absurd (some-ne-none v (sym e))
 
-pub publishes : (by : ℕ) (v : SeatKnows) (new : List ℕ) → v.writes ≡ true → (triple_of_words new).commits ≡ min (length v.seen) (2 ^ 64 - 1) → Turns KeepsOneList by v (λ _. new) GrewByWords
-publishes by v new writes at words views (seat, log, near, last, num, fits) here =
+pub publishes : (keeps : List Glance → Type 0) (by : ℕ) (v : SeatKnows) (new : List ℕ) → v.writes ≡ true → keeps (v.seen ++ triple_of_words new ∷ []) → Turns (KeepsOneList keeps) by v (λ _. new) GrewByWords
+publishes keeps by v new writes kept words views (seat, log, near, last, num, fits) here =
     let mine = fits by v here in
     let own = mine.2 writes in
     let x = triple_of_words new in
@@ -74,7 +70,7 @@ publishes by v new writes at words views (seat, log, near, last, num, fits) here
         now,
         omega (arith, near, length-append log (x ∷ [])),
         last_triple_push log x,
-        numbered_push log x num (at ∙ ap (λ l. min (length l) (2 ^ 64 - 1)) own.1),
+        subst (λ l. keeps (l ++ x ∷ [])) own.1 kept,
         fits_set seat log now views by w
             (λ j u apart e. let theirs = fits j u e in (prefix_longer u.seen log (x ∷ []) theirs.0, prefix_longer u.met log (x ∷ []) theirs.1, (λ k. absurd (apart ((theirs.2 k).0 ∙ sym own.0)))))
             (subst (λ l. IsPrefix l now) (ap (λ l. l ++ x ∷ []) (sym own.1)) (prefix_self now), prefix_none now, (λ _. (own.0, ap (λ l. l ++ x ∷ []) own.1))),
@@ -82,8 +78,8 @@ publishes by v new writes at words views (seat, log, near, last, num, fits) here
       refl,
     )
 
-pub looks : (by : ℕ) (v : SeatKnows) → Turns KeepsOneList by v (λ x. x) SawAll
-looks by v words views (seat, log, near, last, num, fits) here =
+pub looks : (keeps : List Glance → Type 0) (by : ℕ) (v : SeatKnows) → Turns (KeepsOneList keeps) by v (λ x. x) (SawAll keeps)
+looks keeps by v words views (seat, log, near, last, num, fits) here =
     let mine = fits by v here in
     let w = seat_knowing v.writes log in (
       w,
@@ -91,8 +87,8 @@ looks by v words views (seat, log, near, last, num, fits) here =
       (refl, mine.0, last, num, near),
     )
 
-pub halves : (by : ℕ) (v : SeatKnows) → Forks KeepsOneList by v v (reading_seat v.seen)
-halves by v words views (seat, log, near, last, num, fits) here =
+pub halves : (keeps : List Glance → Type 0) (by : ℕ) (v : SeatKnows) → Forks (KeepsOneList keeps) by v v (reading_seat v.seen)
+halves keeps by v words views (seat, log, near, last, num, fits) here =
     let mine = fits by v here in (
       seat,
       log,
@@ -106,8 +102,8 @@ halves by v words views (seat, log, near, last, num, fits) here =
     )
 
 -- a seat meets another
-pub meets : (by : ℕ) (v : SeatKnows) (other : ℕ) (w : SeatKnows) → Merges KeepsOneList by v other w (having_met v w.seen) spent_seat
-meets by v other w words views (seat, log, near, last, num, fits) here apart there =
+pub meets : (keeps : List Glance → Type 0) (by : ℕ) (v : SeatKnows) (other : ℕ) (w : SeatKnows) → Merges (KeepsOneList keeps) by v other w (having_met v w.seen) spent_seat
+meets keeps by v other w words views (seat, log, near, last, num, fits) here apart there =
     let mine = fits by v here in
     let theirs : SeesFront seat log other w =
     ⊎_elim
@@ -126,8 +122,8 @@ meets by v other w words views (seat, log, near, last, num, fits) here apart the
     )
 
 -- the one that publishes has seen all, and so no less than one that it met
-pub compares : (by : ℕ) (v : SeatKnows) → v.writes ≡ true → Turns KeepsOneList by v (λ x. x) HadSeenAll
-compares by v writes words views (seat, log, near, last, num, fits) here =
+pub compares : (keeps : List Glance → Type 0) (by : ℕ) (v : SeatKnows) → v.writes ≡ true → Turns (KeepsOneList keeps) by v (λ x. x) HadSeenAll
+compares keeps by v writes words views (seat, log, near, last, num, fits) here =
     let mine = fits by v here in
     let own = mine.2 writes in (
       writing_seat v.seen,
@@ -147,11 +143,21 @@ last_counts (y ∷ ys) near num = num (length ys) (last_triple (y ∷ ys)) (at_l
     one_less : (n : ℕ) → n ≡ suc n - 1
     one_less n = omega arith
 
--- a writing seat knows all, and how much that is
-pub writes_on : (v w : SeatKnows) (x : Glance) (commits now : ℕ) → w ≡ writing_seat (v.seen ++ x ∷ []) → commits ≡ commits_of v.seen → 0 < length v.seen → now ≡ min (commits + 1) (2 ^ 64 - 1)
-    → (w ≡ writing_seat w.seen) × (0 < length w.seen) × (now ≡ commits_of w.seen)
-writes_on v w x commits now grew counts near is = (
-  grew ∙ sym (ap (λ (u : SeatKnows). writing_seat u.seen) grew),
-  omega (arith, ap (λ (u : SeatKnows). length u.seen) grew, length-append v.seen (x ∷ [])),
-  omega (arith, is, counts, near, ap (λ (u : SeatKnows). length u.seen) grew, length-append v.seen (x ∷ [])),
-)
+-- a writing seat knows all that it published
+pub writes_on : (keeps : List Glance → Type 0) (v w : SeatKnows) (x : Glance) → w ≡ writing_seat (v.seen ++ x ∷ []) → keeps (v.seen ++ x ∷ [])
+    → (w ≡ writing_seat w.seen) × (0 < length w.seen) × (x ≡ last_triple w.seen) × keeps w.seen
+writes_on keeps v w x grew kept =
+    let all : w.seen ≡ v.seen ++ x ∷ [] = ap (λ (u : SeatKnows). u.seen) grew in (
+      grew ∙ sym (ap (λ (u : SeatKnows). writing_seat u.seen) grew),
+      omega (arith, ap (λ (l : List Glance). length l) all, length-append v.seen (x ∷ [])),
+      sym (last_triple_push v.seen x) ∙ sym (ap last_triple all),
+      subst keeps (sym all) kept,
+    )
+
+-- the next number goes on with the numbers
+pub numbers_on : (log : List Glance) (last x : Glance) (now : ℕ) → last ≡ last_triple log → 0 < length log → AreNumbered log → now ≡ min (last.commits + 1) (2 ^ 64 - 1) → x.commits ≡ now
+    → (now ≡ min (length log) (2 ^ 64 - 1)) × AreNumbered (log ++ x ∷ [])
+numbers_on log last x now is near num next of =
+    let many : last.commits ≡ commits_of log = ap (λ (g : Glance). g.commits) is ∙ last_counts log near num in
+    let number : now ≡ min (length log) (2 ^ 64 - 1) = omega (arith, next, many, near) in
+    (number, numbered_push log x num (of ∙ number))

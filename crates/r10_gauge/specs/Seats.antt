@@ -4,7 +4,7 @@ use mathlib.Core.Option.{some}
 use mathlib.Core.List.{IsPrefix}
 use lib.ListN.{get_elem?}
 use Rattle.r10_body.specs.declared.refusal.Glance.{Glance}
-use Rattle.r10_gauge.specs.Published.{triple, nothing_published, last_triple, AreNumbered}
+use Rattle.r10_gauge.specs.Published.{triple, nothing_published, last_triple}
 use Rattle.r10_gauge.specs.declared.cell.SeatKnows.{SeatKnows}
 
 -- the triple that the words are
@@ -39,10 +39,10 @@ spent_seat = reading_seat []
 abbrev pub SeesFront : ℕ → List Glance → ℕ → SeatKnows → Type 0
 SeesFront writer published by v = IsPrefix v.seen published × IsPrefix v.met published × (v.writes ≡ true → (by ≡ writer) × (v.seen ≡ published))
 
--- the rule: there is one list, numbered, whose last triple the words are, and each seat sees a front of it
-abbrev pub KeepsOneList : List ℕ → List SeatKnows → Type 0
-KeepsOneList words views =
-    (writer : ℕ) × (published : List Glance) × (0 < length published) × (last_triple published ≡ triple_of_words words) × AreNumbered published
+-- the rule: there is one list, of which so much is known, whose last triple the words are, and each seat sees a front of it
+abbrev pub KeepsOneList : (List Glance → Type 0) → List ℕ → List SeatKnows → Type 0
+KeepsOneList keeps words views =
+    (writer : ℕ) × (published : List Glance) × (0 < length published) × (last_triple published ≡ triple_of_words words) × keeps published
     × ((by : ℕ) (v : SeatKnows) → get_elem? views by ≡ some v → SeesFront writer published by v)
 
 -- the list has grown by the triple that the words now are
@@ -50,9 +50,9 @@ abbrev pub GrewByWords : SeatKnows → List ℕ → List ℕ → SeatKnows → T
 GrewByWords v before after w = w ≡ writing_seat (v.seen ++ triple_of_words after ∷ [])
 
 -- all that was published at that moment was seen, of which what had been seen is a beginning; the words are its last triple
-abbrev pub SawAll : SeatKnows → List ℕ → List ℕ → SeatKnows → Type 0
-SawAll v before after w =
-    (w.writes ≡ v.writes) × IsPrefix v.seen w.seen × (last_triple w.seen ≡ triple_of_words after) × AreNumbered w.seen × (0 < length w.seen)
+abbrev pub SawAll : (List Glance → Type 0) → SeatKnows → List ℕ → List ℕ → SeatKnows → Type 0
+SawAll keeps v before after w =
+    (w.writes ≡ v.writes) × IsPrefix v.seen w.seen × (last_triple w.seen ≡ triple_of_words after) × keeps w.seen × (0 < length w.seen)
 
 -- the seat that publishes is again one that met no other; what the one that it met had seen is a beginning of all that was published
 abbrev pub HadSeenAll : SeatKnows → List ℕ → List ℕ → SeatKnows → Type 0

@@ -1,9 +1,11 @@
 // The cell, its rule, and the kinds of step.
+use crate::kind::Kind;
 use atomic_table::{Join, Split};
 use crossbeam_utils::atomic::seq_cell::{Pass, RuledSeqCell};
 use crossbeam_utils::rule::{Outcome, Protocol};
 use r10_body::Glance;
 use std::collections::LinkedList;
+use std::marker::PhantomData;
 
 /// What a seat knows: what was published up to its last step, whether it is the one that publishes, and what a seat that it met had seen. No value of
 /// it is made.
@@ -13,13 +15,15 @@ pub(crate) struct SeatKnows {
     pub(crate) met: LinkedList<Glance>,
 }
 
-/// The rule: what is published is one growing list, which begins with what each seat has seen, and the words are its last triple.
-pub(crate) struct OneList;
+/// The rule: what is published is one growing list of this kind, which begins with what each seat has seen, and the words are its last triple.
+pub(crate) struct OneList<K: Kind> {
+    of: PhantomData<K>,
+}
 
-impl Protocol<[u64; 3], SeatKnows> for OneList {
+impl<K: Kind> Protocol<[u64; 3], SeatKnows> for OneList<K> {
     ghost use Rattle.r10_gauge.specs.Seats.{KeepsOneList, making_seat};
 
-    ghost holds = { KeepsOneList };
+    ghost holds = { KeepsOneList K.keeps };
 
     ghost first = { making_seat };
 }
@@ -34,12 +38,14 @@ impl Outcome<[u64; 3], SeatKnows> for Publishing {
 }
 
 /// A step that looks.
-pub(crate) struct Glancing;
+pub(crate) struct Glancing<K: Kind> {
+    of: PhantomData<K>,
+}
 
-impl Outcome<[u64; 3], SeatKnows> for Glancing {
+impl<K: Kind> Outcome<[u64; 3], SeatKnows> for Glancing<K> {
     ghost use Rattle.r10_gauge.specs.Seats.{SawAll};
 
-    ghost then = { SawAll };
+    ghost then = { SawAll K.keeps };
 }
 
 /// A step of the seat that publishes, by which it knows what one that it met had seen.
@@ -73,7 +79,7 @@ impl Split<SeatKnows> for Splitting {
     ghost right = { λ v. reading_seat v.seen };
 }
 
-pub(crate) type Cell = RuledSeqCell<[u64; 3], SeatKnows, OneList, 3>;
+pub(crate) type Cell<K> = RuledSeqCell<[u64; 3], SeatKnows, OneList<K>, 3>;
 
 /// A seat at the cell.
 pub(crate) type Seat = Pass<[u64; 3], SeatKnows>;

@@ -5,26 +5,27 @@ ghost use mathlib.Core.List.{IsPrefix};
 ghost use Rattle.r10_gauge.specs.Published.{triple, nothing_published, commits_of};
 
 use crate::cell::{Cell, Comparing, Meeting, Publishing, Seat, Splitting};
+use crate::kind::{Commits, Kind, Level, Levels};
 use crate::pass::Pass;
 use crate::watch::Watch;
 use r10_body::Glance;
 use std::alloc::{AllocError, Global};
-use std::marker::Model;
+use std::marker::{Model, PhantomData};
 use std::sync::{Arc, Wait};
 
 /// The publishing end of a gauge. Contracts see which gauge it is, and all that was published at it.
 #[derive(Drop)]
-pub struct Gauge {
-    cell: Arc<Cell, Global>,
+pub struct Gauge<K: Kind = Commits> {
+    cell: Arc<Cell<K>, Global>,
     seat: Seat,
-    commits: u64,
+    last: Glance,
 }
 
-impl Model for Gauge {
+impl<K: Kind> Model for Gauge<K> {
     ghost use Rattle.std.specs.Prelude.{◌≡◌, ◌<◌, length};
     ghost use Rattle.std.specs.Arc.{arc_value};
     ghost use Rattle.crossbeam_utils.specs.Seq.{cell_view};
-    ghost use Rattle.r10_gauge.specs.Published.{PublishingEnd, commits_of};
+    ghost use Rattle.r10_gauge.specs.Published.{PublishingEnd, last_triple};
     ghost use Rattle.r10_gauge.specs.Seats.{writing_seat};
 
     ghost Value = { PublishingEnd };
@@ -35,25 +36,28 @@ impl Model for Gauge {
         (g.seat.table_id ≡ (arc_value g.cell).table.shared.table_id)
         × (cell_view g.seat ≡ writing_seat (cell_view g.seat).seen)
         × (0 < length (cell_view g.seat).seen)
-        × (g.commits ≡ commits_of (cell_view g.seat).seen) };
+        × (g.last ≡ last_triple (cell_view g.seat).seen)
+        × K.keeps (cell_view g.seat).seen };
 }
 
-impl Gauge {
+impl<K: Kind> Gauge<K> {
     /// A gauge at which nothing was published but three zeros, the end at which threads look, and the first pass, which has seen them.
     /// This takes all the memory that the gauge ever takes.
-    pub fn new(alloc: Global) -> Result<(Gauge, Watch, Pass), AllocError>
+    pub fn new(alloc: Global) -> Result<(Gauge<K>, Watch<K>, Pass<K>), AllocError>
         ensures gauge { IfOk result (λ r. r.0.published ≡ nothing_published) }
         ensures pass { IfOk result (λ r. r.2.seen ≡ nothing_published) }
         ensures one { IfOk result (λ r. (r.1 ≡ r.0.cell) × (r.2.cell ≡ r.0.cell)) }
     {
-        let (cell, mut seat) = Cell::ruled(alloc, [0, 0, 0])?;
+        let (cell, mut seat) = Cell::<K>::ruled(alloc, [0, 0, 0])?;
+        let zeros = Glance {
+            commits: 0,
+            file: 0,
+            bytes: 0,
+        };
         let pass = Pass {
             seat: cell.split_pass::<Splitting>(&mut seat),
-            last: Glance {
-                commits: 0,
-                file: 0,
-                bytes: 0,
-            },
+            last: zeros,
+            of: PhantomData,
         };
         let cell = Arc::new(alloc, cell)?;
         let watch = Watch {
@@ -62,25 +66,24 @@ impl Gauge {
         let gauge = Gauge {
             cell,
             seat,
-            commits: 0,
+            last: zeros,
         };
         Ok((gauge, watch, pass))
     }
 
-    /// Publishes the number of a file and how many of its bytes are shown, as one triple with the number of this publication, from 1 up to
-    /// `u64::MAX`, where it stays. This takes no memory.
-    pub fn publish<R: Wait>(&mut self, rt: &R, file: u64, bytes: u64)
+    /// Publishes a triple.
+    fn put<R: Wait>(&mut self, rt: &R, next: Glance)
+        requires { K.keeps (self.old.published ++ next ∷ []) }
         ensures same { self.new.cell ≡ self.old.cell }
-        ensures grows { self.new.published ≡ self.old.published ++ triple (min (length self.old.published) (2 ^ 64 - 1)) file bytes ∷ [] }
+        ensures grows { self.new.published ≡ self.old.published ++ next ∷ [] }
     {
-        let commits = self.commits.saturating_add(1);
         self.cell
-            .swap_as::<Publishing, R>(rt, &mut self.seat, [commits, file, bytes]);
-        self.commits = commits;
+            .swap_as::<Publishing, R>(rt, &mut self.seat, [next.commits, next.file, next.bytes]);
+        self.last = next;
     }
 
     /// What a pass has seen is a beginning of what was published at its gauge. This changes nothing, and takes no memory.
-    pub fn meet<R: Wait>(&mut self, rt: &R, pass: &mut Pass)
+    pub fn meet<R: Wait>(&mut self, rt: &R, pass: &mut Pass<K>)
         requires { pass.old.cell ≡ self.old.cell }
         ensures seen { IsPrefix pass.old.seen self.old.published }
         ensures stays { (self.new ≡ self.old) × (pass.new ≡ pass.old) }
@@ -89,11 +92,47 @@ impl Gauge {
         self.cell.join_pass::<Meeting>(&mut self.seat, other);
         let _words = self.cell.load_as::<Comparing, R>(rt, &mut self.seat);
     }
+}
+
+impl Gauge<Commits> {
+    /// Publishes the number of a file and how many of its bytes are shown, as one triple with the number of this publication, from 1 up to
+    /// `u64::MAX`, where it stays. This takes no memory.
+    pub fn publish<R: Wait>(&mut self, rt: &R, file: u64, bytes: u64)
+        ensures same { self.new.cell ≡ self.old.cell }
+        ensures grows { self.new.published ≡ self.old.published ++ triple (min (length self.old.published) (2 ^ 64 - 1)) file bytes ∷ [] }
+    {
+        let commits = self.last.commits.saturating_add(1);
+        self.put(
+            rt,
+            Glance {
+                commits,
+                file,
+                bytes,
+            },
+        );
+    }
 
     /// How often something was published, up to `u64::MAX`, where it stays.
     pub fn commits(&self) -> u64
         ensures { result ≡ commits_of self.now.published }
     {
-        self.commits
+        self.last.commits
+    }
+}
+
+impl Gauge<Levels> {
+    /// Publishes a level, as one triple. This takes no memory.
+    pub fn show<R: Wait>(&mut self, rt: &R, level: Level)
+        ensures same { self.new.cell ≡ self.old.cell }
+        ensures grows { self.new.published ≡ self.old.published ++ triple level.sent level.lost level.waiting ∷ [] }
+    {
+        self.put(
+            rt,
+            Glance {
+                commits: level.sent,
+                file: level.lost,
+                bytes: level.waiting,
+            },
+        );
     }
 }

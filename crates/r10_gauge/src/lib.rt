@@ -1,12 +1,14 @@
-//! What a recorder published last, for threads that look without its lock: one growing list of triples, and passes that have seen a
+//! What was published last, for threads that look without a lock: one growing list of triples, and passes that have seen a
 //! beginning of it.
 #![tactic(auto)]
 
 mod cell;
 mod gauge;
+mod kind;
 mod pass;
 mod watch;
 
 pub use gauge::Gauge;
+pub use kind::{Commits, Kind, Level, Levels};
 pub use pass::Pass;
 pub use watch::Watch;

@@ -2,22 +2,23 @@
 
 ghost use Rattle.std.specs.Prelude.{◌≡◌};
 ghost use mathlib.Core.List.{IsPrefix};
-ghost use Rattle.r10_gauge.specs.Published.{last_triple, AreNumbered};
+ghost use Rattle.r10_gauge.specs.Published.{last_triple};
 
 use crate::cell::{Cell, Glancing, Splitting};
+use crate::kind::{Commits, Kind};
 use crate::pass::Pass;
 use r10_body::Glance;
 use std::alloc::Global;
-use std::marker::Model;
+use std::marker::{Model, PhantomData};
 use std::sync::{Arc, Wait};
 
 /// The end of a gauge at which threads look, beside the lock that keeps the publishing end. Contracts see which gauge it is.
 #[derive(Drop)]
-pub struct Watch {
-    pub(crate) cell: Arc<Cell, Global>,
+pub struct Watch<K: Kind = Commits> {
+    pub(crate) cell: Arc<Cell<K>, Global>,
 }
 
-impl Model for Watch {
+impl<K: Kind> Model for Watch<K> {
     ghost use Rattle.std.specs.Arc.{arc_value};
     ghost use Rattle.atomic_table.specs.Seated.{TableId, table_id_coded};
 
@@ -28,17 +29,17 @@ impl Model for Watch {
     ghost view = { λ w. (arc_value w.cell).table.shared.table_id };
 }
 
-impl Watch {
+impl<K: Kind> Watch<K> {
     /// The last triple of all that is published at this moment. What the pass had seen is a beginning of that list, and the pass has now
     /// seen all of it. This takes no memory and asks for no lock of a recorder.
-    pub fn glance<R: Wait>(&self, rt: &R, pass: &mut Pass) -> Glance
+    pub fn glance<R: Wait>(&self, rt: &R, pass: &mut Pass<K>) -> Glance
         requires { pass.old.cell ≡ self.now }
         ensures same { pass.new.cell ≡ pass.old.cell }
         ensures seen { IsPrefix pass.old.seen pass.new.seen }
         ensures last { result ≡ last_triple pass.new.seen }
-        ensures numbered { AreNumbered pass.new.seen }
+        ensures numbered { K.keeps pass.new.seen }
     {
-        let words = self.cell.load_as::<Glancing, R>(rt, &mut pass.seat);
+        let words = self.cell.load_as::<Glancing<K>, R>(rt, &mut pass.seat);
         pass.last = Glance {
             commits: words[0],
             file: words[1],
@@ -48,7 +49,7 @@ impl Watch {
     }
 
     /// A pass that has seen the same, for another thread.
-    pub fn split(&self, pass: &mut Pass) -> Pass
+    pub fn split(&self, pass: &mut Pass<K>) -> Pass<K>
         requires { pass.old.cell ≡ self.now }
         ensures stays { pass.new ≡ pass.old }
         ensures other { result ≡ pass.old }
@@ -57,6 +58,7 @@ impl Watch {
         Pass {
             seat,
             last: pass.last,
+            of: PhantomData,
         }
     }
 }

@@ -1,6 +1,6 @@
 //! The sending end.
 
-ghost use Rattle.std.specs.Prelude.{◌≡◌, ◌<◌, ◌≤◌, ◌+◌, ◌++◌, [], ◌∷◌, OnOk, OnErr, length, min};
+ghost use Rattle.std.specs.Prelude.{◌≡◌, ◌<◌, ◌≤◌, ◌+◌, ◌-◌, ◌++◌, [], ◌∷◌, OnOk, OnErr, length, min};
 ghost use Rattle.rtrb.specs.Ring.{SameProducer, known_free, sent as pushed};
 ghost use Rattle.r10_machine.specs.Machine.{saturated};
 ghost use Rattle.r10_port.specs.Items.{ItemMayFollow};
@@ -112,6 +112,22 @@ impl Port {
         ensures { result ≡ self.now.lane.lost }
     {
         self.lost
+    }
+
+    /// Looks how much of what was sent the other end has taken. It may take more at any time. This takes no memory and waits for nobody.
+    pub fn look(&mut self)
+        ensures same { self.new ≡ record self.old { free = self.new.free } }
+        ensures no_fewer { self.old.free ≤ self.new.free }
+    {
+        let _room = self.producer.slots();
+    }
+
+    /// How many places of the lane are not known to be free: those of what was not taken yet at the last look, and of what was sent since.
+    pub fn waiting(&self) -> usize
+        ensures { result ≡ self.now.lane.spec.capacity - self.now.free }
+    {
+        let capacity = self.spec.capacity;
+        capacity.saturating_sub(self.producer.cached_slots())
     }
 }
 

@@ -9,6 +9,8 @@ mod beside;
 #[cfg(test)]
 mod fakes;
 #[cfg(test)]
+mod levels;
+#[cfg(test)]
 mod lock;
 #[cfg(test)]
 mod losing;

@@ -1,3 +1,4 @@
+pub mod Shows
 pub mod Turns
 pub mod Apart
 pub mod Looking

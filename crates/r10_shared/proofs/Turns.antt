@@ -9,7 +9,11 @@ use Rattle.r10_source.specs.Pumps.{Tried, PumpsSource, is_accepted, is_refused, 
 use Rattle.r10_source.specs.declared.source.Turn.{Turn}
 use Rattle.r10_source.proofs.Feeding.{offers_join, offers_sent, offers_same}
 use Rattle.r10_shared.specs.Feeding.{FedBehind, FedFrom, FedUnless, FedUntil, HasRunUntil, HasRunWhole, never}
+use Rattle.r10_body.specs.declared.refusal.Glance.{Glance}
+use Rattle.r10_gauge.specs.Published.{PublishingEnd}
+use Rattle.r10_shared.specs.Levels.{FedShowing, GrewBy, ShowsEach, shown_by}
 use Rattle.r10_shared.specs.Naming.{SendingLine}
+use Rattle.r10_shared.proofs.Shows.{grew_join, grew_none, shows_join, tells_last, turn_shown}
 use Rattle.r10_shared.specs.declared.source.Tally.{Tally}
 
 -- so much was done, and this is left
@@ -57,6 +61,39 @@ fed_join n a b c p q r x tally accepted refused (fed, left) pumps more others =
       },
       refl,
     )
+
+-- so much was tried and shown, and this is left
+pub record FedShown (a b : List Turn) (p q : Sending) (tally : Tally) (gauge later : Option PublishingEnd) : Type 0 where
+  pub fed : FedFrom a p q tally
+  pub left : fed.left ≡ b
+  pub shown : List Glance
+  pub shows : ShowsEach p fed.tried shown q
+  pub grew : GrewBy gauge later shown
+
+pub shown_none : (a : List Turn) (p : Sending) (gauge : Option PublishingEnd) → FedShown a a p p none_tallied gauge gauge
+unfolding fed_none
+shown_none a p gauge = record { fed = (fed_none a p).0; left = (fed_none a p).1; shown = []; shows = (refl, refl); grew = grew_none gauge }
+
+pub shown_join : (a b c : List Turn) (p q r : Sending) (x : Pumped) (tally : Tally) (accepted refused : ℕ) (gauge mid later : Option PublishingEnd) → FedShown a b p q tally gauge mid → PumpsSource 1 b c q r x → GrewBy mid later (shown_by q r)
+    → accepted ≡ saturated (tally.accepted + x.accepted) → refused ≡ saturated (tally.refused + x.refused) → FedShown a c p r (record { accepted = accepted; refused = refused }) gauge later
+unfolding fed_join
+shown_join a b c p q r x tally accepted refused gauge mid later so pumps grew more others =
+    let joined = fed_join 1 a b c p q r x tally accepted refused (so.fed, so.left) pumps more others in record {
+      fed = joined.0;
+      left = joined.1;
+      shown = so.shown ++ shown_by q r;
+      shows = shows_join p q r so.fed.tried pumps.tried so.shown (shown_by q r) so.shows (turn_shown q r pumps.tried pumps.turns pumps.offers);
+      grew = grew_join gauge mid later so.shown (shown_by q r) so.grew grew;
+    }
+
+pub showing_all : (a b : List Turn) (p q : Sending) (tally : Tally) (gauge later : Option PublishingEnd) → FedShown a b p q tally gauge later → FedShowing a p q tally gauge later
+showing_all a b p q tally gauge later so = record {
+  fed = so.fed;
+  shown = so.shown;
+  shows = so.shows;
+  grew = so.grew;
+  last = tells_last gauge later p q so.fed.tried so.shown so.grew so.shows;
+}
 
 -- where the source has ended, all that it had was offered
 pub fed_whole : (stops : Bool → Type 0) (n : ℕ) (a b c : List Turn) (p q r : Sending) (x : Pumped) (tally : Tally) (accepted refused : ℕ) → FedTo a b p q tally → PumpsSource n b c q r x → accepted ≡ saturated (tally.accepted + x.accepted) → refused ≡ saturated (tally.refused + x.refused) → x.ended ≡ true

@@ -6,6 +6,7 @@ pub mod Watching
 pub mod Desk
 pub mod DeskLaws
 pub mod Feeding
+pub mod Levels
 pub mod Orders
 pub mod Readings
 pub mod ReadingLaws

@@ -30,7 +30,7 @@ pub use gate::{Gate, Open};
 pub use giving::{Control, give};
 pub use line::Line;
 pub use order::Order;
-pub use r10_gauge::Pass;
+pub use r10_gauge::{Gauge, Level, Levels, Pass, Watch};
 pub use r10_held::{Cabinet, Gauged, Held, Instalment, Player, Rings, Transcript};
 pub use reading::Reading;
 pub use report::{FeedReport, SessionReport, audit};

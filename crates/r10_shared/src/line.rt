@@ -1,16 +1,18 @@
 //! A channel with the sending end of its lane.
 
-ghost use Rattle.std.specs.Prelude.{◌≡◌, ◌-◌, ◌++◌, Some, length, take, vec_capacity};
+ghost use Rattle.std.specs.Prelude.{◌≡◌, ◌-◌, ◌++◌, [], ◌∷◌, Some, length, take, vec_capacity};
 ghost use Rattle.r10_machine.specs.Machine.{saturated};
 ghost use Rattle.r10_port.specs.Ends.{TookReceived, sent, unreceived};
 ghost use Rattle.r10_shared.specs.Feeding.{FedUntil};
+ghost use Rattle.r10_shared.specs.Levels.{FedShowing, GrewBy, level_of};
 ghost use Rattle.r10_held.specs.Naming.{ring_for};
 
 use crate::gate::Gate;
-use crate::source::{AnySource, Tally, feed_port};
+use crate::source::{AnySource, Tally, feed_port, show_level};
 use crate::stop::Stop;
 use crate::waiting::Progress;
 use r10_body::Sample;
+use r10_gauge::{Gauge, Levels};
 use r10_held::Rings;
 use r10_port::{Outlet, Port};
 use std::marker::{Model, PhantomData};
@@ -78,12 +80,30 @@ impl<N: Rings> Line<N> {
         worker: usize,
         stop: &S,
         source: AnySource,
+        gauge: &mut Option<Gauge<Levels>>,
         progress: &Progress,
     ) -> Tally
         ensures channel { self.new.channel ≡ self.old.channel }
         ensures fed { FedUntil (G.answers gate.now worker) (S.answers stop.now) (rest source) self.old.port self.new.port result }
+        ensures shown { FedShowing (rest source) self.old.port self.new.port result gauge.old gauge.new }
     {
-        feed_port(rt, gate, worker, stop, source, &mut self.port, progress)
+        feed_port(
+            rt,
+            gate,
+            worker,
+            stop,
+            source,
+            &mut self.port,
+            gauge,
+            progress,
+        )
+    }
+
+    /// Shows the level of the lane at the gauge, if there is one.
+    pub(crate) fn show<R: Wait>(&self, rt: &R, gauge: &mut Option<Gauge<Levels>>)
+        ensures { GrewBy gauge.old gauge.new (level_of self.now.port ∷ []) }
+    {
+        show_level(rt, &self.port, gauge);
     }
 
     /// Moves what is left between the two ends behind what `into` has, as much of it as `into` has room for. It takes no memory.

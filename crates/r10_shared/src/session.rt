@@ -4,6 +4,7 @@ ghost use Rattle.std.specs.Prelude.{◌≡◌, ◌<◌, ◌≤◌, ℕ, All, IfE
 ghost use Rattle.r10_shared.specs.Desk.{IsNoted, WasAsked, WasTurned, Worked, number_after};
 ghost use Rattle.r10_shared.specs.Feeding.{HasRun, HasRunUntil, HasRunWhole};
 ghost use Rattle.r10_shared.specs.Giving.{GivesInTurn};
+ghost use Rattle.r10_shared.specs.Levels.{HasShown};
 ghost use Rattle.r10_shared.specs.Readings.{HasReadAll, ReadsOn};
 ghost use Rattle.r10_shared.specs.Rounds.{IsWriting};
 ghost use Rattle.r10_shared.specs.Watching.{IsWatching};
@@ -112,6 +113,7 @@ fn run_all<
     requires { All (λ reading. reading.player.pass.cell ≡ cabinet.now) readings.old }
     ensures feeds { (i : ℕ) (d : _) → i < length feeds.old → HasRun (λ s. rest s) (slice_index_or feeds.old i d).source (slice_index_or feeds.old i d).line (slice_index_or feeds.old i d).tally (slice_index_or feeds.new i d).line (slice_index_or feeds.new i d).tally }
     ensures until { (i : ℕ) (d : _) → i < length feeds.old → HasRunUntil (G.answers gate.now i) (S.answers stop.now) (λ s. rest s) (slice_index_or feeds.old i d).source (slice_index_or feeds.old i d).line (slice_index_or feeds.new i d).line (slice_index_or feeds.new i d).tally }
+    ensures shown { (i : ℕ) (d : _) → i < length feeds.old → HasShown (λ s. rest s) (slice_index_or feeds.old i d).source (slice_index_or feeds.old i d).line (slice_index_or feeds.old i d).gauge (slice_index_or feeds.new i d).line (slice_index_or feeds.new i d).tally (slice_index_or feeds.new i d).gauge }
     ensures writes { Worked (G.answers gate.now (length feeds.old)) IsWriting (WasTurned M.disk N.rings) }
     ensures gives { Worked (G.answers gate.now (number_after (length feeds.old) 1)) (GivesInTurn orders.now) (WasAsked M.disk N.rings) }
     ensures watch { (i : ℕ) → i < length readings.old → Worked (G.answers gate.now (number_after (number_after (length feeds.old) 2) i)) IsWatching IsNoted }
@@ -122,7 +124,8 @@ fn run_all<
     let along = &progress;
     let mut feeding = ||
         ensures { ((i : ℕ) (d : _) → i < length feeds.entry.now → HasRunUntil (G.answers gate.entry.now i) (S.answers stop.entry.now) (λ s. rest s) (slice_index_or feeds.entry.now i d).source (slice_index_or feeds.entry.now i d).line (slice_index_or feeds.exit.now i d).line (slice_index_or feeds.exit.now i d).tally)
-            × ((i : ℕ) (d : _) → i < length feeds.entry.now → HasRun (λ s. rest s) (slice_index_or feeds.entry.now i d).source (slice_index_or feeds.entry.now i d).line (slice_index_or feeds.entry.now i d).tally (slice_index_or feeds.exit.now i d).line (slice_index_or feeds.exit.now i d).tally) }
+            × ((i : ℕ) (d : _) → i < length feeds.entry.now → HasRun (λ s. rest s) (slice_index_or feeds.entry.now i d).source (slice_index_or feeds.entry.now i d).line (slice_index_or feeds.entry.now i d).tally (slice_index_or feeds.exit.now i d).line (slice_index_or feeds.exit.now i d).tally)
+            × ((i : ℕ) (d : _) → i < length feeds.entry.now → HasShown (λ s. rest s) (slice_index_or feeds.entry.now i d).source (slice_index_or feeds.entry.now i d).line (slice_index_or feeds.entry.now i d).gauge (slice_index_or feeds.exit.now i d).line (slice_index_or feeds.exit.now i d).tally (slice_index_or feeds.exit.now i d).gauge) }
     { run_feeds(rt, gate, stop, feeds, along) };
     let mut others = ||
         requires { All (λ reading. reading.player.pass.cell ≡ cabinet.now) readings.now }
@@ -175,6 +178,7 @@ pub fn run_session_until<
     requires { All (λ player. player.pass.cell ≡ cabinet.now) players.items }
     ensures feeds { IfOk result (λ session. (length session.feeds.items ≡ length feeds.items) × ((i : ℕ) (d : _) → i < length feeds.items → HasRun (λ s. rest s) (slice_index_or feeds.items i d).source (slice_index_or feeds.items i d).line (slice_index_or feeds.items i d).tally (slice_index_or session.feeds.items i d).line (slice_index_or session.feeds.items i d).tally)) }
     ensures players { IfOk result (λ session. (length session.readings.items ≡ length players.items) × ((i : ℕ) (d : _) (e : _) → i < length players.items → HasReadAll (slice_index_or players.items i d) (slice_index_or session.readings.items i e))) }
+    ensures shown { IfOk result (λ session. (i : ℕ) (d : _) → i < length feeds.items → HasShown (λ s. rest s) (slice_index_or feeds.items i d).source (slice_index_or feeds.items i d).line (slice_index_or feeds.items i d).gauge (slice_index_or session.feeds.items i d).line (slice_index_or session.feeds.items i d).tally (slice_index_or session.feeds.items i d).gauge) }
     ensures until { IfOk result (λ session. (i : ℕ) (d : _) → i < length feeds.items → HasRunUntil (G.answers gate.now i) (S.answers stop.now) (λ s. rest s) (slice_index_or feeds.items i d).source (slice_index_or feeds.items i d).line (slice_index_or session.feeds.items i d).line (slice_index_or session.feeds.items i d).tally) }
     ensures writes { OnOk result (Worked (G.answers gate.now (length feeds.items)) IsWriting (WasTurned M.disk N.rings)) }
     ensures gives { OnOk result (Worked (G.answers gate.now (number_after (length feeds.items) 1)) (GivesInTurn orders.items) (WasAsked M.disk N.rings)) }
@@ -225,6 +229,7 @@ pub fn run_session<
     requires { All (λ player. player.pass.cell ≡ cabinet.now) players.items }
     ensures feeds { IfOk result (λ session. (length session.feeds.items ≡ length feeds.items) × ((i : ℕ) (d : _) → i < length feeds.items → HasRun (λ s. rest s) (slice_index_or feeds.items i d).source (slice_index_or feeds.items i d).line (slice_index_or feeds.items i d).tally (slice_index_or session.feeds.items i d).line (slice_index_or session.feeds.items i d).tally)) }
     ensures players { IfOk result (λ session. (length session.readings.items ≡ length players.items) × ((i : ℕ) (d : _) (e : _) → i < length players.items → HasReadAll (slice_index_or players.items i d) (slice_index_or session.readings.items i e))) }
+    ensures shown { IfOk result (λ session. (i : ℕ) (d : _) → i < length feeds.items → HasShown (λ s. rest s) (slice_index_or feeds.items i d).source (slice_index_or feeds.items i d).line (slice_index_or feeds.items i d).gauge (slice_index_or session.feeds.items i d).line (slice_index_or session.feeds.items i d).tally (slice_index_or session.feeds.items i d).gauge) }
     ensures whole { IfOk result (λ session. (i : ℕ) (d : _) → i < length feeds.items → HasRunWhole (G.answers gate.now i) (λ s. rest s) (slice_index_or feeds.items i d).source (slice_index_or feeds.items i d).line (slice_index_or session.feeds.items i d).line (slice_index_or session.feeds.items i d).tally) }
     ensures writes { OnOk result (Worked (G.answers gate.now (length feeds.items)) IsWriting (WasTurned M.disk N.rings)) }
     ensures gives { OnOk result (Worked (G.answers gate.now (number_after (length feeds.items) 1)) (GivesInTurn orders.items) (WasAsked M.disk N.rings)) }

@@ -54,6 +54,22 @@ fn a_full_lane_loses_messages_and_tells_how_many(rt: HostRuntime) -> Result<(), 
     Ok(())
 }
 
+#[test]
+fn a_sender_sees_how_full_its_lane_is(rt: HostRuntime) -> Result<(), Fail> {
+    let alloc = rt.alloc();
+    let (mut port, mut outlet) = lane(alloc, CHANNEL)?;
+    let none = port.waiting();
+    let answers = [offer(&mut port, alloc, 1), offer(&mut port, alloc, 2)];
+    let both = port.waiting();
+    let taken = told(outlet.take());
+    let not_seen = port.waiting();
+    port.look();
+    assert_eq!(rt; answers, [Ok(()), Ok(())]);
+    assert_eq!(rt; taken, Some((1, Gap::Whole)));
+    assert_eq!(rt; (none, both, not_seen, port.waiting()), (0, 2, 2, 1));
+    Ok(())
+}
+
 /// The rest goes into room that is there, and what finds none waits on.
 #[test]
 fn the_rest_goes_into_room(rt: HostRuntime) -> Result<(), Fail> {

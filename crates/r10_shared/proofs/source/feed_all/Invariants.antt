@@ -1,8 +1,7 @@
-use Rattle.std.proofs.Common.{◌≡◌}
-use Rattle.r10_shared.specs.Feeding.{FedFrom}
+use Rattle.r10_shared.proofs.Turns.{FedShown}
 use Rattle.r10_shared.proofs.source.feed_all.Given as goal
 
 abbrev pub invariant-loop : goal.invariant-loop
 invariant-loop g l =
-    (fed : FedFrom ((goal.ChannelSource-dyn g (l.initial.source.vtable, l.initial.source.value)).rest l.initial.source.value) l.initial.port l.port (record { accepted = l.accepted; refused = l.refused }))
-    × (fed.left ≡ (goal.ChannelSource-dyn g (l.source.vtable, l.source.value)).rest l.source.value)
+    FedShown ((goal.ChannelSource-dyn g (l.initial.source.vtable, l.initial.source.value)).rest l.initial.source.value) ((goal.ChannelSource-dyn g (l.source.vtable, l.source.value)).rest l.source.value) l.initial.port l.port
+    (record { accepted = l.accepted; refused = l.refused }) l.initial.gauge l.gauge

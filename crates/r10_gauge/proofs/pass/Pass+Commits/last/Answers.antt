@@ -3,7 +3,7 @@ use Rattle.crossbeam_utils.specs.Seq.{cell_view}
 use Rattle.r10_body.specs.declared.refusal.Glance.{Glance}
 use Rattle.r10_gauge.proofs.Steps.{last_counts}
 use Rattle.r10_gauge.specs.Published.{LookingEnd, commits_of}
-use Rattle.r10_gauge.proofs.pass.Pass.last.Goals as goal
+use Rattle.r10_gauge.proofs.pass.Pass+Commits.last.Goals as goal
 
 pub returns-clause-commits : goal.returns-clause-commits
 returns-clause-commits c =
