@@ -1,7 +1,8 @@
 /* A long file in parts: what they give, one after the other, is what one cursor gives at once.
  * A file that grows in parts: the program keeps each part's cursor and advances it again, so that what comes late is given too.
- * The entries are taken in two calls, into memory of their own length. */
+ * The entries are taken in two calls, into memory of their own length. How much memory the parts of a long file take is counted. */
 #include <inttypes.h>
+#include <malloc.h>
 #include <stdio.h>
 #include <stdlib.h>
 #include <string.h>
@@ -18,6 +19,35 @@ static const char script[] = "blocks = 4096\n"
                              "event = 2\n"
                              "[[channel]]\nid = 3\nkind = \"uart\"\ncapacity = 64\ncheck = 0\nbytes = 4096\nnumber = 100\n"
                              "[[channel]]\nid = 4\nkind = \"1553\"\ncapacity = 64\ncheck = 8\nbytes = 4096\nnumber = 10\n";
+
+extern void *__libc_malloc(size_t size);
+extern void *__libc_realloc(void *at, size_t size);
+extern void __libc_free(void *at);
+
+/* how many bytes of memory are in use, and how many were at the most */
+static size_t in_use, at_most;
+
+static void *noted(void *at) {
+    if (at != NULL)
+        in_use += malloc_usable_size(at);
+    if (in_use > at_most)
+        at_most = in_use;
+    return at;
+}
+
+void *malloc(size_t size) { return noted(__libc_malloc(size)); }
+
+void *realloc(void *at, size_t size) {
+    if (at != NULL)
+        in_use -= malloc_usable_size(at);
+    return noted(__libc_realloc(at, size));
+}
+
+void free(void *at) {
+    if (at != NULL)
+        in_use -= malloc_usable_size(at);
+    __libc_free(at);
+}
 
 typedef struct taken {
     uint64_t count;
@@ -116,16 +146,15 @@ static void in_parts(const char *what, const uint16_t *ids, size_t id_count, uin
     size_t wanted = at_once(ids, id_count, from, to), count = 0, cursor, queued, largest = 0, number = 0;
     for (;;) {
         bool there;
-        uint64_t first = parts.from;
         must("part", r10_part(&recorder, &parts, 0, ids, id_count, most, &there, &cursor, &queued));
         if (!there)
             break;
         number++;
         if (queued > largest)
             largest = queued;
-        size_t got = 0;
+        size_t got = 0, first = count;
         while (count < ALL && next(cursor, &again[count])) {
-            if (queued > most && again[count].count != first)
+            if (queued > most && again[count].count != again[first].count)
                 printf("more than %zu entries, and not of one count\n", most);
             count++;
             got++;
@@ -248,6 +277,64 @@ static void while_it_grows(size_t most) {
     r10_close(&recorder);
 }
 
+/* ---- a burst after an hour without a message */
+
+static const char long_script[] = "blocks = 65536\n"
+                                  "directory = 2\n"
+                                  "volume = \"VOL\"\n"
+                                  "nodes = 100\n"
+                                  "time = 1\n"
+                                  "event = 2\n"
+                                  "[[channel]]\nid = 3\nkind = \"uart\"\ncapacity = 64\ncheck = 0\nbytes = 65536\nnumber = 1000\n";
+
+/* What the parts of a file take, beside what one cursor takes. */
+static void burst(void) {
+    enum { HOUR = 3600, SECONDS = 600, EACH_SECOND = 100, MOST = 50 };
+    const r10_civil civil = {2024, 2, 29, 12, 34, 56, 78};
+    const uint64_t second = 10000000, end = ((uint64_t)1 << 48) - 1;
+    const uint16_t line[1] = {3};
+    uint8_t bytes[60] = {0};
+    size_t moved, took, left, cursor, queued, largest = 0, count = 0, before;
+    void *blocks = calloc(65536, 512);
+    if (blocks == NULL)
+        exit(1);
+    must("format", r10_format((r10_region){blocks, 65536}, 64, long_script, strlen(long_script), &recorder));
+    must("mount", r10_mount(&recorder));
+    must("tick", r10_tick(&recorder, 0, &civil));
+    must("start", r10_start(&recorder, "BURST", 5, "", 0));
+    for (uint64_t n = 0; n < SECONDS * EACH_SECOND; n++) {
+        must("offer", r10_offer_uart(&recorder, 3, HOUR * second + n * (second / EACH_SECOND), false, 0, bytes, sizeof bytes));
+        must("pump", r10_pump(&recorder, 3, 1, &moved));
+    }
+    must("stop", r10_stop(&recorder, &took, &left));
+    must("cursor", r10_cursor(&recorder, 0, line, 1, 0, end, &cursor));
+    before = at_most = in_use;
+    must("advance", r10_advance(&recorder, cursor, &queued));
+    printf("a burst: %zu entries, at once in more than 4 MiB: %s\n", queued, at_most - before > 4 << 20 ? "yes" : "NO");
+    must("close", r10_close_cursor(&recorder, cursor));
+    r10_parts parts = {0, end, 0};
+    before = at_most = in_use;
+    for (bool there = true; there;) {
+        bool one = true;
+        r10_entry entry;
+        must("part", r10_part(&recorder, &parts, 0, line, 1, MOST, &there, &cursor, &queued));
+        if (!there)
+            break;
+        if (queued > largest)
+            largest = queued;
+        while (one) {
+            must("take", r10_take(&recorder, cursor, &one, &entry));
+            count += one;
+        }
+        must("close", r10_close_cursor(&recorder, cursor));
+    }
+    printf("in parts: %zu entries, at most %zu in one, in less than 512 KiB: %s\n", count, largest, at_most - before < 512 << 10 ? "yes" : "NO");
+    if (at_most - before >= 512 << 10)
+        fprintf(stderr, "it took %zu bytes\n", at_most - before);
+    r10_close(&recorder);
+    free(blocks);
+}
+
 int main(void) {
     const uint16_t one[1] = {4};
     const uint64_t end = ((uint64_t)1 << 48) - 1;
@@ -277,5 +364,6 @@ int main(void) {
     while_it_grows(50);
     while_it_grows(1000000);
     free(memory);
+    burst();
     return 0;
 }

@@ -530,30 +530,63 @@ typedef struct r10_parts {
     uint64_t from, to, span;
 } r10_parts;
 
+/* The most counts that r10_part tries at once where it is given channels: ten seconds. */
+#define R10_PART_SPAN 100000000
+
+/* The count of the first shown entry of these channels from this count on; UINT64_MAX where there is none. Numbers as r10_find. */
+static inline uint32_t r10_first_count(r10 *recorder, size_t file, const uint16_t *ids, size_t id_count, uint64_t from, uint64_t *first) {
+    bool there;
+    size_t number;
+    r10_entry entry;
+    uint16_t words[36];
+    uint8_t bytes[65535];
+    *first = UINT64_MAX;
+    for (size_t n = 0; n < id_count; n++) {
+        uint32_t answer = r10_find(recorder, file, ids[n], from, &there, &number, &entry, bytes, sizeof bytes, words, 36);
+        if (answer != R10_OK)
+            return answer;
+        if (there && entry.count < *first)
+            *first = entry.count;
+    }
+    return R10_OK;
+}
+
 /* Opens a cursor on the next part of a file and queues it, so that a long file is read in little memory: the counts from parts->from
  * on, as far as at most `most` entries are queued, or all of one count. Then parts->from is the first count that is not read yet, and
  * above parts->to once all is read. `there` says whether there was a part; one may have no entries. The program takes the entries,
  * and closes the cursor. Of a file that does not grow, the parts one after the other are what one cursor over all counts gives at
  * once.
  *
+ * To find the end of a part it queues more for a moment: where channels are given, no more than was recorded in ten seconds
+ * (R10_PART_SPAN); for all channels, where none is, up to twice the time of the last part.
+ *
  * A file that is recorded may show entries later whose counts were read already. So a program that follows it sets parts->to to a
  * count that the recording has reached, and keeps the cursor of each part. After later commits it advances these again, which gives
- * what came late, and raises parts->to for new parts. So each entry is given once. Numbers as r10_cursor and r10_advance. */
+ * what came late, and raises parts->to for new parts. So each entry is given once. Numbers as r10_cursor, r10_advance and r10_find. */
 static inline uint32_t r10_part(r10 *recorder, r10_parts *parts, size_t file, const uint16_t *ids, size_t id_count, size_t most,
                                 /* out */ bool *there, size_t *cursor, size_t *queued) {
     if (recorder == NULL)
         return R10_CLOSED;
-    if (parts == NULL || there == NULL || cursor == NULL || queued == NULL)
+    if (parts == NULL || (ids == NULL && id_count > 0) || there == NULL || cursor == NULL || queued == NULL)
         return R10_ROOM;
     if (parts->from > parts->to) {
         *there = false;
         return R10_OK;
     }
-    /* one second at the start */
-    uint64_t span = parts->span > 0 ? parts->span : 10000000;
+    /* one second at the start; before the first entry there is nothing to read */
+    uint64_t span = parts->span > 0 ? parts->span : 10000000, first = parts->from;
+    if (id_count > 0) {
+        uint32_t answer = r10_first_count(recorder, file, ids, id_count, parts->from, &first);
+        if (answer != R10_OK)
+            return answer;
+        if (first > parts->to)
+            first = parts->to;
+        if (span > R10_PART_SPAN)
+            span = R10_PART_SPAN;
+    }
     for (;;) {
         size_t id, count;
-        uint64_t last = parts->to - parts->from < span ? parts->to : parts->from + (span - 1);
+        uint64_t last = parts->to - first < span ? parts->to : first + (span - 1);
         uint32_t answer = r10_cursor(recorder, file, ids, id_count, parts->from, last, &id);
         if (answer != R10_OK)
             return answer;
@@ -562,9 +595,9 @@ static inline uint32_t r10_part(r10 *recorder, r10_parts *parts, size_t file, co
             r10_close_cursor(recorder, id);
             return answer;
         }
-        if (count > most && last > parts->from) {
+        if (count > most && last > first) {
             r10_close_cursor(recorder, id);
-            span = (last - parts->from + 1) / 2;
+            span = (last - first + 1) / 2;
             continue;
         }
         parts->from = last + 1;

@@ -5,8 +5,14 @@ use std::ops::RangeInclusive;
 /// One second.
 const FIRST: u64 = 10_000_000;
 
+/// The most counts that are tried at once where channels are given: ten seconds.
+const SPAN: u64 = 100_000_000;
+
 /// A reader of a long file, part by part: so it takes little memory. Of a file that does not grow, the parts one after the other are
 /// what one cursor gives at once. Of a file that is recorded, what is shown later with a count that was read already is not given.
+///
+/// To find the end of a part it queues more for a moment: where channels are given, no more than was recorded in ten seconds; for all
+/// channels, where none is, up to twice the time of the last part.
 #[derive(Clone, Debug)]
 pub struct Parts {
     file: usize,
@@ -23,11 +29,29 @@ impl Parts {
         Parts { file, channels: channels.to_vec(), from: *counts.start(), to: *counts.end(), span: FIRST, most }
     }
 
+    /// Where the next part's first entry is, where channels are given: before it there is nothing to read.
+    fn first(&self, recorder: &mut Recorder) -> Result<u64, Error> {
+        if self.channels.is_empty() {
+            return Ok(self.from);
+        }
+        let mut first = self.to;
+        for channel in &self.channels {
+            if let Some((_, entry)) = recorder.find(self.file, *channel, self.from)? {
+                first = first.min(entry.count);
+            }
+        }
+        Ok(first)
+    }
+
     /// A cursor that has the next part in its queue, and how many entries that is; none where all is read. Its caller closes it.
     pub fn next(&mut self, recorder: &mut Recorder) -> Result<Option<(Cursor, usize)>, Error> {
-        let mut span = self.span;
-        while self.from <= self.to {
-            let last = if self.to - self.from < span { self.to } else { self.from + (span - 1) };
+        if self.from > self.to {
+            return Ok(None);
+        }
+        let first = self.first(recorder)?;
+        let mut span = if self.channels.is_empty() { self.span } else { self.span.min(SPAN) };
+        loop {
+            let last = if self.to - first < span { self.to } else { first + (span - 1) };
             let cursor = recorder.cursor(self.file, &self.channels, self.from..=last)?;
             let queued = match recorder.advance(cursor) {
                 Ok(queued) => queued,
@@ -36,15 +60,14 @@ impl Parts {
                     return Err(error);
                 }
             };
-            if queued > self.most && last > self.from {
+            if queued > self.most && last > first {
                 recorder.close_cursor(cursor)?;
-                span = (last - self.from).div_ceil(2);
+                span = (last - first).div_ceil(2);
                 continue;
             }
             self.from = last + 1;
             self.span = if queued > self.most / 4 { span } else { span.saturating_mul(2) };
             return Ok(Some((cursor, queued)));
         }
-        Ok(None)
     }
 }
