@@ -1,6 +1,7 @@
 //! Entries of index packets.
 
 ghost use Rattle.std.specs.Prelude.{◌≡◌, ◌+◌, ◌*◌, ◌^◌};
+ghost use Rattle.r10_indexbody.specs.Index.{node_entry};
 
 use r10_count::{BodyEntry, Count, append_all, split_u32, split_u64};
 use std::alloc::{AllocError, Global};
@@ -32,6 +33,21 @@ fn packet_word(data_type: u8, channel: u16) -> u32
     ensures { result ≡ 2 ^ 16 * data_type + channel }
 {
     0x1_0000 * u32::from(data_type) + u32::from(channel)
+}
+
+impl NodeEntry {
+    /// Its 20 bytes.
+    #[inline(always)]
+    fn row(&self) -> [u8; 20]
+        ensures { result ≡ node_entry self.now }
+    {
+        let [s0, s1, s2, s3, s4, s5, s6, s7] = self.counter.stamp();
+        let [p0, p1, p2, p3] = packet_word(self.data_type, self.channel).to_le_bytes();
+        let [o0, o1, o2, o3, o4, o5, o6, o7] = self.offset.to_le_bytes();
+        [
+            s0, s1, s2, s3, s4, s5, s6, s7, p0, p1, p2, p3, o0, o1, o2, o3, o4, o5, o6, o7,
+        ]
+    }
 }
 
 impl BodyEntry for NodeEntry {
@@ -78,10 +94,7 @@ impl BodyEntry for NodeEntry {
 
     fn encode_into(&self, before: u64, out: &mut Vec<u8>) -> Result<(), AllocError> {
         let _ = before;
-        let stamp = self.counter.stamp();
-        let packet = packet_word(self.data_type, self.channel).to_le_bytes();
-        let offset = self.offset.to_le_bytes();
-        append_all(out, &[&stamp, &packet, &offset])
+        out.extend_from_slice(&self.row())
     }
 
     fn read(alloc: Global, before: u64, bytes: &[u8]) -> Result<Option<NodeEntry>, AllocError> {

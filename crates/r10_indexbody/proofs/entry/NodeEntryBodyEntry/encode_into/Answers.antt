@@ -1,11 +1,9 @@
-use Rattle.std.proofs.Common.{◌≡◌, ◌++◌, [], ℕ, List, refl, subst}
+use Rattle.std.proofs.Common.{rules, ℕ, List, subst}
 use Rattle.r10_count.specs.Append.{Appends}
-use Rattle.r10_indexbody.specs.Index.{node_entry}
 use Rattle.r10_indexbody.proofs.entry.NodeEntryBodyEntry.encode_into.Goals as goal
 
 pub returns : goal.returns
 returns c =
-    let parts : c.stamp-stamp.result ++ (c.to_le_bytes-packet.result ++ (c.to_le_bytes-offset.result ++ [])) ≡ node_entry c.args.self.now =
-    rw (c.stamp-stamp.ensures, c.to_le_bytes-packet.ensures, c.packet_word.ensures, c.to_le_bytes-offset.ensures) refl in
-    let Adds : List ℕ → Type 0 = λ more. Appends more c.args.out.now c.append_all.new.out c.append_all.result in
-    subst Adds parts c.append_all.ensures
+    let Adds : List ℕ → Type 0 = λ more. Appends more c.args.out.now c.extend_from_slice.new.self c.extend_from_slice.result in
+    let added : Adds c.row.result = record { written = search rules; kept = search rules; full = search rules; capacity = search rules } in
+    subst Adds c.row.ensures added
