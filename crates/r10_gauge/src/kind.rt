@@ -42,7 +42,8 @@ impl Kind for Levels {
     ghost begins = { tt };
 }
 
-/// How many messages a lane's sender sent and lost, each up to `u64::MAX`, and how many of those that it sent were not taken yet when it last looked.
+/// How many messages a lane's sender sent and lost, each up to `u64::MAX`, and how many of those that it sent were not taken yet
+/// when it last looked.
 #[derive(Clone, Copy, Debug, Default, PartialEq, Eq)]
 pub struct Level {
     pub sent: u64,

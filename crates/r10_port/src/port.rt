@@ -114,7 +114,8 @@ impl Port {
         self.lost
     }
 
-    /// Looks how much of what was sent the other end has taken. It may take more at any time. This takes no memory and waits for nobody.
+    /// Looks how much of what was sent the other end has taken. It may take more at any time. This takes no memory and waits for
+    /// nobody.
     pub fn look(&mut self)
         ensures same { self.new ≡ record self.old { free = self.new.free } }
         ensures no_fewer { self.old.free ≤ self.new.free }
@@ -122,7 +123,8 @@ impl Port {
         let _room = self.producer.slots();
     }
 
-    /// How many places of the lane are not known to be free: those of what was not taken yet at the last look, and of what was sent since.
+    /// How many places of the lane are not known to be free: those of what was not taken yet at the last look, and of what was sent
+    /// since.
     pub fn waiting(&self) -> usize
         ensures { result ≡ self.now.lane.spec.capacity - self.now.free }
     {
