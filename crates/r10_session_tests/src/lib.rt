@@ -9,8 +9,6 @@ mod beside;
 #[cfg(test)]
 mod fakes;
 #[cfg(test)]
-mod levels;
-#[cfg(test)]
 mod lock;
 #[cfg(test)]
 mod losing;
