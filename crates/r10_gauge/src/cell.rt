@@ -15,8 +15,8 @@ pub(crate) struct SeatKnows {
     pub(crate) met: LinkedList<Glance>,
 }
 
-/// The rule: what is published is one growing list of this kind, which begins with what each seat has seen, and the words are its last
-/// triple.
+/// The rule: what is published is one growing list of this kind, which begins with what each seat has seen, and the words are its
+/// last triple.
 pub(crate) struct OneList<K: Kind> {
     of: PhantomData<K>,
 }

@@ -95,8 +95,8 @@ impl<K: Kind> Gauge<K> {
 }
 
 impl Gauge<Commits> {
-    /// Publishes the number of a file and how many of its bytes are shown, as one triple with the number of this publication, from 1
-    /// up to `u64::MAX`, where it stays. This takes no memory.
+    /// Publishes the number of a file and how many of its bytes are shown, as one triple with the number of this publication, from
+    /// 1 up to `u64::MAX`, where it stays. This takes no memory.
     pub fn publish<R: Wait>(&mut self, rt: &R, file: u64, bytes: u64)
         ensures same { self.new.cell ≡ self.old.cell }
         ensures grows { self.new.published ≡ self.old.published ++ triple (min (length self.old.published) (2 ^ 64 - 1)) file bytes ∷ [] }

@@ -11,8 +11,8 @@ use r10_held::Rings;
 use r10_port::Port;
 use std::sync::Wait;
 
-/// A source that waits for its worker, with its channel's line; and once it has run, the line, and what became of its messages. It may have a
-/// gauge, at which any thread sees the level of its lane while it runs.
+/// A source that waits for its worker, with its channel's line; and once it has run, the line, and what became of its messages. It may
+/// have a gauge, at which any thread sees the level of its lane while it runs.
 #[derive(Drop)]
 pub struct Feed<N: Rings> {
     pub(crate) source: Option<AnySource>,
@@ -60,13 +60,14 @@ impl<N: Rings> Feed<N> {
         }
     }
 
-    /// The same feed with this gauge, at which it shows its lane's level now, and then after each turn that sent or lost a message. A feed
-    /// has one gauge: the one that it had is gone.
+    /// The same feed with this gauge, at which it shows its lane's level now, and then after each turn that sent or lost a message.
+    /// A feed has one gauge: the one that it had is gone.
     pub fn watched<R: Wait>(self, rt: &R, gauge: Gauge<Levels>) -> Feed<N>
         ensures line { result.line ≡ self.line }
         ensures source { result.source ≡ self.source }
         ensures tally { result.tally ≡ self.tally }
-        ensures gauge { IsSomeAnd result.gauge (λ g. (g.cell ≡ gauge.cell) × (g.published ≡ gauge.published ++ level_of self.line.port ∷ [])) }
+        ensures gauge { IsSomeAnd result.gauge (λ g. (g.cell ≡ gauge.cell)
+            × (g.published ≡ gauge.published ++ level_of self.line.port ∷ [])) }
     {
         let Feed {
             source,
