@@ -18,3 +18,4 @@ pub mod Safely
 pub mod Own
 pub mod Standing
 pub mod Fronts
+pub mod Calls

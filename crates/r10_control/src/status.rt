@@ -1,21 +1,21 @@
 //! How a recorder is.
 
-ghost use Rattle.std.specs.Prelude.{◌≡◌, ◌-◌, ◌^◌, ◌++◌, ◌∷◌, [], List, Some, length, min, IfErr, IfOk, MatchResult};
+ghost use Rattle.std.specs.Prelude.{◌≡◌, ◌-◌, ◌^◌, ◌++◌, ◌∷◌, [], List, Some, length, min, IfErr, IfOk};
+ghost use Rattle.r10_control.specs.Calls.{TellsStatus};
 ghost use Rattle.r10_openfile.specs.Stopping.{TookAll};
 ghost use Rattle.r10_body.specs.declared.refusal.Refusal.TheVariants as refusals;
 ghost use Rattle.r10_volume.specs.Holding.{HoldsFiles};
 ghost use Rattle.r10_machine.specs.Machine.{File, Machine};
 ghost use Rattle.r10_machine.specs.Room.{area, area_from, cost_of};
 ghost use Rattle.r10_means.specs.Kept.{mode_of};
-ghost use Rattle.r10_means.specs.Means.{HasFiles, KeptStandsFor};
+ghost use Rattle.r10_means.specs.Means.{HasFiles};
 ghost use Rattle.r10_medium.specs.Disk.{Image};
 ghost use Rattle.r10_control.specs.Checks.{files_of};
-ghost use Rattle.r10_control.specs.Lanes.{AnswersWith, WaitQuietly};
-ghost use Rattle.r10_control.specs.Leading.{KeptStepsTaking, none_taken};
+ghost use Rattle.r10_control.specs.Lanes.{AnswersWith};
 ghost use Rattle.r10_control.specs.Owns.{tick_count};
-ghost use Rattle.r10_control.specs.Told.{TellsLane, TellsLanes, TellsRecorder, channels_in, free_in, left_in, status_in, without_lost};
+ghost use Rattle.r10_control.specs.Told.{TellsLane, TellsLanes, channels_in, free_in, left_in, status_in};
 ghost use Rattle.r10_control.specs.Work.{work_of};
-ghost use Rattle.r10_machine.specs.Finding.{channel_status, free_bytes, status_of};
+ghost use Rattle.r10_machine.specs.Finding.{channel_status, free_bytes};
 ghost use Rattle.r10_machine.specs.declared.event.Event.TheVariants as events;
 ghost use Rattle.r10_machine.specs.declared.reply.Reply.TheVariants as replies;
 
@@ -62,15 +62,7 @@ impl<M: BlockMedium, L: LaneOut> Recorder<M, L> {
     /// the next one may have, and of each channel how many messages its lane holds, and erases took. Of a lane that is quiet all that waits is
     /// held. Refused: OutOfMemory.
     pub fn status(&mut self) -> Result<RecorderStatus, Refusal>
-        ensures told { IfOk result (TellsRecorder L.quiet L.spec_of self.old.kept self.old.lanes) }
-        ensures meant { (m : Machine) → KeptStandsFor self.old.kept (M.disk self.old.medium).blocks (M.disk self.old.medium).failures m → WaitQuietly L.quiet self.old.lanes m.lanes → IfOk result (λ status. status ≡ without_lost (status_of self.old.kept.config m)) }
-        ensures steps { (m : Machine) → KeptStandsFor self.old.kept (M.disk self.old.medium).blocks (M.disk self.old.medium).failures m
-            → MatchResult result (λ _. KeptStepsTaking none_taken self.old.kept m events.Status (replies.Status (status_of self.old.kept.config m)) self.new.kept (M.disk self.new.medium).blocks (M.disk self.new.medium).failures)
-            (λ r. KeptStepsTaking none_taken self.old.kept m events.Status (replies.Refused r) self.new.kept (M.disk self.new.medium).blocks (M.disk self.new.medium).failures) }
-        ensures refused { IfErr result (λ r. r ≡ refusals.OutOfMemory) }
-        ensures took { TookAll L.took L.spec_of [] self.old.lanes self.new.lanes }
-        ensures kept { self.new.kept ≡ self.old.kept }
-        ensures medium { self.new.medium ≡ self.old.medium }
+        ensures does { TellsStatus L.took L.quiet L.spec_of M.disk self.old self.new result }
     {
         // For the proof: a step keeps a state sound; what is told is the machine's; the channels and blocks are within limits.
         a_step_stays_sound();

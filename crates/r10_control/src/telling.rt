@@ -1,9 +1,8 @@
 //! The calls that only tell.
 
-ghost use Rattle.std.specs.Prelude.{◌≡◌, map, None, IfErr, IfOk, OnOk};
-ghost use Rattle.r10_control.specs.Checks.{files_of, recorder_refusal};
-ghost use Rattle.r10_control.specs.Leading.{CallStepsTaking, none_taken};
-ghost use Rattle.r10_control.specs.Refused.{RefusesCall, nothing_lacks};
+ghost use Rattle.std.specs.Prelude.{◌≡◌, map, IfOk};
+ghost use Rattle.r10_control.specs.Calls.{OnlyTells};
+ghost use Rattle.r10_control.specs.Checks.{files_of};
 ghost use Rattle.r10_control.specs.Work.{work_of};
 ghost use Rattle.r10_machine.specs.declared.event.Event.TheVariants as events;
 ghost use Rattle.r10_machine.specs.declared.reply.Reply.TheVariants as replies;
@@ -30,10 +29,8 @@ impl<M: BlockMedium, L: LaneOut> Recorder<M, L> {
     /// The files in order, each with its name, its bytes, its blocks and whether it is closed; the one that is recorded is the last, as the
     /// medium shows it. Refused: Failed, NotMounted, OutOfMemory.
     pub fn files(&self) -> Result<Vec<FileInfo>, Refusal>
+        ensures does { OnlyTells M.disk events.Files (λ infos. replies.Files infos.items) self.now result }
         ensures told { IfOk result (λ infos. infos.items ≡ map info_in (files_of self.now.kept.work)) }
-        ensures passed { OnOk result (recorder_refusal self.now.kept events.Files ≡ None) }
-        ensures refused { IfErr result (RefusesCall M.disk (recorder_refusal self.now.kept events.Files) nothing_lacks self.now.kept self.now.kept self.now.medium self.now.medium) }
-        ensures steps { CallStepsTaking none_taken self.now.kept (M.disk self.now.medium).blocks (M.disk self.now.medium).failures events.Files (λ infos. replies.Files infos.items) result self.now.kept (M.disk self.now.medium).blocks (M.disk self.now.medium).failures }
     {
         // For the proof: a step keeps a state sound; what is told is the machine's; the channels are within limits.
         a_step_stays_sound();

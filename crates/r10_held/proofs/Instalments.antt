@@ -6,7 +6,7 @@ use Rattle.std.proofs.lemmas.Bool.Decides.{nat_tests}
 use Rattle.r10_body.specs.declared.refusal.Glance.{Glance}
 use Rattle.r10_body.specs.declared.refusal.Refusal.{Refusal}
 use Rattle.r10_body.specs.declared.refusal.Refusal.TheVariants.{Behind, Failed, NotMounted, Stale, Unread}
-use Rattle.r10_held.specs.Calls.{AdvancesRecorder}
+use Rattle.r10_control.specs.Calls.{AdvancesRecorder}
 use Rattle.r10_control.specs.Checks.{advancing_checks}
 use Rattle.r10_control.specs.State.{RecorderState}
 use Rattle.r10_count.specs.Checks.{first_broken}

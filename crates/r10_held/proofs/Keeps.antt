@@ -9,12 +9,10 @@ use Rattle.r10_body.specs.declared.entry.Sample.{Sample}
 use Rattle.r10_body.specs.declared.refusal.Glance.{Glance}
 use Rattle.r10_body.specs.declared.refusal.Refusal.{Refusal}
 use Rattle.r10_body.specs.declared.spec.ChannelSpec.{ChannelSpec}
-use Rattle.r10_held.specs.Calls.{SealEffect}
 use Rattle.r10_control.specs.Checks.{recorder_refusal}
 use Rattle.r10_control.specs.Effects.{CommitEffect, EraseEffect, PumpEffect, StartEffect}
 use Rattle.r10_control.specs.Own.{AreOwn, OwnGrow, OwnStay}
 use Rattle.r10_control.specs.Refused.{RefusesCall, RefusesOpen}
-use Rattle.r10_control.specs.SealRefusals.{IsSealed}
 use Rattle.r10_control.specs.State.{RecorderState}
 use Rattle.r10_control.specs.Taking.{RefusesReadied, StepsByTaking, Part, TookAll, entries_of}
 use Rattle.r10_control.specs.Told.{last_shown}
@@ -25,7 +23,7 @@ use Rattle.r10_machine.specs.declared.mode.Stopped.{Stopped}
 use Rattle.r10_machine.specs.declared.reply.Reply.{Reply as ReplyValue}
 use Rattle.r10_means.specs.Grown.{AreGrown}
 use Rattle.r10_means.specs.Kept.{Kept, Work, unmounted, idle, recording, failed}
-use Rattle.r10_medium.specs.Disk.{Disk, Image, IsSynced, Unchanged}
+use Rattle.r10_medium.specs.Disk.{Disk, Image, Unchanged}
 use Rattle.r10_port.specs.Ends.{Receiving, TookReceived}
 use Rattle.r10_held.specs.Account.{Accounted, ChannelAccounts, ChannelBounds, IsAccounted, IsBounded}
 use Rattle.r10_held.specs.LockFact.{LanesAccounted, LockFact, outlet_received, outlet_spec}
@@ -269,11 +267,3 @@ module _ {M : Type 0} (disk : M → Disk) (rings : List ChannelRing) (old new : 
       → MatchResult result (λ v. later ≡ published ++ next_triple published new.kept.work ∷ []) (λ r. later ≡ published) → LockFact disk rings old published → LockFact disk rings new later
   erase_known lacks result later passed effect refused owned lanes config grows was =
       published_known result later grows (lanes_erase disk rings old new lacks result passed effect refused owned lanes config was.lanes) refused (call_tells disk lacks old.kept new.kept old.medium new.medium (recorder_refusal old.kept events.Erase)) was
-
--- ---- a seal
-
--- its three parts at Ok are one
-pub seal_done : (k later : Kept) (old new : Disk) (result : Result (Unit {0}) Refusal) → OnOk result (IsSealed k.config old.blocks k.work new.blocks later.work) → OnOk result (IsSynced new) → OnOk result (later ≡ record k { work = later.work })
-    → OnOk result (SealEffect k old later new)
-seal_done k later old new (Ok v) sealed synced rest = record { sealed = sealed; synced = synced; rest = rest }
-seal_done k later old new (Err r) sealed synced rest = tt

@@ -4,6 +4,7 @@ use Rattle.std.specs.Prelude.{IfErr, OnOk, IsSomeAnd, is_some, find, ◌==◌, �
 use Rattle.r10_body.specs.declared.refusal.Refusal.{Refusal}
 use Rattle.r10_body.specs.declared.refusal.Refusal.TheVariants as refusals
 use Rattle.r10_body.specs.declared.spec.ChannelSpec.{ChannelSpec}
+use Rattle.r10_control.specs.Calls.{SealEffect}
 use Rattle.r10_control.specs.Checks.{recorder_refusal}
 use Rattle.r10_count.specs.Checks.{first_broken}
 use Rattle.r10_count.specs.declared.civil.Parts.{Parts}
@@ -316,9 +317,10 @@ module _ {M : Type 0} (disk : M → Disk) (lacks : Refusal → Type 0) (k later 
   pub event_left : (number count : ℕ) (result : Result (Unit {0}) Refusal) → OnOk result (recorder_refusal k (events.Event number count) ≡ None) → OnOk result (EventEffect number count k (disk old) later (disk new)) → IfErr result (RefusesOpen disk (recorder_refusal k (events.Event number count)) lacks k later old new) → Settles k later
   event_left number count result passed effect refused = answered result (both _ _ result passed effect) refused (λ done. event_settles number count k later (disk old) (disk new) (works k.work _ done.0) done.1) (open_settles disk (recorder_refusal k (events.Event number count)) lacks k later old new)
 
-  pub seal_left : (before after : Image) (result : Result (Unit {0}) Refusal) → OnOk result (recorder_refusal k events.Seal ≡ None) → OnOk result (IsSealed k.config before k.work after later.work) → OnOk result (later ≡ record k { work = later.work })
-      → IfErr result (RefusesCall disk (recorder_refusal k events.Seal) lacks k later old new) → Settles k later
-  seal_left before after result passed sealed rest refused = answered result (both _ (IsSealed k.config before k.work after later.work × (later ≡ record k { work = later.work })) result passed (both (IsSealed k.config before k.work after later.work) (later ≡ record k { work = later.work }) result sealed rest)) refused (λ done. seal_settles k later before after (works k.work _ done.0) done.1.0 done.1.1) (left_by (recorder_refusal k events.Seal))
+  pub seal_left : (result : Result (Unit {0}) Refusal) → OnOk result (recorder_refusal k events.Seal ≡ None) → OnOk result (SealEffect k (disk old) later (disk new)) → IfErr result (RefusesCall disk (recorder_refusal k events.Seal) lacks k later old new)
+      → Settles k later
+  seal_left result passed effect refused = answered result (both _ _ result passed effect) refused
+      (λ done. seal_settles k later (disk old).blocks (disk new).blocks (works k.work _ done.0) done.1.sealed done.1.rest) (left_by (recorder_refusal k events.Seal))
 
   -- of a start and of a commit the numbers stay, and where they are refused the same is told
   pub start_left : (name setup : List ℕ) (result : Result (Unit {0}) Refusal) → OnOk result (recorder_refusal k (events.Start name setup) ≡ None) → OnOk result (StartEffect name setup k (disk old) later (disk new))

@@ -5,7 +5,7 @@ use Rattle.r10_body.specs.Packets.{Packet}
 use Rattle.r10_body.specs.declared.refusal.Glance.{Glance}
 use Rattle.r10_body.specs.declared.refusal.Refusal.{Refusal}
 use Rattle.r10_body.specs.declared.refusal.Refusal.TheVariants.{Behind}
-use Rattle.r10_held.specs.Calls.{AdvancesRecorder}
+use Rattle.r10_control.specs.Calls.{AdvancesRecorder}
 use Rattle.r10_cursor.specs.Replays.{AdvancesReading}
 use Rattle.r10_cursor.specs.declared.cursor.Cursor.{Cursor}
 use Rattle.r10_gauge.specs.Published.{LookingEnd, commits_of, last_triple}

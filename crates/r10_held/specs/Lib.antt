@@ -3,7 +3,6 @@ pub mod Account
 pub mod State
 pub mod Publishing
 pub mod LockFact
-pub mod Calls
 pub mod Outlets
 pub mod Advancing
 pub mod Auditing

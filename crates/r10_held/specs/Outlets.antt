@@ -1,7 +1,7 @@
 -- The calls that look at lanes, of a recorder over outlets.
 use Rattle.std.specs.Prelude.{ℕ, Result}
 use Rattle.r10_body.specs.declared.refusal.Refusal.{Refusal}
-use Rattle.r10_held.specs.Calls.{DoesPump, DoesStop, TellsStatus}
+use Rattle.r10_control.specs.Calls.{DoesPump, DoesStop, TellsStatus}
 use Rattle.r10_control.specs.State.{RecorderState}
 use Rattle.r10_control.specs.declared.status.RecorderStatus.{RecorderStatus}
 use Rattle.r10_held.specs.LockFact.{outlet_quiet, outlet_shows, outlet_spec}

@@ -2,7 +2,7 @@
 
 ghost use Rattle.std.specs.Prelude.{IsErrOf};
 ghost use Rattle.r10_body.specs.declared.refusal.Refusal.TheVariants as refusals;
-ghost use Rattle.r10_held.specs.Calls.{DoesCall};
+ghost use Rattle.r10_control.specs.Calls.{DoesCall};
 ghost use Rattle.r10_machine.specs.declared.event.Event.TheVariants as events;
 ghost use Rattle.r10_held.specs.Publishing.{Publishes, StaysPublished};
 

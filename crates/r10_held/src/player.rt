@@ -6,7 +6,7 @@ ghost use Rattle.r10_body.specs.declared.refusal.Glance.{Glance as GlanceValue};
 ghost use Rattle.r10_body.specs.declared.refusal.Refusal.TheVariants as refusals;
 ghost use Rattle.r10_gauge.specs.Published.{commits_of, last_triple};
 ghost use Rattle.r10_held.specs.Publishing.{StaysPublished};
-ghost use Rattle.r10_held.specs.Calls.{AdvancesRecorder};
+ghost use Rattle.r10_control.specs.Calls.{AdvancesRecorder};
 ghost use Rattle.r10_held.specs.Advancing.{AdvancesUnderLock, SaysBehind, TakesInstalment};
 
 use crate::cabinet::Cabinet;

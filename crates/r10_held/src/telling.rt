@@ -1,7 +1,7 @@
 //! The calls that only tell, on the recorder under the lock.
 
 ghost use Rattle.std.specs.Prelude.{IfOk, map, ◌≡◌};
-ghost use Rattle.r10_held.specs.Calls.{OnlyTells};
+ghost use Rattle.r10_control.specs.Calls.{OnlyTells};
 ghost use Rattle.r10_control.specs.Checks.{files_of};
 ghost use Rattle.r10_control.specs.Told.{info_in, last_shown, number_on};
 ghost use Rattle.r10_machine.specs.declared.event.Event.TheVariants as events;

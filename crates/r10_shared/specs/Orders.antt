@@ -1,7 +1,7 @@
 -- What an order asks of the recorder under the lock.
 use Rattle.std.specs.Prelude.{◌≡◌, Option, None, Some, Result, Ok, Err}
 use Rattle.r10_body.specs.declared.refusal.Refusal.{Refusal}
-use Rattle.r10_held.specs.Calls.{EffectBy, OwnsBy, RefusesBy}
+use Rattle.r10_control.specs.Calls.{EffectBy, OwnsBy, RefusesBy}
 use Rattle.r10_control.specs.Checks.{recorder_refusal}
 use Rattle.r10_control.specs.Leading.{CallStepsTaking, none_taken}
 use Rattle.r10_control.specs.Refused.{nothing_lacks}

@@ -8,7 +8,7 @@ use Rattle.r10_body.specs.Packets.{Packet, file_entries}
 use Rattle.r10_body.specs.declared.entry.Entry.{Entry as EntryValue}
 use Rattle.r10_body.specs.declared.refusal.Refusal.{Refusal}
 use Rattle.r10_body.specs.declared.refusal.Refusal.TheVariants as refusals
-use Rattle.r10_medium.specs.Disk.{Disk, Rose, IsSynced, Unchanged}
+use Rattle.r10_medium.specs.Disk.{Disk, Rose, Unchanged}
 use Rattle.r10_machine.specs.Calls.{accepted, losing, overflowed}
 use Rattle.r10_machine.specs.Config.{Config}
 use Rattle.r10_machine.specs.Checks.{Check, channel_checks, mounted_checks, offer_checks, offer_refusal}
@@ -29,12 +29,13 @@ use Rattle.r10_means.specs.Grown.{AreGrown}
 use Rattle.r10_means.specs.Kept.{Kept, failed, mode_of}
 use Rattle.r10_control.specs.Checks.{files_of, recorder_refusal}
 use Rattle.r10_control.specs.Fronts.{Spares}
+use Rattle.r10_control.specs.Calls.{SealEffect}
 use Rattle.r10_control.specs.Effects.{CommitEffect, DismountEffect, EraseEffect, EventEffect, MountEffect, PumpEffect, StartEffect, StopEffect, TickEffect}
 use Rattle.r10_control.specs.Own.{AreOwn, OwnGrow, OwnStay}
 use Rattle.r10_control.specs.Reading.{IsReadAt, IsReadFileRefusal, ShowsAt}
 use Rattle.r10_control.specs.Recording.{IsCommitRefusal, IsEntryRefusal}
 use Rattle.r10_control.specs.Refused.{IsMountRefusal, IsSameKept, nothing_lacks}
-use Rattle.r10_control.specs.SealRefusals.{IsSealRefusal, IsSealed}
+use Rattle.r10_control.specs.SealRefusals.{IsSealRefusal}
 use Rattle.r10_control.specs.Started.{IsStartRefusal}
 use Rattle.r10_control.specs.State.{RecorderState}
 use Rattle.r10_world.specs.Joined.{begun_world}
@@ -182,12 +183,6 @@ pub record OnlyRead {M : Type 0} (disk : M → Disk) (old new : RecorderState M 
   pub no_fewer : (disk old.medium).failures ≤ (disk new.medium).failures
   pub lanes : new.lanes ≡ old.lanes
 
--- the last file is closed, which is sure, and nothing else that is kept changes
-pub record SealsSo {M : Type 0} (disk : M → Disk) (old new : RecorderState M Lane) : Type 0 where
-  pub closed : IsSealed old.kept.config (disk old.medium).blocks old.kept.work (disk new.medium).blocks new.kept.work
-  pub sure : IsSynced (disk new.medium)
-  pub rest : new.kept ≡ record old.kept { work = new.kept.work }
-
 -- Channel by channel in this order, these samples were taken from the lanes, no more of a channel than may be: all that may, up to the first that has no room; they and the rests are all that waited. They are counted, and whatever entries the recorder's own files had, these are behind them then.
 pub record TakesParts (order : List ℕ) (most : ℕ → ℕ) (says : List Part → Type 0) (k : Kept) (old : Disk) (lanes : List Lane) (later : Kept) (new : Disk) (lanes' : List Lane) : Type 0 where
   pub parts : List Part
@@ -233,7 +228,7 @@ DoesSo disk old slots Commit replies.Done new later = DoesAlone (CommitEffect ol
 DoesSo disk old slots Stop (replies.Stopped said) new later =
     StopEffect old.kept (disk old.medium) new.kept (disk new.medium)
     × TakesParts (rising (channel_ids old.kept.config.channels)) (most_of old.kept.config.channels) (IsStopped said) old.kept (disk old.medium) old.lanes new.kept (disk new.medium) new.lanes × (later ≡ slots)
-DoesSo disk old slots Seal replies.Done new later = DoesAlone (SealsSo disk old new) (KeepsOwn disk old new) old.lanes slots new.lanes later
+DoesSo disk old slots Seal replies.Done new later = DoesAlone (SealEffect old.kept (disk old.medium) new.kept (disk new.medium)) (KeepsOwn disk old new) old.lanes slots new.lanes later
 DoesSo disk old slots Erase replies.Done new later = DoesAlone (EraseEffect old.kept (disk old.medium) new.kept (disk new.medium)) (AreOwn new.kept (disk new.medium).blocks []) old.lanes slots new.lanes later
 DoesSo disk old slots Files (replies.Files files) new later = (files ≡ map info_in (files_of old.kept.work)) × (new ≡ old) × (later ≡ slots)
 DoesSo disk old slots Status (replies.Status status) new later = (status ≡ status_in old.kept old.lanes) × (new ≡ old) × (later ≡ slots)

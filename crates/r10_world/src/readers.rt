@@ -38,7 +38,7 @@ pub(crate) fn open<M: BlockMedium>(
 ) -> Reply
     ensures tells { RecorderStepsTo M.disk recorder.old cursors.old.slots (events.Cursor file channels.now from to) result recorder.new cursors.new.slots }
     ensures answers { AnswersSo M.disk recorder.old cursors.old.slots (events.Cursor file channels.now from to) result recorder.new cursors.new.slots }
-    ensures stops { Survives M.disk recorder.old (events.Cursor file channels.now from to) result recorder.new }
+    ensures power_loss { Survives M.disk recorder.old (events.Cursor file channels.now from to) result recorder.new }
     ensures spares { Spares recorder.old.kept (M.disk recorder.old.medium) (events.Cursor file channels.now from to)
         (M.disk recorder.new.medium) }
     ensures config { recorder.new.kept.config ≡ recorder.old.kept.config }
@@ -69,7 +69,7 @@ pub(crate) fn advance<M: BlockMedium>(
 ) -> Reply
     ensures tells { RecorderStepsTo M.disk recorder.old cursors.old.slots (events.Advance id) result recorder.new cursors.new.slots }
     ensures answers { AnswersSo M.disk recorder.old cursors.old.slots (events.Advance id) result recorder.new cursors.new.slots }
-    ensures stops { Survives M.disk recorder.old (events.Advance id) result recorder.new }
+    ensures power_loss { Survives M.disk recorder.old (events.Advance id) result recorder.new }
     ensures spares { Spares recorder.old.kept (M.disk recorder.old.medium) (events.Advance id) (M.disk recorder.new.medium) }
     ensures config { recorder.new.kept.config ≡ recorder.old.kept.config }
 {

@@ -34,7 +34,7 @@ pub fn run<M: BlockMedium>(
 ) -> Result<usize, AllocError>
     ensures run { IfOk result (λ n. WorldRuns M.disk world.old (take n events.now) (drop (vec_len replies.old) replies.new.items) world.new) }
     ensures answers { IfOk result (λ n. AnswersEach M.disk world.old (take n events.now) (drop (vec_len replies.old) replies.new.items) world.new) }
-    ensures stops { IfOk result (λ n. RunsSafely M.disk world.old (take n events.now) (drop (vec_len replies.old) replies.new.items) world.new) }
+    ensures power_loss { IfOk result (λ n. RunsSafely M.disk world.old (take n events.now) (drop (vec_len replies.old) replies.new.items) world.new) }
     ensures config { world.new.recorder.kept.config ≡ world.old.recorder.kept.config }
     ensures within { IfOk result (λ n. n ≤ length events.now) }
     ensures some { IfOk result (λ n. 0 < length events.now → 0 < n) }

@@ -129,7 +129,7 @@ impl<M: BlockMedium> World<M> {
         requires { IsCopy event.now copy.old }
         ensures tells { RecorderStepsTo M.disk self.old.recorder self.old.slots event.now result self.new.recorder self.new.slots }
         ensures answers { AnswersSo M.disk self.old.recorder self.old.slots event.now result self.new.recorder self.new.slots }
-        ensures stops { Survives M.disk self.old.recorder event.now result self.new.recorder }
+        ensures power_loss { Survives M.disk self.old.recorder event.now result self.new.recorder }
         ensures spares { Spares self.old.recorder.kept (M.disk self.old.recorder.medium) event.now
             (M.disk self.new.recorder.medium) }
         ensures config { self.new.recorder.kept.config ≡ self.old.recorder.kept.config }
@@ -155,7 +155,7 @@ fn answer<M: BlockMedium>(
     requires { IsCopy event.now copy.old }
     ensures tells { RecorderStepsTo M.disk recorder.old cursors.old.slots event.now result recorder.new cursors.new.slots }
     ensures answers { AnswersSo M.disk recorder.old cursors.old.slots event.now result recorder.new cursors.new.slots }
-    ensures stops { Survives M.disk recorder.old event.now result recorder.new }
+    ensures power_loss { Survives M.disk recorder.old event.now result recorder.new }
     ensures spares { Spares recorder.old.kept (M.disk recorder.old.medium) event.now (M.disk recorder.new.medium) }
     ensures config { recorder.new.kept.config ≡ recorder.old.kept.config }
 {

@@ -19,7 +19,7 @@ returns-after-covered-instalment-clause-same g c = λ packets shows within.
     let i = c.args.instalment.now in
     let begins : i.from ≡ old.covered = omega (arith, c.if-instalment-covered.false, c.covered.ensures) in
     let forward : i.from ≤ i.to = omega (arith, c.if-instalment.false) in
-    let advances = c.in-Ok.ensures.advances packets shows in
+    let advances = c.in-Ok.ensures.does.advances packets shows in
     let at : c.covered-in-Ok.result ≡ new.covered = c.covered-in-Ok.ensures ∙ ap (λ (k : Cursor). k.reading.covered) c.rest-entries.ensures.left in
     elim c.if-covered-instalment.branch [
       | then-covered-instalment w ↦
@@ -37,10 +37,10 @@ returns-after-covered-instalment-clause-covers g c = λ packets shows within.
     let old = c.args.cursor.now in
     let new = c.advance_to.new.cursor in
     let i = c.args.instalment.now in
-    let advances = c.in-Ok.ensures.advances packets shows in
+    let advances = c.in-Ok.ensures.does.advances packets shows in
     let at : c.covered-in-Ok.result ≡ new.reading.covered = c.covered-in-Ok.ensures ∙ ap (λ (k : Cursor). k.reading.covered) c.rest-entries.ensures.left in
     let far : new.reading.covered ≡ length (take (max i.to old.reading.covered) packets) = ap (λ (r : Reading). r.covered) advances.covers in
-    let so = covers_so old new c.rest-entries.new.self _ c.in-Ok.ensures.place.0 c.in-Ok.ensures.place.1 c.requires.left advances c.rest-entries.ensures.left in
+    let so = covers_so old new c.rest-entries.new.self _ c.in-Ok.ensures.does.place.0 c.in-Ok.ensures.does.place.1 c.requires.left advances c.rest-entries.ensures.left in
     elim c.if-covered-instalment.branch [
       | then-covered-instalment w ↦ λ yes. so ∙ ap (λ (n : ℕ). at_place n old) (sym far ∙ sym at ∙ omega (arith, w.if-covered-instalment.true))
       | else-covered-instalment w ↦ λ yes. absurd (apart c.covered-in-Ok.result i.to (λ is. absurd (omega (arith, is, w.if-covered-instalment.false))) (sym w.result-is ∙ yes))

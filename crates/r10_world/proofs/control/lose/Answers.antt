@@ -19,8 +19,8 @@ returns-clause-tells g c =
     let a = c.args in
     telling_with g.M.BlockMedium.disk a.recorder.now call.new.self c.recorders_calls_are_steps.ensures.stays (events.Lose a.channel a.lost) (λ _. replies.Done) call.result c.done.result call.ensures.steps call.ensures.kept call.ensures.medium c.done.ensures
 
-pub returns-clause-stops : goal.returns-clause-stops
-returns-clause-stops g c =
+pub returns-clause-power_loss : goal.returns-clause-power_loss
+returns-clause-power_loss g c =
     let call = c.lose in
     let a = c.args in
     survives_same g.M.BlockMedium.disk a.recorder.now call.new.self (events.Lose a.channel a.lost) c.done.result refl call.ensures.kept call.ensures.medium

@@ -16,18 +16,18 @@ pub returns-clause-tells : goal.returns-clause-tells
 returns-clause-tells g c =
     let call = c.event in
     let a = c.args in
-    telling g.M.BlockMedium.disk a.recorder.now call.new.self c.recorders_calls_are_steps.ensures.moves (events.Event a.number a.count) (λ _. replies.Done) call.result c.done.result call.ensures.steps call.ensures.bytes call.ensures.lanes call.ensures.config c.done.ensures
+    telling g.M.BlockMedium.disk a.recorder.now call.new.self c.recorders_calls_are_steps.ensures.moves (events.Event a.number a.count) (λ _. replies.Done) call.result c.done.result call.ensures.does.steps call.ensures.does.shown call.ensures.does.lanes call.ensures.does.config c.done.ensures
 
-pub returns-clause-stops : goal.returns-clause-stops
-returns-clause-stops g c =
+pub returns-clause-power_loss : goal.returns-clause-power_loss
+returns-clause-power_loss g c =
     let call = c.event in
     let a = c.args in
     let disk = g.M.BlockMedium.disk in
     let old = a.recorder.now in
     let new = call.new.self in
-    let fails = stays_failed disk old new (recorder_refusal old.kept (events.Event a.number a.count)) Failed _ call.result (λ is. ap (λ (w : Work). recorder_refusal (record old.kept { work = w }) (events.Event a.number a.count)) is) call.ensures.passed call.ensures.refused
+    let fails = stays_failed disk old new (recorder_refusal old.kept (events.Event a.number a.count)) Failed _ call.result (λ is. ap (λ (w : Work). recorder_refusal (record old.kept { work = w }) (events.Event a.number a.count)) is) call.ensures.does.passed call.ensures.does.refused
     (λ r some refuses. alone_if_open disk (recorder_refusal old.kept (events.Event a.number a.count)) _ Failed old.kept new.kept old.medium new.medium r some refuses) in
-    survives_by disk old new (events.Event a.number a.count) (λ _. replies.Done) call.result c.done.result call.ensures.stops c.done.ensures fails
+    survives_by disk old new (events.Event a.number a.count) (λ _. replies.Done) call.result c.done.result call.ensures.does.power_loss c.done.ensures fails
 
 pub returns-clause-answers : goal.returns-clause-answers
 returns-clause-answers g c = λ slots.
@@ -36,7 +36,7 @@ returns-clause-answers g c = λ slots.
     let old = a.recorder.now in
     let new = call.new.self in
     let disk = g.M.BlockMedium.disk in
-    matched _ _ _ (λ (x : Reply). AnswersSo disk old slots (events.Event a.number a.count) x new slots) (λ _. replies.Done) call.result c.done.result call.ensures.passed call.ensures.effect call.ensures.refused
-    (λ v is passed effect. (passed, record { does_so = effect; own = call.ensures.owned; lanes = call.ensures.lanes; cursors = refl }))
-    (λ r is refuses. refused_open disk (recorder_refusal old.kept (events.Event a.number a.count)) (IsEntryRefusal old.kept.config old.kept.work 116) old new slots (events.Event a.number a.count) r refuses call.ensures.lanes refl (λ q holds. holds) call.ensures.owned (λ left. left) tt (λ lanes. lanes))
+    matched _ _ _ (λ (x : Reply). AnswersSo disk old slots (events.Event a.number a.count) x new slots) (λ _. replies.Done) call.result c.done.result call.ensures.does.passed call.ensures.does.effect call.ensures.does.refused
+    (λ v is passed effect. (passed, record { does_so = effect; own = call.ensures.does.owned; lanes = call.ensures.does.lanes; cursors = refl }))
+    (λ r is refuses. refused_open disk (recorder_refusal old.kept (events.Event a.number a.count)) (IsEntryRefusal old.kept.config old.kept.work 116) old new slots (events.Event a.number a.count) r refuses call.ensures.does.lanes refl (λ q holds. holds) call.ensures.does.owned (λ left. left) tt (λ lanes. lanes))
     c.done.ensures

@@ -17,8 +17,8 @@ returns-clause-tells g c =
     let r = c.args.recorder.now in
     telling_with g.M.BlockMedium.disk r r c.recorders_calls_are_steps.ensures.stays events.Status (λ v. replies.Status v) call.result c.reported.result call.ensures.steps refl refl c.reported.ensures
 
-pub returns-clause-stops : goal.returns-clause-stops
-returns-clause-stops g c = survives_same g.M.BlockMedium.disk c.args.recorder.now c.args.recorder.now events.Status c.reported.result refl refl refl
+pub returns-clause-power_loss : goal.returns-clause-power_loss
+returns-clause-power_loss g c = survives_same g.M.BlockMedium.disk c.args.recorder.now c.args.recorder.now events.Status c.reported.result refl refl refl
 
 pub returns-clause-answers : goal.returns-clause-answers
 returns-clause-answers g c = λ slots.

@@ -74,23 +74,23 @@ returns-in-Err-take_instalment-clause-tells g c = λ m stands.
     (refused_on g.M.BlockMedium.disk old new c.recorders_calls_are_steps.ensures.moves (events.Advance a.id) r c.take_instalment.ensures.reads.same.reads c.take_instalment.ensures.reads.lanes c.take_instalment.ensures.reads.config slots m stands
     (c.in-Err-take_instalment.ensures.steps a.id m means one.there passes))
 
-pub returns-in-Err-clause-stops : goal.returns-in-Err-clause-stops
-returns-in-Err-clause-stops g c =
+pub returns-in-Err-clause-power_loss : goal.returns-in-Err-clause-power_loss
+returns-in-Err-clause-power_loss g c =
     let a = c.args in
     survives_same g.M.BlockMedium.disk a.recorder.now a.recorder.now (events.Advance a.id) (replies.Refused c.in-Err.refusal) refl refl refl
 
-pub returns-in-Err-check_read-clause-stops : goal.returns-in-Err-check_read-clause-stops
-returns-in-Err-check_read-clause-stops g c =
+pub returns-in-Err-check_read-clause-power_loss : goal.returns-in-Err-check_read-clause-power_loss
+returns-in-Err-check_read-clause-power_loss g c =
     let a = c.args in
     survives_same g.M.BlockMedium.disk a.recorder.now a.recorder.now (events.Advance a.id) (replies.Refused c.in-Err-check_read.refusal) refl refl refl
 
-pub returns-in-Ok-take_instalment-clause-stops : goal.returns-in-Ok-take_instalment-clause-stops
-returns-in-Ok-take_instalment-clause-stops g c =
+pub returns-in-Ok-take_instalment-clause-power_loss : goal.returns-in-Ok-take_instalment-clause-power_loss
+returns-in-Ok-take_instalment-clause-power_loss g c =
     let a = c.args in
     survives_kept g.M.BlockMedium.disk a.recorder.now c.take_instalment.new.self (events.Advance a.id) (replies.Advanced c.in-Ok-take_instalment.queued) refl c.in-Ok-take_instalment.ensures.reads.kept c.take_instalment.ensures.reads.same
 
-pub returns-in-Err-take_instalment-clause-stops : goal.returns-in-Err-take_instalment-clause-stops
-returns-in-Err-take_instalment-clause-stops g c =
+pub returns-in-Err-take_instalment-clause-power_loss : goal.returns-in-Err-take_instalment-clause-power_loss
+returns-in-Err-take_instalment-clause-power_loss g c =
     let a = c.args in
     let disk = g.M.BlockMedium.disk in
     let old = a.recorder.now in

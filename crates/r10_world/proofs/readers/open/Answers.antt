@@ -40,8 +40,8 @@ returns-in-Err-open_cursor-clause-tells g c = λ m stands.
     open_lacks g.M.BlockMedium.disk a.recorder.now call.new.self c.recorders_calls_are_steps.ensures.stays c.lacks_of_memory_are_steps.ensures a.file a.channels.now a.from a.to a.cursors.now.slots c.open_cursor.new.cursors.slots
     c.in-Ok.ensures.reads.kept call.ensures.reads.same.reads call.ensures.reads.lanes call.ensures.reads.no_fewer c.in-Err-open_cursor.ensures.kept m stands (c.in-Ok.ensures.steps a.channels.now m stands.joined.means)
 
-pub returns-in-Err-clause-stops : goal.returns-in-Err-clause-stops
-returns-in-Err-clause-stops g c =
+pub returns-in-Err-clause-power_loss : goal.returns-in-Err-clause-power_loss
+returns-in-Err-clause-power_loss g c =
     let a = c.args in
     let disk = g.M.BlockMedium.disk in
     let old = a.recorder.now in
@@ -50,18 +50,18 @@ returns-in-Err-clause-stops g c =
     survives_refused disk old new (events.Cursor a.file a.channels.now a.from a.to) c.in-Err.refusal call.ensures.reads.config call.ensures.reads.same (λ is.
     (ap (λ (k : Kept). k.work) (alone_if disk (recorder_refusal old.kept (events.Cursor a.file a.channels.now a.from a.to)) _ Failed old.kept new.kept old.medium new.medium c.in-Err.refusal (ap (λ (w : Work). recorder_refusal (record old.kept { work = w }) (events.Cursor a.file a.channels.now a.from a.to)) is) (c.in-Err.ensures.refused a.channels.now)).0 ∙ is))
 
-pub returns-in-Err-generation-clause-stops : goal.returns-in-Err-generation-clause-stops
-returns-in-Err-generation-clause-stops g c =
+pub returns-in-Err-generation-clause-power_loss : goal.returns-in-Err-generation-clause-power_loss
+returns-in-Err-generation-clause-power_loss g c =
     let a = c.args in
     survives_kept g.M.BlockMedium.disk a.recorder.now c.check_file.new.self (events.Cursor a.file a.channels.now a.from a.to) (replies.Refused c.in-Err-generation.refusal) refl c.in-Ok.ensures.reads.kept c.check_file.ensures.reads.same
 
-pub returns-in-Ok-open_cursor-clause-stops : goal.returns-in-Ok-open_cursor-clause-stops
-returns-in-Ok-open_cursor-clause-stops g c =
+pub returns-in-Ok-open_cursor-clause-power_loss : goal.returns-in-Ok-open_cursor-clause-power_loss
+returns-in-Ok-open_cursor-clause-power_loss g c =
     let a = c.args in
     survives_kept g.M.BlockMedium.disk a.recorder.now c.check_file.new.self (events.Cursor a.file a.channels.now a.from a.to) (replies.Cursor c.in-Ok-open_cursor.id) refl c.in-Ok.ensures.reads.kept c.check_file.ensures.reads.same
 
-pub returns-in-Err-open_cursor-clause-stops : goal.returns-in-Err-open_cursor-clause-stops
-returns-in-Err-open_cursor-clause-stops g c =
+pub returns-in-Err-open_cursor-clause-power_loss : goal.returns-in-Err-open_cursor-clause-power_loss
+returns-in-Err-open_cursor-clause-power_loss g c =
     let a = c.args in
     survives_kept g.M.BlockMedium.disk a.recorder.now c.check_file.new.self (events.Cursor a.file a.channels.now a.from a.to) (replies.Refused refusals.OutOfMemory) refl c.in-Ok.ensures.reads.kept c.check_file.ensures.reads.same
 

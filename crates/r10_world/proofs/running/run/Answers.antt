@@ -14,7 +14,7 @@ loop-i-init g c =
     record {
       run = begun g.M.BlockMedium.disk c.args.world.now (vec_len replies) replies.items number;
       answers = begun_each g.M.BlockMedium.disk c.args.world.now (vec_len replies) replies.items number;
-      stops = begun_safely g.M.BlockMedium.disk c.args.world.now (vec_len replies) replies.items number;
+      power_loss = begun_safely g.M.BlockMedium.disk c.args.world.now (vec_len replies) replies.items number;
       config = refl;
       earlier = all_of (vec_len replies) replies.items number;
       count = omega arith;
@@ -36,14 +36,14 @@ pub returns-else-i-eq0-clause-answers : goal.returns-else-i-eq0-clause-answers
 returns-else-i-eq0-clause-answers g c =
     subst (λ (xs : List Reply). AnswersEach g.M.BlockMedium.disk c.args.world.now (take c.loop-i.i c.args.events.now) (drop (vec_len c.args.replies.now) xs) c.loop-i.world) (sym c.reserve-place.ensures.items) c.loop-i.invariant.answers
 
-pub returns-clause-stops : goal.returns-clause-stops
-returns-clause-stops g c =
+pub returns-clause-power_loss : goal.returns-clause-power_loss
+returns-clause-power_loss g c =
     let ended : c.loop-i.i ≡ length c.args.events.now = omega arith in
-    subst (λ (n : ℕ). RunsSafely g.M.BlockMedium.disk c.args.world.now (take n c.args.events.now) (drop (vec_len c.args.replies.now) c.loop-i.replies.items) c.loop-i.world) ended c.loop-i.invariant.stops
+    subst (λ (n : ℕ). RunsSafely g.M.BlockMedium.disk c.args.world.now (take n c.args.events.now) (drop (vec_len c.args.replies.now) c.loop-i.replies.items) c.loop-i.world) ended c.loop-i.invariant.power_loss
 
-pub returns-else-i-eq0-clause-stops : goal.returns-else-i-eq0-clause-stops
-returns-else-i-eq0-clause-stops g c =
-    subst (λ (xs : List Reply). RunsSafely g.M.BlockMedium.disk c.args.world.now (take c.loop-i.i c.args.events.now) (drop (vec_len c.args.replies.now) xs) c.loop-i.world) (sym c.reserve-place.ensures.items) c.loop-i.invariant.stops
+pub returns-else-i-eq0-clause-power_loss : goal.returns-else-i-eq0-clause-power_loss
+returns-else-i-eq0-clause-power_loss g c =
+    subst (λ (xs : List Reply). RunsSafely g.M.BlockMedium.disk c.args.world.now (take c.loop-i.i c.args.events.now) (drop (vec_len c.args.replies.now) xs) c.loop-i.world) (sym c.reserve-place.ensures.items) c.loop-i.invariant.power_loss
 
 pub loop-i-preserved : goal.loop-i-preserved
 loop-i-preserved g c =
@@ -60,8 +60,8 @@ loop-i-preserved g c =
       run = run_more g.M.BlockMedium.disk c.args.world.now c.loop-i.world c.step-reply.new.self c.args.events.now c.loop-i.i n event reply xs ys c.runs_join.ensures
           here c.index-events-i.is within longer so_far.run c.step-reply.ensures.tells;
       answers = answer_more g.M.BlockMedium.disk c.args.world.now c.loop-i.world c.step-reply.new.self c.args.events.now c.loop-i.i n event reply xs ys here c.index-events-i.is within longer so_far.answers (record { answer = c.step-reply.ensures.answers; spares = c.step-reply.ensures.spares });
-      stops = run_more_safely g.M.BlockMedium.disk c.args.world.now c.loop-i.world c.step-reply.new.self c.args.events.now c.loop-i.i n event reply xs ys c.runs_join.ensures
-          here c.index-events-i.is within longer so_far.stops c.step-reply.ensures.tells c.step-reply.ensures.stops;
+      power_loss = run_more_safely g.M.BlockMedium.disk c.args.world.now c.loop-i.world c.step-reply.new.self c.args.events.now c.loop-i.i n event reply xs ys c.runs_join.ensures
+          here c.index-events-i.is within longer so_far.power_loss c.step-reply.ensures.tells c.step-reply.ensures.power_loss;
       config = c.step-reply.ensures.config ∙ so_far.config;
       earlier = take_one_more n xs ys reply within longer ∙ so_far.earlier;
       count = omega (arith, so_far.count, c.push_reserved.ensures.len, c.reserve-place.ensures.len);

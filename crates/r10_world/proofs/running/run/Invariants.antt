@@ -8,7 +8,7 @@ abbrev pub invariant-loop-i : goal.invariant-loop-i
 invariant-loop-i g l = record {
   run : WorldRuns g.M.BlockMedium.disk l.fn.world (take l.i l.events) (drop (vec_len l.fn.replies) l.replies.items) l.world;
   answers : AnswersEach g.M.BlockMedium.disk l.fn.world (take l.i l.events) (drop (vec_len l.fn.replies) l.replies.items) l.world;
-  stops : RunsSafely g.M.BlockMedium.disk l.fn.world (take l.i l.events) (drop (vec_len l.fn.replies) l.replies.items) l.world;
+  power_loss : RunsSafely g.M.BlockMedium.disk l.fn.world (take l.i l.events) (drop (vec_len l.fn.replies) l.replies.items) l.world;
   config : l.world.recorder.kept.config ≡ l.fn.world.recorder.kept.config;
   earlier : take (vec_len l.fn.replies) l.replies.items ≡ l.fn.replies.items;
   count : vec_len l.replies ≡ vec_len l.fn.replies + l.i;

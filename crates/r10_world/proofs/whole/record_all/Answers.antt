@@ -11,7 +11,7 @@ returns-in-Ok-run-clause-records g c = λ files says.
     let n = vec_len c.args.replies.now in
     subst (λ (m : _). RecordsRun c.args.settings files (take c.in-Ok-run.done c.args.events.now) (drop n c.run.new.replies.items) (disk c.args.medium) (disk m)) (sym c.into_medium.ensures)
     (records_so c.files_on_a_medium_are_found.ensures c.a_recording_accounts.ensures c.found_files_stay.ensures disk c.args.settings c.args.medium c.in-Ok.world c.run.new.world files (take c.in-Ok-run.done c.args.events.now) (drop n c.run.new.replies.items)
-    (c.in-Ok.ensures.recovers files says) c.in-Ok.ensures.config c.in-Ok.ensures.medium c.in-Ok-run.ensures.stops)
+    (c.in-Ok.ensures.recovers files says) c.in-Ok.ensures.config c.in-Ok.ensures.medium c.in-Ok-run.ensures.power_loss)
 
 pub returns-in-Ok-run-clause-answers : goal.returns-in-Ok-run-clause-answers
 returns-in-Ok-run-clause-answers g c =

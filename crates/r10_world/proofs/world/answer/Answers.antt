@@ -8,11 +8,11 @@ use Rattle.r10_control.specs.Fronts.{Spares}
 use Rattle.r10_medium.proofs.Stops.{unchanged}
 use Rattle.r10_world.proofs.world.answer.Goals as goal
 
-pub returns-in-Next-clause-stops : goal.returns-in-Next-clause-stops
-returns-in-Next-clause-stops g c = survives_same g.M.BlockMedium.disk c.args.recorder.now c.args.recorder.now _ c.next.result (ap may_make c.in-Next.is) refl refl
+pub returns-in-Next-clause-power_loss : goal.returns-in-Next-clause-power_loss
+returns-in-Next-clause-power_loss g c = survives_same g.M.BlockMedium.disk c.args.recorder.now c.args.recorder.now _ c.next.result (ap may_make c.in-Next.is) refl refl
 
-pub returns-in-Close-clause-stops : goal.returns-in-Close-clause-stops
-returns-in-Close-clause-stops g c = survives_same g.M.BlockMedium.disk c.args.recorder.now c.args.recorder.now _ c.close.result (ap may_make c.in-Close.is) refl refl
+pub returns-in-Close-clause-power_loss : goal.returns-in-Close-clause-power_loss
+returns-in-Close-clause-power_loss g c = survives_same g.M.BlockMedium.disk c.args.recorder.now c.args.recorder.now _ c.close.result (ap may_make c.in-Close.is) refl refl
 
 pub returns-in-Next-clause-answers : goal.returns-in-Next-clause-answers
 returns-in-Next-clause-answers g c =

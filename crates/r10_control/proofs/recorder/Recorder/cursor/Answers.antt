@@ -1,11 +1,29 @@
+use Rattle.std.proofs.Common.{rules}
 use Rattle.std.specs.Prelude.{[]}
 use Rattle.r10_control.proofs.recorder.Recorder.cursor.Goals as goal
 
-pub returns-in-Err-clause-refused : goal.returns-in-Err-clause-refused
-returns-in-Err-clause-refused g c = c.in-Err.ensures.refused []
+pub returns-in-Err : goal.returns-in-Err
+returns-in-Err g c =
+    record {
+      does = record {
+        passed = search rules;
+        opened = search rules;
+        refused = c.in-Err.ensures.refused [];
+        steps = search rules;
+        there = search rules;
+        reads = search rules;
+      };
+    }
 
-pub returns-clause-passed : goal.returns-clause-passed
-returns-clause-passed g c = c.in-Ok.ensures.passed []
-
-pub returns-clause-steps : goal.returns-clause-steps
-returns-clause-steps g c = λ m means. c.in-Ok.ensures.steps _ m means
+pub returns : goal.returns
+returns g c =
+    record {
+      does = record {
+        passed = c.in-Ok.ensures.passed [];
+        opened = search rules;
+        refused = search rules;
+        steps = λ m means. c.in-Ok.ensures.steps _ m means;
+        there = c.in-Ok.ensures.there;
+        reads = search rules;
+      };
+    }

@@ -1,4 +1,4 @@
-use Rattle.std.proofs.Common.{◌≡◌, ℕ, ◌-◌, ◌^◌, List, None, Some, Option, Err, refl, sym, ap, ◌∙◌, subst, length, min}
+use Rattle.std.proofs.Common.{◌≡◌, ℕ, ◌-◌, ◌^◌, List, None, Some, Option, Err, refl, sym, ap, ◌∙◌, subst, length, min, rules}
 use Rattle.std.specs.Option.{option_or}
 use Rattle.r10_dirblock.specs.declared.entry.Entry.{Entry as DirectoryEntry}
 use Rattle.r10_dirchain.specs.Chain.{listed_files}
@@ -36,13 +36,31 @@ use Rattle.r10_control.specs.Fronts.{MountSpares}
 use Rattle.r10_control.proofs.Fronting.{mount_spares, mount_spares_all}
 use Rattle.r10_control.proofs.recorder.Recorder.mount.Goals as goal
 
-pub returns-in-Err-clause-steps : goal.returns-in-Err-clause-steps
-returns-in-Err-clause-steps g c =
+pub returns-in-Err : goal.returns-in-Err
+returns-in-Err g c =
     let disk = g.M.BlockMedium.disk in
-    subst (λ (v : RecorderState _ _). (m : Machine) → KeptStandsFor v.kept (disk v.medium).blocks (disk v.medium).failures m
-    → KeptStepsTaking none_taken v.kept m events.Mount (replies.Refused c.in-Err.refusal) v.kept (disk v.medium).blocks (disk v.medium).failures) c.self.view_is
-    (λ m means. mount_refused c.a_step_stays_sound.ensures _ _ _ m c.in-Err.refusal c.self.invariant.limits means
-    (ap (λ mode. first_broken (unmounted_checks mode)) (sym c.mode_in.ensures) ∙ c.in-Err.ensures))
+    let w = c.self.inside in
+    let k : Kept = record { config = w.settings; work = work_of w.work; tick = w.tick; last_event = w.last_event; generation = w.generation; taken = w.taken.items; erased = w.erased.items; found = w.found } in
+    record {
+      does = record {
+        passed = search rules;
+        refused = search rules;
+        steps =
+            subst (λ (v : RecorderState _ _). (m : Machine) → KeptStandsFor v.kept (disk v.medium).blocks (disk v.medium).failures m
+            → KeptStepsTaking none_taken v.kept m events.Mount (replies.Refused c.in-Err.refusal) v.kept (disk v.medium).blocks (disk v.medium).failures) c.self.view_is
+            (λ m means. mount_refused c.a_step_stays_sound.ensures _ _ _ m c.in-Err.refusal c.self.invariant.limits means
+            (ap (λ mode. first_broken (unmounted_checks mode)) (sym c.mode_in.ensures) ∙ c.in-Err.ensures));
+        shown = search rules;
+        power_loss =
+            subst (λ (v : RecorderState _ _). StaysSafe whichever v.kept events.Mount (replies.Refused c.in-Err.refusal) (disk v.medium) v.kept (disk v.medium)) c.self.view_is
+            (refused_safely whichever k k events.Mount c.in-Err.refusal (disk w.medium) (disk w.medium) refl (unchanged (disk w.medium)));
+        effect = search rules;
+        owned = subst (λ (v : RecorderState _ _). OwnStay v.kept (disk v.medium).blocks v.kept (disk v.medium).blocks) c.self.view_is (stay_same k (disk w.medium).blocks);
+        spares = subst (λ (v : RecorderState _ _). MountSpares v.kept.config.directory (disk v.medium) (disk v.medium)) c.self.view_is (mount_spares_all w.settings.directory (disk w.medium));
+        lanes = search rules;
+        config = search rules;
+      };
+    }
 
 pub invariant_of-self-in-Err-Medium : goal.invariant_of-self-in-Err-Medium
 invariant_of-self-in-Err-Medium g c =
@@ -58,231 +76,171 @@ invariant_of-self-in-Err-Medium g c =
       judged = tt;
     })
 
-pub returns-in-Ok-clause-steps : goal.returns-in-Ok-clause-steps
-returns-in-Ok-clause-steps g c =
+pub returns-in-Ok : goal.returns-in-Ok
+returns-in-Ok g c =
     let w = c.self.inside in
     let disk = g.M.BlockMedium.disk in
     let later = disk c.mount.new.medium in
     let k : Kept = record { config = w.settings; work = work_of w.work; tick = w.tick; last_event = w.last_event; generation = w.generation; taken = w.taken.items; erased = w.erased.items; found = w.found } in
-    let mounted = subst (λ (n : ℕ). IsMounted n (disk w.medium).blocks c.in-Ok.directory) c.directory.ensures.value c.in-Ok.ensures.mounted in
-    let listed : listed_files c.in-Ok.directory ≡ listed_files mounted.chain = ap (λ (l : List ChainBlock). listed_files l) mounted.made_is ∙ files-with_shutdown 0x00 mounted.chain in
-    let few : min (length (listed_files c.in-Ok.directory)) (2 ^ 64 - 1) ≡ length (listed_files c.in-Ok.directory) =
-    subst (λ (l : List DirectoryEntry). min (length l) (2 ^ 64 - 1) ≡ length l) (sym listed) (few_listed k.config (disk w.medium).blocks mounted.chain c.self.invariant.limits c.self.invariant.blocks mounted.usable) in
-    let first : c.found_first-self-inside.result ≡ option_or k.found (Some (length (listed_files c.in-Ok.directory))) = c.found_first-self-inside.ensures ∙ ap (λ (n : ℕ). option_or k.found (Some n)) few in
-    let fine : first_broken (unmounted_checks (mode_of k.work)) ≡ None = ap (λ mode. first_broken (unmounted_checks mode)) (sym c.mode_in.ensures) ∙ c.in_default.ensures in
-    subst (λ (v : RecorderState _ _). (m : Machine) → KeptStandsFor v.kept (disk v.medium).blocks (disk v.medium).failures m
-    → KeptStepsTaking none_taken v.kept m events.Mount replies.Done (record k { work = work_of c.turn.new.work; found = c.found_first-self-inside.result }) later.blocks later.failures) c.self.view_is
-    (subst (λ (x : Doing). (m : Machine) → KeptStandsFor k (disk w.medium).blocks (disk w.medium).failures m → KeptStepsTaking none_taken k m events.Mount replies.Done (record k { work = work_of x; found = c.found_first-self-inside.result }) later.blocks later.failures) (sym c.turn.ensures)
-    (subst (λ (o : Option ℕ). (m : Machine) → KeptStandsFor k (disk w.medium).blocks (disk w.medium).failures m → KeptStepsTaking none_taken k m events.Mount replies.Done (record k { work = idle c.in-Ok.directory; found = o }) later.blocks later.failures) (sym first)
-    (λ m means.
-    let says = said k k.work (disk w.medium).blocks m refl (unmounted_work k.work fine) means.files in
-    mount_done c.a_step_stays_sound.ensures k (disk w.medium).blocks later.blocks (disk w.medium).failures later.failures m c.in-Ok.directory c.self.invariant.limits means fine
-    (c.in-Ok.ensures.files.holds k.config m.files says.0 says.1 c.directory.ensures.value) c.mount.ensures.no_fewer)))
+    record {
+      does = record {
+        passed = search rules;
+        refused = search rules;
+        steps =
+            let mounted = subst (λ (n : ℕ). IsMounted n (disk w.medium).blocks c.in-Ok.directory) c.directory.ensures.value c.in-Ok.ensures.mounted in
+            let listed : listed_files c.in-Ok.directory ≡ listed_files mounted.chain = ap (λ (l : List ChainBlock). listed_files l) mounted.made_is ∙ files-with_shutdown 0x00 mounted.chain in
+            let few : min (length (listed_files c.in-Ok.directory)) (2 ^ 64 - 1) ≡ length (listed_files c.in-Ok.directory) =
+            subst (λ (l : List DirectoryEntry). min (length l) (2 ^ 64 - 1) ≡ length l) (sym listed) (few_listed k.config (disk w.medium).blocks mounted.chain c.self.invariant.limits c.self.invariant.blocks mounted.usable) in
+            let first : c.found_first-self-inside.result ≡ option_or k.found (Some (length (listed_files c.in-Ok.directory))) = c.found_first-self-inside.ensures ∙ ap (λ (n : ℕ). option_or k.found (Some n)) few in
+            let fine : first_broken (unmounted_checks (mode_of k.work)) ≡ None = ap (λ mode. first_broken (unmounted_checks mode)) (sym c.mode_in.ensures) ∙ c.in_default.ensures in
+            subst (λ (v : RecorderState _ _). (m : Machine) → KeptStandsFor v.kept (disk v.medium).blocks (disk v.medium).failures m
+            → KeptStepsTaking none_taken v.kept m events.Mount replies.Done (record k { work = work_of c.turn.new.work; found = c.found_first-self-inside.result }) later.blocks later.failures) c.self.view_is
+            (subst (λ (x : Doing). (m : Machine) → KeptStandsFor k (disk w.medium).blocks (disk w.medium).failures m → KeptStepsTaking none_taken k m events.Mount replies.Done (record k { work = work_of x; found = c.found_first-self-inside.result }) later.blocks later.failures) (sym c.turn.ensures)
+            (subst (λ (o : Option ℕ). (m : Machine) → KeptStandsFor k (disk w.medium).blocks (disk w.medium).failures m → KeptStepsTaking none_taken k m events.Mount replies.Done (record k { work = idle c.in-Ok.directory; found = o }) later.blocks later.failures) (sym first)
+            (λ m means.
+            let says = said k k.work (disk w.medium).blocks m refl (unmounted_work k.work fine) means.files in
+            mount_done c.a_step_stays_sound.ensures k (disk w.medium).blocks later.blocks (disk w.medium).failures later.failures m c.in-Ok.directory c.self.invariant.limits means fine
+            (c.in-Ok.ensures.files.holds k.config m.files says.0 says.1 c.directory.ensures.value) c.mount.ensures.no_fewer)));
+        shown =
+            let fine : first_broken (unmounted_checks (mode_of (work_of w.work))) ≡ None = ap (λ mode. first_broken (unmounted_checks mode)) (sym c.mode_in.ensures) ∙ c.in_default.ensures in
+            subst (λ (v : RecorderState _ _). MachinesKeepShown v.kept (disk v.medium).blocks (disk v.medium).failures (disk c.mount.new.medium).blocks) c.self.view_is
+            (λ m means. c.mount.ensures.files.bytes w.settings m.files (says_of w.settings (work_of w.work) (disk w.medium).blocks m.files (unmounted_work (work_of w.work) fine) means.files));
+        power_loss =
+            let fine : first_broken (unmounted_checks (mode_of k.work)) ≡ None = ap (λ mode. first_broken (unmounted_checks mode)) (sym c.mode_in.ensures) ∙ c.in_default.ensures in
+            subst (λ (v : RecorderState _ _). StaysSafe whichever v.kept events.Mount replies.Done (disk v.medium) (record k { work = work_of c.turn.new.work; found = c.found_first-self-inside.result }) later) c.self.view_is
+            (synced_safely whichever k (record k { work = work_of c.turn.new.work; found = c.found_first-self-inside.result }) events.Mount replies.Done (disk w.medium) later c.in-Ok.ensures.directory.synced (makes_none whichever k events.Mount (disk w.medium) later (unmounted_leaves k (disk w.medium) later (unmounted_work k.work fine) (λ files settled. c.mount.ensures.files.moments k.config files settled))));
+        effect =
+            let reserved : c.directory.result ≡ k.config.directory = c.directory.ensures.value in
+            let mounted = subst (λ (n : ℕ). IsMounted n (disk w.medium).blocks c.in-Ok.directory) c.directory.ensures.value c.in-Ok.ensures.mounted in
+            let listed : listed_files c.in-Ok.directory ≡ listed_files mounted.chain = ap (λ (l : List ChainBlock). listed_files l) mounted.made_is ∙ files-with_shutdown 0x00 mounted.chain in
+            let few : min (length (listed_files c.in-Ok.directory)) (2 ^ 64 - 1) ≡ length (listed_files c.in-Ok.directory) =
+            subst (λ (l : List DirectoryEntry). min (length l) (2 ^ 64 - 1) ≡ length l) (sym listed) (few_listed k.config (disk w.medium).blocks mounted.chain c.self.invariant.limits c.self.invariant.blocks mounted.usable) in
+            let first : c.found_first-self-inside.result ≡ option_or k.found (Some (length (listed_files c.in-Ok.directory))) = c.found_first-self-inside.ensures ∙ ap (λ (n : ℕ). option_or k.found (Some n)) few in
+            subst (λ (v : RecorderState _ _). MountEffect v.kept (disk v.medium) (record k { work = work_of c.turn.new.work; found = c.found_first-self-inside.result }) later) c.self.view_is
+            (subst (λ (x : Doing). MountEffect k (disk w.medium) (record k { work = work_of x; found = c.found_first-self-inside.result }) later) (sym c.turn.ensures)
+            (mount_effect k (disk w.medium) later c.in-Ok.directory c.mount.result (subst (λ (n : ℕ). IsMounted n (disk w.medium).blocks c.in-Ok.directory) reserved c.in-Ok.ensures.mounted)
+            (λ chain usable. c.mount.ensures.turns chain (subst (λ (n : ℕ). IsUsable n (disk w.medium).blocks chain) (sym reserved) usable)) c.in-Ok.ensures.directory c.found_first-self-inside.result first));
+        owned =
+            let fine : first_broken (unmounted_checks (mode_of k.work)) ≡ None = ap (λ mode. first_broken (unmounted_checks mode)) (sym c.mode_in.ensures) ∙ c.in_default.ensures in
+            let reserved : c.directory.result ≡ k.config.directory = c.directory.ensures.value in
+            let mounted = subst (λ (n : ℕ). IsMounted n (disk w.medium).blocks c.in-Ok.directory) c.directory.ensures.value c.in-Ok.ensures.mounted in
+            let listed : listed_files c.in-Ok.directory ≡ listed_files mounted.chain = ap (λ (l : List ChainBlock). listed_files l) mounted.made_is ∙ files-with_shutdown 0x00 mounted.chain in
+            let few : min (length (listed_files c.in-Ok.directory)) (2 ^ 64 - 1) ≡ length (listed_files c.in-Ok.directory) =
+            subst (λ (l : List DirectoryEntry). min (length l) (2 ^ 64 - 1) ≡ length l) (sym listed) (few_listed k.config (disk w.medium).blocks mounted.chain c.self.invariant.limits c.self.invariant.blocks mounted.usable) in
+            let first : c.found_first-self-inside.result ≡ option_or k.found (Some (length (listed_files c.in-Ok.directory))) = c.found_first-self-inside.ensures ∙ ap (λ (n : ℕ). option_or k.found (Some n)) few in
+            let is = subst (λ (n : ℕ). IsMounted n (disk w.medium).blocks c.in-Ok.directory) reserved c.in-Ok.ensures.mounted in
+            let turns = c.mount.ensures.turns is.chain (subst (λ (n : ℕ). IsUsable n (disk w.medium).blocks is.chain) (sym reserved) is.usable) in
+            subst (λ (v : RecorderState _ _). OwnStay v.kept (disk v.medium).blocks (record k { work = work_of c.turn.new.work; found = c.found_first-self-inside.result }) later.blocks) c.self.view_is
+            (stay_by k (record k { work = work_of c.turn.new.work; found = c.found_first-self-inside.result }) (disk w.medium).blocks later.blocks
+            (mounted_own k (record k { work = work_of c.turn.new.work; found = c.found_first-self-inside.result }) (disk w.medium).blocks later.blocks is.chain (unmounted_work k.work fine) (whole_reads (disk w.medium)) is.usable
+            (one_block k.config.directory (length (disk w.medium).blocks) is.chain (with_shutdown 0x00 is.chain) (disk w.medium) later c.mount.result (some_reserved k.config.directory (disk w.medium).blocks is.chain is.usable) turns)
+            (ap work_of c.turn.ensures ∙ ap idle is.made_is) (first ∙ ap (λ (l : List DirectoryEntry). option_or k.found (Some (length l))) listed)));
+        spares =
+            subst (λ (v : RecorderState _ _). MountSpares v.kept.config.directory (disk v.medium) later) c.self.view_is
+            (subst (λ (n : ℕ). MountSpares n (disk w.medium) later) c.directory.ensures.value (mount_spares c.directory.result (disk w.medium) later c.mount.result (λ chain usable. c.mount.ensures.turns chain usable) (λ n is. (c.mount.ensures.unusable n is).same)));
+        lanes = search rules;
+        config = search rules;
+      };
+    }
 
-pub returns-in-Err-BadDirectory-clause-refused : goal.returns-in-Err-BadDirectory-clause-refused
-returns-in-Err-BadDirectory-clause-refused g c =
-    let w = c.self.inside in
-    let disk = g.M.BlockMedium.disk in
-    let k : Kept = record { config = w.settings; work = work_of w.work; tick = w.tick; last_event = w.last_event; generation = w.generation; taken = w.taken.items; erased = w.erased.items; found = w.found } in
-    let fine : first_broken (unmounted_checks (mode_of k.work)) ≡ None = ap (λ mode. first_broken (unmounted_checks mode)) (sym c.mode_in.ensures) ∙ c.in_default.ensures in
-    subst (λ (v : RecorderState _ _). RefusesCall disk (first_broken (unmounted_checks (mode_of v.kept.work))) (IsMountRefusal v.kept.config.directory (disk v.medium)) v.kept k v.medium c.mount.new.medium (refusals.BadDirectory c.in-Err-BadDirectory.block)) c.self.view_is
-    (lacking disk (first_broken (unmounted_checks (mode_of k.work))) (IsMountRefusal k.config.directory (disk w.medium)) k k w.medium c.mount.new.medium c.in-Err-BadDirectory.block fine
-    (rw (sym c.directory.ensures.value) (rw c.in-Err-BadDirectory.field-0-is at c.in-Err-BadDirectory.ensures.fault)) (rw c.in-Err-BadDirectory.field-0-is at c.in-Err-BadDirectory.ensures.left) refl)
-
-pub returns-in-Err-OutOfMemory-clause-steps : goal.returns-in-Err-OutOfMemory-clause-steps
-returns-in-Err-OutOfMemory-clause-steps g c =
-    let w = c.self.inside in
-    let disk = g.M.BlockMedium.disk in
-    let later = disk c.mount.new.medium in
-    let k : Kept = record { config = w.settings; work = work_of w.work; tick = w.tick; last_event = w.last_event; generation = w.generation; taken = w.taken.items; erased = w.erased.items; found = w.found } in
-    let fine : first_broken (unmounted_checks (mode_of k.work)) ≡ None = ap (λ mode. first_broken (unmounted_checks mode)) (sym c.mode_in.ensures) ∙ c.in_default.ensures in
-    subst (λ (v : RecorderState _ _). (m : Machine) → KeptStandsFor v.kept (disk v.medium).blocks (disk v.medium).failures m
-    → KeptStepsTaking none_taken v.kept m events.Mount (replies.Refused refusals.OutOfMemory) k later.blocks later.failures) c.self.view_is
-    (λ m means. mount_lacks c.a_step_stays_sound.ensures k (disk w.medium).blocks later.blocks (disk w.medium).failures later.failures m c.self.invariant.limits means fine
-    (rw c.in-Err-OutOfMemory.field-0-is at c.in-Err-OutOfMemory.ensures.left).reads c.mount.ensures.no_fewer)
-
-pub returns-in-Err-Medium-clause-steps : goal.returns-in-Err-Medium-clause-steps
-returns-in-Err-Medium-clause-steps g c =
-    let w = c.self.inside in
-    let disk = g.M.BlockMedium.disk in
-    let later = disk c.mount.new.medium in
-    let k : Kept = record { config = w.settings; work = work_of w.work; tick = w.tick; last_event = w.last_event; generation = w.generation; taken = w.taken.items; erased = w.erased.items; found = w.found } in
-    let fine : first_broken (unmounted_checks (mode_of k.work)) ≡ None = ap (λ mode. first_broken (unmounted_checks mode)) (sym c.mode_in.ensures) ∙ c.in_default.ensures in
-    subst (λ (v : RecorderState _ _). (m : Machine) → KeptStandsFor v.kept (disk v.medium).blocks (disk v.medium).failures m
-    → KeptStepsTaking none_taken v.kept m events.Mount (replies.Refused refusals.Medium) (record k { work = work_of c.turn-in-Err-Medium.new.work }) later.blocks later.failures) c.self.view_is
-    (subst (λ (x : Doing). (m : Machine) → KeptStandsFor k (disk w.medium).blocks (disk w.medium).failures m → KeptStepsTaking none_taken k m events.Mount (replies.Refused refusals.Medium) (record k { work = work_of x }) later.blocks later.failures) (sym c.turn-in-Err-Medium.ensures)
-    (λ m means.
-    let says = said k k.work (disk w.medium).blocks m refl (unmounted_work k.work fine) means.files in
-    mount_fails c.a_step_stays_sound.ensures k (disk w.medium).blocks later.blocks (disk w.medium).failures later.failures m c.self.invariant.limits means fine c.mount.ensures.no_fewer
-    (c.in-Err-Medium.ensures.cause (ap Err c.in-Err-Medium.field-0-is)) (c.mount.ensures.files.says k.config m.files says.0)))
-
-pub returns-in-Err-clause-owned : goal.returns-in-Err-clause-owned
-returns-in-Err-clause-owned g c =
-    let w = c.self.inside in
-    let disk = g.M.BlockMedium.disk in
-    let k : Kept = record { config = w.settings; work = work_of w.work; tick = w.tick; last_event = w.last_event; generation = w.generation; taken = w.taken.items; erased = w.erased.items; found = w.found } in
-    subst (λ (v : RecorderState _ _). OwnStay v.kept (disk v.medium).blocks v.kept (disk v.medium).blocks) c.self.view_is (stay_same k (disk w.medium).blocks)
-
-pub returns-in-Err-BadDirectory-clause-owned : goal.returns-in-Err-BadDirectory-clause-owned
-returns-in-Err-BadDirectory-clause-owned g c =
-    let w = c.self.inside in
-    let disk = g.M.BlockMedium.disk in
-    let k : Kept = record { config = w.settings; work = work_of w.work; tick = w.tick; last_event = w.last_event; generation = w.generation; taken = w.taken.items; erased = w.erased.items; found = w.found } in
-    subst (λ (v : RecorderState _ _). OwnStay v.kept (disk v.medium).blocks k (disk c.mount.new.medium).blocks) c.self.view_is
-    (subst (λ (image : Image). OwnStay k (disk w.medium).blocks k image) (sym ((rw c.in-Err-BadDirectory.field-0-is at c.in-Err-BadDirectory.ensures.left).reads)) (stay_same k (disk w.medium).blocks))
-
-pub returns-in-Err-OutOfMemory-clause-owned : goal.returns-in-Err-OutOfMemory-clause-owned
-returns-in-Err-OutOfMemory-clause-owned g c =
-    let w = c.self.inside in
-    let disk = g.M.BlockMedium.disk in
-    let k : Kept = record { config = w.settings; work = work_of w.work; tick = w.tick; last_event = w.last_event; generation = w.generation; taken = w.taken.items; erased = w.erased.items; found = w.found } in
-    subst (λ (v : RecorderState _ _). OwnStay v.kept (disk v.medium).blocks k (disk c.mount.new.medium).blocks) c.self.view_is
-    (subst (λ (image : Image). OwnStay k (disk w.medium).blocks k image) (sym ((rw c.in-Err-OutOfMemory.field-0-is at c.in-Err-OutOfMemory.ensures.left).reads)) (stay_same k (disk w.medium).blocks))
-
-pub returns-in-Err-Medium-clause-owned : goal.returns-in-Err-Medium-clause-owned
-returns-in-Err-Medium-clause-owned g c =
-    let w = c.self.inside in
-    let disk = g.M.BlockMedium.disk in
-    let k : Kept = record { config = w.settings; work = work_of w.work; tick = w.tick; last_event = w.last_event; generation = w.generation; taken = w.taken.items; erased = w.erased.items; found = w.found } in
-    subst (λ (v : RecorderState _ _). OwnStay v.kept (disk v.medium).blocks (record k { work = work_of c.turn-in-Err-Medium.new.work }) (disk c.mount.new.medium).blocks) c.self.view_is
-    (stay_failed k (record k { work = work_of c.turn-in-Err-Medium.new.work }) (disk w.medium).blocks (disk c.mount.new.medium).blocks (ap work_of c.turn-in-Err-Medium.ensures))
-
-pub returns-in-Ok-clause-owned : goal.returns-in-Ok-clause-owned
-returns-in-Ok-clause-owned g c =
+pub returns-in-Err-BadDirectory : goal.returns-in-Err-BadDirectory
+returns-in-Err-BadDirectory g c =
     let w = c.self.inside in
     let disk = g.M.BlockMedium.disk in
     let k : Kept = record { config = w.settings; work = work_of w.work; tick = w.tick; last_event = w.last_event; generation = w.generation; taken = w.taken.items; erased = w.erased.items; found = w.found } in
     let later = disk c.mount.new.medium in
-    let fine : first_broken (unmounted_checks (mode_of k.work)) ≡ None = ap (λ mode. first_broken (unmounted_checks mode)) (sym c.mode_in.ensures) ∙ c.in_default.ensures in
-    let reserved : c.directory.result ≡ k.config.directory = c.directory.ensures.value in
-    let mounted = subst (λ (n : ℕ). IsMounted n (disk w.medium).blocks c.in-Ok.directory) c.directory.ensures.value c.in-Ok.ensures.mounted in
-    let listed : listed_files c.in-Ok.directory ≡ listed_files mounted.chain = ap (λ (l : List ChainBlock). listed_files l) mounted.made_is ∙ files-with_shutdown 0x00 mounted.chain in
-    let few : min (length (listed_files c.in-Ok.directory)) (2 ^ 64 - 1) ≡ length (listed_files c.in-Ok.directory) =
-    subst (λ (l : List DirectoryEntry). min (length l) (2 ^ 64 - 1) ≡ length l) (sym listed) (few_listed k.config (disk w.medium).blocks mounted.chain c.self.invariant.limits c.self.invariant.blocks mounted.usable) in
-    let first : c.found_first-self-inside.result ≡ option_or k.found (Some (length (listed_files c.in-Ok.directory))) = c.found_first-self-inside.ensures ∙ ap (λ (n : ℕ). option_or k.found (Some n)) few in
-    let is = subst (λ (n : ℕ). IsMounted n (disk w.medium).blocks c.in-Ok.directory) reserved c.in-Ok.ensures.mounted in
-    let turns = c.mount.ensures.turns is.chain (subst (λ (n : ℕ). IsUsable n (disk w.medium).blocks is.chain) (sym reserved) is.usable) in
-    subst (λ (v : RecorderState _ _). OwnStay v.kept (disk v.medium).blocks (record k { work = work_of c.turn.new.work; found = c.found_first-self-inside.result }) later.blocks) c.self.view_is
-    (stay_by k (record k { work = work_of c.turn.new.work; found = c.found_first-self-inside.result }) (disk w.medium).blocks later.blocks
-    (mounted_own k (record k { work = work_of c.turn.new.work; found = c.found_first-self-inside.result }) (disk w.medium).blocks later.blocks is.chain (unmounted_work k.work fine) (whole_reads (disk w.medium)) is.usable
-    (one_block k.config.directory (length (disk w.medium).blocks) is.chain (with_shutdown 0x00 is.chain) (disk w.medium) later c.mount.result (some_reserved k.config.directory (disk w.medium).blocks is.chain is.usable) turns)
-    (ap work_of c.turn.ensures ∙ ap idle is.made_is) (first ∙ ap (λ (l : List DirectoryEntry). option_or k.found (Some (length l))) listed)))
+    record {
+      does = record {
+        passed = search rules;
+        refused =
+            let fine : first_broken (unmounted_checks (mode_of k.work)) ≡ None = ap (λ mode. first_broken (unmounted_checks mode)) (sym c.mode_in.ensures) ∙ c.in_default.ensures in
+            subst (λ (v : RecorderState _ _). RefusesCall disk (first_broken (unmounted_checks (mode_of v.kept.work))) (IsMountRefusal v.kept.config.directory (disk v.medium)) v.kept k v.medium c.mount.new.medium (refusals.BadDirectory c.in-Err-BadDirectory.block)) c.self.view_is
+            (lacking disk (first_broken (unmounted_checks (mode_of k.work))) (IsMountRefusal k.config.directory (disk w.medium)) k k w.medium c.mount.new.medium c.in-Err-BadDirectory.block fine
+            (rw (sym c.directory.ensures.value) (rw c.in-Err-BadDirectory.field-0-is at c.in-Err-BadDirectory.ensures.fault)) (rw c.in-Err-BadDirectory.field-0-is at c.in-Err-BadDirectory.ensures.left) refl);
+        steps = search rules;
+        shown = search rules;
+        power_loss =
+            subst (λ (v : RecorderState _ _). StaysSafe whichever v.kept events.Mount (replies.Refused (refusals.BadDirectory c.in-Err-BadDirectory.block)) (disk v.medium) k later) c.self.view_is
+            (refused_safely whichever k k events.Mount (refusals.BadDirectory c.in-Err-BadDirectory.block) (disk w.medium) later refl (rw c.in-Err-BadDirectory.field-0-is at c.in-Err-BadDirectory.ensures.left));
+        effect = search rules;
+        owned =
+            subst (λ (v : RecorderState _ _). OwnStay v.kept (disk v.medium).blocks k (disk c.mount.new.medium).blocks) c.self.view_is
+            (subst (λ (image : Image). OwnStay k (disk w.medium).blocks k image) (sym ((rw c.in-Err-BadDirectory.field-0-is at c.in-Err-BadDirectory.ensures.left).reads)) (stay_same k (disk w.medium).blocks));
+        spares =
+            subst (λ (v : RecorderState _ _). MountSpares v.kept.config.directory (disk v.medium) later) c.self.view_is
+            (subst (λ (n : ℕ). MountSpares n (disk w.medium) later) c.directory.ensures.value (mount_spares c.directory.result (disk w.medium) later c.mount.result (λ chain usable. c.mount.ensures.turns chain usable) (λ n is. (c.mount.ensures.unusable n is).same)));
+        lanes = search rules;
+        config = search rules;
+      };
+    }
 
-pub returns-in-Ok-clause-bytes : goal.returns-in-Ok-clause-bytes
-returns-in-Ok-clause-bytes g c =
-    let w = c.self.inside in
-    let disk = g.M.BlockMedium.disk in
-    let fine : first_broken (unmounted_checks (mode_of (work_of w.work))) ≡ None = ap (λ mode. first_broken (unmounted_checks mode)) (sym c.mode_in.ensures) ∙ c.in_default.ensures in
-    subst (λ (v : RecorderState _ _). MachinesKeepShown v.kept (disk v.medium).blocks (disk v.medium).failures (disk c.mount.new.medium).blocks) c.self.view_is
-    (λ m means. c.mount.ensures.files.bytes w.settings m.files (says_of w.settings (work_of w.work) (disk w.medium).blocks m.files (unmounted_work (work_of w.work) fine) means.files))
-
-pub returns-in-Err-Medium-clause-bytes : goal.returns-in-Err-Medium-clause-bytes
-returns-in-Err-Medium-clause-bytes g c =
-    let w = c.self.inside in
-    let disk = g.M.BlockMedium.disk in
-    let fine : first_broken (unmounted_checks (mode_of (work_of w.work))) ≡ None = ap (λ mode. first_broken (unmounted_checks mode)) (sym c.mode_in.ensures) ∙ c.in_default.ensures in
-    subst (λ (v : RecorderState _ _). MachinesKeepShown v.kept (disk v.medium).blocks (disk v.medium).failures (disk c.mount.new.medium).blocks) c.self.view_is
-    (λ m means. c.mount.ensures.files.bytes w.settings m.files (says_of w.settings (work_of w.work) (disk w.medium).blocks m.files (unmounted_work (work_of w.work) fine) means.files))
-
-pub returns-in-Ok-clause-effect : goal.returns-in-Ok-clause-effect
-returns-in-Ok-clause-effect g c =
+pub returns-in-Err-OutOfMemory : goal.returns-in-Err-OutOfMemory
+returns-in-Err-OutOfMemory g c =
     let w = c.self.inside in
     let disk = g.M.BlockMedium.disk in
     let later = disk c.mount.new.medium in
     let k : Kept = record { config = w.settings; work = work_of w.work; tick = w.tick; last_event = w.last_event; generation = w.generation; taken = w.taken.items; erased = w.erased.items; found = w.found } in
-    let reserved : c.directory.result ≡ k.config.directory = c.directory.ensures.value in
-    let mounted = subst (λ (n : ℕ). IsMounted n (disk w.medium).blocks c.in-Ok.directory) c.directory.ensures.value c.in-Ok.ensures.mounted in
-    let listed : listed_files c.in-Ok.directory ≡ listed_files mounted.chain = ap (λ (l : List ChainBlock). listed_files l) mounted.made_is ∙ files-with_shutdown 0x00 mounted.chain in
-    let few : min (length (listed_files c.in-Ok.directory)) (2 ^ 64 - 1) ≡ length (listed_files c.in-Ok.directory) =
-    subst (λ (l : List DirectoryEntry). min (length l) (2 ^ 64 - 1) ≡ length l) (sym listed) (few_listed k.config (disk w.medium).blocks mounted.chain c.self.invariant.limits c.self.invariant.blocks mounted.usable) in
-    let first : c.found_first-self-inside.result ≡ option_or k.found (Some (length (listed_files c.in-Ok.directory))) = c.found_first-self-inside.ensures ∙ ap (λ (n : ℕ). option_or k.found (Some n)) few in
-    subst (λ (v : RecorderState _ _). MountEffect v.kept (disk v.medium) (record k { work = work_of c.turn.new.work; found = c.found_first-self-inside.result }) later) c.self.view_is
-    (subst (λ (x : Doing). MountEffect k (disk w.medium) (record k { work = work_of x; found = c.found_first-self-inside.result }) later) (sym c.turn.ensures)
-    (mount_effect k (disk w.medium) later c.in-Ok.directory c.mount.result (subst (λ (n : ℕ). IsMounted n (disk w.medium).blocks c.in-Ok.directory) reserved c.in-Ok.ensures.mounted)
-    (λ chain usable. c.mount.ensures.turns chain (subst (λ (n : ℕ). IsUsable n (disk w.medium).blocks chain) (sym reserved) usable)) c.in-Ok.ensures.directory c.found_first-self-inside.result first))
+    record {
+      does = record {
+        passed = search rules;
+        refused = search rules;
+        steps =
+            let fine : first_broken (unmounted_checks (mode_of k.work)) ≡ None = ap (λ mode. first_broken (unmounted_checks mode)) (sym c.mode_in.ensures) ∙ c.in_default.ensures in
+            subst (λ (v : RecorderState _ _). (m : Machine) → KeptStandsFor v.kept (disk v.medium).blocks (disk v.medium).failures m
+            → KeptStepsTaking none_taken v.kept m events.Mount (replies.Refused refusals.OutOfMemory) k later.blocks later.failures) c.self.view_is
+            (λ m means. mount_lacks c.a_step_stays_sound.ensures k (disk w.medium).blocks later.blocks (disk w.medium).failures later.failures m c.self.invariant.limits means fine
+            (rw c.in-Err-OutOfMemory.field-0-is at c.in-Err-OutOfMemory.ensures.left).reads c.mount.ensures.no_fewer);
+        shown = search rules;
+        power_loss =
+            subst (λ (v : RecorderState _ _). StaysSafe whichever v.kept events.Mount (replies.Refused refusals.OutOfMemory) (disk v.medium) k later) c.self.view_is
+            (refused_safely whichever k k events.Mount refusals.OutOfMemory (disk w.medium) later refl (rw c.in-Err-OutOfMemory.field-0-is at c.in-Err-OutOfMemory.ensures.left));
+        effect = search rules;
+        owned =
+            subst (λ (v : RecorderState _ _). OwnStay v.kept (disk v.medium).blocks k (disk c.mount.new.medium).blocks) c.self.view_is
+            (subst (λ (image : Image). OwnStay k (disk w.medium).blocks k image) (sym ((rw c.in-Err-OutOfMemory.field-0-is at c.in-Err-OutOfMemory.ensures.left).reads)) (stay_same k (disk w.medium).blocks));
+        spares =
+            subst (λ (v : RecorderState _ _). MountSpares v.kept.config.directory (disk v.medium) later) c.self.view_is
+            (subst (λ (n : ℕ). MountSpares n (disk w.medium) later) c.directory.ensures.value (mount_spares c.directory.result (disk w.medium) later c.mount.result (λ chain usable. c.mount.ensures.turns chain usable) (λ n is. (c.mount.ensures.unusable n is).same)));
+        lanes = search rules;
+        config = search rules;
+      };
+    }
 
-pub returns-in-Err-clause-stops : goal.returns-in-Err-clause-stops
-returns-in-Err-clause-stops g c =
+pub returns-in-Err-Medium : goal.returns-in-Err-Medium
+returns-in-Err-Medium g c =
     let w = c.self.inside in
     let disk = g.M.BlockMedium.disk in
+    let later = disk c.mount.new.medium in
     let k : Kept = record { config = w.settings; work = work_of w.work; tick = w.tick; last_event = w.last_event; generation = w.generation; taken = w.taken.items; erased = w.erased.items; found = w.found } in
-    subst (λ (v : RecorderState _ _). StaysSafe whichever v.kept events.Mount (replies.Refused c.in-Err.refusal) (disk v.medium) v.kept (disk v.medium)) c.self.view_is
-    (refused_safely whichever k k events.Mount c.in-Err.refusal (disk w.medium) (disk w.medium) refl (unchanged (disk w.medium)))
-
-pub returns-in-Ok-clause-stops : goal.returns-in-Ok-clause-stops
-returns-in-Ok-clause-stops g c =
-    let w = c.self.inside in
-    let disk = g.M.BlockMedium.disk in
-    let k : Kept = record { config = w.settings; work = work_of w.work; tick = w.tick; last_event = w.last_event; generation = w.generation; taken = w.taken.items; erased = w.erased.items; found = w.found } in
-    let later = disk c.mount.new.medium in
-    let fine : first_broken (unmounted_checks (mode_of k.work)) ≡ None = ap (λ mode. first_broken (unmounted_checks mode)) (sym c.mode_in.ensures) ∙ c.in_default.ensures in
-    subst (λ (v : RecorderState _ _). StaysSafe whichever v.kept events.Mount replies.Done (disk v.medium) (record k { work = work_of c.turn.new.work; found = c.found_first-self-inside.result }) later) c.self.view_is
-    (synced_safely whichever k (record k { work = work_of c.turn.new.work; found = c.found_first-self-inside.result }) events.Mount replies.Done (disk w.medium) later c.in-Ok.ensures.directory.synced (makes_none whichever k events.Mount (disk w.medium) later (unmounted_leaves k (disk w.medium) later (unmounted_work k.work fine) (λ files settled. c.mount.ensures.files.moments k.config files settled))))
-
-pub returns-in-Err-BadDirectory-clause-stops : goal.returns-in-Err-BadDirectory-clause-stops
-returns-in-Err-BadDirectory-clause-stops g c =
-    let w = c.self.inside in
-    let disk = g.M.BlockMedium.disk in
-    let k : Kept = record { config = w.settings; work = work_of w.work; tick = w.tick; last_event = w.last_event; generation = w.generation; taken = w.taken.items; erased = w.erased.items; found = w.found } in
-    let later = disk c.mount.new.medium in
-    subst (λ (v : RecorderState _ _). StaysSafe whichever v.kept events.Mount (replies.Refused (refusals.BadDirectory c.in-Err-BadDirectory.block)) (disk v.medium) k later) c.self.view_is
-    (refused_safely whichever k k events.Mount (refusals.BadDirectory c.in-Err-BadDirectory.block) (disk w.medium) later refl (rw c.in-Err-BadDirectory.field-0-is at c.in-Err-BadDirectory.ensures.left))
-
-pub returns-in-Err-OutOfMemory-clause-stops : goal.returns-in-Err-OutOfMemory-clause-stops
-returns-in-Err-OutOfMemory-clause-stops g c =
-    let w = c.self.inside in
-    let disk = g.M.BlockMedium.disk in
-    let k : Kept = record { config = w.settings; work = work_of w.work; tick = w.tick; last_event = w.last_event; generation = w.generation; taken = w.taken.items; erased = w.erased.items; found = w.found } in
-    let later = disk c.mount.new.medium in
-    subst (λ (v : RecorderState _ _). StaysSafe whichever v.kept events.Mount (replies.Refused refusals.OutOfMemory) (disk v.medium) k later) c.self.view_is
-    (refused_safely whichever k k events.Mount refusals.OutOfMemory (disk w.medium) later refl (rw c.in-Err-OutOfMemory.field-0-is at c.in-Err-OutOfMemory.ensures.left))
-
-pub returns-in-Err-Medium-clause-stops : goal.returns-in-Err-Medium-clause-stops
-returns-in-Err-Medium-clause-stops g c =
-    let w = c.self.inside in
-    let disk = g.M.BlockMedium.disk in
-    let k : Kept = record { config = w.settings; work = work_of w.work; tick = w.tick; last_event = w.last_event; generation = w.generation; taken = w.taken.items; erased = w.erased.items; found = w.found } in
-    let later = disk c.mount.new.medium in
-    let fine : first_broken (unmounted_checks (mode_of k.work)) ≡ None = ap (λ mode. first_broken (unmounted_checks mode)) (sym c.mode_in.ensures) ∙ c.in_default.ensures in
-    subst (λ (v : RecorderState _ _). StaysSafe whichever v.kept events.Mount (replies.Refused refusals.Medium) (disk v.medium) (record k { work = work_of c.turn-in-Err-Medium.new.work }) later) c.self.view_is
-    (failed_safely whichever k (record k { work = work_of c.turn-in-Err-Medium.new.work }) events.Mount (replies.Refused refusals.Medium) (disk w.medium) later (ap work_of c.turn-in-Err-Medium.ensures) (makes_none whichever k events.Mount (disk w.medium) later (unmounted_leaves k (disk w.medium) later (unmounted_work k.work fine) (λ files settled. c.mount.ensures.files.moments k.config files settled))))
-
--- ---- what stays
-
-pub returns-in-Err-clause-spares : goal.returns-in-Err-clause-spares
-returns-in-Err-clause-spares g c =
-    let w = c.self.inside in
-    let disk = g.M.BlockMedium.disk in
-    subst (λ (v : RecorderState _ _). MountSpares v.kept.config.directory (disk v.medium) (disk v.medium)) c.self.view_is (mount_spares_all w.settings.directory (disk w.medium))
-
-pub returns-in-Ok-clause-spares : goal.returns-in-Ok-clause-spares
-returns-in-Ok-clause-spares g c =
-    let w = c.self.inside in
-    let disk = g.M.BlockMedium.disk in
-    let later = disk c.mount.new.medium in
-    subst (λ (v : RecorderState _ _). MountSpares v.kept.config.directory (disk v.medium) later) c.self.view_is
-    (subst (λ (n : ℕ). MountSpares n (disk w.medium) later) c.directory.ensures.value (mount_spares c.directory.result (disk w.medium) later c.mount.result (λ chain usable. c.mount.ensures.turns chain usable) (λ n is. (c.mount.ensures.unusable n is).same)))
-
-pub returns-in-Err-BadDirectory-clause-spares : goal.returns-in-Err-BadDirectory-clause-spares
-returns-in-Err-BadDirectory-clause-spares g c =
-    let w = c.self.inside in
-    let disk = g.M.BlockMedium.disk in
-    let later = disk c.mount.new.medium in
-    subst (λ (v : RecorderState _ _). MountSpares v.kept.config.directory (disk v.medium) later) c.self.view_is
-    (subst (λ (n : ℕ). MountSpares n (disk w.medium) later) c.directory.ensures.value (mount_spares c.directory.result (disk w.medium) later c.mount.result (λ chain usable. c.mount.ensures.turns chain usable) (λ n is. (c.mount.ensures.unusable n is).same)))
-
-pub returns-in-Err-OutOfMemory-clause-spares : goal.returns-in-Err-OutOfMemory-clause-spares
-returns-in-Err-OutOfMemory-clause-spares g c =
-    let w = c.self.inside in
-    let disk = g.M.BlockMedium.disk in
-    let later = disk c.mount.new.medium in
-    subst (λ (v : RecorderState _ _). MountSpares v.kept.config.directory (disk v.medium) later) c.self.view_is
-    (subst (λ (n : ℕ). MountSpares n (disk w.medium) later) c.directory.ensures.value (mount_spares c.directory.result (disk w.medium) later c.mount.result (λ chain usable. c.mount.ensures.turns chain usable) (λ n is. (c.mount.ensures.unusable n is).same)))
-
-pub returns-in-Err-Medium-clause-spares : goal.returns-in-Err-Medium-clause-spares
-returns-in-Err-Medium-clause-spares g c =
-    let w = c.self.inside in
-    let disk = g.M.BlockMedium.disk in
-    let later = disk c.mount.new.medium in
-    subst (λ (v : RecorderState _ _). MountSpares v.kept.config.directory (disk v.medium) later) c.self.view_is
-    (subst (λ (n : ℕ). MountSpares n (disk w.medium) later) c.directory.ensures.value (mount_spares c.directory.result (disk w.medium) later c.mount.result (λ chain usable. c.mount.ensures.turns chain usable) (λ n is. (c.mount.ensures.unusable n is).same)))
+    record {
+      does = record {
+        passed = search rules;
+        refused = search rules;
+        steps =
+            let fine : first_broken (unmounted_checks (mode_of k.work)) ≡ None = ap (λ mode. first_broken (unmounted_checks mode)) (sym c.mode_in.ensures) ∙ c.in_default.ensures in
+            subst (λ (v : RecorderState _ _). (m : Machine) → KeptStandsFor v.kept (disk v.medium).blocks (disk v.medium).failures m
+            → KeptStepsTaking none_taken v.kept m events.Mount (replies.Refused refusals.Medium) (record k { work = work_of c.turn-in-Err-Medium.new.work }) later.blocks later.failures) c.self.view_is
+            (subst (λ (x : Doing). (m : Machine) → KeptStandsFor k (disk w.medium).blocks (disk w.medium).failures m → KeptStepsTaking none_taken k m events.Mount (replies.Refused refusals.Medium) (record k { work = work_of x }) later.blocks later.failures) (sym c.turn-in-Err-Medium.ensures)
+            (λ m means.
+            let says = said k k.work (disk w.medium).blocks m refl (unmounted_work k.work fine) means.files in
+            mount_fails c.a_step_stays_sound.ensures k (disk w.medium).blocks later.blocks (disk w.medium).failures later.failures m c.self.invariant.limits means fine c.mount.ensures.no_fewer
+            (c.in-Err-Medium.ensures.cause (ap Err c.in-Err-Medium.field-0-is)) (c.mount.ensures.files.says k.config m.files says.0)));
+        shown =
+            let fine : first_broken (unmounted_checks (mode_of (work_of w.work))) ≡ None = ap (λ mode. first_broken (unmounted_checks mode)) (sym c.mode_in.ensures) ∙ c.in_default.ensures in
+            subst (λ (v : RecorderState _ _). MachinesKeepShown v.kept (disk v.medium).blocks (disk v.medium).failures (disk c.mount.new.medium).blocks) c.self.view_is
+            (λ m means. c.mount.ensures.files.bytes w.settings m.files (says_of w.settings (work_of w.work) (disk w.medium).blocks m.files (unmounted_work (work_of w.work) fine) means.files));
+        power_loss =
+            let fine : first_broken (unmounted_checks (mode_of k.work)) ≡ None = ap (λ mode. first_broken (unmounted_checks mode)) (sym c.mode_in.ensures) ∙ c.in_default.ensures in
+            subst (λ (v : RecorderState _ _). StaysSafe whichever v.kept events.Mount (replies.Refused refusals.Medium) (disk v.medium) (record k { work = work_of c.turn-in-Err-Medium.new.work }) later) c.self.view_is
+            (failed_safely whichever k (record k { work = work_of c.turn-in-Err-Medium.new.work }) events.Mount (replies.Refused refusals.Medium) (disk w.medium) later (ap work_of c.turn-in-Err-Medium.ensures) (makes_none whichever k events.Mount (disk w.medium) later (unmounted_leaves k (disk w.medium) later (unmounted_work k.work fine) (λ files settled. c.mount.ensures.files.moments k.config files settled))));
+        effect = search rules;
+        owned =
+            subst (λ (v : RecorderState _ _). OwnStay v.kept (disk v.medium).blocks (record k { work = work_of c.turn-in-Err-Medium.new.work }) (disk c.mount.new.medium).blocks) c.self.view_is
+            (stay_failed k (record k { work = work_of c.turn-in-Err-Medium.new.work }) (disk w.medium).blocks (disk c.mount.new.medium).blocks (ap work_of c.turn-in-Err-Medium.ensures));
+        spares =
+            subst (λ (v : RecorderState _ _). MountSpares v.kept.config.directory (disk v.medium) later) c.self.view_is
+            (subst (λ (n : ℕ). MountSpares n (disk w.medium) later) c.directory.ensures.value (mount_spares c.directory.result (disk w.medium) later c.mount.result (λ chain usable. c.mount.ensures.turns chain usable) (λ n is. (c.mount.ensures.unusable n is).same)));
+        lanes = search rules;
+        config = search rules;
+      };
+    }

@@ -12,7 +12,7 @@ returns-in-Some-clause-told g c =
       runs = one_reply (λ es rs. WorldRuns g.M.BlockMedium.disk c.args.self.now.world es rs c.run.new.world) c.args.event c.in-Ok.field-0 c.new-replies.result.len c.run.new.replies.items
           c.pop.new.self.items c.in-Some.reply c.in-Ok.ensures.within (c.in-Ok.ensures.some (omega arith)) c.new-replies.ensures.len size c.in-Some.ensures.items c.in-Ok.ensures.run;
       safely = one_reply (λ es rs. RunsSafely g.M.BlockMedium.disk c.args.self.now.world es rs c.run.new.world) c.args.event c.in-Ok.field-0 c.new-replies.result.len c.run.new.replies.items
-          c.pop.new.self.items c.in-Some.reply c.in-Ok.ensures.within (c.in-Ok.ensures.some (omega arith)) c.new-replies.ensures.len size c.in-Some.ensures.items c.in-Ok.ensures.stops;
+          c.pop.new.self.items c.in-Some.reply c.in-Ok.ensures.within (c.in-Ok.ensures.some (omega arith)) c.new-replies.ensures.len size c.in-Some.ensures.items c.in-Ok.ensures.power_loss;
       answers = one_reply (λ es rs. AnswersEach g.M.BlockMedium.disk c.args.self.now.world es rs c.run.new.world) c.args.event c.in-Ok.field-0 c.new-replies.result.len c.run.new.replies.items
           c.pop.new.self.items c.in-Some.reply c.in-Ok.ensures.within (c.in-Ok.ensures.some (omega arith)) c.new-replies.ensures.len size c.in-Some.ensures.items c.in-Ok.ensures.answers;
     })

@@ -5,5 +5,5 @@ use Rattle.r10_thread_tests.proofs.accounted.AccountedRecorder.mount.Goals as go
 
 pub invariant_of-self : goal.invariant_of-self
 invariant_of-self g c =
-    stays_accounted _ tape_spec tape_gave c.self.inside.recorder c.mount.new.self (mount_left _ _ _ _ _ _ c.mount.result c.mount.ensures.passed c.mount.ensures.effect c.mount.ensures.refused).numbers
-    c.mount.ensures.owned c.mount.ensures.lanes c.mount.ensures.config c.self.invariant
+    stays_accounted _ tape_spec tape_gave c.self.inside.recorder c.mount.new.self (mount_left _ _ _ _ _ _ c.mount.result c.mount.ensures.does.passed c.mount.ensures.does.effect c.mount.ensures.does.refused).numbers
+    c.mount.ensures.does.owned c.mount.ensures.does.lanes c.mount.ensures.does.config c.self.invariant
