@@ -10,7 +10,6 @@ use Rattle.r10_body.specs.declared.refusal.Refusal.{Refusal}
 use Rattle.r10_body.specs.declared.refusal.Refusal.TheVariants as refusals
 use Rattle.r10_medium.specs.Disk.{Disk, Rose, Unchanged}
 use Rattle.r10_machine.specs.Calls.{accepted, losing, overflowed}
-use Rattle.r10_machine.specs.Config.{Config}
 use Rattle.r10_machine.specs.Checks.{Check, channel_checks, mounted_checks, offer_checks, offer_refusal}
 use Rattle.r10_machine.specs.Finding.{count_after, first_from, last_until, ticks_of}
 use Rattle.r10_machine.specs.Limits.{channel_ids}
@@ -38,7 +37,6 @@ use Rattle.r10_control.specs.Refused.{IsMountRefusal, IsSameKept, nothing_lacks}
 use Rattle.r10_control.specs.SealRefusals.{IsSealRefusal}
 use Rattle.r10_control.specs.Started.{IsStartRefusal}
 use Rattle.r10_control.specs.State.{RecorderState}
-use Rattle.r10_world.specs.Joined.{begun_world}
 use Rattle.r10_world.specs.State.{WorldState}
 
 -- ---- what is checked
@@ -278,12 +276,6 @@ AnswersEach disk old [] [] new = new ≡ old
 AnswersEach {M} disk old (event ∷ events) (reply ∷ given) new =
     (mid : WorldState M) × IsAnswered disk old event reply mid × AnswersEach disk mid events given new
 AnswersEach disk old events given new = ⊥
-
--- a whole recording: events in turn, from a new world over this medium
-pub record RecordsEach {M : Type 0} (disk : M → Disk) (s : Config) (medium : M) (events : List EventValue) (given : List ReplyValue) (left : M) : Type 0 where
-  pub end : WorldState M
-  pub each : AnswersEach disk (begun_world s medium) events given end
-  pub medium_is : end.recorder.medium ≡ left
 
 -- ---- the table alone
 

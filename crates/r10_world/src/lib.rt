@@ -17,5 +17,5 @@ pub use r10_machine::{
     ChannelStatus, Event, FileInfo, Found, Mode, Reply, Settings, SettingsFault, Status, Stopped,
 };
 pub use running::run;
-pub use whole::{format_and_record, record_all};
+pub use whole::{format_and_record, record_all, run_over_any_medium};
 pub use world::World;
