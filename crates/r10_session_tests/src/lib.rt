@@ -9,6 +9,8 @@ mod beside;
 #[cfg(test)]
 mod fakes;
 #[cfg(test)]
+mod levels;
+#[cfg(test)]
 mod lock;
 #[cfg(test)]
 mod losing;
@@ -24,5 +26,7 @@ mod run;
 mod sessions;
 #[cfg(test)]
 mod sources;
+#[cfg(test)]
+mod window;
 #[cfg(test)]
 mod workers;

@@ -36,7 +36,7 @@ const LEAP_DAY: Parts = Parts {
 const LAST: u64 = 281_474_976_710_655;
 
 /// A mount and a tick.
-fn mount_and_tick(alloc: Global) -> Result<Vec<Order>, AllocError> {
+pub fn mount_and_tick(alloc: Global) -> Result<Vec<Order>, AllocError> {
     let mut orders = Vec::with_capacity(alloc, 2)?;
     orders.push_reserved(Order::Mount);
     orders.push_reserved(Order::Tick {
@@ -120,7 +120,7 @@ fn one_feed<N: Rings>(
 }
 
 /// Runs a session and ends it.
-fn run_and_end<
+pub fn run_and_end<
     M: BlockMedium + Drop + Send,
     N: Rings + Send + Sync,
     R: Threads + Wait + Sync,

@@ -1,0 +1,112 @@
+// What is seen of a feed's lane while the feed runs.
+
+ghost use Rattle.std.specs.Prelude.{◌≡◌, Some};
+ghost use Rattle.r10_held.specs.Account.{IsNew};
+ghost use Rattle.r10_held.specs.LockFact.{outlet_received, outlet_spec};
+ghost use Rattle.r10_held.specs.Naming.{AreNamed, ring_for};
+ghost use Rattle.r10_medium.specs.MemoryDisk.{memory_disk};
+
+use crate::made::{Made, cabinet_of, make};
+use crate::run::{mount_and_tick, run_and_end};
+use crate::sources::Listed;
+use crate::window::Window;
+use r10_medium::Memory;
+use r10_shared::{AnySource, Feed, Gauge, Level, Levels, Open, Rings, SessionReport};
+use r10_source::{ChannelSource, Given, Turn};
+use std::alloc::Global;
+use std::marker::Brand;
+use std::sync::atomic::{AtomicU64, Ordering};
+use std::sync::{Arc, Wait};
+use std::test::Fail;
+use std::thread::Threads;
+
+/// How many messages were sent and lost, and how many wait, before each turn: of six messages for a lane of four, of a loss of 70, and of
+/// the end.
+const SEEN: [(u64, u64, u64); 8] = [
+    (0, 0, 0),
+    (1, 0, 1),
+    (2, 0, 2),
+    (3, 0, 3),
+    (4, 0, 4),
+    (4, 1, 4),
+    (4, 2, 4),
+    (4, 72, 4),
+];
+
+/// A source that looks at its own lane's level in each turn, and counts how often it sees what the turns before came to.
+#[derive(Drop)]
+struct Looking<R: Wait + Copy> {
+    source: Listed,
+    rt: R,
+    window: Window,
+    turn: usize,
+    right: Arc<AtomicU64, Global>,
+}
+
+/// Counts a level, if it is what the turns before came to.
+fn note(right: &AtomicU64, turn: usize, level: Level) {
+    let Level {
+        sent,
+        lost,
+        waiting,
+    } = level;
+    if SEEN.get(turn) == Some(&(sent, lost, waiting)) {
+        right.fetch_add(1, Ordering::SeqCst);
+    }
+}
+
+impl<R: Wait + Copy> ChannelSource for Looking<R> {
+    ghost rest = { λ looking. looking.source.left.items };
+
+    fn next(&mut self) -> Given {
+        let level = self.window.look(&self.rt);
+        note(&self.right, self.turn, level);
+        self.turn = self.turn.wrapping_add(1);
+        self.source.next()
+    }
+}
+
+/// A feed of the channel 5 with a gauge, while no file is recorded.
+fn run_watched<N: Rings + Send + Sync, R: Threads + Wait + Sync>(
+    rt: &R,
+    alloc: Global,
+    made: Made,
+    gauge: Gauge<Levels>,
+    source: AnySource,
+) -> Result<SessionReport<Memory>, Fail>
+    requires new { IsNew memory_disk outlet_spec outlet_received made.gauged.recorder }
+    requires named { AreNamed N.rings made.gauged.recorder.lanes }
+    requires gauge { made.gauged.cell ≡ N.gauge }
+    requires five { ring_for 5 N.rings ≡ Some made.five.ring }
+{
+    let Made { gauged, five, .. } = made;
+    let (cabinet, _pass) = cabinet_of::<N>(gauged);
+    let mut feeds = Vec::with_capacity(alloc, 1)?;
+    feeds.push_reserved(Feed::new(5, source, five).watched(rt, gauge));
+    let orders = mount_and_tick(alloc)?;
+    run_and_end(rt, alloc, &Open, cabinet, feeds, orders, Vec::new(alloc))
+}
+
+#[test]
+fn a_feed_shows_its_level_before_its_next_turn(rt: HostRuntime) -> Result<(), Fail> {
+    let alloc = rt.alloc();
+    let right = Arc::new(alloc, AtomicU64::new(0))?;
+    let (gauge, watch, pass) = Gauge::<Levels>::new(alloc)?;
+    let mut listed = Listed::of(alloc, 6)?;
+    listed.left.push_back(Turn::Lost(70))?;
+    let source: AnySource = Box::new(
+        alloc,
+        Looking {
+            source: listed,
+            rt,
+            window: Window::new(watch, pass),
+            turn: 0,
+            right: Arc::try_clone(&right)?,
+        },
+    )?;
+    let made = make(alloc, 4)?;
+    let report = run_watched::<Brand, _>(&rt, alloc, made, gauge, source)?;
+    assert_eq!(rt; right.load(Ordering::SeqCst), 8);
+    assert_eq!(rt; report.feeds.len(), 1);
+    Ok(())
+}
