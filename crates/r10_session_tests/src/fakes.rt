@@ -167,9 +167,7 @@ pub struct Watched {
     pub diary: Diary,
 }
 
-impl Watching for Watched {
-    type Reading = u64;
-
+impl Watching<u64> for Watched {
     type Key = ();
 
     ghost asked = { λ old asks new. notes digit_watched old.diary.digits asks new.diary.digits };

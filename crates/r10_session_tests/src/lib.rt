@@ -9,6 +9,8 @@ mod beside;
 #[cfg(test)]
 mod fakes;
 #[cfg(test)]
+mod handing;
+#[cfg(test)]
 mod levels;
 #[cfg(test)]
 mod lock;

@@ -57,7 +57,7 @@ fn begin(alloc: Global) -> Result<Vec<Order>, AllocError> {
 }
 
 /// A session that only begins a file, and then a cursor on both channels in it.
-fn begun<M: BlockMedium + Send, N: Rings + Send + Sync, R: Threads + Wait + Sync>(
+pub fn begun<M: BlockMedium + Send, N: Rings + Send + Sync, R: Threads + Wait + Sync>(
     rt: &R,
     alloc: Global,
     cabinet: &Cabinet<M, N>,
@@ -107,7 +107,7 @@ fn two_feeds<N: Rings>(
 }
 
 /// A feed of the channel 5.
-fn one_feed<N: Rings>(
+pub fn one_feed<N: Rings>(
     alloc: Global,
     five: Port,
     source: AnySource,

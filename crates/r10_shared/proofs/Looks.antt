@@ -3,7 +3,9 @@ use Rattle.std.proofs.Common.{◌≡◌, ◌<◌, length, arith, ◌==◌, ◌||
 use Rattle.std.proofs.lemmas.List.{append-nil}
 use Rattle.std.proofs.lemmas.List.Concat.{flat_map-append}
 use Rattle.r10_body.specs.declared.refusal.Refusal.{Refusal}
+use Rattle.std.specs.List.{AllByRecursion}
 use Rattle.r10_shared.specs.Asking.{Asks, goes_on}
+use Rattle.r10_shared.specs.Desk.{IsNoted, Worked}
 use Rattle.r10_shared.specs.Watching.{EachLook, Follows, IsLook, IsWatching, Look, Watched, asked_in}
 use Rattle.r10_shared.specs.Watching.Watched.{Announces, Ended, Reads, Shown, Sleeps}
 
@@ -26,6 +28,15 @@ follows_on false last answer on is goes = absurd (cc)
 pub some_element : {X : Type 0} (xs : List X) (i : ℕ) → i < length xs → X
 some_element [] i inside = absurd (omega (arith, inside))
 some_element (x ∷ xs) i inside = x
+
+-- a reader that the gate let through, of which no more is noted than what it asked
+pub worked_so : (answers : Bool → Type 0) (answer : Bool) → answers answer → answer ≡ true → (asks : List Watched) → IsWatching asks → Worked answers IsWatching IsNoted
+worked_so answers true answered is asks watched = record { answer = true; answered = answered; asks = asks; as_wanted = watched; done = all_noted asks }
+  where
+    all_noted : (some : List Watched) → AllByRecursion IsNoted some
+    all_noted [] = tt
+    all_noted (ask ∷ some) = (tt, all_noted some)
+worked_so answers false answered is asks watched = absurd (cc)
 
 pub off_of : (b : Bool) → not b ≡ true → b ≡ false
 off_of true is = absurd (cc)

@@ -1,5 +1,5 @@
 -- What a player wrote down, turn by turn.
-use Rattle.std.proofs.Common.{◌≡◌, ℕ, ◌<◌, List, [], ◌∷◌, ◌++◌, map, length, get_or, take, drop, sym, ap, subst, ◌∙◌, append_assoc, arith}
+use Rattle.std.proofs.Common.{◌≡◌, ℕ, ◌<◌, List, [], ◌∷◌, ◌++◌, map, length, get_or, take, drop, refl, sym, ap, subst, ◌∙◌, append_assoc, arith}
 use Rattle.std.specs.List.{AllByRecursion}
 use Rattle.atomic_table.specs.Seated.{TableId}
 use Rattle.std.proofs.lemmas.List.{append-nil, drop_all, get_or-map, length-map, map-append, take_all}
@@ -7,19 +7,23 @@ use Rattle.r10_cursor.specs.Replays.{Reading as CursorReading}
 use Rattle.r10_cursor.specs.declared.cursor.Cursor.{Cursor}
 use Rattle.r10_held.specs.Advancing.{TakesInstalment}
 use Rattle.r10_held.specs.declared.player.Player.{Player}
-use Rattle.r10_shared.specs.Readings.{EachGoesOn, HasReadAll, IsAlike, IsTakenFrom, ReadsFrom, ReadsOn}
+use Rattle.r10_shared.specs.Readings.{EachGoesOn, HasReadAll, HasTaken, IsAlike, IsTakenFrom, ReadsFrom, ReadsOn}
 use Rattle.r10_shared.specs.declared.reading.Reading.{Reading}
 use Rattle.r10_held.specs.declared.transcript.Instalment.{Instalment}
 use Rattle.r10_shared.specs.ReadingLaws.{alike_stays}
 
--- nothing is written
-pub reads_none : (player : Player) (before : List Instalment) (new : Reading) → new.player.pass.cell ≡ player.pass.cell → IsAlike player.cursor new.player.cursor → new.player.cursor.reading.covered ≡ player.cursor.reading.covered
-    → new.instalments.items ≡ before → ReadsFrom player before new
-reads_none player before new gauge alike covered written = record { gauge = gauge; alike = alike; more = []; written = written ∙ sym (append-nil before); goes_on = covered; taken = tt }
+-- nothing is taken
+pub took_none : (player later : Player) (all : List Instalment) → later.pass.cell ≡ player.pass.cell → IsAlike player.cursor later.cursor → later.cursor.reading.covered ≡ player.cursor.reading.covered → HasTaken player all later all
+took_none player later all gauge alike covered = record { gauge = gauge; alike = alike; more = []; written = sym (append-nil all); goes_on = covered; taken = tt }
 
-pub reads_nothing : (player : Player) (before : List Instalment) (new : Reading) → new.player.pass.cell ≡ player.pass.cell → new.player.cursor ≡ player.cursor → new.instalments.items ≡ before → ReadsFrom player before new
-reads_nothing player before new gauge same written =
-    reads_none player before new gauge (subst (IsAlike player.cursor) (sym same) (alike_stays player.cursor)) (ap (λ (c : Cursor). c.reading.covered) same) written
+-- what was still to be given is dropped
+pub passes_over : (player later : Player) (all : List Instalment) → later.pass ≡ player.pass → later.cursor ≡ record player.cursor { reading = record player.cursor.reading { queue = [] } } → HasTaken player all later all
+passes_over player later all same left =
+    took_none player later all (ap (λ p. p.cell) same) (subst (IsAlike player.cursor) (sym left) (record { file = refl; generation = refl; channels = refl; first = refl; last = refl })) (ap (λ (c : Cursor). c.reading.covered) left)
+
+pub took_nothing : (player later : Player) (before all : List Instalment) → later.pass.cell ≡ player.pass.cell → later.cursor ≡ player.cursor → all ≡ before → HasTaken player before later all
+took_nothing player later before all gauge same as_before =
+    subst (λ (l : List Instalment). HasTaken player before later l) (sym as_before) (took_none player later before gauge (subst (IsAlike player.cursor) (sym same) (alike_stays player.cursor)) (ap (λ (c : Cursor). c.reading.covered) same))
 
 module _ (player : Player) (b : Cursor) (n : ℕ) (takes : TakesInstalment player.cursor b n) where
   alike_then : IsAlike player.cursor b
@@ -35,9 +39,9 @@ module _ (player : Player) (b : Cursor) (n : ℕ) (takes : TakesInstalment playe
   alike_emptied = record { file = alike_then.file; generation = alike_then.generation; channels = alike_then.channels; first = alike_then.first; last = alike_then.last }
 
   -- an instalment is written
-  pub reads_taken : (before : List Instalment) (i : Instalment) (new : Reading) → i.from ≡ player.cursor.reading.covered → i.to ≡ b.reading.covered → i.entries ≡ b.reading.queue
-      → new.player.pass.cell ≡ player.pass.cell → new.player.cursor ≡ record b { reading = record b.reading { queue = [] } } → new.instalments.items ≡ before ++ i ∷ [] → ReadsFrom player before new
-  reads_taken before i new begins ends has gauge same written = record {
+  pub took_one : (before : List Instalment) (i : Instalment) (later : Player) (all : List Instalment) → i.from ≡ player.cursor.reading.covered → i.to ≡ b.reading.covered → i.entries ≡ b.reading.queue
+      → later.pass.cell ≡ player.pass.cell → later.cursor ≡ record b { reading = record b.reading { queue = [] } } → all ≡ before ++ i ∷ [] → HasTaken player before later all
+  took_one before i later all begins ends has gauge same written = record {
     gauge = gauge;
     alike = subst (IsAlike player.cursor) (sym same) alike_emptied;
     more = i ∷ [];
@@ -54,10 +58,10 @@ module _ (player : Player) (b : Cursor) (n : ℕ) (takes : TakesInstalment playe
   }
 
   -- nothing came to it
-  pub reads_idle : (before : List Instalment) (new : Reading) → b.reading.covered ≡ player.cursor.reading.covered → new.player.pass.cell ≡ player.pass.cell → new.player.cursor ≡ record b { reading = record b.reading { queue = [] } }
-      → new.instalments.items ≡ before → ReadsFrom player before new
-  reads_idle before new covered gauge same written =
-      reads_none player before new gauge (subst (IsAlike player.cursor) (sym same) alike_emptied) (ap (λ (c : Cursor). c.reading.covered) same ∙ covered) written
+  pub took_idle : (before : List Instalment) (later : Player) (all : List Instalment) → b.reading.covered ≡ player.cursor.reading.covered → later.pass.cell ≡ player.pass.cell → later.cursor ≡ record b { reading = record b.reading { queue = [] } }
+      → all ≡ before → HasTaken player before later all
+  took_idle before later all covered gauge same as_before =
+      subst (λ (l : List Instalment). HasTaken player before later l) (sym as_before) (took_none player later before gauge (subst (IsAlike player.cursor) (sym same) alike_emptied) (ap (λ (c : Cursor). c.reading.covered) same ∙ covered))
 
 -- ---- players, at first and at last
 

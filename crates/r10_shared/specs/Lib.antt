@@ -10,5 +10,7 @@ pub mod Levels
 pub mod Orders
 pub mod Readings
 pub mod ReadingLaws
+pub mod Sinks
+pub mod SinkLaws
 pub mod Settling
 pub mod Failing

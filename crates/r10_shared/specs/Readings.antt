@@ -27,14 +27,18 @@ abbrev pub EachGoesOn : ℕ → List Instalment → ℕ → Type 0
 EachGoesOn at [] end = end ≡ at
 EachGoesOn at (i ∷ instalments) end = (i.from ≡ at) × EachGoesOn i.to instalments end
 
--- a player has read on, at the same gauge, and what it took is written down behind these
-pub record ReadsFrom (player : Player) (before : List Instalment) (new : Reading) : Type 0 where
-  pub gauge : new.player.pass.cell ≡ player.pass.cell
-  pub alike : IsAlike player.cursor new.player.cursor
+-- a player has read on, at the same gauge, and what it took stands after these
+pub record HasTaken (player : Player) (before : List Instalment) (later : Player) (all : List Instalment) : Type 0 where
+  pub gauge : later.pass.cell ≡ player.pass.cell
+  pub alike : IsAlike player.cursor later.cursor
   pub more : List Instalment
-  pub written : new.instalments.items ≡ before ++ more
-  pub goes_on : EachGoesOn player.cursor.reading.covered more new.player.cursor.reading.covered
+  pub written : all ≡ before ++ more
+  pub goes_on : EachGoesOn player.cursor.reading.covered more later.cursor.reading.covered
   pub taken : AllByRecursion (IsTakenFrom player.cursor.reading.channels player.cursor.reading.from player.cursor.reading.to) more
+
+-- and is written down there
+abbrev pub ReadsFrom : Player → List Instalment → Reading → Type 0
+ReadsFrom player before new = HasTaken player before new.player new.instalments.items
 
 abbrev pub ReadsOn : Reading → Reading → Type 0
 ReadsOn old new = ReadsFrom old.player old.instalments.items new

@@ -5,12 +5,10 @@ ghost use Rattle.std.proofs.Common.{◌∙◌, sym};
 ghost use Rattle.std.specs.List.{AllByRecursion};
 ghost use Rattle.r10_shared.specs.Desk.{DoesAll, WasAsked, WasTurned, channels_of};
 ghost use Rattle.r10_shared.specs.DeskLaws.{all_join, does_join, does_keep, does_none};
-ghost use Rattle.r10_shared.specs.ReadingLaws.{reads_both, reads_stay};
-ghost use Rattle.r10_shared.specs.Readings.{ReadsOn};
 
 use crate::giving::Control;
 use crate::order::Order;
-use crate::reading::Reading;
+use crate::reader::Reader;
 use crate::rounds::{Recording, Round, go_round};
 use crate::waiting::Progress;
 use crate::watching::Watching;
@@ -119,16 +117,14 @@ pub(crate) struct ReadersDesk<'a, M: BlockMedium, N: Rings, R: Wait> {
     pub(crate) progress: &'a Progress,
 }
 
-impl<'a, M: BlockMedium, N: Rings, R: Wait> Watching for ReadersDesk<'a, M, N, R> {
-    type Reading = Reading;
-
+impl<'a, M: BlockMedium, N: Rings, R: Wait, D: Reader> Watching<D> for ReadersDesk<'a, M, N, R> {
     type Key = Key<'a>;
 
     ghost asked = { λ old asks new. new.cabinet.now ≡ old.cabinet.now };
 
-    ghost is_of = { λ desk reading. reading.player.pass.cell ≡ desk.cabinet.now };
+    ghost is_of = { λ desk reading. D.gauge reading ≡ desk.cabinet.now };
 
-    ghost reads_on = { ReadsOn };
+    ghost reads_on = { D.reads_on };
 
     fn announce(&mut self) -> Key<'a> {
         self.progress.await_shown()
@@ -146,7 +142,7 @@ impl<'a, M: BlockMedium, N: Rings, R: Wait> Watching for ReadersDesk<'a, M, N, R
         key.wait(self.rt);
     }
 
-    fn read(&mut self, reading: &mut Reading) -> Result<(), Refusal> {
+    fn read(&mut self, reading: &mut D) -> Result<(), Refusal> {
         reading.read_next(self.rt, self.alloc, self.cabinet)
     }
 
@@ -154,9 +150,9 @@ impl<'a, M: BlockMedium, N: Rings, R: Wait> Watching for ReadersDesk<'a, M, N, R
 
     ghost joins = { λ a b c xs ys first then. then ∙ first };
 
-    ghost keeps = { λ a b xs r s same reads is. reads.gauge ∙ is ∙ sym same };
+    ghost keeps = { λ a b xs r s same reads is. D.stays_at r s reads ∙ is ∙ sym same };
 
-    ghost reads_none = { reads_stay };
+    ghost reads_none = { D.reads_none };
 
-    ghost reads_join = { reads_both };
+    ghost reads_join = { D.reads_join };
 }

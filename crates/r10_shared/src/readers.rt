@@ -2,12 +2,11 @@
 
 ghost use Rattle.std.specs.Prelude.{◌≡◌, ◌<◌, ℕ, All, length, slice_index_or};
 ghost use Rattle.r10_shared.specs.Desk.{IsNoted, Worked, number_after};
-ghost use Rattle.r10_shared.specs.Readings.{ReadsOn};
 ghost use Rattle.r10_shared.specs.Watching.{IsWatching};
 
 use crate::desk::ReadersDesk;
 use crate::gate::Gate;
-use crate::reading::Reading;
+use crate::reader::Reader;
 use crate::waiting::Progress;
 use crate::watching::watch;
 use r10_held::{Cabinet, Rings};
@@ -18,18 +17,18 @@ use std::thread;
 use std::thread::Threads;
 
 /// Passes the gate, drops what was still to be given, and then reads.
-fn read<M: BlockMedium, N: Rings, R: Wait, G: Gate>(
+fn read<M: BlockMedium, N: Rings, R: Wait, G: Gate, D: Reader>(
     rt: &R,
     alloc: Global,
     cabinet: &Cabinet<M, N>,
     gate: &G,
     worker: usize,
-    reading: &mut Reading,
+    reading: &mut D,
     progress: &Progress,
 )
-    requires { reading.old.player.pass.cell ≡ cabinet.now }
+    requires { D.gauge reading.old ≡ cabinet.now }
     ensures watches { Worked (G.answers gate.now worker) IsWatching IsNoted }
-    ensures reads { ReadsOn reading.old reading.new }
+    ensures reads { D.reads_on reading.old reading.new }
 {
     if gate.pass(worker) {
         reading.pass_over(alloc);
@@ -49,18 +48,19 @@ pub(crate) fn read_all<
     N: Rings + Send + Sync,
     R: Threads + Wait + Sync,
     G: Gate + Sync,
+    D: Reader + Send,
 >(
     rt: &R,
     alloc: Global,
     cabinet: &Cabinet<M, N>,
     gate: &G,
     first: usize,
-    readings: &mut [Reading],
+    readings: &mut [D],
     progress: &Progress,
 )
-    requires { All (λ reading. reading.player.pass.cell ≡ cabinet.now) readings.old }
+    requires { All (λ reading. D.gauge reading ≡ cabinet.now) readings.old }
     ensures watch { (i : ℕ) → i < length readings.old → Worked (G.answers gate.now (number_after first i)) IsWatching IsNoted }
-    ensures read { (i : ℕ) (d : _) → i < length readings.old → ReadsOn (slice_index_or readings.old i d) (slice_index_or readings.new i d) }
+    ensures read { (i : ℕ) (d : _) → i < length readings.old → D.reads_on (slice_index_or readings.old i d) (slice_index_or readings.new i d) }
 {
     let threads = readings.len();
     if threads > 0 {
@@ -68,9 +68,9 @@ pub(crate) fn read_all<
             rt,
             readings,
             threads,
-            &|place: usize, reading: &mut Reading|
-                requires { reading.old.player.pass.cell ≡ cabinet.now }
-                ensures { Worked (G.answers gate.entry.now (number_after first place)) IsWatching IsNoted × ReadsOn reading.old reading.new }
+            &|place: usize, reading: &mut D|
+                requires { D.gauge reading.old ≡ cabinet.now }
+                ensures { Worked (G.answers gate.entry.now (number_after first place)) IsWatching IsNoted × D.reads_on reading.old reading.new }
             {
                 read(
                     rt,

@@ -1,14 +1,24 @@
 //! Players, and what they write down.
 
-ghost use Rattle.std.specs.Prelude.{◌≡◌};
-ghost use Rattle.r10_shared.specs.Readings.{ReadsOn};
+ghost use Rattle.std.specs.Prelude.{◌≡◌, ◌≤◌, ◌+◌, List, length};
+ghost use Rattle.r10_held.specs.declared.transcript.Instalment.{Instalment as InstalmentValue};
+ghost use Rattle.r10_shared.specs.ReadingLaws.{reads_both, reads_stay};
+ghost use Rattle.r10_shared.specs.Readings.{HasTaken, ReadsOn};
 
+use crate::reader::Reader;
 use r10_body::Refusal;
 use r10_count::Items;
 use r10_held::{Cabinet, Instalment, Player, Rings};
 use r10_medium::BlockMedium;
 use std::alloc::Global;
 use std::sync::Wait;
+
+/// Drops what a player was still to give.
+pub(crate) fn pass_over(alloc: Global, player: &mut Player)
+    ensures { (all : List InstalmentValue) → HasTaken player.old all player.new all }
+{
+    let _passed_over = player.rest(alloc);
+}
 
 /// A player, and what it wrote down.
 #[derive(Drop)]
@@ -19,14 +29,15 @@ pub struct Reading {
 
 impl Reading {
     /// Takes the next instalment, and writes it down unless nothing came to it.
-    pub(crate) fn read_next<M: BlockMedium, N: Rings, R: Wait>(
+    pub(crate) fn write_next<M: BlockMedium, N: Rings, R: Wait>(
         &mut self,
         rt: &R,
         alloc: Global,
         cabinet: &Cabinet<M, N>,
     ) -> Result<(), Refusal>
         requires { self.old.player.pass.cell ≡ cabinet.now }
-        ensures { ReadsOn self.old self.new }
+        ensures reads { ReadsOn self.old self.new }
+        ensures one { length self.new.instalments.items ≤ length self.old.instalments.items + 1 }
     {
         if self.instalments.reserve(1).is_err() {
             return Err(Refusal::OutOfMemory);
@@ -57,12 +68,29 @@ impl Reading {
         } = self;
         (player, instalments)
     }
+}
 
-    /// Drops what was still to be given.
-    pub(crate) fn pass_over(&mut self, alloc: Global)
-        ensures reads { ReadsOn self.old self.new }
-        ensures gauge { self.new.player.pass.cell ≡ self.old.player.pass.cell }
-    {
-        let _passed_over = self.player.rest(alloc);
+impl Reader for Reading {
+    ghost gauge = { λ reading. reading.player.pass.cell };
+
+    ghost reads_on = { ReadsOn };
+
+    fn pass_over(&mut self, alloc: Global) {
+        pass_over(alloc, &mut self.player);
     }
+
+    fn read_next<M: BlockMedium, N: Rings, R: Wait>(
+        &mut self,
+        rt: &R,
+        alloc: Global,
+        cabinet: &Cabinet<M, N>,
+    ) -> Result<(), Refusal> {
+        self.write_next(rt, alloc, cabinet)
+    }
+
+    ghost stays_at = { λ r s reads. reads.gauge };
+
+    ghost reads_none = { reads_stay };
+
+    ghost reads_join = { reads_both };
 }

@@ -5,16 +5,20 @@ ghost use Rattle.r10_shared.specs.Desk.{IsNoted, WasAsked, WasTurned, Worked, nu
 ghost use Rattle.r10_shared.specs.Feeding.{HasRun, HasRunUntil, HasRunWhole};
 ghost use Rattle.r10_shared.specs.Giving.{GivesInTurn};
 ghost use Rattle.r10_shared.specs.Levels.{HasShown};
-ghost use Rattle.r10_shared.specs.Readings.{HasReadAll, ReadsOn};
+ghost use Rattle.r10_shared.specs.Readings.{HasReadAll};
 ghost use Rattle.r10_shared.specs.Rounds.{IsWriting};
+ghost use Rattle.r10_shared.specs.Sinks.{HandsOn};
 ghost use Rattle.r10_shared.specs.Watching.{IsWatching};
 
 use crate::feed::Feed;
 use crate::gate::Gate;
+use crate::handing::Handing;
 use crate::order::Order;
+use crate::reader::Reader;
 use crate::readers::read_all;
 use crate::reading::Reading;
 use crate::running::run_feeds;
+use crate::sink::Sink;
 use crate::stop::{Never, Stop};
 use crate::waiting::Progress;
 use crate::working::{give_orders, write_on};
@@ -33,6 +37,14 @@ pub struct Session<N: Rings> {
 }
 
 impl<N: Rings> Session<N> {
+    /// These feeds and readings, to be ended as a session.
+    pub fn of(feeds: Vec<Feed<N>>, readings: Vec<Reading>) -> Session<N>
+        ensures feeds { result.feeds.items ≡ feeds.items }
+        ensures readings { result.readings.items ≡ readings.items }
+    {
+        Session { feeds, readings }
+    }
+
     /// The feeds as they were run, and the players with what they wrote down: for a further session of the same cabinet, and to
     /// hand out what was written down so far.
     pub fn apart(self) -> (Vec<Feed<N>>, Vec<Reading>)
@@ -50,6 +62,7 @@ fn write_and_read<
     N: Rings + Send + Sync,
     R: Threads + Wait + Sync,
     G: Gate + Sync,
+    D: Reader + Send,
 >(
     rt: &R,
     alloc: Global,
@@ -57,14 +70,14 @@ fn write_and_read<
     gate: &G,
     first: usize,
     orders: &[Order],
-    readings: &mut [Reading],
+    readings: &mut [D],
     progress: &Progress,
 )
-    requires { All (λ reading. reading.player.pass.cell ≡ cabinet.now) readings.old }
+    requires { All (λ reading. D.gauge reading ≡ cabinet.now) readings.old }
     ensures writes { Worked (G.answers gate.now first) IsWriting (WasTurned M.disk N.rings) }
     ensures gives { Worked (G.answers gate.now (number_after first 1)) (GivesInTurn orders.now) (WasAsked M.disk N.rings) }
     ensures watch { (i : ℕ) → i < length readings.old → Worked (G.answers gate.now (number_after (number_after first 2) i)) IsWatching IsNoted }
-    ensures read { (i : ℕ) (d : _) → i < length readings.old → ReadsOn (slice_index_or readings.old i d) (slice_index_or readings.new i d) }
+    ensures read { (i : ℕ) (d : _) → i < length readings.old → D.reads_on (slice_index_or readings.old i d) (slice_index_or readings.new i d) }
 {
     let mut writing = ||
         ensures { Worked (G.answers gate.entry.now first) IsWriting (WasTurned M.disk N.rings) × Worked (G.answers gate.entry.now (number_after first 1)) (GivesInTurn orders.entry.now) (WasAsked M.disk N.rings) }
@@ -76,9 +89,9 @@ fn write_and_read<
         );
     };
     let mut reading = ||
-        requires { All (λ reading. reading.player.pass.cell ≡ cabinet.now) readings.now }
+        requires { All (λ reading. D.gauge reading ≡ cabinet.now) readings.now }
         ensures { ((i : ℕ) → i < length readings.entry.now → Worked (G.answers gate.entry.now (number_after (number_after first 2) i)) IsWatching IsNoted)
-            × ((i : ℕ) (d : _) → i < length readings.entry.now → ReadsOn (slice_index_or readings.entry.now i d) (slice_index_or readings.exit.now i d)) }
+            × ((i : ℕ) (d : _) → i < length readings.entry.now → D.reads_on (slice_index_or readings.entry.now i d) (slice_index_or readings.exit.now i d)) }
     {
         read_all(
             rt,
@@ -100,6 +113,7 @@ fn run_all<
     R: Threads + Wait + Sync,
     G: Gate + Sync,
     S: Stop + Sync,
+    D: Reader + Send,
 >(
     rt: &R,
     alloc: Global,
@@ -108,16 +122,16 @@ fn run_all<
     stop: &S,
     feeds: &mut [Feed<N>],
     orders: &[Order],
-    readings: &mut [Reading],
+    readings: &mut [D],
 )
-    requires { All (λ reading. reading.player.pass.cell ≡ cabinet.now) readings.old }
+    requires { All (λ reading. D.gauge reading ≡ cabinet.now) readings.old }
     ensures feeds { (i : ℕ) (d : _) → i < length feeds.old → HasRun (λ s. rest s) (slice_index_or feeds.old i d).source (slice_index_or feeds.old i d).line (slice_index_or feeds.old i d).tally (slice_index_or feeds.new i d).line (slice_index_or feeds.new i d).tally }
     ensures until { (i : ℕ) (d : _) → i < length feeds.old → HasRunUntil (G.answers gate.now i) (S.answers stop.now) (λ s. rest s) (slice_index_or feeds.old i d).source (slice_index_or feeds.old i d).line (slice_index_or feeds.new i d).line (slice_index_or feeds.new i d).tally }
     ensures shown { (i : ℕ) (d : _) → i < length feeds.old → HasShown (λ s. rest s) (slice_index_or feeds.old i d).source (slice_index_or feeds.old i d).line (slice_index_or feeds.old i d).gauge (slice_index_or feeds.new i d).line (slice_index_or feeds.new i d).tally (slice_index_or feeds.new i d).gauge }
     ensures writes { Worked (G.answers gate.now (length feeds.old)) IsWriting (WasTurned M.disk N.rings) }
     ensures gives { Worked (G.answers gate.now (number_after (length feeds.old) 1)) (GivesInTurn orders.now) (WasAsked M.disk N.rings) }
     ensures watch { (i : ℕ) → i < length readings.old → Worked (G.answers gate.now (number_after (number_after (length feeds.old) 2) i)) IsWatching IsNoted }
-    ensures readings { (i : ℕ) (d : _) → i < length readings.old → ReadsOn (slice_index_or readings.old i d) (slice_index_or readings.new i d) }
+    ensures readings { (i : ℕ) (d : _) → i < length readings.old → D.reads_on (slice_index_or readings.old i d) (slice_index_or readings.new i d) }
 {
     let first = feeds.len();
     let progress = Progress::of(first);
@@ -128,11 +142,11 @@ fn run_all<
             × ((i : ℕ) (d : _) → i < length feeds.entry.now → HasShown (λ s. rest s) (slice_index_or feeds.entry.now i d).source (slice_index_or feeds.entry.now i d).line (slice_index_or feeds.entry.now i d).gauge (slice_index_or feeds.exit.now i d).line (slice_index_or feeds.exit.now i d).tally (slice_index_or feeds.exit.now i d).gauge) }
     { run_feeds(rt, gate, stop, feeds, along) };
     let mut others = ||
-        requires { All (λ reading. reading.player.pass.cell ≡ cabinet.now) readings.now }
+        requires { All (λ reading. D.gauge reading ≡ cabinet.now) readings.now }
         ensures { Worked (G.answers gate.entry.now first) IsWriting (WasTurned M.disk N.rings)
             × Worked (G.answers gate.entry.now (number_after first 1)) (GivesInTurn orders.entry.now) (WasAsked M.disk N.rings)
             × ((i : ℕ) → i < length readings.entry.now → Worked (G.answers gate.entry.now (number_after (number_after first 2) i)) IsWatching IsNoted)
-            × ((i : ℕ) (d : _) → i < length readings.entry.now → ReadsOn (slice_index_or readings.entry.now i d) (slice_index_or readings.exit.now i d)) }
+            × ((i : ℕ) (d : _) → i < length readings.entry.now → D.reads_on (slice_index_or readings.entry.now i d) (slice_index_or readings.exit.now i d)) }
     { write_and_read(rt, alloc, cabinet, gate, first, orders, readings, along) };
     thread::join_mut(rt, &mut others, &mut feeding);
 }
@@ -152,6 +166,39 @@ fn unread(alloc: Global, players: Vec<Player>, room: Vec<Reading>) -> Vec<Readin
         });
     }
     readings
+}
+
+/// As `run_session_until`, with players that hand on each instalment to their sinks as it comes. A player whose sink refuses one keeps that
+/// one, and ends as if memory was refused; it reads no more before it is taken apart. A player without a sink writes its instalments down.
+///
+/// Feeds and players are lent, so this takes no memory but what the instalments take. `Session::of` makes a session of them, which can be ended.
+pub fn run_session_handing<
+    M: BlockMedium + Send,
+    N: Rings + Send + Sync,
+    R: Threads + Wait + Sync,
+    G: Gate + Sync,
+    S: Stop + Sync,
+    K: Sink + Send,
+>(
+    rt: &R,
+    alloc: Global,
+    cabinet: &Cabinet<M, N>,
+    gate: &G,
+    stop: &S,
+    feeds: &mut [Feed<N>],
+    orders: &[Order],
+    players: &mut [Handing<K>],
+)
+    requires { All (λ handing. handing.reading.player.pass.cell ≡ cabinet.now) players.old }
+    ensures feeds { (i : ℕ) (d : _) → i < length feeds.old → HasRun (λ s. rest s) (slice_index_or feeds.old i d).source (slice_index_or feeds.old i d).line (slice_index_or feeds.old i d).tally (slice_index_or feeds.new i d).line (slice_index_or feeds.new i d).tally }
+    ensures hands { (i : ℕ) (d : _) → i < length players.old → HandsOn K.accepted K.has_refused (slice_index_or players.old i d).reading (slice_index_or players.old i d).sink (slice_index_or players.new i d).reading (slice_index_or players.new i d).sink }
+    ensures shown { (i : ℕ) (d : _) → i < length feeds.old → HasShown (λ s. rest s) (slice_index_or feeds.old i d).source (slice_index_or feeds.old i d).line (slice_index_or feeds.old i d).gauge (slice_index_or feeds.new i d).line (slice_index_or feeds.new i d).tally (slice_index_or feeds.new i d).gauge }
+    ensures until { (i : ℕ) (d : _) → i < length feeds.old → HasRunUntil (G.answers gate.now i) (S.answers stop.now) (λ s. rest s) (slice_index_or feeds.old i d).source (slice_index_or feeds.old i d).line (slice_index_or feeds.new i d).line (slice_index_or feeds.new i d).tally }
+    ensures writes { Worked (G.answers gate.now (length feeds.old)) IsWriting (WasTurned M.disk N.rings) }
+    ensures gives { Worked (G.answers gate.now (number_after (length feeds.old) 1)) (GivesInTurn orders.now) (WasAsked M.disk N.rings) }
+    ensures watch { (i : ℕ) → i < length players.old → Worked (G.answers gate.now (number_after (number_after (length feeds.old) 2) i)) IsWatching IsNoted }
+{
+    run_all(rt, alloc, cabinet, gate, stop, feeds, orders, players);
 }
 
 /// As `run_session`, with a stop from outside. Once it is asked each feed ends before its next turn, though its source has not.

@@ -9,11 +9,8 @@ use crate::rounds::is_end;
 use r10_body::Refusal;
 use std::sync::Wait;
 
-/// A recorder that is shared, as a reader asks of it. Its contracts see what was asked, in order, with the answers.
-pub trait Watching {
-    /// What a reader writes down.
-    type Reading;
-
+/// A recorder that is shared, as a reader asks of it. `T` is what a reader writes down. Its contracts see what was asked, in order, with the answers.
+pub trait Watching<T> {
     /// An announcement that the reader waits. It is for `sleep`, or is dropped.
     type Key: Drop;
 
@@ -21,10 +18,10 @@ pub trait Watching {
     ghost asked: { Self → List Watched → Self → Type 0 };
 
     /// The reader is one of this recorder.
-    ghost is_of: { Self → Self.Reading → Type 0 };
+    ghost is_of: { Self → T → Type 0 };
 
     /// A reader has read on.
-    ghost reads_on: { Self.Reading → Self.Reading → Type 0 };
+    ghost reads_on: { T → T → Type 0 };
 
     /// Announces that the reader waits.
     fn announce(&mut self) -> Self::Key
@@ -43,7 +40,7 @@ pub trait Watching {
         ensures { asked self.old (Sleeps ∷ []) self.new };
 
     /// Takes an instalment, and writes it down.
-    fn read(&mut self, reading: &mut Self::Reading) -> Result<(), Refusal>
+    fn read(&mut self, reading: &mut T) -> Result<(), Refusal>
         requires { is_of self.old reading.old }
         ensures asked { asked self.old (Reads result ∷ []) self.new }
         ensures reads { reads_on reading.old reading.new };
@@ -55,13 +52,13 @@ pub trait Watching {
     ghost joins: { (a b c : Self) (xs ys : List Watched) → asked a xs b → asked b ys c → asked a (xs ++ ys) c };
 
     /// A reader stays one of this recorder.
-    ghost keeps: { (a b : Self) (xs : List Watched) (r s : Self.Reading) → asked a xs b → reads_on r s → is_of a r → is_of b s };
+    ghost keeps: { (a b : Self) (xs : List Watched) (r s : T) → asked a xs b → reads_on r s → is_of a r → is_of b s };
 
     /// Where nothing is read all is as it was.
-    ghost reads_none: { (r : Self.Reading) → reads_on r r };
+    ghost reads_none: { (r : T) → reads_on r r };
 
     /// What was read first and then, was read.
-    ghost reads_join: { (r s t : Self.Reading) → reads_on r s → reads_on s t → reads_on r t };
+    ghost reads_join: { (r s t : T) → reads_on r s → reads_on s t → reads_on r t };
 }
 
 /// What a look came to: so many commits were made then, and whether the reader goes on.
@@ -89,7 +86,7 @@ fn goes_on(answer: Result<(), Refusal>, last: bool) -> bool
 }
 
 /// Announces that it waits, and looks. It sleeps if nothing is due, and else takes an instalment.
-fn look<W: Watching>(at: &mut W, reading: &mut W::Reading, seen: u64) -> Looked
+fn look<T, W: Watching<T>>(at: &mut W, reading: &mut T, seen: u64) -> Looked
     requires { W.is_of at.old reading.old }
     ensures asks { Asks W.asked (IsLook seen result.shown result.on) at.old at.new }
     ensures reads { W.reads_on reading.old reading.new }
@@ -111,7 +108,7 @@ fn look<W: Watching>(at: &mut W, reading: &mut W::Reading, seen: u64) -> Looked
 
 /// Takes an instalment whenever the writer has committed, until it has ended, and then once more. Failed or OutOfMemory ends the reader; other
 /// refusals are passed over.
-pub fn watch<W: Watching, R: Wait>(rt: &R, at: &mut W, reading: &mut W::Reading)
+pub fn watch<T, W: Watching<T>, R: Wait>(rt: &R, at: &mut W, reading: &mut T)
     requires { W.is_of at.old reading.old }
     ensures asks { Asks W.asked IsWatching at.old at.new }
     ensures reads { W.reads_on reading.old reading.new }
