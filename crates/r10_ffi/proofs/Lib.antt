@@ -1,5 +1,4 @@
 pub mod Words
 mod Handles
 mod Between
-mod There
 mod Rooms

@@ -16,7 +16,7 @@ use Rattle.r10_region.specs.RegionDisk.{region_disk, lent_to, asked}
 use Rattle.r10_region.specs.declared.region.Region.{Region}
 use Rattle.r10_ffi.specs.declared.held.Held.{Held}
 use Rattle.r10_ffi.specs.declared.recorder.Recorder.{Recorder}
-use Rattle.r10_ffi.specs.Owning.{Between}
+use Rattle.r10_ends.specs.Owning.{Between}
 
 abbrev pub IsOpen : Recorder → Type 0
 IsOpen r = r.opened ≡ true

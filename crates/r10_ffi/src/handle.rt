@@ -2,7 +2,7 @@
 
 ghost use Rattle.std.specs.Prelude.{◌≡◌, Option, Some, None};
 ghost use Rattle.r10_ffi.specs.declared.held.Held.{Held};
-ghost use Rattle.r10_ffi.specs.Owning.{IsThere};
+ghost use Rattle.r10_ends.specs.Owning.{IsThere};
 
 use crate::held::Held;
 use crate::loose::Loose;
@@ -22,7 +22,7 @@ impl Model for Handle {
     ghost use Rattle.std.specs.Box.Ownership.{box_owns};
     ghost use Rattle.std.specs.contracts.impls.GlobalAllocator.TheImpl.{ghosts};
     ghost use Rattle.r10_ffi.specs.contracts.held.Held.{the_row};
-    ghost use Rattle.r10_ffi.specs.Owning.{owns_some};
+    ghost use Rattle.r10_ends.specs.Owning.{owns_some};
 
     ghost also_owns = { λ h. owns_some (box_owns (ghosts.dealloc_token h.alloc) the_row h.at) h.held };
 }

@@ -26,7 +26,7 @@ impl Recorder {
     }
 
     /// Takes what it holds, and leaves none.
-    #[tactic(auto, using(crate::proofs::There::there))]
+    #[tactic(auto, using(r10_ends::proofs::There::there))]
     pub(crate) fn take(&mut self, alloc: Global) -> Box<Held>
         requires { self.old.opened ≡ true }
         ensures taken { self.old.handle.held ≡ Some result.value }

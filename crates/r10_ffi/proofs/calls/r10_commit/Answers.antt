@@ -1,4 +1,4 @@
-use Rattle.r10_ffi.proofs.Between.{between}
+use Rattle.r10_ends.proofs.Between.{between}
 use Rattle.r10_ffi.proofs.calls.r10_commit.Goals as goal
 
 pub returns-clause-does : goal.returns-clause-does

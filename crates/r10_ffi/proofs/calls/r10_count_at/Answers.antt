@@ -1,5 +1,5 @@
 use Rattle.std.proofs.Common.{refl}
-use Rattle.r10_ffi.proofs.Between.{between}
+use Rattle.r10_ends.proofs.Between.{between}
 use Rattle.r10_ffi.proofs.calls.r10_count_at.Goals as goal
 
 pub returns-clause-does : goal.returns-clause-does

@@ -1,6 +1,6 @@
 -- `untied` moves the pointer and the right to it from an open handle into a loose box: a walk of its MIR.
-use Rattle.std.proofs.Common.{◌≡◌, List, [], ◌∷◌, ◌++◌, Option, Some, None, sym, refl, subst}
-use Rattle.r10_ffi.specs.Owning.{IsThere}
+use Rattle.std.proofs.Common.{◌≡◌, List, [], ◌∷◌, ◌++◌, Option, Some, sym, refl, subst}
+use Rattle.r10_ends.specs.Owning.{IsThere}
 use Rattle.std.proofs.raw_atomic.Walks.{proved_at}
 use base.Logic.{SProp, ent, id⊢}
 use base.Fml.{ftrue}
@@ -20,6 +20,7 @@ use denote.Steps.{nothing, heard}
 use denote.Triple.Walked.{says, Stays, walk_of, stay_dropped, Goes-dropped, ends_at}
 use Rattle.std.specs.contracts.impls.GlobalAllocator.TheImpl.{ghosts}
 use Rattle.std.proofs.alloc.Global.TheLaws as heap_laws
+use Rattle.r10_ends.proofs.There.{the_some}
 use Rattle.r10_ffi.proofs.Words.{both, Loose, loose_good, loose_in}
 use Rattle.r10_ffi.proofs.Handles.{Z, H, handle_out}
 use Rattle.r10_ffi.specs.declared.held.Held.{Held}
@@ -33,10 +34,6 @@ L = Loose R Z heap_laws.the_row_laws ghosts
 
 abbrev stayed : Stays f.ended.signature.params f.ended.kept
 stayed = (stay_dropped (plain (λ _. H)) yes, tt)
-
-the_some : {X : Type 0} (o : Option X) → IsThere o → (x : X) × (o ≡ Some x)
-the_some None is = absurd is
-the_some (Some x) is = (x, refl)
 
 pub untied_spec : {M : Type 1} → statement M
 untied_spec 𝓤 𝓛 𝓜 𝓡 wired =

@@ -1,0 +1,81 @@
+//! The ends of a lane between threads are made, for a channel of a script.
+
+ghost use Rattle.std.specs.Prelude.{◌≡◌, ◌≢◌, ◌⊎◌, ◌↔◌, ◌==◌, IfErr, IfOk};
+ghost use Rattle.std.specs.List.{position};
+ghost use Rattle.r10_body.specs.Channels.{spec_of};
+ghost use Rattle.r10_body.specs.declared.spec.ChannelSpec.{ChannelSpec as ChannelSpecValue};
+ghost use Rattle.r10_ends.specs.Ends.{IsOpenOne};
+ghost use Rattle.r10_carrier.specs.Opening.{OpensLane};
+ghost use Rattle.r10_desk.specs.Opening.{IsSettings};
+
+use crate::telling::NO_CHANNEL;
+use r10_body::ChannelSpec;
+use r10_ends::{OutletEnd, PortEnd, open_ends};
+use r10_lines::ScriptFault;
+use r10_machine::Settings;
+use r10_script::{Script, read_script};
+use std::alloc::Global;
+
+/// The number that is answered where the script can't be taken.
+const SCRIPT: u32 = 40;
+
+/// The number that is answered where an end is open already.
+const OPEN: u32 = 45;
+
+/// The number of the refusal for want of memory.
+const OUT_OF_MEMORY: u32 = 30;
+
+/// The settings of a script, or 30, or 40 where it is none.
+fn settings_of(alloc: Global, script: &[u8]) -> Result<Settings, u32>
+    ensures settings { IfOk result (λ s. IsSettings script.now s) }
+    ensures refused { IfErr result (λ n. (n ≡ 30) ⊎ (n ≡ 40)) }
+{
+    match read_script(alloc, script) {
+        Ok(Script { settings, .. }) => Ok(settings),
+        Err(ScriptFault::OutOfMemory(_)) => Err(OUT_OF_MEMORY),
+        Err(_) => Err(SCRIPT),
+    }
+}
+
+/// What a channel is set to.
+fn spec_of(channels: &[ChannelSpec], channel: u16) -> Option<ChannelSpec>
+    ensures { result ≡ spec_of channels.now channel }
+{
+    channels.iter().copied().find(|spec| spec.id == channel)
+}
+
+/// The place of a channel.
+fn place_of(channels: &[ChannelSpec], channel: u16) -> Option<usize>
+    ensures { result ≡ position (λ (c : ChannelSpecValue). c.id == channel) channels.now }
+{
+    channels.iter().position(|spec| spec.id == channel)
+}
+
+/// Opens the two ends of a lane for a channel of the script: 0, or 6 where it has no such channel, 30, 40 where it can't be taken, 45.
+pub fn open_lane(
+    alloc: Global,
+    script: &[u8],
+    channel: u16,
+    port: &mut PortEnd,
+    outlet: &mut OutletEnd,
+) -> u32
+    ensures opens { result ≡ 0 → OpensLane script.now channel port.new outlet.new }
+    ensures untouched { result ≢ 0 → (port.new ≡ port.old) × (outlet.new ≡ outlet.old) }
+    ensures opened { (result ≡ 45) ↔ IsOpenOne port.old outlet.old }
+    ensures numbers { (result ≡ 0) ⊎ (result ≡ 6) ⊎ (result ≡ 30) ⊎ (result ≡ 40) ⊎ (result ≡ 45) }
+{
+    if port.is_open() || outlet.is_open() {
+        return OPEN;
+    }
+    let settings = match settings_of(alloc, script) {
+        Ok(settings) => settings,
+        Err(number) => return number,
+    };
+    let Some(place) = place_of(settings.channels(), channel) else {
+        return NO_CHANNEL;
+    };
+    let Some(spec) = spec_of(settings.channels(), channel) else {
+        return NO_CHANNEL;
+    };
+    open_ends(alloc, spec, place, port, outlet)
+}

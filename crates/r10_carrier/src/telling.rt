@@ -1,0 +1,82 @@
+//! The events that a sample comes to.
+
+ghost use Rattle.std.specs.Prelude.{◌≡◌, ◌≢◌};
+ghost use Rattle.r10_carrier.specs.Carrying.{DoesEach, StopsAt, events_of, lost_of};
+ghost use Rattle.r10_desk.specs.Told.{DoesEvent, number_of};
+ghost use Rattle.r10_machine.specs.declared.event.Event.TheVariants as events;
+
+use r10_body::{Gap, Message, Sample};
+use r10_desk::Desk;
+use r10_medium::BlockMedium;
+
+/// The number of the refusal for want of memory.
+const OUT_OF_MEMORY: u32 = 30;
+
+/// The number that is answered where the settings have no such channel.
+pub(crate) const NO_CHANNEL: u32 = 6;
+
+/// How many messages were lost before a sample.
+fn lost_of(gap: Gap) -> u64
+    ensures { result ≡ lost_of gap }
+{
+    match gap {
+        Gap::Whole => 0,
+        Gap::Lost(lost) => lost,
+        Gap::Unknown => 1,
+    }
+}
+
+/// Offers a sample's message. No channel takes a time or an event.
+fn offer_sample<M: BlockMedium>(desk: &mut Desk<M>, channel: u16, sample: &Sample) -> u32
+    ensures { DoesEvent M.disk desk.old (events.Offer channel sample.now.count sample.now.message) (λ reply. result ≡ number_of reply) desk.new }
+{
+    let count = sample.count.get();
+    match &sample.message {
+        Message::Uart { parity, sub, bytes } => {
+            desk.offer_uart(channel, count, *parity, *sub, bytes.as_slice())
+        }
+        Message::Bus1553 { status, gap, words } => {
+            desk.offer_1553(channel, count, *status, *gap, words.as_slice())
+        }
+        Message::Arinc {
+            bus,
+            format,
+            parity,
+            high,
+            word,
+        } => desk.offer_arinc(channel, count, *bus, *format, *parity, *high, *word),
+        Message::Discrete { states } => desk.offer_discrete(channel, count, *states),
+        Message::Message {
+            data_error,
+            format,
+            sub,
+            bytes,
+        } => desk.offer_message(channel, count, *data_error, *format, *sub, bytes.as_slice()),
+        Message::Time { civil: _ } => OUT_OF_MEMORY,
+        Message::Event {
+            number: _,
+            count: _,
+        } => OUT_OF_MEMORY,
+    }
+}
+
+/// Tells what a sample comes to: the loss before it, if there was one, and its offer. It answers 0, or the number of the first refusal. A loss that was
+/// told is no longer the sample's.
+pub(crate) fn tell_sample<M: BlockMedium>(
+    desk: &mut Desk<M>,
+    channel: u16,
+    sample: &mut Sample,
+) -> u32
+    ensures told { result ≡ 0 → DoesEach M.disk desk.old (events_of channel sample.old) desk.new }
+    ensures refused { result ≢ 0 → StopsAt M.disk desk.old (events_of channel sample.old) (events_of channel sample.new) result desk.new }
+{
+    let lost = lost_of(sample.gap);
+    if lost != 0 {
+        let number = desk.lose(channel, lost);
+        if number != 0 {
+            return number;
+        }
+        sample.gap = Gap::Whole;
+    }
+    offer_sample(desk, channel, sample)
+}

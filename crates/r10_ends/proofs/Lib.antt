@@ -1,0 +1,6 @@
+pub mod Between
+pub mod There
+pub mod Words
+mod OutletHandles
+mod PortHandles
+mod Ranges

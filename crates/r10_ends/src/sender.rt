@@ -1,0 +1,174 @@
+//! The sending end of a lane between threads, by offers that answer numbers.
+
+ghost use Rattle.std.specs.Prelude.{◌≡◌, ℕ, ◌≤◌, ◌^◌, Option, Some};
+ghost use Rattle.r10_body.specs.declared.message.Message.TheVariants as messages;
+ghost use Rattle.r10_machine.specs.Checks.{first_broken, taking_checks};
+ghost use Rattle.r10_port.specs.Ends.{with_losses};
+ghost use Rattle.r10_ends.specs.Sending.{OffersByPort, OffersOrLacks, number_answered, port_out};
+
+use crate::port_out::PortOut;
+use r10_body::{ChannelSpec, Message, Refusal};
+use r10_count::{Bytes, Count, Items};
+use r10_port::Port;
+use std::alloc::Global;
+use std::marker::Model;
+
+/// The number of the refusal for want of memory.
+pub(crate) const OUT_OF_MEMORY: u32 = 30;
+
+/// The sending end of a channel's lane, and what the channel is set to.
+#[derive(Drop)]
+pub struct Sender {
+    pub(crate) port: Port,
+    pub(crate) spec: ChannelSpec,
+}
+
+impl Model for Sender {
+    ghost use Rattle.std.specs.Prelude.{◌≡◌};
+    ghost use Rattle.r10_port.specs.Ends.{Sending};
+
+    ghost Value = { Sending };
+
+    ghost view = { λ s. s.port };
+
+    ghost invariant = { λ s. s.spec ≡ s.port.lane.spec };
+}
+
+/// The number of an answer: 0, or that of its refusal.
+fn number_of(answer: Result<(), Refusal>) -> u32
+    ensures { result ≡ number_answered answer }
+{
+    match answer {
+        Ok(()) => 0,
+        Err(refusal) => u32::from(refusal.number()),
+    }
+}
+
+/// Why a message is refused whose count has more than 48 bits: by the first rule that it breaks.
+fn out_of_range(spec: &ChannelSpec, message: &Message) -> Refusal
+    ensures { (last : Option ℕ) (count : ℕ) → 2 ^ 48 ≤ count → first_broken (taking_checks spec.now last count message.now) ≡ Some result }
+{
+    match spec.check(message) {
+        Ok(()) => Refusal::CountRange,
+        Err(refusal) => refusal,
+    }
+}
+
+impl Sender {
+    /// Offers a message: 0, or 7 to 12.
+    fn offer(&mut self, count: u64, message: Message) -> u32
+        ensures { OffersByPort self.old count message result self.new }
+    {
+        let Some(count) = Count::of(count) else {
+            return number_of(Err(out_of_range(&self.spec, &message)));
+        };
+        number_of(self.port.offer(count, message))
+    }
+
+    /// A message of a serial line, at most 65,535 bytes: 0, or 7 to 12, or 30.
+    pub(crate) fn offer_uart(
+        &mut self,
+        alloc: Global,
+        count: u64,
+        parity: bool,
+        sub: u16,
+        bytes: &[u8],
+    ) -> u32
+        ensures { OffersOrLacks self.old count (messages.Uart parity sub bytes.now) result self.new }
+    {
+        let Ok(bytes) = Bytes::copy_of(alloc, bytes) else {
+            return OUT_OF_MEMORY;
+        };
+        self.offer(count, Message::Uart { parity, sub, bytes })
+    }
+
+    /// A message of a MIL-STD-1553 bus, at most 36 words: 0, or 7 to 12, or 30.
+    pub(crate) fn offer_1553(
+        &mut self,
+        alloc: Global,
+        count: u64,
+        status: u16,
+        gap: u16,
+        words: &[u16],
+    ) -> u32
+        ensures { OffersOrLacks self.old count (messages.Bus1553 status gap words.now) result self.new }
+    {
+        let Ok(words) = Vec::from_slice(alloc, words) else {
+            return OUT_OF_MEMORY;
+        };
+        let words = Items::of(words);
+        self.offer(count, Message::Bus1553 { status, gap, words })
+    }
+
+    /// A word of an ARINC 429 bus: 0, or 7 to 12.
+    pub(crate) fn offer_arinc(
+        &mut self,
+        count: u64,
+        bus: u8,
+        format: bool,
+        parity: bool,
+        high: bool,
+        word: u32,
+    ) -> u32
+        ensures { OffersByPort self.old count (messages.Arinc bus format parity high word) result self.new }
+    {
+        let message = Message::Arinc {
+            bus,
+            format,
+            parity,
+            high,
+            word,
+        };
+        self.offer(count, message)
+    }
+
+    /// The states of a channel's discretes, a bit for each: 0, or 7 to 12.
+    pub(crate) fn offer_discrete(&mut self, count: u64, states: u32) -> u32
+        ensures { OffersByPort self.old count (messages.Discrete states) result self.new }
+    {
+        self.offer(count, Message::Discrete { states })
+    }
+
+    /// A message of a source of any other sort, at most 65,535 bytes: 0, or 7 to 12, or 30.
+    pub(crate) fn offer_message(
+        &mut self,
+        alloc: Global,
+        count: u64,
+        data_error: bool,
+        format: bool,
+        sub: u16,
+        bytes: &[u8],
+    ) -> u32
+        ensures { OffersOrLacks self.old count (messages.Message data_error format sub bytes.now) result self.new }
+    {
+        let Ok(bytes) = Bytes::copy_of(alloc, bytes) else {
+            return OUT_OF_MEMORY;
+        };
+        let message = Message::Message {
+            data_error,
+            format,
+            sub,
+            bytes,
+        };
+        self.offer(count, message)
+    }
+
+    /// So many messages were lost before they were offered.
+    pub(crate) fn lose(&mut self, lost: u64)
+        ensures { self.new ≡ with_losses lost self.old }
+    {
+        self.port.lose(lost);
+    }
+
+    /// How it is.
+    pub(crate) fn state(&self) -> PortOut
+        ensures { result ≡ port_out self.now }
+    {
+        PortOut {
+            accepted: self.port.sent(),
+            lost: self.port.lost(),
+            capacity: self.spec.capacity,
+            channel: self.spec.id,
+        }
+    }
+}
