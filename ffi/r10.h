@@ -21,6 +21,8 @@
  *
  * What the program owes, and what nothing checks
  *  - A recorder is given to one call at a time. It may go from one thread to another between calls. Two recorders may run in two threads.
+ *  - A port and its outlet are handles of their own. A port's calls (r10_port_..) may be made in one thread while another one is in a call on the recorder,
+ *    on the outlet or on another port. Each handle is given to one call at a time, and what gives it to another thread is a lock, a thread's start or its end.
  *  - A pointer with a count leads to that many; an out pointer leads to one. Where the count is 0 it may lead anywhere. A bool is 0
  *    or 1. Memory that is lent is lent for the call alone, but for the region.
  *  - Null pointers are found by this header, and not by the library. A null recorder is answered R10_CLOSED, any other null pointer
@@ -103,8 +105,8 @@ enum {
     R10_BLOCKS = 41,    /* the region has another number of blocks than the script says */
     R10_ROOM = 42,      /* less memory was lent than the call needs */
     R10_PLACE = 43,     /* a list has no such place */
-    R10_CLOSED = 44,    /* the handle is not open */
-    R10_OPEN = 45       /* the handle is open already */
+    R10_CLOSED = 44,    /* a handle is not open */
+    R10_OPEN = 45       /* a handle is open already */
 };
 
 /* ---- what is lent and given */
@@ -182,6 +184,25 @@ typedef struct r10_account_info {
     size_t waiting;    /* of those that were accepted, the ones in its lane */
     uint16_t channel;
 } r10_account_info;
+
+/* The two ends of a channel's lane between two threads, or none where they are all zeros. Keep them, and do not read them. */
+typedef struct r10_port {
+    void *held;
+    bool open;
+} r10_port;
+
+typedef struct r10_outlet {
+    void *held;
+    bool open;
+} r10_outlet;
+
+/* What became of the messages that were offered at a port. */
+typedef struct r10_port_info {
+    uint64_t accepted; /* messages of which an offer at the port answered R10_OK */
+    uint64_t lost;     /* messages that the port refused for an overflow, or that were lost before they were offered */
+    size_t capacity;   /* how many messages the port has room for, as many as the channel's lane */
+    uint16_t channel;
+} r10_port_info;
 
 /* What a disk has to do next. */
 enum { R10_NOTHING = 0, R10_WRITE = 1, R10_SYNC = 2 };
@@ -334,6 +355,43 @@ uint32_t r10_offer_message(r10 *recorder, uint16_t channel, uint64_t count, bool
 /* So many of a channel's messages were lost before they were offered: a UART overran, a socket dropped them, another recorder failed with them. The next
  * message that is accepted has them in its gap, with those that were refused R10_OVERFLOW. 0 changes nothing. R10_NO_CHANNEL. */
 uint32_t r10_lost(r10 *recorder, uint16_t channel, uint64_t count);
+
+/* ---- offers from other threads
+ *
+ * A program with a thread for each bus opens a port for each channel. The thread of the bus offers at the port, without a lock and without waiting.
+ * The thread that owns the recorder keeps the outlet, and carries what was offered into the channel's lane (r10_carry) before it pumps the channel.
+ * A message is carried once, in order, with the number of those that were lost before it. What is not carried yet stays in the port.
+ *
+ * A channel has one port at most, and is offered to by the port alone: else a message in the port may have a count below the lane's last one. The
+ * recorder's account counts a message as accepted once it was carried, and a loss once the next message is. */
+
+/* Opens a port and its outlet for a channel of the script that the recorder was opened by. Both are all zeros before it. It may be called in any
+ * thread. R10_NO_CHANNEL, R10_NO_MEMORY, R10_SCRIPT, R10_OPEN. */
+uint32_t r10_port_open(const void *script, size_t script_length, uint16_t channel, r10_port *port, r10_outlet *outlet);
+
+/* Offers, as r10_offer_.. of the same kind. R10_OVERFLOW where as many messages wait in the port as it has room for: it is counted as lost, and
+ * the next message that is accepted has it in its gap. R10_WRONG_KIND, R10_BAD_MESSAGE, R10_TOO_LONG, R10_COUNT_RANGE, R10_COUNT_BACK,
+ * R10_OVERFLOW, and but for r10_port_arinc and r10_port_discrete R10_NO_MEMORY. */
+uint32_t r10_port_uart(r10_port *port, uint64_t count, bool parity, uint16_t sub, const void *bytes, size_t length);
+uint32_t r10_port_1553(r10_port *port, uint64_t count, uint16_t status, uint16_t gap, const uint16_t *words, size_t length);
+uint32_t r10_port_arinc(r10_port *port, uint64_t count, uint8_t bus, bool format, bool parity, bool high, uint32_t word);
+uint32_t r10_port_discrete(r10_port *port, uint64_t count, uint32_t states);
+uint32_t r10_port_message(r10_port *port, uint64_t count, bool data_error, bool format, uint16_t sub, const void *bytes, size_t length);
+
+/* So many messages were lost before they were offered, as r10_lost. */
+uint32_t r10_port_lost(r10_port *port, uint64_t count);
+
+uint32_t r10_port_state(r10_port *port, r10_port_info *info);
+
+/* Gives back the memory of an end. What was accepted at a closed port may still be carried; what is in a closed outlet is gone. One that is closed
+ * stays so. */
+void r10_port_close(r10_port *port);
+void r10_outlet_close(r10_outlet *outlet);
+
+/* Carries the port's next message into its channel's lane, by the thread that owns the recorder: `carried` says whether one was. R10_OK and none
+ * where there is none yet, or the lane is full: then it stays in the port. R10_NO_MEMORY, R10_NO_CHANNEL or R10_PLACE (the recorder was opened by
+ * another script), R10_COUNT_BACK (the channel was offered a later message by another way). A message that is refused stays, and is the next again. */
+uint32_t r10_carry_one(r10 *recorder, r10_outlet *outlet, bool *carried);
 
 /* ---- files, and how the recorder is */
 
@@ -522,6 +580,24 @@ static inline uint32_t r10_account_of(r10 *recorder, uint16_t id, r10_account_in
             return R10_OK;
         }
     }
+}
+
+/* Carries at most so many messages of a port into its channel's lane, and says how many, also where it answers a refusal. Numbers as
+ * r10_carry_one. */
+static inline uint32_t r10_carry(r10 *recorder, r10_outlet *outlet, size_t most, size_t *carried) {
+    bool one = true;
+    if (recorder == NULL || outlet == NULL)
+        return R10_CLOSED;
+    if (carried == NULL)
+        return R10_ROOM;
+    for (*carried = 0; *carried < most; ++*carried) {
+        uint32_t answer = r10_carry_one(recorder, outlet, &one);
+        if (answer != R10_OK)
+            return answer;
+        if (!one)
+            break;
+    }
+    return R10_OK;
 }
 
 /* Where a reader of a long file is: from which count on it is not read, up to which it is wanted, and how many counts it tries next
@@ -788,6 +864,87 @@ static inline uint32_t r10_checked_lost(r10 *recorder, uint16_t channel, uint64_
     return r10_lost(recorder, channel, count);
 }
 
+static inline uint32_t r10_checked_port_open(const void *script, size_t script_length, uint16_t channel, r10_port *port,
+                                             r10_outlet *outlet) {
+    if (port == NULL || outlet == NULL)
+        return R10_CLOSED;
+    if (script == NULL && script_length > 0)
+        return R10_ROOM;
+    return r10_port_open(script, script_length, channel, port, outlet);
+}
+
+static inline uint32_t r10_checked_port_uart(r10_port *port, uint64_t count, bool parity, uint16_t sub, const void *bytes,
+                                             size_t length) {
+    if (port == NULL)
+        return R10_CLOSED;
+    if (bytes == NULL && length > 0)
+        return R10_ROOM;
+    return r10_port_uart(port, count, parity, sub, bytes, length);
+}
+
+static inline uint32_t r10_checked_port_1553(r10_port *port, uint64_t count, uint16_t status, uint16_t gap, const uint16_t *words,
+                                             size_t length) {
+    if (port == NULL)
+        return R10_CLOSED;
+    if (words == NULL && length > 0)
+        return R10_ROOM;
+    return r10_port_1553(port, count, status, gap, words, length);
+}
+
+static inline uint32_t r10_checked_port_arinc(r10_port *port, uint64_t count, uint8_t bus, bool format, bool parity, bool high,
+                                              uint32_t word) {
+    if (port == NULL)
+        return R10_CLOSED;
+    return r10_port_arinc(port, count, bus, format, parity, high, word);
+}
+
+static inline uint32_t r10_checked_port_discrete(r10_port *port, uint64_t count, uint32_t states) {
+    if (port == NULL)
+        return R10_CLOSED;
+    return r10_port_discrete(port, count, states);
+}
+
+static inline uint32_t r10_checked_port_message(r10_port *port, uint64_t count, bool data_error, bool format, uint16_t sub,
+                                                const void *bytes, size_t length) {
+    if (port == NULL)
+        return R10_CLOSED;
+    if (bytes == NULL && length > 0)
+        return R10_ROOM;
+    return r10_port_message(port, count, data_error, format, sub, bytes, length);
+}
+
+static inline uint32_t r10_checked_port_lost(r10_port *port, uint64_t count) {
+    if (port == NULL)
+        return R10_CLOSED;
+    return r10_port_lost(port, count);
+}
+
+static inline uint32_t r10_checked_port_state(r10_port *port, r10_port_info *info) {
+    if (port == NULL)
+        return R10_CLOSED;
+    if (info == NULL)
+        return R10_ROOM;
+    return r10_port_state(port, info);
+}
+
+static inline void r10_checked_port_close(r10_port *port) {
+    if (port != NULL)
+        r10_port_close(port);
+}
+
+static inline void r10_checked_outlet_close(r10_outlet *outlet) {
+    if (outlet != NULL)
+        r10_outlet_close(outlet);
+}
+
+static inline uint32_t r10_checked_carry_one(r10 *recorder, r10_outlet *outlet, bool *carried) {
+    if (recorder == NULL || outlet == NULL)
+        return R10_CLOSED;
+    if (carried == NULL)
+        return R10_ROOM;
+    return r10_carry_one(recorder, outlet, carried);
+}
+
 static inline uint32_t r10_checked_files(r10 *recorder, size_t *count) {
     if (recorder == NULL)
         return R10_CLOSED;
@@ -925,6 +1082,17 @@ static inline uint32_t r10_checked_count_at(r10 *recorder, size_t file, const r1
 #define r10_offer_discrete r10_checked_offer_discrete
 #define r10_offer_message r10_checked_offer_message
 #define r10_lost r10_checked_lost
+#define r10_port_open r10_checked_port_open
+#define r10_port_uart r10_checked_port_uart
+#define r10_port_1553 r10_checked_port_1553
+#define r10_port_arinc r10_checked_port_arinc
+#define r10_port_discrete r10_checked_port_discrete
+#define r10_port_message r10_checked_port_message
+#define r10_port_lost r10_checked_port_lost
+#define r10_port_state r10_checked_port_state
+#define r10_port_close r10_checked_port_close
+#define r10_outlet_close r10_checked_outlet_close
+#define r10_carry_one r10_checked_carry_one
 #define r10_files r10_checked_files
 #define r10_file r10_checked_file
 #define r10_status r10_checked_status
@@ -963,6 +1131,9 @@ R10_SIZE(r10_file_info, 32);
 R10_SIZE(r10_status_info, 40);
 R10_SIZE(r10_channel_info, 32);
 R10_SIZE(r10_account_info, 40);
+R10_SIZE(r10_port, 16);
+R10_SIZE(r10_outlet, 16);
+R10_SIZE(r10_port_info, 32);
 R10_SIZE(r10_order_info, 16);
 R10_SIZE(r10_run_info, 24);
 R10_SIZE(r10_queue_info, 24);

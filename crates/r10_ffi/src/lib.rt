@@ -6,6 +6,7 @@ mod civil;
 mod handle;
 mod held;
 mod loose;
+mod ports;
 mod recorder;
 mod writing;
 
@@ -16,4 +17,9 @@ pub use calls::{
     r10_offer_1553, r10_offer_arinc, r10_offer_discrete, r10_offer_message, r10_offer_uart,
     r10_open, r10_order, r10_orders, r10_pump, r10_queue, r10_seal, r10_start, r10_status,
     r10_stop, r10_take, r10_taken, r10_tick, r10_version,
+};
+pub use ports::{
+    r10_carry_one, r10_outlet_close, r10_port_1553, r10_port_arinc, r10_port_close,
+    r10_port_discrete, r10_port_lost, r10_port_message, r10_port_open, r10_port_state,
+    r10_port_uart,
 };

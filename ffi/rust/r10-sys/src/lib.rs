@@ -31,6 +31,29 @@ pub struct r10 {
     pub open: bool,
 }
 
+/// The sending end of a channel's lane between two threads, or none where it is all zeros.
+#[repr(C)]
+pub struct r10_port {
+    pub held: *mut c_void,
+    pub open: bool,
+}
+
+/// Its receiving end, or none where it is all zeros.
+#[repr(C)]
+pub struct r10_outlet {
+    pub held: *mut c_void,
+    pub open: bool,
+}
+
+#[repr(C)]
+#[derive(Clone, Copy, Debug, Default)]
+pub struct r10_port_info {
+    pub accepted: u64,
+    pub lost: u64,
+    pub capacity: usize,
+    pub channel: u16,
+}
+
 #[repr(C)]
 #[derive(Clone, Copy)]
 pub struct r10_region {
@@ -164,6 +187,9 @@ const _: () = {
     assert!(size_of::<r10_status_info>() == 40);
     assert!(size_of::<r10_channel_info>() == 32);
     assert!(size_of::<r10_account_info>() == 40);
+    assert!(size_of::<r10_port>() == 16);
+    assert!(size_of::<r10_outlet>() == 16);
+    assert!(size_of::<r10_port_info>() == 32);
     assert!(size_of::<r10_order_info>() == 16);
     assert!(size_of::<r10_run_info>() == 24);
     assert!(size_of::<r10_queue_info>() == 24);
@@ -197,6 +223,17 @@ unsafe extern "C" {
     pub fn r10_offer_discrete(recorder: *mut r10, channel: u16, count: u64, states: u32) -> u32;
     pub fn r10_offer_message(recorder: *mut r10, channel: u16, count: u64, data_error: bool, format: bool, sub: u16, bytes: *const u8, length: usize) -> u32;
     pub fn r10_lost(recorder: *mut r10, channel: u16, count: u64) -> u32;
+    pub fn r10_port_open(script: *const u8, length: usize, channel: u16, port: *mut r10_port, outlet: *mut r10_outlet) -> u32;
+    pub fn r10_port_uart(port: *mut r10_port, count: u64, parity: bool, sub: u16, bytes: *const u8, length: usize) -> u32;
+    pub fn r10_port_1553(port: *mut r10_port, count: u64, status: u16, gap: u16, words: *const u16, length: usize) -> u32;
+    pub fn r10_port_arinc(port: *mut r10_port, count: u64, bus: u8, format: bool, parity: bool, high: bool, word: u32) -> u32;
+    pub fn r10_port_discrete(port: *mut r10_port, count: u64, states: u32) -> u32;
+    pub fn r10_port_message(port: *mut r10_port, count: u64, data_error: bool, format: bool, sub: u16, bytes: *const u8, length: usize) -> u32;
+    pub fn r10_port_lost(port: *mut r10_port, count: u64) -> u32;
+    pub fn r10_port_state(port: *mut r10_port, info: *mut r10_port_info) -> u32;
+    pub fn r10_port_close(port: *mut r10_port);
+    pub fn r10_outlet_close(outlet: *mut r10_outlet);
+    pub fn r10_carry_one(recorder: *mut r10, outlet: *mut r10_outlet, carried: *mut bool) -> u32;
     pub fn r10_files(recorder: *mut r10, count: *mut usize) -> u32;
     pub fn r10_file(recorder: *mut r10, number: usize, info: *mut r10_file_info, name: *mut u8, name_room: usize) -> u32;
     pub fn r10_status(recorder: *mut r10, info: *mut r10_status_info) -> u32;
