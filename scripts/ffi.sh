@@ -11,8 +11,8 @@
 #     scripts/ffi.sh random CALLS [SEED]   # random calls under the address sanitizer, a tenth of them under valgrind, and scripts
 #                                            of 1,000 beside `r10 sim`
 #     scripts/ffi.sh check             # runs both, ffi/calls.c, which calls each function, also as C++, ffi/flight.c, ffi/disk.c,
-#                                        ffi/commits.c, ffi/accounts.c, ffi/refused.c, ffi/parts.c and ffi/memory.c, and compares
-#                                        what they print with ffi/*.expected
+#                                        ffi/commits.c, ffi/accounts.c, ffi/refused.c, ffi/parts.c, ffi/memory.c and ffi/ports.c,
+#                                        and compares what they print with ffi/*.expected
 #     scripts/ffi.sh kept              # prints where the library is: the proved one if it is there, else one that is not proved
 #     scripts/ffi.sh proved            # prints where the proved library is; status 1 if it is not there, or a source has changed
 #     scripts/ffi.sh behind-ci         # `rt ci`; after it `check` over its libraries, an installation of what was proved, the
@@ -133,8 +133,24 @@ install_for() {
 
 # A program in C over the library; what follows are words for the compiler.
 c_example() {
-    cc -std=c11 -Wall -Wextra -Werror -O2 -I"$top/ffi" -o "$2" "$top/ffi/$1" "$library" "${below[@]}" ||
+    cc -std=c11 -Wall -Wextra -Werror -O2 -pthread -I"$top/ffi" -o "$2" "$top/ffi/$1" "$library" "${below[@]}" ||
         give_up "ffi/$1 does not compile"
+}
+
+# The program of threads, under the thread sanitizer, where the compiler has it: of its own code, over the shared library, which is not made
+# with it.
+under_threads() {
+    echo 'int main(void) { return 0; }' >"$room/empty.c"
+    cc -fsanitize=thread -o "$room/empty" "$room/empty.c" 2>/dev/null && "$room/empty" 2>/dev/null || {
+        echo "ffi: NOT TRIED: there is no thread sanitizer to run ffi/ports.c with"
+        return 0
+    }
+    cc -std=c11 -g -O1 -fsanitize=thread -pthread -I"$top/ffi" -o "$room/ports_threads" "$top/ffi/ports.c" -L"$1" -lr10 ||
+        give_up "ffi/ports.c does not compile with the thread sanitizer"
+    TSAN_OPTIONS=ignore_noninstrumented_modules=1 LD_LIBRARY_PATH=$1 "$room/ports_threads" 10000 >"$room/ports_threads.out" ||
+        give_up "ports, with the thread sanitizer: status $?"
+    diff <(sed 's/100000/10000/' "$top/ffi/ports.expected") "$room/ports_threads.out" >&2 ||
+        give_up "what was printed with the thread sanitizer is not ffi/ports.expected"
 }
 
 # The program in Rust over the crates of ffi/rust, without a network, over the libraries in a folder.
@@ -219,7 +235,7 @@ check() {
         c_example commits.c "$room/commits"
         "$room/commits" >"$room/commits.out" || give_up "commits: status $?"
         compare commits.expected "$room/commits.out"
-        for trial in accounts refused parts memory; do
+        for trial in accounts refused parts memory ports; do
             c_example "$trial.c" "$room/$trial"
             "$room/$trial" >"$room/$trial.out" || give_up "$trial: status $?"
             compare "$trial.expected" "$room/$trial.out"
@@ -229,6 +245,7 @@ check() {
         beside_sim 1 5
         echo "ffi: the programs in C print what they are to"
         install_for "$room/installed" "$room/installed"
+        under_threads "$room/installed/lib"
         if has g++ calls.c; then
             # as C++, over the shared library, found by pkg-config where that is there
             local words="-I$room/installed/include -L$room/installed/lib -lr10"

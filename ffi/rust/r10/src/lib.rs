@@ -3,16 +3,19 @@
 //! A [`Recorder`] owns its [`Region`]: plain memory, or a [`Disk`], which is a file or a block device that this program alone has open. Each call that changes
 //! the medium leaves operations, which [`Recorder::settle`] does on the disk. A commit is durable once it is settled.
 //!
-//! A recorder can be moved to another thread, and is used by one at a time: its calls take `&mut self`.
+//! A recorder can be moved to another thread, and is used by one at a time: its calls take `&mut self`. Other threads offer at a [`Port`], one for each
+//! channel; the one that owns the recorder carries what they offered ([`Recorder::carry`]).
 
 mod disk;
 mod error;
 mod parts;
+mod port;
 mod script;
 
 pub use disk::{Disk, Region};
 pub use error::{Error, Fault};
 pub use parts::Parts;
+pub use port::{Outlet, Port, PortState, open_port};
 pub use r10_sys::r10_civil as Civil;
 pub use script::{Script, ScriptError, check_script};
 
@@ -333,6 +336,21 @@ impl Recorder {
     /// So many of a channel's messages were lost before they were offered: the next one that is accepted has them in its gap.
     pub fn lose(&mut self, channel: u16, count: u64) -> Result<(), Error> {
         answer(unsafe { sys::r10_lost(&mut self.raw, channel, count) })
+    }
+
+    /// Carries at most so many messages of a port into its channel's lane, and says how many: fewer where the port has no more, or the lane no room.
+    ///
+    /// Where one is refused it stays, and is the next again. If some were carried before it, the refusal is that of the next call.
+    pub fn carry(&mut self, outlet: &mut Outlet, most: usize) -> Result<usize, Error> {
+        let (mut count, mut carried) = (0, true);
+        while count < most {
+            match answer(unsafe { sys::r10_carry_one(&mut self.raw, outlet.raw(), &mut carried) }) {
+                Ok(()) if carried => count += 1,
+                Err(error) if count == 0 => return Err(error),
+                _ => break,
+            }
+        }
+        Ok(count)
     }
 
     /// Takes at most so many of a channel's messages into the file, and says how many.

@@ -1,0 +1,111 @@
+//! Offers from other threads.
+use crate::{Error, Message, answer};
+use r10_sys as sys;
+
+/// The sending end of a channel's lane between two threads. It can be moved to another thread, and offers there without a lock.
+///
+/// A port is not shared between threads: each has its own.
+///
+/// ```compile_fail
+/// fn share<T: Sync>(_: T) {}
+/// # fn of(port: r10::Port) {
+/// share(port);
+/// # }
+/// ```
+pub struct Port {
+    raw: sys::r10_port,
+}
+
+/// The end of a port that the thread with the recorder keeps: [`crate::Recorder::carry`] takes from it.
+pub struct Outlet {
+    raw: sys::r10_outlet,
+}
+
+/// What became of the messages that were offered at a port.
+#[derive(Clone, Copy, Debug, PartialEq, Eq)]
+pub struct PortState {
+    pub channel: u16,
+    pub accepted: u64,
+    /// messages that were refused for an overflow, or lost before they were offered
+    pub lost: u64,
+    /// how many messages the port has room for
+    pub capacity: usize,
+}
+
+// SAFETY: what an end leads to is reached by that end alone, but for the ring between the two, whose words are atomic. The library keeps nothing by thread.
+unsafe impl Send for Port {}
+unsafe impl Send for Outlet {}
+
+/// Opens a port and its outlet for a channel of the script that the recorder is opened by. A channel has one port at most, and is offered to by that alone.
+///
+/// ```
+/// # use r10::{Civil, Error, Message, Recorder, Region, open_port};
+/// # const SCRIPT: &str = "blocks = 64\ndirectory = 2\nvolume = \"VOL\"\nnodes = 100\ntime = 1\nevent = 2\n\
+/// # [[channel]]\nid = 3\nkind = \"uart\"\ncapacity = 8\ncheck = 0\nbytes = 4096\nnumber = 100\n";
+/// # const CIVIL: Civil = Civil { year: 2024, month: 2, day: 29, hour: 12, minute: 0, second: 0, centi: 0 };
+/// # fn main() -> Result<(), Error> {
+/// # let mut recorder = Recorder::format(Region::memory(64), 4, SCRIPT).map_err(|(error, _)| error)?;
+/// # recorder.mount()?;
+/// # recorder.tick(1000, &CIVIL)?;
+/// # recorder.start("FLT1", b"")?;
+/// let (mut port, mut outlet) = open_port(SCRIPT, 3)?;
+/// let bus = std::thread::spawn(move || port.offer(1001, Message::Uart { parity: false, sub: 0, bytes: b"message" }));
+/// bus.join().expect("the thread ended")?;
+/// assert_eq!(recorder.carry(&mut outlet, 8)?, 1);
+/// assert_eq!(recorder.pump(3, 8)?, 1);
+/// # Ok(())
+/// # }
+/// ```
+pub fn open_port(script: &str, channel: u16) -> Result<(Port, Outlet), Error> {
+    let none = std::ptr::null_mut();
+    let mut port = Port { raw: sys::r10_port { held: none, open: false } };
+    let mut outlet = Outlet { raw: sys::r10_outlet { held: none, open: false } };
+    answer(unsafe { sys::r10_port_open(script.as_ptr(), script.len(), channel, &mut port.raw, &mut outlet.raw) })?;
+    Ok((port, outlet))
+}
+
+impl Port {
+    /// Puts a message behind those that were offered before it.
+    pub fn offer(&mut self, count: u64, message: Message) -> Result<(), Error> {
+        let raw = &mut self.raw;
+        answer(unsafe {
+            match message {
+                Message::Uart { parity, sub, bytes } => sys::r10_port_uart(raw, count, parity, sub, bytes.as_ptr(), bytes.len()),
+                Message::Bus1553 { status, gap_times, words } => sys::r10_port_1553(raw, count, status, gap_times, words.as_ptr(), words.len()),
+                Message::Arinc { bus, format, parity, high, word } => sys::r10_port_arinc(raw, count, bus, format, parity, high, word),
+                Message::Discrete { states } => sys::r10_port_discrete(raw, count, states),
+                Message::Message { data_error, format, sub, bytes } => sys::r10_port_message(raw, count, data_error, format, sub, bytes.as_ptr(), bytes.len()),
+            }
+        })
+    }
+
+    /// So many messages were lost before they were offered: the next one that is accepted has them in its gap.
+    pub fn lose(&mut self, count: u64) -> Result<(), Error> {
+        answer(unsafe { sys::r10_port_lost(&mut self.raw, count) })
+    }
+
+    /// What became of the messages that were offered.
+    pub fn state(&mut self) -> Result<PortState, Error> {
+        let mut info = sys::r10_port_info::default();
+        answer(unsafe { sys::r10_port_state(&mut self.raw, &mut info) })?;
+        Ok(PortState { channel: info.channel, accepted: info.accepted, lost: info.lost, capacity: info.capacity })
+    }
+}
+
+impl Outlet {
+    pub(crate) fn raw(&mut self) -> *mut sys::r10_outlet {
+        &mut self.raw
+    }
+}
+
+impl Drop for Port {
+    fn drop(&mut self) {
+        unsafe { sys::r10_port_close(&mut self.raw) };
+    }
+}
+
+impl Drop for Outlet {
+    fn drop(&mut self) {
+        unsafe { sys::r10_outlet_close(&mut self.raw) };
+    }
+}
