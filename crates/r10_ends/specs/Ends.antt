@@ -1,5 +1,5 @@
 -- What a call makes of the ends that a caller of another language keeps.
-use Rattle.std.specs.Prelude.{◌≡◌, ◌⊎◌, ℕ, [], Bool, true, Option, None, Some}
+use Rattle.std.specs.Prelude.{◌≡◌, ◌⊎◌, ℕ, [], true, Option, None, Some}
 use Rattle.r10_body.specs.declared.spec.ChannelSpec.{ChannelSpec}
 use Rattle.r10_machine.specs.Machine.{fresh_lane}
 use Rattle.r10_port.specs.Ends.{Sending}

@@ -1,3 +1,4 @@
 pub mod Ends
 pub mod Owning
 pub mod Sending
+pub mod Vectors

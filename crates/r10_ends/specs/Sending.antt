@@ -1,7 +1,8 @@
 -- Offers by the sending end of a lane, as a caller of another language has them.
-use Rattle.std.specs.Prelude.{◌≡◌, ◌⊎◌, ℕ, length, Result, Ok, Err}
+use Rattle.std.specs.Prelude.{◌≡◌, ◌⊎◌, ℕ, ◌<◌, length, Result, Ok, Err}
 use Rattle.r10_body.specs.Refusals.{refusal_number}
 use Rattle.r10_body.specs.declared.message.Message.{Message}
+use Rattle.r10_body.specs.declared.message.Message.TheVariants as messages
 use Rattle.r10_body.specs.declared.refusal.Refusal.{Refusal}
 use Rattle.r10_machine.specs.Machine.{saturated}
 use Rattle.r10_port.specs.Ends.{Offered, Sending, sent}
@@ -16,9 +17,19 @@ number_answered (Err r) = refusal_number r
 abbrev pub OffersByPort : Sending → ℕ → Message → ℕ → Sending → Type 0
 OffersByPort old count message answer new = (given : Result (Unit {0}) Refusal) × Offered old count message given new × (answer ≡ number_answered given)
 
--- or memory for it was refused, and nothing changed
+-- memory may be wanted for it: at most 38 bytes have their place in a message
+abbrev pub WantsMemory : Message → Type 0
+WantsMemory (messages.Uart parity sub bytes) = 38 < length bytes
+WantsMemory (messages.Bus1553 status gap words) = Unit {0}
+WantsMemory (messages.Arinc bus format parity high word) = ⊥
+WantsMemory (messages.Discrete states) = ⊥
+WantsMemory (messages.Message data_error format sub bytes) = 38 < length bytes
+WantsMemory (messages.Time civil) = ⊥
+WantsMemory (messages.Event number count) = ⊥
+
+-- or memory that it wants was refused, and nothing changed
 abbrev pub OffersOrLacks : Sending → ℕ → Message → ℕ → Sending → Type 0
-OffersOrLacks old count message answer new = OffersByPort old count message answer new ⊎ ((answer ≡ 30) × (new ≡ old))
+OffersOrLacks old count message answer new = OffersByPort old count message answer new ⊎ (WantsMemory message × (answer ≡ 30) × (new ≡ old))
 
 -- how the sending end is
 abbrev pub port_out : Sending → PortOut
