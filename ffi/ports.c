@@ -1,6 +1,6 @@
 /* Offers from other threads: four threads offer 100,000 messages each at ports of their own, while this one carries, pumps and commits. Two of them never
  * wait, so that ports overflow; two wait for room. At the end each message that was accepted is in the file once, in order, and each gap is as long as what
- * was lost there. Before it, in one thread: a port refuses what a lane refuses, by the same number.
+ * was lost there. Before it, in one thread: a port refuses what a lane refuses, by the same number, and what is closed stays closed.
  *
  *     ports [MESSAGES]
  */
@@ -116,7 +116,7 @@ static void check(bus *it) {
     uint8_t bytes[200];
     uint16_t words[36];
     r10_port_info port;
-    r10_account_info account;
+    r10_account_info account = {0};
     uint64_t next = 0, found = 0, lost = 0;
     must("cursor", r10_cursor(&recorder, 0, &it->channel, 1, 0, (1ULL << 48) - 1, &cursor));
     must("advance", r10_advance(&recorder, cursor, &queued));
@@ -157,6 +157,47 @@ static void check(bus *it) {
            it->waits ? "; none lost" : "");
 }
 
+/* What becomes of a port whose outlet or recorder is closed, and of an outlet whose port is. */
+static void closings(void) {
+    r10_port port = {0}, other = {0};
+    r10_outlet outlet = {0};
+    r10 second = {0};
+    r10_port_info info;
+    static uint8_t memory[64 * 512];
+    static const char small[] = "blocks = 64\ndirectory = 2\nvolume = \"VOL\"\nnodes = 10\ntime = 1\nevent = 2\n"
+                                "[[channel]]\nid = 14\nkind = \"discrete\"\ncapacity = 2\ncheck = 0\nbytes = 4096\nnumber = 100\nbits = 8\n";
+    size_t carried = 9;
+    bool one = true;
+    must("open", r10_port_open(small, strlen(small), 14, &port, &outlet));
+    printf("beside an open outlet: %u\n", r10_port_open(small, strlen(small), 14, &other, &outlet));
+    must("offer", r10_port_discrete(&port, 10, 1));
+    must("offer", r10_port_discrete(&port, 11, 2));
+    printf("into no recorder: %u", r10_carry(&second, &outlet, 10, &carried));
+    printf(", %zu; one: %u", carried, r10_carry_one(&second, &outlet, &one));
+    printf(", %d\n", one);
+    /* of another script: the place is another channel's, and the message stays */
+    printf("into another one: %u\n", r10_carry(&recorder, &outlet, 10, &carried));
+    /* the port is closed: what it accepted is carried */
+    r10_port_close(&port);
+    must("format", r10_format((r10_region){memory, 64}, 64, small, strlen(small), &second));
+    must("carry", r10_carry(&second, &outlet, 10, &carried));
+    printf("of a closed port: %zu", carried);
+    must("carry", r10_carry(&second, &outlet, 10, &carried));
+    printf(", then %zu\n", carried);
+    r10_close(&second);
+    r10_outlet_close(&outlet);
+    /* the outlet is closed: the port fills */
+    must("open", r10_port_open(small, strlen(small), 14, &port, &outlet));
+    r10_outlet_close(&outlet);
+    printf("without an outlet: %u", r10_port_discrete(&port, 10, 1));
+    printf(", %u", r10_port_discrete(&port, 11, 2));
+    printf(", %u\n", r10_port_discrete(&port, 12, 3));
+    must("state", r10_port_state(&port, &info));
+    printf("port: %" PRIu64 " accepted, %" PRIu64 " lost\n", info.accepted, info.lost);
+    r10_port_close(&port);
+    r10_port_close(&port);
+}
+
 /* What a port refuses a lane refuses, by the same number and with the same rest. */
 static void refusals(void) {
     r10_port port = {0};
@@ -191,7 +232,7 @@ static void refusals(void) {
     /* the lane is full, by the offers above: what is in the port stays there */
     must("carry into a full lane", r10_carry(&recorder, &outlet, 10, &carried));
     printf("into a full lane: %zu\n", carried);
-    r10_channel_info lane;
+    r10_channel_info lane = {0};
     must("channel", r10_channel_of(&recorder, 14, &lane));
     printf("the lane: %zu wait, %" PRIu64 " lost\n", lane.waiting, lane.lost);
     must("pump", r10_pump(&recorder, 14, 2, &carried));
@@ -220,6 +261,7 @@ int main(int count, char **words) {
     must("tick", r10_tick(&recorder, 10, &civil));
     must("start", r10_start(&recorder, "FLT1", 4, "", 0));
     refusals();
+    closings();
     for (int n = 0; n < BUSES; n++) {
         buses[n].channel = (uint16_t)(FIRST + n);
         buses[n].waits = n % 2;

@@ -3,7 +3,8 @@
  * Each call answers 0, or why it did not do its work: the number of a refusal, 1 to 30, or one of the library's own, from 40 on. A call that answers
  * another number than 0 has changed nothing, but for these two. R10_OVERFLOW is counted. After R10_MEDIUM what the call did may be in the region or not, and
  * messages that it took from lanes may be gone: the recorder is failed, and answers R10_FAILED from then on (r10_close, and r10_open again). Memory that
- * was lent for an answer is as it was then too. Which numbers a call may answer stands at the call; R10_CLOSED stands for all.
+ * was lent for an answer is as it was then too. Which numbers a call may answer stands at the call; R10_CLOSED stands for all. r10_carry_one says at the
+ * call what it may have changed.
  *
  * The library calls nothing of the system but malloc, realloc and free. It reads and writes the region, and says what a disk has to do so that it holds the
  * same: after each call, r10_orders hands out the operations in their order, as runs of neighbouring blocks and as syncs. The program does a run before it
@@ -22,12 +23,13 @@
  * What the program owes, and what nothing checks
  *  - A recorder is given to one call at a time. It may go from one thread to another between calls. Two recorders may run in two threads.
  *  - A port and its outlet are handles of their own. A port's calls (r10_port_..) may be made in one thread while another one is in a call on the recorder,
- *    on the outlet or on another port. Each handle is given to one call at a time, and what gives it to another thread is a lock, a thread's start or its end.
+ *    on the outlet or on another port. Each handle is given to one call at a time. It goes to another thread by a lock, or as that thread starts or ends.
  *  - A pointer with a count leads to that many; an out pointer leads to one. Where the count is 0 it may lead anywhere. A bool is 0
  *    or 1. Memory that is lent is lent for the call alone, but for the region.
- *  - Null pointers are found by this header, and not by the library. A null recorder is answered R10_CLOSED, any other null pointer
+ *  - Null pointers are found by this header, and not by the library. A null recorder, port or outlet is answered R10_CLOSED, any other null pointer
  *    R10_ROOM, with nothing changed. Where R10_UNCHECKED is defined, or the calls are declared elsewhere, no pointer may be null.
- *  - An `r10` is all zeros before r10_open or r10_format, and is not copied while it is open. One that is not open is answered R10_CLOSED.
+ *  - An `r10`, an `r10_port` and an `r10_outlet` are all zeros before they are opened, and are not copied while they are open. One that is not open is
+ *    answered R10_CLOSED.
  *  - The region is the library's from r10_open or r10_format to r10_close: nothing else writes it. At the start it holds what the disk holds. A file is mapped with
  *    MAP_PRIVATE: with MAP_SHARED the system would write blocks before their turn.
  *  - The runs are done in order. Where one fails, do none after it: say so (r10_disk_failed) or close the recorder, and go on as after a loss of power.
@@ -363,15 +365,22 @@ uint32_t r10_lost(r10 *recorder, uint16_t channel, uint64_t count);
  * A message is carried once, in order, with the number of those that were lost before it. What is not carried yet stays in the port.
  *
  * A channel has one port at most, and is offered to by the port alone: else a message in the port may have a count below the lane's last one. The
- * recorder's account counts a message as accepted once it was carried, and a loss once the next message is. */
+ * recorder's account counts a message as accepted once it was carried, and a loss once the next message is.
+ *
+ * A port, its outlet and the recorder are closed each by its own call, in any order:
+ *  - The port is closed: its calls answer R10_CLOSED. What it accepted may still be carried.
+ *  - The outlet is closed: what it did not carry is gone. The port fills, and then each offer is refused R10_OVERFLOW.
+ *  - The recorder is closed: r10_carry_one answers R10_CLOSED, and what is in the port stays there. A recorder that is opened by the same script may
+ *    carry it.
+ *  - To close one that is closed changes nothing. What is never closed keeps its memory. */
 
 /* Opens a port and its outlet for a channel of the script that the recorder was opened by. Both are all zeros before it. It may be called in any
- * thread. R10_NO_CHANNEL, R10_NO_MEMORY, R10_SCRIPT, R10_OPEN. */
+ * thread. R10_NO_CHANNEL (the script has no such channel), R10_NO_MEMORY, R10_SCRIPT, R10_OPEN (one of the two is open). */
 uint32_t r10_port_open(const void *script, size_t script_length, uint16_t channel, r10_port *port, r10_outlet *outlet);
 
 /* Offers, as r10_offer_.. of the same kind. R10_OVERFLOW where as many messages wait in the port as it has room for: it is counted as lost, and
  * the next message that is accepted has it in its gap. R10_WRONG_KIND, R10_BAD_MESSAGE, R10_TOO_LONG, R10_COUNT_RANGE, R10_COUNT_BACK,
- * R10_OVERFLOW, and but for r10_port_arinc and r10_port_discrete R10_NO_MEMORY. */
+ * R10_OVERFLOW, and of more than 38 bytes, or words of a MIL-STD-1553 bus, R10_NO_MEMORY. */
 uint32_t r10_port_uart(r10_port *port, uint64_t count, bool parity, uint16_t sub, const void *bytes, size_t length);
 uint32_t r10_port_1553(r10_port *port, uint64_t count, uint16_t status, uint16_t gap, const uint16_t *words, size_t length);
 uint32_t r10_port_arinc(r10_port *port, uint64_t count, uint8_t bus, bool format, bool parity, bool high, uint32_t word);
@@ -383,14 +392,14 @@ uint32_t r10_port_lost(r10_port *port, uint64_t count);
 
 uint32_t r10_port_state(r10_port *port, r10_port_info *info);
 
-/* Gives back the memory of an end. What was accepted at a closed port may still be carried; what is in a closed outlet is gone. One that is closed
- * stays so. */
+/* Gives back the memory of an end. One that is closed stays so. */
 void r10_port_close(r10_port *port);
 void r10_outlet_close(r10_outlet *outlet);
 
-/* Carries the port's next message into its channel's lane, by the thread that owns the recorder: `carried` says whether one was. R10_OK and none
- * where there is none yet, or the lane is full: then it stays in the port. R10_NO_MEMORY, R10_NO_CHANNEL or R10_PLACE (the recorder was opened by
- * another script), R10_COUNT_BACK (the channel was offered a later message by another way). A message that is refused stays, and is the next again. */
+/* Carries the port's next message into its channel's lane, by the thread that owns the recorder, in every mode: `carried` says whether one was. R10_OK
+ * and none where there is none yet, or the lane is full: then it stays in the port. R10_NO_MEMORY; R10_COUNT_BACK (the channel was offered a later
+ * message by another way). Where the recorder was opened by another script: R10_NO_CHANNEL, R10_PLACE, or why its lane does not take the message.
+ * A message that is refused stays, and is the next again. The loss before it may be counted by then, and is counted once. */
 uint32_t r10_carry_one(r10 *recorder, r10_outlet *outlet, bool *carried);
 
 /* ---- files, and how the recorder is */
@@ -582,8 +591,8 @@ static inline uint32_t r10_account_of(r10 *recorder, uint16_t id, r10_account_in
     }
 }
 
-/* Carries at most so many messages of a port into its channel's lane, and says how many, also where it answers a refusal. Numbers as
- * r10_carry_one. */
+/* Carries at most so many messages of a port into its channel's lane, and says how many, also where it answers a refusal: none where a handle is not
+ * open. Numbers as r10_carry_one. */
 static inline uint32_t r10_carry(r10 *recorder, r10_outlet *outlet, size_t most, size_t *carried) {
     bool one = true;
     if (recorder == NULL || outlet == NULL)

@@ -65,7 +65,7 @@ pub fn open_port(script: &str, channel: u16) -> Result<(Port, Outlet), Error> {
 }
 
 impl Port {
-    /// Puts a message behind those that were offered before it.
+    /// Puts a message after those that were offered before it.
     pub fn offer(&mut self, count: u64, message: Message) -> Result<(), Error> {
         let raw = &mut self.raw;
         answer(unsafe {
