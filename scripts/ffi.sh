@@ -137,8 +137,8 @@ c_example() {
         give_up "ffi/$1 does not compile"
 }
 
-# The program of threads, under the thread sanitizer, where the compiler has it: of its own code, over the shared library, which is not made
-# with it.
+# The program of threads, under the thread sanitizer, where the compiler has it: of its own code, over the shared library, which is
+# not made with it.
 under_threads() {
     echo 'int main(void) { return 0; }' >"$room/empty.c"
     cc -fsanitize=thread -o "$room/empty" "$room/empty.c" 2>/dev/null && "$room/empty" 2>/dev/null || {
