@@ -1,8 +1,6 @@
 -- What asking for a lane, and opening one, come to.
 use Rattle.std.proofs.Common.{◌≡◌, ℕ, ◌==◌, false, List, Option, None, Some, refl, sym, subst, ap, ◌∙◌}
-use Rattle.std.specs.Prelude.{MatchOption}
-use Rattle.std.specs.List.{position}
-use Rattle.r10_body.specs.Channels.{spec_of}
+use Rattle.std.specs.Prelude.{MatchOption, slice_get}
 use Rattle.r10_body.specs.declared.spec.ChannelSpec.{ChannelSpec}
 use Rattle.r10_machine.specs.Config.{Config}
 use Rattle.r10_machine.specs.declared.event.Event.TheVariants as events
@@ -17,7 +15,7 @@ use Rattle.r10_ends.specs.declared.carrier.Carrier.{Carrier}
 use Rattle.r10_ends.specs.declared.outlet_end.OutletEnd.{OutletEnd}
 use Rattle.r10_ends.specs.declared.port_end.PortEnd.{PortEnd}
 use Rattle.r10_carrier.specs.Carrying.{AsksLane, Carries, CarriesNext, no_lane, why_not}
-use Rattle.r10_carrier.specs.Opening.{OpensLane}
+use Rattle.r10_carrier.specs.Opening.{OpensLane, place_of}
 use Rattle.r10_carrier.specs.declared.carry.Carry.{Carry}
 
 module _ {M : Type 0} (disk : M → Disk) (old : DeskValue M) (from : Carrier) (n : ℕ) (start lane : ChannelOut) (asked : DeskValue M) (spec : ChannelSpec)
@@ -55,14 +53,14 @@ module _ {M : Type 0} (disk : M → Disk) (old : DeskValue M) (from : Carrier) (
 
 -- the channel and its place were found among those of the script
 pub opens : (text : List ℕ) (channel : ℕ) (settings : Config) (cs ds : List ChannelSpec) (place : ℕ) (spec : ChannelSpec) (port : PortEnd) (outlet : OutletEnd)
-    → IsSettings text settings → cs ≡ settings.channels → ds ≡ settings.channels → Some place ≡ position (λ (c : ChannelSpec). c.id == channel) cs → Some spec ≡ spec_of ds channel
+    → IsSettings text settings → cs ≡ settings.channels → ds ≡ settings.channels → Some place ≡ place_of cs channel → slice_get ds place ≡ Some spec
     → AreOpened spec place port outlet → OpensLane text channel port outlet
 opens text channel settings cs ds place spec port outlet script one other at found ends = record {
   settings = settings;
   is_script = script;
-  spec = spec;
-  spec_is = ap (λ (xs : List ChannelSpec). spec_of xs channel) (sym other) ∙ sym found;
   place = place;
-  place_is = ap (λ (xs : List ChannelSpec). position (λ (c : ChannelSpec). c.id == channel) xs) (sym one) ∙ sym at;
+  place_is = ap (λ (xs : List ChannelSpec). place_of xs channel) (sym one) ∙ sym at;
+  spec = spec;
+  spec_is = ap (λ (xs : List ChannelSpec). slice_get xs place) (sym other) ∙ found;
   ends = ends;
 }

@@ -7,7 +7,7 @@ use Rattle.r10_body.specs.declared.spec.ChannelSpec.{ChannelSpec}
 use Rattle.r10_machine.specs.declared.event.Event.{Event as EventValue}
 use Rattle.r10_machine.specs.declared.event.Event.TheVariants as events
 use Rattle.r10_medium.specs.Disk.{Disk}
-use Rattle.r10_port.specs.Ends.{Receiving, TookReceived}
+use Rattle.r10_port.specs.Ends.{Receiving, TookReceived, next_known}
 use Rattle.r10_desk.specs.Listing.{channel_given, lane_place}
 use Rattle.r10_desk.specs.Told.{DoesEvent, number_of}
 use Rattle.r10_desk.specs.declared.desk.Desk.{Desk as DeskValue}
@@ -68,18 +68,20 @@ CarriesFirst disk channel old [] is new hand = (is ≡ record { number = 0; chan
 CarriesFirst disk channel old (x ∷ []) is new hand = CarriesSample disk channel old x is new hand
 CarriesFirst disk channel old (x ∷ y ∷ rest) is new hand = ⊥
 
--- the next was received, where none was in hand
+-- the next was received, where none was in hand: one that is known to come next for certain
 pub record Reaches (from : Receiving) (hand : Option Sample) (to : Receiving) (now : Option Sample) : Type 0 where
   pub samples : List Sample
   pub took : TookReceived from samples to
   pub hand_is : in_hand now ≡ in_hand hand ++ samples
   pub one : in_hand hand ≢ [] → samples ≡ []
+  pub known : (x : Sample) → hand ≡ None → next_known from.ahead ≡ Some x → samples ≡ x ∷ []
 
--- the sample in hand was carried, or, where there was none, the next that was received
+-- the sample in hand was carried, or, where there was none, the next that was received: one that is known to come next for certain
 pub record CarriesNext {M : Type 0} (disk : M → Disk) (old : DeskValue M) (from : Carrier) (is : Carry) (new : DeskValue M) (to : Carrier) : Type 0 where
   pub samples : List Sample
   pub took : TookReceived from.outlet samples to.outlet
   pub place : to.place ≡ from.place
+  pub known : (x : Sample) → from.hand ≡ None → next_known from.outlet.ahead ≡ Some x → samples ≡ x ∷ []
   pub carries : CarriesFirst disk from.outlet.spec.id old (in_hand from.hand ++ samples) is new to.hand
 
 -- ---- a call

@@ -1,11 +1,8 @@
 //! The ends of a lane between threads are made, for a channel of a script.
 
-ghost use Rattle.std.specs.Prelude.{◌≡◌, ◌≢◌, ◌⊎◌, ◌↔◌, ◌==◌, IfErr, IfOk};
-ghost use Rattle.std.specs.List.{position};
-ghost use Rattle.r10_body.specs.Channels.{spec_of};
-ghost use Rattle.r10_body.specs.declared.spec.ChannelSpec.{ChannelSpec as ChannelSpecValue};
+ghost use Rattle.std.specs.Prelude.{◌≡◌, ◌≢◌, ◌⊎◌, ◌↔◌, ◌<◌, IfErr, IfOk, Some, length, slice_get};
 ghost use Rattle.r10_ends.specs.Ends.{IsOpenOne};
-ghost use Rattle.r10_carrier.specs.Opening.{OpensLane};
+ghost use Rattle.r10_carrier.specs.Opening.{LacksChannel, OpensLane, place_of};
 ghost use Rattle.r10_desk.specs.Opening.{IsSettings};
 
 use crate::telling::NO_CHANNEL;
@@ -37,18 +34,20 @@ fn settings_of(alloc: Global, script: &[u8]) -> Result<Settings, u32>
     }
 }
 
-/// What a channel is set to.
-fn spec_of(channels: &[ChannelSpec], channel: u16) -> Option<ChannelSpec>
-    ensures { result ≡ spec_of channels.now channel }
-{
-    channels.iter().copied().find(|spec| spec.id == channel)
-}
-
 /// The place of a channel.
 fn place_of(channels: &[ChannelSpec], channel: u16) -> Option<usize>
-    ensures { result ≡ position (λ (c : ChannelSpecValue). c.id == channel) channels.now }
+    ensures { result ≡ place_of channels.now channel }
 {
     channels.iter().position(|spec| spec.id == channel)
+}
+
+/// What the channel at a place is set to.
+#[tactic(auto, using(std::proofs::lemmas::Option::slice_get_read))]
+fn spec_at(channels: &[ChannelSpec], place: usize) -> ChannelSpec
+    requires { place < length channels.now }
+    ensures { slice_get channels.now place ≡ Some result }
+{
+    channels[place]
 }
 
 /// Opens the two ends of a lane for a channel of the script: 0, or 6 where it has no such channel, 30, 40 where it can't be taken, 45.
@@ -60,6 +59,7 @@ pub fn open_lane(
     outlet: &mut OutletEnd,
 ) -> u32
     ensures opens { result ≡ 0 → OpensLane script.now channel port.new outlet.new }
+    ensures unknown { result ≡ 6 → LacksChannel script.now channel }
     ensures untouched { result ≢ 0 → (port.new ≡ port.old) × (outlet.new ≡ outlet.old) }
     ensures opened { (result ≡ 45) ↔ IsOpenOne port.old outlet.old }
     ensures numbers { (result ≡ 0) ⊎ (result ≡ 6) ⊎ (result ≡ 30) ⊎ (result ≡ 40) ⊎ (result ≡ 45) }
@@ -74,8 +74,6 @@ pub fn open_lane(
     let Some(place) = place_of(settings.channels(), channel) else {
         return NO_CHANNEL;
     };
-    let Some(spec) = spec_of(settings.channels(), channel) else {
-        return NO_CHANNEL;
-    };
+    let spec = spec_at(settings.channels(), place);
     open_ends(alloc, spec, place, port, outlet)
 }

@@ -2,7 +2,7 @@
 
 ghost use Rattle.std.specs.Prelude.{◌≡◌, ◌≢◌, ◌⊎◌, ◌↔◌, false, true, None};
 ghost use Rattle.r10_body.specs.declared.message.Message.TheVariants as messages;
-ghost use Rattle.r10_carrier.specs.Opening.{OpensLane};
+ghost use Rattle.r10_carrier.specs.Opening.{LacksChannel, OpensLane};
 ghost use Rattle.r10_ends.specs.Ends.{IsOpenOne, PortGoes};
 ghost use Rattle.r10_ends.specs.Sending.{OffersByPort, OffersOrLacks, port_out};
 ghost use Rattle.r10_port.specs.Ends.{with_losses};
@@ -29,6 +29,7 @@ pub extern "C" fn r10_port_open(
     outlet: &mut OutletEnd,
 ) -> u32
     ensures opens { result ≡ 0 → OpensLane script.now channel port.new outlet.new }
+    ensures unknown { result ≡ 6 → LacksChannel script.now channel }
     ensures untouched { result ≢ 0 → (port.new ≡ port.old) × (outlet.new ≡ outlet.old) }
     ensures opened { (result ≡ 45) ↔ IsOpenOne port.old outlet.old }
     ensures numbers { (result ≡ 0) ⊎ (result ≡ 6) ⊎ (result ≡ 30) ⊎ (result ≡ 40) ⊎ (result ≡ 45) }

@@ -1,0 +1,54 @@
+-- The events of a message that is carried, and why none is, in numbers.
+use Rattle.std.specs.Prelude.{◌≡◌, ℕ, [], ◌∷◌, None, Some, refl}
+use Rattle.r10_body.specs.declared.entry.Sample.{Sample}
+use Rattle.r10_body.specs.declared.gap.Gap.{Gap}
+use Rattle.r10_body.specs.declared.gap.Gap.TheVariants.{Whole, Lost, Unknown}
+use Rattle.r10_body.specs.declared.message.Kind.TheVariants as kinds
+use Rattle.r10_body.specs.declared.message.Message.TheVariants.{Discrete}
+use Rattle.r10_body.specs.declared.spec.ChannelSpec.{ChannelSpec}
+use Rattle.r10_machine.specs.declared.event.Event.TheVariants as events
+use Rattle.r10_desk.specs.declared.listing.ChannelOut.{ChannelOut}
+use Rattle.r10_carrier.specs.Carrying.{events_of, in_hand, no_lane, why_not}
+use Rattle.r10_carrier.specs.Opening.{place_of}
+
+abbrev sample : Gap → Sample
+sample gap = record { count = 70; message = Discrete 9; gap = gap }
+
+-- a message is one offer; after a loss it is the loss and then the offer
+without_loss : events_of 5 (sample Whole) ≡ events.Offer 5 70 (Discrete 9) ∷ []
+without_loss = refl
+
+after_three : events_of 5 (sample (Lost 3)) ≡ events.Lose 5 3 ∷ events.Offer 5 70 (Discrete 9) ∷ []
+after_three = refl
+
+after_some : events_of 5 (sample Unknown) ≡ events.Lose 5 1 ∷ events.Offer 5 70 (Discrete 9) ∷ []
+after_some = refl
+
+abbrev channel : ℕ → ChannelSpec
+channel id = record { id = id; kind = kinds.Discrete; capacity = 3; check = 0; bytes = 4096; number = 100; bits = 8 }
+
+abbrev lane : ℕ → ℕ → ChannelOut
+lane id waiting = record { lost = 0; erased = 0; waiting = waiting; channel = id }
+
+-- a lane has room up to its capacity; one of another channel has none, and one that is not there says why
+it_has_room : why_not 0 (lane 5 2) (channel 5) ≡ None
+it_has_room = refl
+
+it_is_full : why_not 0 (lane 5 3) (channel 5) ≡ Some 0
+it_is_full = refl
+
+it_is_another : why_not 0 (lane 6 0) (channel 5) ≡ Some 6
+it_is_another = refl
+
+it_is_not_there : why_not 43 no_lane (channel 5) ≡ Some 43
+it_is_not_there = refl
+
+-- where a channel is
+second_is_at_1 : place_of (channel 4 ∷ channel 5 ∷ channel 6 ∷ []) 5 ≡ Some 1
+second_is_at_1 = refl
+
+a_fourth_is_nowhere : place_of (channel 4 ∷ channel 5 ∷ channel 6 ∷ []) 7 ≡ None
+a_fourth_is_nowhere = refl
+
+nothing_is_in_hand : in_hand None ≡ []
+nothing_is_in_hand = refl
