@@ -12,8 +12,12 @@ returns-in_default c =
     let port = c.self.inside.port in
     let r = c.out_of_range.result in
     let broken = c.out_of_range.ensures port.lane.last c.args.count (far_of c.args.count c.in_default.ensures) in
-    subst (λ (v : Sending). OffersByPort v c.args.count c.args.message c.number_of.result v) c.self.view_is (Err r, refused_first port c.args.count c.args.message r
-        (subst (λ (s : ChannelSpec). first_broken (taking_checks s port.lane.last c.args.count c.args.message) ≡ Some r) c.self.invariant broken), c.number_of.ensures)
+    subst (λ (v : Sending). OffersByPort v c.args.count c.args.message c.number_of.result v) c.self.view_is (
+      Err r,
+      refused_first port c.args.count c.args.message r
+          (subst (λ (s : ChannelSpec). first_broken (taking_checks s port.lane.last c.args.count c.args.message) ≡ Some r) c.self.invariant broken),
+      c.number_of.ensures,
+    )
 
 pub invariant_of-self : goal.invariant_of-self
 invariant_of-self c =
