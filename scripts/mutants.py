@@ -1,20 +1,27 @@
 #!/usr/bin/env python3
-"""mutants.py [CRATE..] [--count N] [--seed N] [--lanes N] [--work FOLDER] [--list]: makes small changes in the bodies of functions,
-and tells which ones no contract refuses.
+"""Makes small changes in the bodies of functions, and tells which ones no contract refuses.
+
+    scripts/mutants.py [CRATE..]     tries those mutants that have no verdict yet, or a stale one, cheap crates first
+    scripts/mutants.py --list        lists them with their sums and what is known of each
+    scripts/mutants.py --table       writes the table of docs/SLIPS.md from the results
+    scripts/mutants.py --check       fails where the two do not agree, or the page says nothing of a mutant that is let through
 
 The changes are those that tools of mutation make: a comparison turned, a bound one off, a branch that is never or always taken, a
-call left out, a constant changed, two arguments exchanged, a refusal swallowed, a sum turned into a difference. N of them (600) are
-drawn from a seed, spread over the crates by the lines of their bodies; crates of tests, trials and measures have none. Those that
-do not compile are left out of the figures.
+call left out, a constant changed, two arguments exchanged, a refusal swallowed, a sum turned into a difference. `--count` of them
+(600) are drawn from `--seed`, spread over the crates by the lines of their bodies; crates of tests, trials and measures have none.
+A change of one function leaves most of the mutants of the others as they are. Those that do not compile are left out of the
+figures.
 
-Prints a line for each, then the table, and how many of a hundred are refused by their own crate. What survives is to be closed by a
-clause, or explained in docs/SLIPS.md. What was tried stands in FOLDER (.slips at the top), so that a run goes on where one was
-stopped. Status 1 where fewer than 95 of 100 are refused.
+Prints a line for each, and how many of a hundred are refused by their own crate. What was tried stands in scripts/mutants.txt
+(wrong_bodies.py says how), so a run goes on where one was stopped. What survives is to be closed by a clause, or explained in
+docs/SLIPS.md. Status 1 where fewer than 95 of 100 are refused.
 """
 from __future__ import annotations
 
 import argparse
-import random
+import collections
+import hashlib
+import itertools
 import re
 import sys
 from pathlib import Path
@@ -23,7 +30,9 @@ from typing import Callable, Iterator
 sys.dont_write_bytecode = True
 sys.path.insert(0, str(Path(__file__).resolve().parent))
 import wrong_bodies  # noqa: E402
-from wrong_bodies import BAD, PASSED, TOP, Change, Function  # noqa: E402
+from wrong_bodies import MUTANTS, TOP, Change, Function, Results  # noqa: E402
+
+RESULTS = TOP / 'scripts' / 'mutants.txt'
 
 WITHOUT = re.compile(r'_tests$|^r10_(rows|trials|bench|session_bench|cli)$')
 # (lines of a body that are no code which runs)
@@ -75,68 +84,80 @@ def mutants_of(crate: str) -> list[tuple[Function, list[Change]]]:
     for path in sorted((TOP / 'crates' / crate / 'src').rglob('*.rt')):
         file, text = str(path.relative_to(TOP / 'crates' / crate)), path.read_text(encoding='utf-8')
         for it in wrong_bodies.functions_of(file, text):
-            own = []
+            own, seen = [], collections.Counter()
             for at, line in lines_of(text, it):
                 for kind, pattern, turn in TURNS:
                     for found in re.finditer(pattern, line):
                         old = text[at + found.start():at + found.end()]
                         if old == found[0] and turn(found) != old:
-                            own.append(Change(crate, file, at + found.start(), old, turn(found), kind))
+                            new = turn(found)
+                            seen[kind, old, new] += 1
+                            own.append(Change(crate, file, at + found.start(), old, new, f'{it.path()}:{kind}',
+                                              place=f'{it.path()} {seen[kind, old, new]}'))
             if own:
                 made.append((it, own))
     return made
 
 
+def drawn(seed: int, *words: str) -> str:
+    """A place in a drawing, which depends on the seed and on these words alone."""
+    return hashlib.sha256('\0'.join([str(seed), *words]).encode()).hexdigest()
+
+
+def in_turn(own: list[Change], seed: int) -> list[Change]:
+    """The mutants of a function in the order in which they are drawn: a kind first, so that constants do not crowd out the rest."""
+    kinds: dict[str, list[Change]] = {}
+    for it in sorted(own, key=lambda it: drawn(seed, it.crate, it.place, it.old, it.new)):
+        kinds.setdefault(it.kind, []).append(it)
+    some = [kinds[it] for it in sorted(kinds, key=lambda it: drawn(seed, own[0].crate, it))]
+    return [it for turn in itertools.zip_longest(*some) for it in turn if it]
+
+
 def sample(count: int, seed: int, names: list[str]) -> list[Change]:
     """So many mutants, spread over the crates by the lines of their bodies, first one in each function."""
-    chance, found, lines = random.Random(seed), {}, {}
+    found, lines = {}, {}
     for name in names:
         found[name] = mutants_of(name)
         texts = {it.file: (TOP / 'crates' / name / it.file).read_text(encoding='utf-8') for it, _ in found[name]}
         lines[name] = sum(texts[it.file].count('\n', it.body, it.end) for it, _ in found[name])
     whole, made = sum(lines.values()) or 1, []
     for name in names:
-        wanted = round(count * lines[name] / whole)
-        left = [[it, list(own)] for it, own in found[name]]
-        while wanted and left:
-            chance.shuffle(left)
-            for pair in left[:wanted]:
-                # (a kind first, so that constants do not crowd out the rest)
-                kind = chance.choice(sorted({it.kind for it in pair[1]}))
-                change = chance.choice([it for it in pair[1] if it.kind == kind])
-                pair[1].remove(change)
-                made.append(change)
-                wanted -= 1
-            left = [pair for pair in left if pair[1]]
+        functions = sorted(found[name], key=lambda pair: drawn(seed, name, pair[0].path()))
+        turns = itertools.zip_longest(*(in_turn(own, seed) for _, own in functions))
+        made += [it for turn in turns for it in turn if it][:round(count * lines[name] / whole)]
     return made
 
 
 def main() -> int:
     words = argparse.ArgumentParser(description=__doc__, formatter_class=argparse.RawDescriptionHelpFormatter)
-    words.add_argument('crates', nargs='*', metavar='CRATE')
+    wrong_bodies.add_options(words)
     words.add_argument('--count', type=int, default=600)
     words.add_argument('--seed', type=int, default=1)
-    words.add_argument('--lanes', type=int, default=2, help='how many provers run side by side')
-    words.add_argument('--work', type=Path, default=TOP / '.slips', help='where clones and what was tried are kept')
-    words.add_argument('--seconds', type=int, default=1800, help='the limit of one check')
-    words.add_argument('--list', action='store_true', help='lists the mutants and tries none')
     it = words.parse_args()
     names = [name for name in wrong_bodies.crates() if not WITHOUT.search(name)]
     unknown = [name for name in it.crates if name not in names]
     if unknown:
         sys.exit(f'mutants: crates.txt has no {unknown[0]} with bodies to change')
-    changes = [one for one in sample(it.count, it.seed, names) if not it.crates or one.crate in it.crates]
-    if it.list:
-        for one in changes:
-            print(f'{one.crate} {one.file} {one.kind}: {one.old.strip()} -> {one.new.strip() or "(nothing)"}')
-        print(f'{len(changes)} mutants')
+    changes, results = sample(it.count, it.seed, names), Results(RESULTS)
+    if it.table:
+        results.write()
+        wrong_bodies.write_page(MUTANTS, changes, results)
         return 0
-    verdicts = wrong_bodies.run(changes, it.work, it.lanes, it.seconds, it.work / 'tried.jsonl')
-    print(wrong_bodies.table(verdicts))
-    real = [one for one in verdicts if one.came != BAD]
-    passed = sum(one.came == PASSED for one in real)
+    if it.check:
+        found = wrong_bodies.faults(MUTANTS, changes, results)
+        print(''.join(f'mutants: {one}\n' for one in found), end='', file=sys.stderr)
+        return 1 if found else 0
+    if it.crates:
+        changes = [one for one in changes if one.crate in it.crates]
+    if it.list:
+        wrong_bodies.listed(changes, results, 'mutants')
+        return 0
+    wrong_bodies.run(changes, wrong_bodies.options_of(it), results)
+    tried = [results.lines[one.key()].word for one in changes if one.key() in results.lines]
+    real = [one for one in tried if one != 'unread']
+    passed = sum(one == 'passed' for one in real)
     print(f'{len(real) - passed} of {len(real)} refused')
-    return 1 if len(verdicts) < len(changes) or 100 * passed > 5 * len(real) else 0
+    return 1 if len(tried) < len(changes) or 100 * passed > 5 * len(real) else 0
 
 
 if __name__ == '__main__':

@@ -1,15 +1,19 @@
 #!/usr/bin/env python3
-"""slips.py [CRATE..] [--lanes N] [--work FOLDER] [--list]: tries each slip of the edits by itself, so that no clause that refuses
-one can be lost unseen.
+"""Tries each slip of the edits by itself, so that no clause that refuses one can be lost unseen.
+
+    scripts/slips.py [CRATE..]     tries those slips that have no verdict yet, or a stale one, cheap crates first
+    scripts/slips.py --list        lists them with their sums and what is known of each
+    scripts/slips.py --table       writes the table of docs/SLIPS.md from the results
+    scripts/slips.py --check       fails where the two do not agree, or the page says nothing of a slip that is let through
 
 The edits stand in crates/*/must-fail (the gate tries those, each as a whole) and in crates/*/slips (tried here alone), in the same
 form: a line `file: ..`, then pairs of lines `old: ..` and `new: ..`. Each pair is a slip. Libraries have to be built (`rt lib`, or
-`scripts/build.sh`).
+`scripts/build.sh`), and what is changed below crates/ committed.
 
 Prints a line for each slip: refused, with the goal that refuses it; refused by names (a proof names what the slip took away, which
-shows nothing of a contract); refused by a limit; LET THROUGH; or that it does not compile. Then the table. What was tried stands in
-FOLDER (.slips at the top), so a run goes on where one was stopped, and only what changed is tried again. Status 1 where a slip is
-let through or cannot be read.
+shows nothing of a contract); refused by a limit; LET THROUGH; or that it does not compile. What was tried stands in
+scripts/slips.txt (wrong_bodies.py says how), so a run goes on where one was stopped. A line is stale where the crate or what is
+stated below it is another now. Status 1 where a slip is let through or does not compile.
 """
 from __future__ import annotations
 
@@ -20,7 +24,9 @@ from pathlib import Path
 sys.dont_write_bytecode = True
 sys.path.insert(0, str(Path(__file__).resolve().parent))
 import wrong_bodies  # noqa: E402
-from wrong_bodies import BAD, PASSED, TOP, Change  # noqa: E402
+from wrong_bodies import BAD, PASSED, SLIPS, TOP, Change, Results  # noqa: E402
+
+RESULTS = TOP / 'scripts' / 'slips.txt'
 
 
 def pairs_of(path: Path) -> list[tuple[str, str, str]]:
@@ -68,25 +74,32 @@ def slips_of(crate: str) -> list[Change]:
 
 def main() -> int:
     words = argparse.ArgumentParser(description=__doc__, formatter_class=argparse.RawDescriptionHelpFormatter)
-    words.add_argument('crates', nargs='*', metavar='CRATE')
-    words.add_argument('--lanes', type=int, default=2, help='how many provers run side by side')
-    words.add_argument('--work', type=Path, default=TOP / '.slips', help='where clones and what was tried are kept')
-    words.add_argument('--seconds', type=int, default=1800, help='the limit of one check')
-    words.add_argument('--list', action='store_true', help='lists the slips and tries none')
+    wrong_bodies.add_options(words)
     it = words.parse_args()
     names = list(wrong_bodies.crates())
     unknown = [name for name in it.crates if name not in names]
     if unknown:
         sys.exit(f'slips: crates.txt has no {unknown[0]}')
     changes = [change for name in it.crates or names for change in slips_of(name)]
+    results = Results(RESULTS)
     if it.list:
-        for change in changes:
-            print(f'{change.crate} {change.file}: {change.old.strip()} -> {change.new.strip() or "(nothing)"}')
-        print(f'{len(changes)} slips')
+        wrong_bodies.listed(changes, results, 'slips')
         return 0
-    verdicts = wrong_bodies.run(changes, it.work, it.lanes, it.seconds, it.work / 'tried.jsonl')
-    print(wrong_bodies.table(verdicts))
-    return 1 if len(verdicts) < len(changes) or any(one.came in (PASSED, BAD) for one in verdicts) else 0
+    if it.table or it.check:
+        changes = [change for name in names for change in slips_of(name)]
+        known = {change.key() for change in changes}
+        gone = [key for key in results.lines if key not in known]
+        if it.table:
+            results.write(lambda lines: [lines.pop(key, None) for key in gone])
+            wrong_bodies.write_page(SLIPS, changes, results)
+            return 0
+        found = wrong_bodies.faults(SLIPS, changes, results)
+        if gone:
+            found.append(f'{len(gone)} lines of scripts/slips.txt are of no slip: run scripts/slips.py --table')
+        print(''.join(f'slips: {one}\n' for one in found), end='', file=sys.stderr)
+        return 1 if found else 0
+    verdicts = wrong_bodies.run(changes, wrong_bodies.options_of(it), results)
+    return 1 if any(one.came in (PASSED, BAD) for one in verdicts) else 0
 
 
 if __name__ == '__main__':

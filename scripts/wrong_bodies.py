@@ -1,19 +1,31 @@
 """Wrong bodies: changes of a crate's source that its contracts have to refuse, tried by the prover in copies of the repository.
 
-`slips.py` tries the slips of the must-fail edits, `mutants.py` small changes that it makes. A function is proved by itself, over
-the contracts of those that it calls. So changes of different functions are tried in one check of those functions alone, and each
-is judged by the goals of its own. A change that no goal of its function refuses there is tried once more by itself, and one that
+`slips.py` tries the slips of the edits, `mutants.py` small changes that it makes. A function is proved by itself, over the
+contracts of those that it calls. So changes of different functions are tried in one check of those functions alone, and each is
+judged by the goals of its own. A change that no goal of its function refuses there is tried once more by itself, and one that
 stands in no body, as in a definition, by a check of the whole crate.
+
+The verdicts are kept in a file that is checked in, a line each and sorted:
+
+    CRATE NAME SUM OWN BELOW VERDICT SECONDS COMMIT DATE NOTE
+
+NAME is the edit or the function, SUM that of the change's text. OWN sums up what the crate is made from, BELOW what is stated in
+the crates below it, comments left out of both: a line is stale where one of them is another now. SECONDS are those of a processor,
+COMMIT is the last one that changed a crate. Two such files are joined by putting their lines into one: of two lines about a change
+the later one holds.
 """
 from __future__ import annotations
 
+import datetime
 import fcntl
+import functools
 import hashlib
-import json
+import os
 import re
 import shutil
 import subprocess
 import sys
+import tempfile
 import threading
 import time
 from dataclasses import dataclass, field
@@ -21,11 +33,18 @@ from pathlib import Path
 from typing import Callable, Iterable, Optional
 
 TOP = Path(__file__).resolve().parent.parent
+PAGE = TOP / 'docs' / 'SLIPS.md'
+COSTS = TOP / 'scripts' / 'build_costs.txt'
+LONGEST = 132
 
 REFUSED, NAMES, LIMIT, PASSED = 'refused', 'refused by names', 'refused by a limit', 'LET THROUGH'
-SAME, BAD = 'no slip', 'does not compile'
+BAD = 'does not compile'
+# (as a line of results has them)
+WORDS = {REFUSED: 'refused', NAMES: 'names', LIMIT: 'limit', PASSED: 'passed', BAD: 'unread'}
 
-FUNCTION = re.compile(r'^[ \t]*(?:pub(?:\([a-z ]+\))? )?(?:const )?(?:unsafe )?(?:extern "C" )?fn (?P<name>\w+)', re.M)
+# (in text that is blanked, so that nothing stands between `extern` and `fn`)
+FUNCTION = re.compile(r'^[ \t]*(?:pub(?:\([a-z ]+\))? )?(?:const )?(?:unsafe )?(?:extern +)?fn (?P<name>\w+)', re.M)
+CLAUSE = re.compile(r'\b(?:(?:requires|ensures)\b\*?(?:\s+\w+)?|(?:ghost|measure|decreases)\b[^{};]*)\s*\Z')
 HEAD = re.compile(r'^(?:pub )?(?:unsafe )?(?P<kind>impl|trait)\b(?P<rest>[^{;]*)\{', re.M)
 NOT_CODE = re.compile(r'//[^\n]*|"(?:[^"\\]|\\.)*"|\'(?:[^\'\\]|\\.[^\']*)\'')
 # (a proof file that names what the change took away, and what cites that proof, says little of a contract)
@@ -63,6 +82,8 @@ class Change:
     new: str
     kind: str
     more: tuple = ()
+    # (which one it is, where the same change can be made in several places of a function)
+    place: str = ''
 
     def function(self, functions: Iterable[Function]) -> Optional[Function]:
         """The function in whose body it stands, if it stands in one."""
@@ -70,17 +91,19 @@ class Change:
         return min(inside, key=lambda it: it.end - it.start, default=None)
 
     def key(self) -> str:
-        return hashlib.sha256('\0'.join([self.crate, self.file, str(self.at), self.old, self.new,
-                                         *map(str, self.more)]).encode()).hexdigest()[:24]
+        """The sum of its text."""
+        return hashlib.sha256('\0'.join([self.crate, self.file, self.place, self.old, self.new,
+                                         *map(str, self.more)]).encode()).hexdigest()[:8]
 
 
 @dataclass
 class Verdict:
-    """What became of a change: one of the words above, with the goal that refuses it."""
+    """What became of a change: one of the words above, with the goal that refuses it, and the seconds of a processor."""
     change: Change
     came: str
     goal: str = ''
     function: str = ''
+    seconds: float = 0
 
 
 def blanked(text: str) -> str:
@@ -111,18 +134,19 @@ def functions_of(file: str, text: str) -> list[Function]:
             owner = rest.split()[0].split('::')[-1].rstrip(':') if rest.split() else ''
         blocks.append((head.end() - 1, end_of(code, head.end() - 1), owner))
     for it in FUNCTION.finditer(code):
-        depth, place = 0, it.end()
-        # (a contract may have braces of its own, inside brackets: the body's is the first at the head's own depth that ends a line)
-        body = -1
+        depth, place, body = 0, it.end(), -1
         while place < len(code):
             sign = code[place]
             if sign in '([':
                 depth += 1
             elif sign in ')]':
                 depth -= 1
-            elif sign == '{' and not depth and (place + 1 == len(code) or code[place + 1] in '\n}'):
-                body = place
-                break
+            elif sign == '{' and not depth:
+                # (a contract has braces of its own, over several lines where a clause is long)
+                if not CLAUSE.search(code, it.end(), place):
+                    body = place
+                    break
+                place = end_of(code, place) - 1
             elif sign == ';' and not depth:
                 break
             place += 1
@@ -155,39 +179,109 @@ def all_below(name: str, graph: dict[str, list[str]]) -> set[str]:
     return seen
 
 
-def sum_of(name: str, graph: dict[str, list[str]]) -> str:
-    """A sum of all files that a verdict about the crate rests on."""
+@functools.lru_cache(maxsize=None)
+def file_sum(path: Path) -> bytes:
+    """A sum of a source file, without comments that have a line of their own, and without empty lines."""
+    sign = '//' if path.suffix == '.rt' else '--'
+    lines = (it.strip() for it in path.read_text(encoding='utf-8', errors='replace').splitlines())
+    return hashlib.sha256('\n'.join(it for it in lines if it and not it.startswith(sign)).encode()).digest()
+
+
+def text_sum(paths: Iterable[Path]) -> str:
+    """A sum of source files."""
     made = hashlib.sha256()
-    for crate in [name, *sorted(all_below(name, graph))]:
-        for folder in ('src', 'specs', *(['proofs'] if crate == name else [])):
-            for path in sorted((TOP / 'crates' / crate / folder).rglob('*')):
-                if path.is_file():
-                    made.update(str(path.relative_to(TOP)).encode() + b'\0' + path.read_bytes() + b'\0')
-    return made.hexdigest()[:24]
+    for path in paths:
+        made.update(str(path.relative_to(TOP)).encode() + b'\0' + file_sum(path))
+    return made.hexdigest()[:8]
 
 
-class Kept:
-    """The verdicts of earlier runs, a line of JSON each, so that a run goes on where one was stopped."""
+@functools.lru_cache(maxsize=None)
+def files_in(crate: str, *folders: str) -> list[Path]:
+    return [it for folder in folders for it in sorted((TOP / 'crates' / crate / folder).rglob('*')) if it.is_file()]
+
+
+@dataclass(frozen=True)
+class Sums:
+    """What a verdict about a crate rests on: the crate's own files, and what stands in those below it."""
+    own: str
+    below: str
+
+    @staticmethod
+    def of(name: str, graph: dict[str, list[str]]) -> 'Sums':
+        below = [path for it in sorted(all_below(name, graph)) for path in files_in(it, 'src', 'specs')]
+        return Sums(text_sum(files_in(name, 'src', 'specs', 'proofs')), text_sum(below))
+
+
+@dataclass(frozen=True)
+class Line:
+    """A line of a file of results."""
+    crate: str
+    name: str
+    key: str
+    own: str
+    below: str
+    word: str
+    seconds: int
+    commit: str
+    date: str
+    note: str = ''
+
+    @staticmethod
+    def of(text: str) -> 'Line':
+        """Reads a line; a ValueError where it is none."""
+        parts = text.split(' ', 9)
+        if len(parts) < 9 or parts[5] not in WORDS.values() or not parts[6].isdigit():
+            raise ValueError(text)
+        return Line(*parts[:6], int(parts[6]), *parts[7:])
+
+    def text(self) -> str:
+        return ' '.join([self.crate, self.name, self.key, self.own, self.below, self.word, str(self.seconds), self.commit,
+                         self.date, self.note])[:LONGEST].rstrip()
+
+    def is_now(self, sums: Sums) -> bool:
+        return (self.own, self.below) == (sums.own, sums.below)
+
+
+class Results:
+    """A file of results."""
 
     def __init__(self, path: Path):
-        self.path, self.lock, self.known = path, threading.Lock(), {}
-        if path.is_file():
-            for line in path.read_text(encoding='utf-8').splitlines():
-                it = json.loads(line)
-                self.known[it['sum'], it['key']] = it
+        self.path, self.lock = path, threading.Lock()
+        self.lines = self.read()
 
-    def get(self, sum_: str, change: Change) -> Optional[Verdict]:
-        it = self.known.get((sum_, change.key()))
-        return Verdict(change, it['came'], it['goal'], it['function']) if it else None
+    def read(self) -> dict[str, Line]:
+        """The lines by their changes: the later one, where a change has two."""
+        made: dict[str, Line] = {}
+        for text in self.path.read_text(encoding='utf-8').splitlines() if self.path.is_file() else ():
+            try:
+                line = Line.of(text)
+            except ValueError:
+                sys.exit(f'{self.path.relative_to(TOP)}: this is no line of results: {text}')
+            if line.key not in made or made[line.key].date <= line.date:
+                made[line.key] = line
+        return made
 
-    def put(self, sum_: str, verdict: Verdict) -> None:
-        it = {'sum': sum_, 'key': verdict.change.key(), 'crate': verdict.change.crate, 'came': verdict.came, 'goal': verdict.goal,
-              'function': verdict.function,
-              'old': verdict.change.old, 'new': verdict.change.new, 'file': verdict.change.file}
-        with self.lock, open(self.path, 'a', encoding='utf-8') as out:
-            fcntl.flock(out, fcntl.LOCK_EX)
-            self.known[sum_, verdict.change.key()] = it
-            out.write(json.dumps(it) + '\n')
+    def put(self, line: Line) -> None:
+        """Adds a line to what the file has now, to which another run may have added some."""
+        self.write(lambda lines: lines.update({line.key: line}))
+
+    def write(self, change: Callable[[dict[str, Line]], None] = lambda lines: None) -> None:
+        """Writes the file anew, sorted, with this change."""
+        with self.lock:
+            folder = os.open(self.path.parent, os.O_RDONLY)
+            try:
+                fcntl.flock(folder, fcntl.LOCK_EX)
+                self.lines = self.read()
+                change(self.lines)
+                with tempfile.NamedTemporaryFile('w', encoding='utf-8', dir=self.path.parent, delete=False) as out:
+                    out.write(self.sorted())
+                os.chmod(out.name, 0o644)
+                os.replace(out.name, self.path)
+            finally:
+                os.close(folder)
+
+    def sorted(self) -> str:
+        return ''.join(f'{it}\n' for it in sorted(line.text() for line in self.lines.values()))
 
 
 class Lane:
@@ -210,25 +304,32 @@ class Lane:
             to.parent.mkdir(exist_ok=True)
             shutil.copytree(source, to)
 
-    def check(self, crate: str, seconds: int, functions: Iterable[str] = ()) -> tuple[int, str]:
-        """Checks the crate, or these functions of it alone, and returns the status and what was printed."""
+    def check(self, crate: str, seconds: int, functions: Iterable[str] = ()) -> tuple[int, str, float]:
+        """Checks the crate, or these functions of it alone, and returns the status, what was printed, and the seconds of a
+        processor."""
         place = self.folder / 'crates' / crate
         words = [it for name in functions for it in ('--only', name)]
-        try:
-            ran = subprocess.run([sys.executable, str(TOP / 'scripts' / 'rt_once.py'), 'check', '--jobs', '1', *words], cwd=place,
-                                 stdin=subprocess.DEVNULL, stdout=subprocess.PIPE, stderr=subprocess.STDOUT, timeout=seconds,
-                                 check=False)
-        except subprocess.TimeoutExpired as it:
-            return 124, (it.stdout or b'').decode(errors='replace')
-        return ran.returncode, ran.stdout.decode(errors='replace')
+        with tempfile.TemporaryFile() as out:
+            ran = subprocess.Popen([sys.executable, str(TOP / 'scripts' / 'rt_once.py'), 'check', '--jobs', '1', *words], cwd=place,
+                                   stdin=subprocess.DEVNULL, stdout=out, stderr=subprocess.STDOUT)
+            ends, done, in_time = time.time() + seconds, 0, True
+            while not done:
+                done, status, used = os.wait4(ran.pid, os.WNOHANG)
+                if not done and in_time and time.time() > ends:
+                    # (what it started ends with it)
+                    in_time = False
+                    ran.kill()
+                time.sleep(0.05)
+            ran.returncode = os.waitstatus_to_exitcode(status)
+            out.seek(0)
+            said = out.read().decode(errors='replace')
+        return ran.returncode if in_time else 124, said, used.ru_utime + used.ru_stime if in_time else seconds
 
     def put(self, crate: str, changes: list[Change], texts: dict[str, str]) -> None:
         """Writes the crate's source with these changes."""
         made = dict(texts)
         for change in sorted(changes, key=lambda it: -it.at):
-            text = made[change.file]
-            assert text[change.at:change.at + len(change.old)] == change.old, change
-            made[change.file] = text[:change.at] + change.new + text[change.at + len(change.old):]
+            made[change.file] = changed(made[change.file], change)
             for file, old, new in change.more:
                 assert made[file].count(old) == 1, (change, old)
                 made[file] = made[file].replace(old, new)
@@ -281,24 +382,33 @@ def goal_of(said: list[str]) -> tuple[str, str]:
 class Trial:
     """Tries all changes of one crate in one lane."""
 
-    def __init__(self, lane: Lane, crate: str, changes: list[Change], say: Callable[[Verdict], None], seconds: int):
-        self.lane, self.crate, self.say, self.seconds = lane, crate, say, seconds
+    def __init__(self, lane: Lane, crate: str, changes: list[Change], say: Callable[[Verdict], None], seconds: int,
+                 is_over: Callable[[], bool] = lambda: False):
+        self.lane, self.crate, self.say, self.seconds, self.is_over = lane, crate, say, seconds, is_over
         folder = TOP / 'crates' / crate
-        self.texts = {str(it.relative_to(folder)): it.read_text(encoding='utf-8') for part in ('src', 'specs', 'proofs')
-                      for it in sorted((folder / part).rglob('*'))
-                      if it.suffix in ('.rt', '.antt')}
+        self.texts = {str(it.relative_to(folder)): it.read_text(encoding='utf-8')
+                      for it in files_in(crate, 'src', 'specs', 'proofs') if it.suffix in ('.rt', '.antt')}
         self.functions = [it for file, text in self.texts.items() if file.endswith('.rt') for it in functions_of(file, text)]
         self.changes = changes
+        self.spent: dict[str, float] = {}
+
+    def check(self, changes: list[Change], functions: Iterable[str]) -> tuple[int, str]:
+        """Checks these functions with these changes, and shares the cost among them."""
+        status, said, seconds = self.lane.check(self.crate, self.seconds, sorted(functions))
+        for it in changes:
+            self.spent[it.key()] = self.spent.get(it.key(), 0) + seconds / len(changes)
+        return status, said
 
     def run(self) -> None:
         self.lane.take_work(self.crate)
-        own = {it.said() for it in (change.function(self.functions) for change in self.changes) if it}
-        status, said = self.lane.check(self.crate, self.seconds, sorted(own))
-        if status:
-            raise RuntimeError(f'{self.crate} itself is not proved in {self.lane.folder}: {said[-400:]}')
+        own = {name for change in self.changes for name in self.touched(change)}
+        if own:
+            status, said = self.check([], own)
+            if status:
+                raise RuntimeError(f'{self.crate} itself is not proved in {self.lane.folder}: {said[-400:]}')
         left, alone = list(self.changes), []
         try:
-            while left:
+            while left and not self.is_over():
                 group, taken = [], set()
                 for change in left:
                     it = change.function(self.functions)
@@ -310,18 +420,35 @@ class Trial:
                     break
                 left = [it for it in left if it not in group]
                 alone += self.round(group)
-            for change in alone:
+            # (those that want a whole check last)
+            for change in sorted(alone, key=lambda it: not self.touched(it)):
+                if self.is_over():
+                    break
                 self.single(change)
         finally:
             self.lane.put(self.crate, [], self.texts)
 
+    def touched(self, change: Change) -> list[str]:
+        """The functions in whose bodies the change stands; none, where some of it stands in no body."""
+        if not change.more:
+            it = change.function(self.functions)
+            return [it.said()] if it else []
+        places = [(change.file, change.at)]
+        for file, old, _ in change.more:
+            text = changed(self.texts[file], change) if file == change.file else self.texts[file]
+            at = text.find(old)
+            if file == change.file and at > change.at:
+                at = max(change.at, at - len(change.new) + len(change.old))
+            places.append((file, at))
+        found = [Change(change.crate, file, at, '', '', '').function(self.functions) for file, at in places]
+        return sorted({it.said() for it in found if it}) if all(found) else []
+
     def found(self, change: Change, came: str, goal: str = '') -> None:
         it = change.function(self.functions)
-        self.say(Verdict(change, came, goal, it.path() if it else ''))
+        self.say(Verdict(change, came, goal, it.path() if it else '', self.spent.get(change.key(), 0)))
 
-    def at_line(self, made: Outcome, changes: list[Change]) -> dict[str, list[str]]:
-        """The errors that stand in the source, by the path of the function that they stand in, where the source has these
-        changes."""
+    def at_line(self, made: Outcome) -> dict[str, list[str]]:
+        """The errors that stand in the source as it is in the lane, by the path of the function that they stand in."""
         grown = {}
         for file, line, said in made.broken:
             text = self.lane.folder.joinpath('crates', self.crate, file).read_text(encoding='utf-8')
@@ -335,9 +462,9 @@ class Trial:
         """Tries changes of different functions at once, and returns those that are to be tried alone."""
         while group:
             self.lane.put(self.crate, group, self.texts)
-            status, said = self.lane.check(self.crate, self.seconds, sorted(it.function(self.functions).said() for it in group))
+            status, said = self.check(group, [it.function(self.functions).said() for it in group])
             made = outcome(status, said)
-            in_source = self.at_line(made, group)
+            in_source = self.at_line(made)
             if made.read:
                 break
             bad = [it for it in group if it.function(self.functions).path() in in_source]
@@ -367,8 +494,7 @@ class Trial:
     def single(self, change: Change) -> None:
         """Tries one change alone."""
         self.lane.put(self.crate, [change], self.texts)
-        it = change.function(self.functions)
-        status, said = self.lane.check(self.crate, self.seconds, [it.said()] if it and not change.more else [])
+        status, said = self.check([change], self.touched(change))
         made = outcome(status, said)
         errors = [it for all_ in made.goals.values() for it in all_] + [it[2] for it in made.broken] + made.others
         if made.proved:
@@ -383,68 +509,224 @@ class Trial:
             self.found(change, REFUSED)
 
 
-def run(changes: list[Change], work: Path, lanes: int, seconds: int, keep: Path) -> list[Verdict]:
-    """Tries all changes, several crates side by side, and returns the verdicts in the order of the changes."""
-    work.mkdir(parents=True, exist_ok=True)
-    graph, kept, verdicts, failed = crates(), Kept(keep), {}, []
+def changed(text: str, change: Change) -> str:
+    """The text of its file with a change."""
+    assert text[change.at:change.at + len(change.old)] == change.old, change
+    return text[:change.at] + change.new + text[change.at + len(change.old):]
+
+
+def cost_of(crate: str) -> float:
+    """What the proof of a crate takes, as the build measured it."""
+    lines = COSTS.read_text(encoding='utf-8').splitlines() if COSTS.is_file() else []
+    known = {it.split()[0]: float(it.split()[1]) for it in lines if it and not it.startswith('#')}
+    return known.get(crate, 1000)
+
+
+@dataclass
+class Options:
+    """How a run goes."""
+    work: Path
+    lanes: int = 2
+    seconds: int = 1800
+    minutes: int = 0
+    only_new: bool = False
+
+
+def add_options(words) -> None:
+    """The words of a command line that both scripts know."""
+    words.add_argument('crates', nargs='*', metavar='CRATE')
+    words.add_argument('--lanes', type=int, default=2, help='how many provers run side by side')
+    words.add_argument('--work', type=Path, help="where clones are kept: in git's folder, where it is not said")
+    words.add_argument('--seconds', type=int, default=1800, help='the limit of one check')
+    words.add_argument('--minutes', type=int, default=0, help='begins no check after so many')
+    words.add_argument('--new', action='store_true', help='tries only those without a verdict, and leaves stale ones as they are')
+    words.add_argument('--list', action='store_true', help='lists them with their sums and verdicts, and tries none')
+    words.add_argument('--table', action='store_true', help='writes the table of docs/SLIPS.md')
+    words.add_argument('--check', action='store_true', help='fails where docs/SLIPS.md and the results do not agree')
+
+
+def options_of(it) -> Options:
+    # (a gate refuses sources that lie in the checkout and are of no crate)
+    work = it.work or Path(git('rev-parse', '--absolute-git-dir')) / 'r10-slips'
+    return Options(work.resolve(), it.lanes, it.seconds, it.minutes, it.new)
+
+
+def listed(changes: list[Change], results: Results, what: str) -> None:
+    """Prints the changes with their sums, and what is known of each."""
+    graph = crates()
+    sums = {name: Sums.of(name, graph) for name in {it.crate for it in changes}}
+    for it in changes:
+        line = results.lines.get(it.key())
+        known = 'never tried' if not line else line.word if line.is_now(sums[it.crate]) else f'{line.word}, stale'
+        text = it.new.strip() or '(nothing)'
+        print(f'{it.key()} {it.crate} {it.file} {it.kind} ({known}): {it.old.strip()} -> {text}')
+    print(f'{len(changes)} {what}')
+
+
+def run(changes: list[Change], how: Options, results: Results) -> list[Verdict]:
+    """Tries all changes that have no verdict that still holds, crates with a cheap proof first, and returns the new verdicts."""
+    if git('status', '--porcelain', '--', 'crates', 'crates.txt'):
+        sys.exit('commit what is changed below crates/ first: clones are made of what is committed')
+    how.work.mkdir(parents=True, exist_ok=True)
+    graph, verdicts, failed, began = crates(), [], [], time.time()
+    commit = git('log', '-1', '--format=%h', '--abbrev=8', '--', 'crates', 'crates.txt')
     by_crate: dict[str, list[Change]] = {}
-    sums = {}
+    sums = {name: Sums.of(name, graph) for name in {it.crate for it in changes}}
     for change in changes:
-        sums.setdefault(change.crate, sum_of(change.crate, graph))
-        known = kept.get(sums[change.crate], change)
-        if known:
-            verdicts[change.key()] = known
-        else:
+        known = results.lines.get(change.key())
+        if not known or not (how.only_new or known.is_now(sums[change.crate])):
             by_crate.setdefault(change.crate, []).append(change)
-    todo = sorted(by_crate, key=lambda it: -len(all_below(it, graph)))
+    todo = sorted(by_crate, key=cost_of)
     lock = threading.Lock()
 
+    def is_over() -> bool:
+        return bool(how.minutes) and time.time() > began + 60 * how.minutes
+
     def say(verdict: Verdict) -> None:
-        kept.put(sums[verdict.change.crate], verdict)
+        it = verdict.change
+        date = datetime.datetime.now(datetime.timezone.utc).strftime('%Y-%m-%dT%H:%M')
+        results.put(Line(it.crate, it.kind, it.key(), sums[it.crate].own, sums[it.crate].below, WORDS[verdict.came],
+                         round(verdict.seconds), commit, date, note_of(verdict)))
         with lock:
-            verdicts[verdict.change.key()] = verdict
+            verdicts.append(verdict)
             print(line_of(verdict), flush=True)
 
     def work_in(number: int) -> None:
-        lane = Lane(work / f'lane{number}')
+        lane = Lane(how.work / f'lane{number}')
         while True:
             with lock:
-                if not todo:
+                if not todo or is_over():
                     return
                 crate = todo.pop(0)
-            began = time.time()
+            start = time.time()
             try:
-                Trial(lane, crate, by_crate[crate], say, seconds).run()
+                Trial(lane, crate, by_crate[crate], say, how.seconds, is_over).run()
             except (RuntimeError, OSError, AssertionError) as it:
                 with lock:
                     failed.append(crate)
                     print(f'{crate}: {it}', flush=True)
-            print(f'# {crate}: {time.time() - began:.0f} s', flush=True)
+            print(f'# {crate}: {time.time() - start:.0f} s', flush=True)
 
-    threads = [threading.Thread(target=work_in, args=(it,)) for it in range(min(lanes, max(len(todo), 1)))]
+    threads = [threading.Thread(target=work_in, args=(it,)) for it in range(min(how.lanes, max(len(todo), 1)))]
     for it in threads:
         it.start()
     for it in threads:
         it.join()
     if failed:
         print(f'not tried: {" ".join(failed)}', flush=True)
-    return [verdicts[it.key()] for it in changes if it.key() in verdicts]
+    tried = {it.change.key() for it in verdicts}
+    left = sum(it.key() not in tried for own in by_crate.values() for it in own)
+    print(f'{len(verdicts)} tried, {left} left', flush=True)
+    return verdicts
+
+
+def note_of(verdict: Verdict) -> str:
+    """What a line of results says at its end: the goal that refuses the change, or else the change."""
+    it = verdict.change
+    if verdict.came in (PASSED, LIMIT) or not verdict.goal:
+        return ' '.join(f'{verdict.function.split("/")[-1]}: {it.old.strip()} -> {it.new.strip() or "(nothing)"}'.split())
+    return ' '.join(verdict.goal.split()).lstrip(': ')
 
 
 def line_of(verdict: Verdict) -> str:
     """A verdict as a line."""
     it = verdict.change
     text = it.new.strip() or '(nothing)'
-    return f'{verdict.came}: {it.crate} {it.file} {verdict.function or "-"}: {it.old.strip()[:60]} -> {text[:60]}' + (
+    return f'{verdict.came}: {it.key()} {it.crate} {it.file} {verdict.function or "-"}: {it.old.strip()[:60]} -> {text[:60]}' + (
         f' ({verdict.goal})' if verdict.goal else '')
 
 
-def table(verdicts: list[Verdict]) -> str:
-    """The table of verdicts by crate."""
-    kinds = [REFUSED, NAMES, LIMIT, PASSED, SAME, BAD]
-    lines = ['| Crate | ' + ' | '.join(kinds) + ' |', '|---|' + '---|' * len(kinds)]
-    names = sorted({it.change.crate for it in verdicts}, key=list(crates()).index)
-    for name in [*names, 'all']:
-        own = [it for it in verdicts if name in (it.change.crate, 'all')]
-        lines.append(f'| `{name}` | ' + ' | '.join(str(sum(it.came == kind for it in own) or '') for kind in kinds) + ' |')
-    return '\n'.join(lines)
+# ---- the page
+
+WHY = re.compile(r'^\| `([0-9a-f]{8})` \|.*\| ([^|]*) \|$', re.M)
+EQUAL = 'Equal body'
+
+
+def explained(page: str) -> dict[str, str]:
+    """Why a change that is let through stays, by its sum, as the page's table of them says."""
+    return {it[1]: it[2] for it in WHY.finditer(page)}
+
+
+@dataclass(frozen=True)
+class Section:
+    """A section of the page, which a script writes: its heading, the script, and the columns that change with the crates, which no
+    gate compares."""
+    heading: str
+    by: str
+    loose: tuple[int, ...]
+
+
+SLIPS = Section('Slips', 'scripts/slips.py', (10, 11))
+# (what is drawn changes a little with each body, and what was tried stays in the results)
+MUTANTS = Section('Mutants', 'scripts/mutants.py', (2, 9, 10, 11))
+HEADS = ['Crate', 'In all', 'Refused', 'By names alone', 'By a limit', 'Let through', 'No slip', 'Does not compile', 'Never tried',
+         'Crate changed since', 'Below it changed since', 'Seconds each', 'Tried at', 'On']
+
+
+def table(changes: list[Change], lines: dict[str, Line], why: dict[str, str]) -> str:
+    """The table of changes and of their last verdicts, by crate; stale ones are counted by what changed."""
+    graph = crates()
+    made, whole, spent = ['| ' + ' | '.join(HEADS) + ' |', '|---' * len(HEADS) + '|'], [0] * 10, 0
+    keys: dict[str, set[str]] = {name: set() for name in graph}
+    for it in changes:
+        keys[it.crate].add(it.key())
+    for name in graph:
+        own = [it for it in lines.values() if it.crate == name]
+        every = keys[name] | {it.key for it in own}
+        if not every:
+            continue
+        sums = Sums.of(name, graph)
+        passed = [it for it in own if it.word == 'passed']
+        equal = sum(why.get(it.key, '').startswith(EQUAL) for it in passed)
+        numbers = [len(every), *(sum(it.word == word for it in own) for word in ('refused', 'names', 'limit')), len(passed) - equal,
+                   equal, sum(it.word == 'unread' for it in own), len(every) - len(own), sum(it.own != sums.own for it in own),
+                   sum(it.own == sums.own and it.below != sums.below for it in own)]
+        whole = [sum(it) for it in zip(whole, numbers)]
+        last, seconds = max(own, key=lambda it: it.date, default=None), sum(it.seconds for it in own)
+        spent += seconds
+        made.append(f'| `{name}` | ' + ' | '.join(str(it or '') for it in numbers) +
+                    (f' | {seconds / len(own):.0f} | `{last.commit}` | {last.date[:10]} |' if last else ' | | | |'))
+    made.append('| all | ' + ' | '.join(str(it or '') for it in whole) +
+                (f' | {spent / len(lines):.0f} | | |' if lines else ' | | | |'))
+    return re.sub(r'(?<=\|) +(?=\|)', ' ', '\n'.join(made))
+
+
+def place_of(section: Section, page: str) -> tuple[int, int]:
+    """Where what a script writes begins and ends: from a line with `Made by` after the heading to the next heading."""
+    found = re.search(rf'^## {re.escape(section.heading)}\n(?:.*\n)*?(?=Made by )', page, re.M)
+    if not found:
+        sys.exit(f'docs/SLIPS.md has no "## {section.heading}" with a line "Made by .." after it')
+    end = page.find('\n## ', found.end())
+    return found.end(), len(page) if end < 0 else end
+
+
+def text_of(section: Section, changes: list[Change], results: Results, page: str) -> str:
+    """What stands in the section."""
+    return f'Made by `{section.by} --table`.\n\n{table(changes, results.lines, explained(page))}\n'
+
+
+def write_page(section: Section, changes: list[Change], results: Results) -> None:
+    """Writes the section of the page anew."""
+    page = PAGE.read_text(encoding='utf-8')
+    start, end = place_of(section, page)
+    PAGE.write_text(page[:start] + text_of(section, changes, results, page) + page[end:], encoding='utf-8')
+
+
+def firm(section: Section, text: str) -> str:
+    """A table without its loose columns."""
+    return '\n'.join('|'.join(it for at, it in enumerate(line.split('|')) if at not in section.loose) for line in text.splitlines())
+
+
+def faults(section: Section, changes: list[Change], results: Results) -> list[str]:
+    """What does not agree between results and page."""
+    made, name = [], results.path.relative_to(TOP)
+    if results.path.read_text(encoding='utf-8') != results.sorted():
+        made.append(f'{name} is not sorted, or has two lines of one change: run {section.by} --table')
+    page = PAGE.read_text(encoding='utf-8')
+    start, end = place_of(section, page)
+    if firm(section, page[start:end]) != firm(section, text_of(section, changes, results, page)):
+        made.append(f'docs/SLIPS.md, "{section.heading}", is not what {section.by} --table writes: run it')
+    why = explained(page)
+    made += [f'docs/SLIPS.md does not explain {it.key}, which is let through: {it.crate} {it.note}'
+             for it in results.lines.values() if it.word == 'passed' and it.key not in why]
+    return made

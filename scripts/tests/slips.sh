@@ -1,0 +1,155 @@
+#!/usr/bin/env bash
+# Tests of scripts/slips.py and scripts/mutants.py over a small tree of two crates, with a stand-in for the prover. Some seconds;
+# status 1 where one fails.
+set -u
+# shellcheck disable=SC2016,SC2317 source=scripts/tests/kit.sh
+. "$(dirname "$(readlink -f "${BASH_SOURCE[0]}")")/kit.sh"
+tree="$room/tree" low="$room/tree/crates/r10_low" high="$room/tree/crates/r10_high"
+export PATH="$room/kit:$PATH" GIT_AUTHOR_NAME=a GIT_AUTHOR_EMAIL=a@a GIT_COMMITTER_NAME=a GIT_COMMITTER_EMAIL=a@a
+
+# (it refuses a body with `wrong` in it, or by a name one with `renamed`; of one with `broken` it reads nothing)
+mkdir -p "$room/kit"
+cat >"$room/kit/rt" <<'RT'
+#!/usr/bin/env bash
+echo "${PWD##*/} $*" >>"$(dirname "$0")/calls"
+awk -v words="$*" '
+    BEGIN { all = split(words, word, " "); for (i = 1; i < all; i++) if (word[i] == "--only") { asked[word[i + 1]] = 1; n++ } }
+    /^pub fn / { name = $3; sub(/\(.*/, "", name) }
+    /broken/ { print "src/lib.rt:" NR ":5: error: this is no body"; unread = 1 }
+    /wrong/ && (!n || name in asked) { print "proofs/" name "/Answers.antt:3:1: error: no proof of `ensures-it`"; bad++ }
+    /renamed/ && (!n || name in asked) { print "proofs/" name "/Answers.antt:3:1: error: `x` is not in scope"; bad++ }
+    END { if (!unread) print "only=" n " proved=" n - bad; exit unread || bad > 0 }' src/lib.rt
+RT
+printf 'def crates_below(top):\n    return []\n\n\nclass Crate:\n    def stamp(self):\n        return ""\n' >"$room/kit/rtlib.py"
+chmod +x "$room/kit/rt"
+
+mkdir -p "$tree/scripts" "$tree/docs" "$low/src" "$low/specs" "$high/src" "$high/slips" "$high/must-fail"
+cp "$top"/scripts/{slips,mutants,wrong_bodies,rt_once,share_libraries}.py "$tree/scripts"
+sed '/^Made by/,/^## /{/^|/d}; s/^| `[0-9a-f]\{8\}`.*//' "$top/docs/SLIPS.md" >"$tree/docs/SLIPS.md"
+printf 'r10_low:\nr10_high: r10_low\n' >"$tree/crates.txt"
+printf '__pycache__/\n' >"$tree/.gitignore"
+printf 'pub fn low(a: u32) -> u32 {\n    a\n}\n' >"$low/src/lib.rt"
+for name in one two three four five; do
+    printf '/// It is %s.\npub fn %s(a: u32) -> u32\n    ensures it {\n        result ≡ a }\n{\n    a + 1 < %s\n}\n\n' \
+        "$name" "$name" "$name"
+done >"$high/src/lib.rt"
+printf 'file: src/lib.rt\nold: < one\nnew: wrong\nold: < two\nnew: renamed\nold: < three\nnew: broken\n' >"$high/must-fail/a.edit"
+printf 'file: src/lib.rt\nold: < four\nnew: < four + 0\nold: < five\nnew: wrong five\nold: wrong five\nnew: < five\n' \
+    >"$high/slips/b.edit"
+commit() { git -C "$tree" add -A && git -C "$tree" commit -qm "$1"; }
+git init -q "$tree"
+touch "$tree/scripts/slips.txt" "$tree/scripts/mutants.txt"
+commit first
+
+slips() {
+    : >"$room/kit/calls"
+    said=$("$tree/scripts/slips.py" --lanes 1 "$@" 2>&1)
+    status=$?
+}
+ends() { [ "$status" = "$1" ] && [[ $said == *"$2"* ]] || { echo "    status $status: $said"; false; }; }
+verdict() { grep -c " $1 [0-9]* [0-9a-f]* 20[0-9T:-]* $2" "$tree/scripts/slips.txt"; }
+key() { grep " $1 .* $2: " "$tree/scripts/slips.txt" | head -1 | cut -d ' ' -f 3; }
+column() { grep '^| `r10_high`' "$tree/docs/SLIPS.md" | head -1 | cut -d '|' -f "$1" | tr -d ' '; }
+
+slips --list
+check "all are listed, with what is known" ends 0 "r10_high src/lib.rt b (never tried): < four -> < four + 0"
+check "how many" ends 0 "6 slips"
+slips
+check "a slip that is let through: status 1" ends 1 "6 tried, 0 left"
+check "a goal refuses it" is "$(verdict refused ensures-it)" 2
+check "a name refuses it" is "$(verdict names x)" 1
+check "it does not compile" is "$(verdict unread 'this is no body')" 1
+check "two are let through, one of them two changes of one function" is "$(verdict passed '')" 2
+check "a note names what is let through" is "$(verdict passed 'four: < four -> < four + 0')" 1
+check "the crate itself, a round, the same without what is no body, and two alone" is \
+    "$(sed 's/.*--jobs 1//; s/ --only//g' "$room/kit/calls" | tr '\n' ';')" \
+    " five four one three two; five four one three two; five four one two; four; five;"
+check "lines are sorted" is "$(LC_ALL=C sort "$tree/scripts/slips.txt")" "$(cat "$tree/scripts/slips.txt")"
+slips
+check "what has a verdict is not tried again" ends 0 "0 tried, 0 left"
+check "nor is anything checked" is "$(wc -l <"$room/kit/calls")" 0
+
+slips --check
+check "a page that has no table" ends 1 'docs/SLIPS.md, "Slips", is not what scripts/slips.py --table writes'
+slips --table
+check "the table is written" ends 0 ""
+check "in all, refused, by names, let through, not compiled" is "$(for n in 3 4 5 7 9; do column $n; done | tr '\n' ' ')" \
+    "6 2 1 2 1 "
+slips --check
+check "what is let through has to be explained" ends 1 "docs/SLIPS.md does not explain $(key passed four), which is let through"
+sed -i "s/^| Sum |.*/&\n|---|---|---|---|---|\n| \`$(key passed four)\` | a | b | c | Equal body: the sum |/" "$tree/docs/SLIPS.md"
+sed -i "s/^| Sum |.*/&\n|---|---|---|---|---|\n| \`$(key passed five)\` | a | b | c | A test: \`t\` |/" "$tree/docs/SLIPS.md"
+slips --table
+slips --check
+check "it is, and one is an equal body" ends 0 ""
+check "the table says so" is "$(column 7) $(column 8)" "1 1"
+
+sed -i 's,^/// It is one,/// It is the one,' "$high/src/lib.rt"
+slips
+check "what is changed is to be committed first" ends 1 "commit what is changed below crates/ first"
+commit comment
+slips --new
+check "a comment makes nothing stale" ends 0 "0 tried, 0 left"
+sed -i 's/b: u32/c: u32/; s/^    a$/    a + 0/' "$low/src/lib.rt"
+commit below
+slips --table
+check "a crate below is another" is "$(column 11) $(column 12)" " 6"
+slips --check
+check "that fails no gate" ends 0 ""
+slips --new
+check "nor is it tried where only new ones are" ends 0 "0 tried, 0 left"
+printf 'pub fn six(a: u32) -> u32 {\n    a\n}\n' >>"$high/src/lib.rt"
+printf 'file: src/lib.rt\nold: < one\nnew: wrong one\n' >>"$high/slips/b.edit"
+commit more
+slips --table
+check "the crate is another, and there is a slip more" is "$(column 3) $(column 10) $(column 11) $(column 12)" "7 1 6 "
+slips --new
+check "only the new one is tried" ends 0 "1 tried, 0 left"
+slips
+check "the stale ones are tried again" ends 1 "6 tried, 0 left"
+slips --table
+check "nothing is stale" is "$(column 10) $(column 11) $(column 12)" "  "
+
+line=$(grep -m 1 ' refused ' "$tree/scripts/slips.txt")
+sed 's/ refused / limit /; s/ 20[0-9]*-/ 2099-/' <<<"$line" >>"$tree/scripts/slips.txt"
+slips --check
+check "two files that were joined" ends 1 "scripts/slips.txt is not sorted, or has two lines of one change"
+slips --table
+check "the later line holds" is "$(wc -l <"$tree/scripts/slips.txt") $(column 6)" "7 1"
+sed -i '/wrong one/d; /^old: < one/d' "$high/slips/b.edit"
+slips --check
+check "a line of no slip" ends 1 "1 lines of scripts/slips.txt are of no slip"
+slips --table
+check "it goes" is "$(wc -l <"$tree/scripts/slips.txt")" 6
+echo "r10_high a b" >>"$tree/scripts/slips.txt"
+slips --check
+check "what is no line" ends 1 "this is no line of results: r10_high a b"
+git -C "$tree" checkout -q scripts/slips.txt
+
+mutants() {
+    : >"$room/kit/calls"
+    said=$("$tree/scripts/mutants.py" --lanes 1 --count 8 "$@" 2>&1)
+    status=$?
+}
+commit tests
+mutants --list
+check "mutants are drawn" ends 0 " mutants"
+drawn=$said
+sed -i 's/< two/< two - 1/' "$high/src/lib.rt" && commit two
+sed -i 's/old: < two/old: < two - 1/' "$high/must-fail/a.edit" && commit edit
+mutants --list
+check "a change leaves those of other functions as they are" is \
+    "$(grep -v ' two:\|mutants' <<<"$drawn")" "$(grep -v ' two:\|mutants' <<<"$said")"
+mutants
+check "all are let through" ends 1 "0 of 8 refused"
+check "and stand in the results" is "$(grep -c ' passed ' "$tree/scripts/mutants.txt")" 8
+mutants
+check "none is tried again" is "$(wc -l <"$room/kit/calls")" 0
+mutants --check
+check "they want a table and an explanation" ends 1 '"Mutants", is not what scripts/mutants.py --table writes'
+mutants --table
+check "the table is written" is "$(grep -c '^| `r10_high` | 7 | | | | 7 ' "$tree/docs/SLIPS.md")" 1
+sed -i 's/+ 1 < five/five/' "$high/src/lib.rt"
+mutants --check
+check "that others would be drawn of another body fails no gate" is "$(grep -c 'is not what' <<<"$said")" 0
+exit "$failed"
