@@ -16,6 +16,7 @@ the later one holds.
 """
 from __future__ import annotations
 
+import contextlib
 import datetime
 import fcntl
 import functools
@@ -287,8 +288,8 @@ class Results:
 class Lane:
     """A clone of the repository in which changes are tried, with the libraries that are built here."""
 
-    def __init__(self, folder: Path):
-        self.folder = folder
+    def __init__(self, folder: Path, yields: bool = False):
+        self.folder, self.yields = folder, yields
         if not folder.is_dir():
             subprocess.run(['git', 'clone', '-q', str(TOP), str(folder)], check=True)
         else:
@@ -311,7 +312,12 @@ class Lane:
         words = [it for name in functions for it in ('--only', name)]
         with tempfile.TemporaryFile() as out:
             ran = subprocess.Popen([sys.executable, str(TOP / 'scripts' / 'rt_once.py'), 'check', '--jobs', '1', *words], cwd=place,
-                                   stdin=subprocess.DEVNULL, stdout=out, stderr=subprocess.STDOUT)
+                                   stdin=subprocess.DEVNULL, stdout=out, stderr=subprocess.STDOUT, start_new_session=self.yields)
+            if self.yields:
+                # (a session is a scheduling group of its own, and so `nice` alone yields to nothing outside of it)
+                os.setpriority(os.PRIO_PROCESS, ran.pid, 19)
+                with contextlib.suppress(OSError):
+                    Path(f'/proc/{ran.pid}/autogroup').write_text('19', encoding='ascii')
             ends, done, in_time = time.time() + seconds, 0, True
             while not done:
                 done, status, used = os.wait4(ran.pid, os.WNOHANG)
@@ -530,6 +536,7 @@ class Options:
     seconds: int = 1800
     minutes: int = 0
     only_new: bool = False
+    yields: bool = False
 
 
 def add_options(words) -> None:
@@ -540,6 +547,7 @@ def add_options(words) -> None:
     words.add_argument('--seconds', type=int, default=1800, help='the limit of one check')
     words.add_argument('--minutes', type=int, default=0, help='begins no check after so many')
     words.add_argument('--new', action='store_true', help='tries only those without a verdict, and leaves stale ones as they are')
+    words.add_argument('--yield', dest='yields', action='store_true', help='provers take only what other processes leave')
     words.add_argument('--list', action='store_true', help='lists them with their sums and verdicts, and tries none')
     words.add_argument('--table', action='store_true', help='writes the table of docs/SLIPS.md')
     words.add_argument('--check', action='store_true', help='fails where docs/SLIPS.md and the results do not agree')
@@ -548,7 +556,7 @@ def add_options(words) -> None:
 def options_of(it) -> Options:
     # (a gate refuses sources that lie in the checkout and are of no crate)
     work = it.work or Path(git('rev-parse', '--absolute-git-dir')) / 'r10-slips'
-    return Options(work.resolve(), it.lanes, it.seconds, it.minutes, it.new)
+    return Options(work.resolve(), it.lanes, it.seconds, it.minutes, it.new, it.yields)
 
 
 def listed(changes: list[Change], results: Results, what: str) -> None:
@@ -592,7 +600,7 @@ def run(changes: list[Change], how: Options, results: Results) -> list[Verdict]:
             print(line_of(verdict), flush=True)
 
     def work_in(number: int) -> None:
-        lane = Lane(how.work / f'lane{number}')
+        lane = Lane(how.work / f'lane{number}', how.yields)
         while True:
             with lock:
                 if not todo or is_over():
