@@ -305,6 +305,10 @@ class Lane:
             to.parent.mkdir(exist_ok=True)
             shutil.copytree(source, to)
 
+    def has_library(self, crate: str) -> bool:
+        """Whether the crate is proved as it is: its library was given with a stamp, which says so of these very sources."""
+        return (self.folder / 'crates' / crate / 'out' / 'rlib' / 'stamp').is_file()
+
     def check(self, crate: str, seconds: int, functions: Iterable[str] = ()) -> tuple[int, str, float]:
         """Checks the crate, or these functions of it alone, and returns the status, what was printed, and the seconds of a
         processor."""
@@ -408,7 +412,7 @@ class Trial:
     def run(self) -> None:
         self.lane.take_work(self.crate)
         own = {name for change in self.changes for name in self.touched(change)}
-        if own:
+        if own and not self.lane.has_library(self.crate):
             status, said = self.check([], own)
             if status:
                 raise RuntimeError(f'{self.crate} itself is not proved in {self.lane.folder}: {said[-400:]}')
