@@ -373,7 +373,11 @@ def outcome(status: int, said: str) -> Outcome:
     for line in lines:
         of_proof = re.match(r'(?:note: )?(?:\./)?proofs/(.*)/\w+\.antt:\d+:\d+: error(.*)', line)
         of_source = re.match(r'(?:note: )?(?:\./)?(src/\S+\.rt):(\d+):\d+: error(.*)', line)
-        if of_proof:
+        # (of a function whose proof has no file for that goal)
+        of_search = re.match(r'fn \w+::(\S+): no proof.*?`search` did not prove (`.*)', line)
+        if of_search:
+            made.goals.setdefault(of_search[1].replace('::', '/'), []).append(of_search[2])
+        elif of_proof:
             made.goals.setdefault(of_proof[1], []).append(of_proof[2])
         elif of_source:
             made.broken.append((of_source[1], int(of_source[2]), of_source[3]))
@@ -610,9 +614,12 @@ def run(changes: list[Change], how: Options, results: Results) -> list[Verdict]:
                 if not todo or is_over():
                     return
                 crate = todo.pop(0)
+                # (another run may have tried some by now)
+                known = results.read()
+                own = [it for it in by_crate[crate] if it.key() not in known or not known[it.key()].is_now(sums[crate])]
             start = time.time()
             try:
-                Trial(lane, crate, by_crate[crate], say, how.seconds, is_over).run()
+                Trial(lane, crate, own, say, how.seconds, is_over).run()
             except (RuntimeError, OSError, AssertionError) as it:
                 with lock:
                     failed.append(crate)
