@@ -37,8 +37,8 @@ fn front_of(stamp: [u8; 8], header: [u8; 4]) -> [u8; 12]
 /// Adds the stamp and the header of a message, its bytes, and a zero byte where their number is odd; or nothing where memory
 /// is refused.
 ///
-/// Of bytes that stand in the value itself all places are copied, and those behind the bytes cut off again: a copy of as many
-/// bytes each time is no call of the C library.
+/// Of bytes that stand in the value itself all places are copied, and those after the bytes cut off again: a copy of as many
+/// bytes each time is no call of the C library. Bytes in memory of their own are copied where this is called, too.
 #[inline(always)]
 pub fn append_text(
     out: &mut Vec<u8>,
@@ -53,6 +53,7 @@ pub fn append_text(
         if len % 2 == 0 && out.capacity() - out.len() >= 50 {
             return append_first(out, &front, places, len);
         }
+        return append_short(out, &front, bytes.as_slice());
     }
     append_padded(out, &front, bytes.as_slice())
 }
@@ -76,9 +77,8 @@ fn append_first(
     Ok(())
 }
 
-/// Adds a front, bytes, and a zero byte where their number is odd: in a call, which long bytes and an odd number of them take.
-#[cold]
-#[inline(never)]
+/// Adds a front, bytes, and a zero byte where their number is odd.
+#[inline(always)]
 fn append_padded(out: &mut Vec<u8>, front: &[u8; 12], bytes: &[u8]) -> Result<(), AllocError>
     ensures { Appends (front.now ++ padded bytes.now) out.old out.new result }
 {
@@ -87,4 +87,13 @@ fn append_padded(out: &mut Vec<u8>, front: &[u8; 12], bytes: &[u8]) -> Result<()
     } else {
         append_all(out, &[front, bytes, &[0]])
     }
+}
+
+/// The same in a call, which short bytes take where their number is odd or there is little room.
+#[cold]
+#[inline(never)]
+fn append_short(out: &mut Vec<u8>, front: &[u8; 12], bytes: &[u8]) -> Result<(), AllocError>
+    ensures { Appends (front.now ++ padded bytes.now) out.old out.new result }
+{
+    append_padded(out, front, bytes)
 }
