@@ -1,6 +1,7 @@
 //! Entries of index packets.
 
-ghost use Rattle.std.specs.Prelude.{◌≡◌, ◌+◌, ◌*◌, ◌^◌};
+ghost use Rattle.std.specs.Prelude.{◌≡◌, ◌+◌, ◌-◌, ◌*◌, ◌^◌, ◌≤◌, ◌++◌, length, take};
+ghost use Rattle.r10_count.specs.Append.{Appends};
 ghost use Rattle.r10_indexbody.specs.Index.{node_entry};
 
 use r10_count::{BodyEntry, Count, append_all, split_u32, split_u64};
@@ -33,6 +34,27 @@ fn packet_word(data_type: u8, channel: u16) -> u32
     ensures { result ≡ 2 ^ 16 * data_type + channel }
 {
     0x1_0000 * u32::from(data_type) + u32::from(channel)
+}
+
+/// Puts twenty bytes in place of the last twenty.
+#[inline(always)]
+fn put_last(bytes: &mut [u8], row: [u8; 20])
+    requires { 20 ≤ length bytes.old }
+    ensures { bytes.new ≡ take (length bytes.old - 20) bytes.old ++ row }
+{
+    if let Some(last) = bytes.last_chunk_mut::<20>() {
+        *last = row;
+    }
+}
+
+/// Adds twenty bytes. They are stored where they are to stand: a copy of them would wait for each of its stores.
+#[inline(always)]
+fn append_row(out: &mut Vec<u8>, row: [u8; 20]) -> Result<(), AllocError>
+    ensures { Appends row out.old out.new result }
+{
+    out.resize(out.len() + 20, 0)?;
+    put_last(out.as_mut_slice(), row);
+    Ok(())
 }
 
 impl NodeEntry {
@@ -94,7 +116,7 @@ impl BodyEntry for NodeEntry {
 
     fn encode_into(&self, before: u64, out: &mut Vec<u8>) -> Result<(), AllocError> {
         let _ = before;
-        out.extend_from_slice(&self.row())
+        append_row(out, self.row())
     }
 
     fn read(alloc: Global, before: u64, bytes: &[u8]) -> Result<Option<NodeEntry>, AllocError> {
