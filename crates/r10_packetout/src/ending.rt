@@ -10,7 +10,7 @@ use r10_packet::{Check, sum8, sum16, sum32};
 /// Filler and data checksum: at most 3 bytes and at most 4.
 #[derive(Clone, Copy, Debug)]
 pub(crate) struct Ending {
-    bytes: [u8; 7],
+    bytes: [u8; 8],
     start: usize,
     end: usize,
     ghost within: { start ≤ end },
@@ -42,20 +42,29 @@ impl Ending {
     }
 }
 
-/// Three zeros and the data checksum of a body, to which filler adds nothing, and zeros behind it.
-fn checksum(check: Check, body: &[u8]) -> [u8; 7]
+/// Three zeros and the data checksum of a body, to which filler adds nothing, and zeros after it.
+#[inline(always)]
+fn checksum(check: Check, body: &[u8]) -> [u8; 8]
     ensures { take (3 + check_bits_of check / 8) result ≡ 0 ∷ 0 ∷ 0 ∷ data_checksum (check_bits_of check) body.now }
 {
     match check {
-        Check::Nothing => [0; 7],
-        Check::Sum8 => [0, 0, 0, sum8(body), 0, 0, 0],
+        Check::Nothing => [0; 8],
+        Check::Sum8 => at_once(&[0, 0, 0, sum8(body), 0, 0, 0, 0]),
         Check::Sum16 => {
             let [a, b] = sum16(body).to_le_bytes();
-            [0, 0, 0, a, b, 0, 0]
+            at_once(&[0, 0, 0, a, b, 0, 0, 0])
         }
         Check::Sum32 => {
             let [a, b, c, d] = sum32(body).to_le_bytes();
-            [0, 0, 0, a, b, c, d]
+            at_once(&[0, 0, 0, a, b, c, d, 0])
         }
     }
+}
+
+/// The same bytes, by way of a number: so they are stored at once, and a copy of some of them waits for one store alone.
+#[inline(always)]
+fn at_once(bytes: &[u8; 8]) -> [u8; 8]
+    ensures { result ≡ bytes.now }
+{
+    u64::from_le_bytes(*bytes).to_le_bytes()
 }
