@@ -177,20 +177,31 @@ fn asks_only(words: &[String], command: &str) -> bool
 fn read_other(alloc: Global, words: &[String]) -> Result<Asked, WordsFault>
     ensures { IfOk result (AsksOther (map string_bytes words.now)) }
 {
-    let command = command_line(alloc)?;
-    match command.try_get_matches_from(words) {
+    match command_line(alloc)?.try_get_matches_from(words) {
         Ok(matches) => read_matches(alloc, words, &matches),
-        Err(error) => match error.kind() {
-            ErrorKind::OutOfMemory => Err(WordsFault::Memory(AllocError)),
-            ErrorKind::DisplayHelp | ErrorKind::DisplayVersion => {
-                if asks_text(alloc, words)? {
-                    Ok(Asked::Text(error.to_string(alloc)?))
-                } else {
-                    Err(wrong(alloc, ASK_NOTHING, called_by(words))?)
-                }
-            }
-            _ => Err(WordsFault::Wrong(usage_line(alloc, words)?)),
-        },
+        Err(error) => read_error(alloc, words, &error),
+    }
+}
+
+/// What words ask for that `clap` answers itself, or refuses.
+fn read_error(alloc: Global, words: &[String], error: &clap::Error) -> Result<Asked, WordsFault>
+    ensures { IfOk result (AsksOther (map string_bytes words.now)) }
+{
+    match error.kind() {
+        ErrorKind::OutOfMemory => Err(WordsFault::Memory(AllocError)),
+        ErrorKind::DisplayHelp | ErrorKind::DisplayVersion => read_text(alloc, words, error),
+        _ => Err(WordsFault::Wrong(usage_line(alloc, words)?)),
+    }
+}
+
+/// The text of help, or of the version.
+fn read_text(alloc: Global, words: &[String], error: &clap::Error) -> Result<Asked, WordsFault>
+    ensures { IfOk result (AsksOther (map string_bytes words.now)) }
+{
+    if asks_text(alloc, words)? {
+        Ok(Asked::Text(error.to_string(alloc)?))
+    } else {
+        Err(wrong(alloc, ASK_NOTHING, called_by(words)))
     }
 }
 
@@ -206,7 +217,7 @@ fn read_matches(
     }
     match matches.subcommand_matches("play") {
         Some(found) => read_play(alloc, words, found),
-        None => Err(wrong(alloc, ASK_NOTHING, Called::Program)?),
+        None => Err(wrong(alloc, ASK_NOTHING, Called::Program)),
     }
 }
 
@@ -214,27 +225,36 @@ fn read_matches(
 fn read_format(alloc: Global, words: &[String], found: &ArgMatches<'_>) -> Result<Asked, WordsFault>
     ensures { IfOk result (AsksOther (map string_bytes words.now)) }
 {
-    let (Some(blocks), Some(directory), Some(volume)) = (
-        found.get_one::<usize>("blocks"),
-        found.get_one::<usize>("directory"),
-        found.get_str("volume"),
-    ) else {
-        return Err(wrong(alloc, ASK_NOTHING, Called::Format)?);
+    let Some(format) = format_words(alloc, found)? else {
+        return Err(wrong(alloc, ASK_NOTHING, Called::Format));
     };
     let Some(given) = only_options(alloc, words, "format", &FORMAT_OPTIONS)? else {
-        return Err(wrong(alloc, ASK_NOTHING, Called::Format)?);
-    };
-    let volume = String::from_str(alloc, volume)?;
-    let format = FormatWords {
-        blocks,
-        directory,
-        volume,
+        return Err(wrong(alloc, ASK_NOTHING, Called::Format));
     };
     if gives_all(alloc, given.as_slice(), &format)? {
         Ok(Asked::Format(format))
     } else {
-        Err(wrong(alloc, NUMBERS, Called::Format)?)
+        Err(wrong(alloc, NUMBERS, Called::Format))
     }
+}
+
+/// What `clap` found of the options of `format`.
+fn format_words(alloc: Global, found: &ArgMatches<'_>) -> Result<Option<FormatWords>, AllocError> {
+    let Some(blocks) = found.get_one::<usize>("blocks") else {
+        return Ok(None);
+    };
+    let Some(directory) = found.get_one::<usize>("directory") else {
+        return Ok(None);
+    };
+    let Some(volume) = found.get_str("volume") else {
+        return Ok(None);
+    };
+    let volume = String::from_str(alloc, volume)?;
+    Ok(Some(FormatWords {
+        blocks,
+        directory,
+        volume,
+    }))
 }
 
 /// What the options of `play` say, each looked up among the words once more, where nothing else may stand, and for those that are left
@@ -243,18 +263,23 @@ fn read_play(alloc: Global, words: &[String], found: &ArgMatches<'_>) -> Result<
     ensures { IfOk result (AsksOther (map string_bytes words.now)) }
 {
     let Some(given) = only_options(alloc, words, "play", &PLAY_OPTIONS)? else {
-        return Err(wrong(alloc, ASK_NOTHING, Called::Play)?);
+        return Err(wrong(alloc, ASK_NOTHING, Called::Play));
     };
-    let play = PlayWords {
+    let play = play_words(found);
+    if gives_selection(alloc, given.as_slice(), &play)? {
+        Ok(Asked::Play(play))
+    } else {
+        Err(wrong(alloc, NUMBERS, Called::Play))
+    }
+}
+
+/// What `clap` found of the options of `play`.
+fn play_words(found: &ArgMatches<'_>) -> PlayWords {
+    PlayWords {
         file: found.get_one::<usize>("file").unwrap_or(0),
         channel: found.get_one::<u16>("channel").unwrap_or(0),
         from: found.get_one::<u64>("from").unwrap_or(0),
         to: found.get_one::<u64>("to").unwrap_or(LAST_COUNT),
-    };
-    if gives_selection(alloc, given.as_slice(), &play)? {
-        Ok(Asked::Play(play))
-    } else {
-        Err(wrong(alloc, NUMBERS, Called::Play)?)
     }
 }
 
@@ -285,10 +310,17 @@ fn only_options<'a>(
 const NUMBERS: &str = "a number has neither a sign nor zeros before it";
 
 /// A fault with this line, and behind it which help to see.
-fn wrong(alloc: Global, line: &str, called: Called) -> Result<WordsFault, AllocError> {
+fn wrong(alloc: Global, line: &str, called: Called) -> WordsFault {
+    match wrong_line(alloc, line, called) {
+        Ok(line) => WordsFault::Wrong(line),
+        Err(error) => WordsFault::Memory(error),
+    }
+}
+
+fn wrong_line(alloc: Global, line: &str, called: Called) -> Result<String, AllocError> {
     let mut line = String::from_str(alloc, line)?;
     line.push_str(help_hint(called))?;
-    Ok(WordsFault::Wrong(line))
+    Ok(line)
 }
 
 /// Whether this word stands at the place among them.

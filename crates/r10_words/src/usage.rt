@@ -1,5 +1,6 @@
 //! The command line as `clap` knows it, and what is said of wrong words.
 
+use clap::builder::ValueParser;
 use clap::error::ErrorKind;
 use clap::{Arg, ArgAction, Command, value_parser};
 use std::alloc::{AllocError, Global};
@@ -167,105 +168,207 @@ pub(crate) const ASK_NOTHING: &str = "these words ask for nothing";
 /// How many characters of a word are printed.
 const MOST: usize = 60;
 
-/// The whole command line: each command is added as it is made.
+/// What help shows of a command, and the options that the command has.
+#[derive(Clone, Copy)]
+struct Shown {
+    name: &'static str,
+    about: &'static str,
+    usage: &'static str,
+    more: &'static str,
+    options: &'static [ShownOption],
+}
+
+/// What help shows of an option, and what it takes.
+#[derive(Clone, Copy)]
+struct ShownOption {
+    name: &'static str,
+    takes: Takes,
+    is_needed: bool,
+    help: &'static str,
+}
+
+/// What an option takes.
+#[derive(Clone, Copy)]
+enum Takes {
+    Nothing,
+    /// A number of 16 bits.
+    Short,
+    /// A number of 64 bits.
+    Long,
+    /// A name, which may begin with a dash.
+    Name,
+}
+
+const IMAGE: [ShownOption; 1] = [ShownOption {
+    name: "image",
+    takes: Takes::Nothing,
+    is_needed: false,
+    help: "Write the medium's image in place of the lines",
+}];
+
+const FORMAT: [ShownOption; 3] = [
+    ShownOption {
+        name: "blocks",
+        takes: Takes::Long,
+        is_needed: true,
+        help: "The blocks of the medium, of 512 bytes each",
+    },
+    ShownOption {
+        name: "directory",
+        takes: Takes::Long,
+        is_needed: true,
+        help: "The blocks reserved for the directory",
+    },
+    ShownOption {
+        name: "volume",
+        takes: Takes::Name,
+        is_needed: true,
+        help: "The volume's name",
+    },
+];
+
+const PLAY: [ShownOption; 4] = [
+    ShownOption {
+        name: "file",
+        takes: Takes::Long,
+        is_needed: false,
+        help: "The file's number [default: 0]",
+    },
+    ShownOption {
+        name: "channel",
+        takes: Takes::Short,
+        is_needed: false,
+        help: "The channel, 0 for all [default: 0]",
+    },
+    ShownOption {
+        name: "from",
+        takes: Takes::Long,
+        is_needed: false,
+        help: "The first count [default: 0]",
+    },
+    ShownOption {
+        name: "to",
+        takes: Takes::Long,
+        is_needed: false,
+        help: "The last count [default: 281474976710655]",
+    },
+];
+
+/// What help shows of a command, or of the program itself.
+fn shown_of(called: Called) -> Shown {
+    match called {
+        Called::Program => Shown {
+            name: "r10",
+            about: ABOUT,
+            usage: "r10 [COMMAND] < INPUT",
+            more: MORE,
+            options: &[],
+        },
+        Called::Sim => Shown {
+            name: "sim",
+            about: ABOUT_SIM,
+            usage: "r10 sim [OPTIONS] < SCRIPT",
+            more: MORE_SIM,
+            options: &IMAGE,
+        },
+        Called::Run => Shown {
+            name: "run",
+            about: ABOUT_RUN,
+            usage: "r10 run [OPTIONS] < SCRIPT",
+            more: MORE_RUN,
+            options: &IMAGE,
+        },
+        Called::Format => Shown {
+            name: "format",
+            about: ABOUT_FORMAT,
+            usage: "r10 format --blocks <N> --directory <N> --volume <NAME> > IMAGE",
+            more: MORE_FORMAT,
+            options: &FORMAT,
+        },
+        Called::Files => Shown {
+            name: "files",
+            about: ABOUT_FILES,
+            usage: "r10 files < IMAGE",
+            more: MORE_FILES,
+            options: &[],
+        },
+        Called::Play => Shown {
+            name: "play",
+            about: ABOUT_PLAY,
+            usage: "r10 play [OPTIONS] < IMAGE",
+            more: MORE_PLAY,
+            options: &PLAY,
+        },
+        Called::Check => Shown {
+            name: "check",
+            about: ABOUT_CHECK,
+            usage: "r10 check < RECORDING",
+            more: MORE_CHECK,
+            options: &[],
+        },
+    }
+}
+
+/// The whole command line.
 pub(crate) fn command_line<'a>(alloc: Global) -> Result<Command<'a>, AllocError> {
-    let line = Command::new(alloc, "r10")
-        .bin_name("r10")?
-        .version(VERSION)
-        .about(ABOUT)
-        .override_usage("r10 [COMMAND] < INPUT")
-        .after_help(MORE);
-    let line = line.subcommand(sim_line(alloc)?)?;
-    let line = line.subcommand(run_line(alloc)?)?;
-    let line = line.subcommand(format_line(alloc)?)?;
-    let line = line.subcommand(plain_line(alloc, "files", ABOUT_FILES, MORE_FILES).override_usage(
-        "r10 files < IMAGE",
-    ))?;
-    let line = line.subcommand(play_line(alloc)?)?;
-    line.subcommand(plain_line(alloc, "check", ABOUT_CHECK, MORE_CHECK).override_usage(
-        "r10 check < RECORDING",
-    ))
+    let commands = commands(alloc)?;
+    let line = plain_line(alloc, shown_of(Called::Program)).version(VERSION);
+    line.subcommands(commands)?.bin_name("r10")
 }
 
-/// A command without options.
-fn plain_line<'a>(alloc: Global, name: &'a str, about: &'a str, more: &'a str) -> Command<'a> {
-    Command::new(alloc, name).about(about).after_help(more)
+/// The commands, in the order of the help.
+fn commands<'a>(alloc: Global) -> Result<Vec<Command<'a>>, AllocError> {
+    let mut commands = Vec::new(alloc);
+    for (_, called) in &NAMED {
+        commands.push(full_line(alloc, shown_of(*called))?)?;
+    }
+    Ok(commands)
 }
 
-/// The command `sim`.
-fn sim_line<'a>(alloc: Global) -> Result<Command<'a>, AllocError> {
-    plain_line(alloc, "sim", ABOUT_SIM, MORE_SIM)
-        .override_usage("r10 sim [OPTIONS] < SCRIPT")
-        .arg(image_flag(alloc))
+/// A command with its options.
+fn full_line<'a>(alloc: Global, shown: Shown) -> Result<Command<'a>, AllocError> {
+    let options = options(alloc, shown.options)?;
+    plain_line(alloc, shown).args(options)
 }
 
-/// The command `run`.
-fn run_line<'a>(alloc: Global) -> Result<Command<'a>, AllocError> {
-    plain_line(alloc, "run", ABOUT_RUN, MORE_RUN)
-        .override_usage("r10 run [OPTIONS] < SCRIPT")
-        .arg(image_flag(alloc))
+/// A command without its options.
+fn plain_line<'a>(alloc: Global, shown: Shown) -> Command<'a> {
+    Command::new(alloc, shown.name)
+        .about(shown.about)
+        .override_usage(shown.usage)
+        .after_help(shown.more)
 }
 
-/// The command `format`, whose options must all be given.
-fn format_line<'a>(alloc: Global) -> Result<Command<'a>, AllocError> {
-    plain_line(alloc, "format", ABOUT_FORMAT, MORE_FORMAT)
-        .override_usage("r10 format --blocks <N> --directory <N> --volume <NAME> > IMAGE")
-        .arg(number(
-            alloc,
-            "blocks",
-            "The blocks of the medium, of 512 bytes each",
-        ))?
-        .arg(number(alloc, "directory", "The blocks reserved for the directory"))?
-        .arg(volume(alloc))
+/// The options, in the order of the help.
+fn options<'a>(alloc: Global, shown: &[ShownOption]) -> Result<Vec<Arg<'a>>, AllocError> {
+    let mut options = Vec::new(alloc);
+    for option in shown {
+        options.push(full_option(alloc, *option))?;
+    }
+    Ok(options)
 }
 
-/// The command `play`, whose options may all be left out.
-fn play_line<'a>(alloc: Global) -> Result<Command<'a>, AllocError> {
-    plain_line(alloc, "play", ABOUT_PLAY, MORE_PLAY)
-        .override_usage("r10 play [OPTIONS] < IMAGE")
-        .arg(free(alloc, "file", "The file's number [default: 0]").value_parser(value_parser!(
-            usize
-        )))?
-        .arg(free(alloc, "channel", "The channel, 0 for all [default: 0]").value_parser(
-            value_parser!(u16),
-        ))?
-        .arg(free(alloc, "from", "The first count [default: 0]").value_parser(value_parser!(u64)))?
-        .arg(free(alloc, "to", "The last count [default: 281474976710655]").value_parser(
-            value_parser!(u64),
-        ))
+fn full_option<'a>(alloc: Global, shown: ShownOption) -> Arg<'a> {
+    let option = Arg::new(alloc, shown.name)
+        .long(shown.name)
+        .help(shown.help);
+    match shown.takes {
+        Takes::Nothing => option.action(ArgAction::SetTrue),
+        Takes::Short => numbered(option, value_parser!(u16), shown.is_needed),
+        Takes::Long => numbered(option, value_parser!(u64), shown.is_needed),
+        Takes::Name => option
+            .value_name("NAME")
+            .required(shown.is_needed)
+            .allow_hyphen_values(true),
+    }
 }
 
-/// An option with a number, which may be left out.
-fn free<'a>(alloc: Global, name: &'a str, help: &'a str) -> Arg<'a> {
-    Arg::new(alloc, name).long(name).value_name("N").help(help)
-}
-
-/// The option `--image`, without a value.
-fn image_flag<'a>(alloc: Global) -> Arg<'a> {
-    Arg::new(alloc, "image")
-        .long("image")
-        .action(ArgAction::SetTrue)
-        .help("Write the medium's image in place of the lines")
-}
-
-/// An option with a number, which must be given.
-fn number<'a>(alloc: Global, name: &'a str, help: &'a str) -> Arg<'a> {
-    Arg::new(alloc, name)
-        .long(name)
+/// The option with such a number.
+fn numbered<'a>(option: Arg<'a>, number: ValueParser<'a>, is_needed: bool) -> Arg<'a> {
+    option
         .value_name("N")
-        .value_parser(value_parser!(usize))
-        .required(true)
-        .help(help)
-}
-
-/// The option with the volume's name, which must be given, and may begin with a dash.
-fn volume<'a>(alloc: Global) -> Arg<'a> {
-    Arg::new(alloc, "volume")
-        .long("volume")
-        .value_name("NAME")
-        .required(true)
-        .allow_hyphen_values(true)
-        .help("The volume's name")
+        .value_parser(number)
+        .required(is_needed)
 }
 
 /// Which command the first word behind the program's own name calls.
@@ -281,6 +384,16 @@ pub(crate) enum Called {
     Check,
 }
 
+/// The commands by their names, in the order of the help.
+const NAMED: [(&str, Called); 6] = [
+    ("sim", Called::Sim),
+    ("run", Called::Run),
+    ("format", Called::Format),
+    ("files", Called::Files),
+    ("play", Called::Play),
+    ("check", Called::Check),
+];
+
 /// Which command the words call.
 pub(crate) fn called_by(words: &[String]) -> Called {
     match words {
@@ -290,22 +403,12 @@ pub(crate) fn called_by(words: &[String]) -> Called {
 }
 
 fn command_of(word: &String) -> Called {
-    let word = word.as_str();
-    if word == "sim" {
-        Called::Sim
-    } else if word == "run" {
-        Called::Run
-    } else if word == "format" {
-        Called::Format
-    } else if word == "files" {
-        Called::Files
-    } else if word == "play" {
-        Called::Play
-    } else if word == "check" {
-        Called::Check
-    } else {
-        Called::Program
+    for (name, called) in &NAMED {
+        if word.as_str() == *name {
+            return *called;
+        }
     }
+    Called::Program
 }
 
 /// Where the command that was called reads what a file would have, or writes it.
@@ -337,14 +440,22 @@ pub(crate) fn help_hint(called: Called) -> &'static str {
 /// where such a file goes, and which help to see.
 pub(crate) fn usage_line(alloc: Global, words: &[String]) -> Result<String, AllocError> {
     let printed = printed_words(alloc, words)?;
-    let command = command_line(alloc)?;
-    let called = called_by(words);
-    let mut line = match command.try_get_matches_from(printed.as_slice()) {
-        Ok(_) => String::from_str(alloc, ASK_NOTHING)?,
-        Err(error) => fault_line(alloc, &error, called)?,
-    };
+    hinted_line(alloc, printed.as_slice(), called_by(words))
+}
+
+/// What `clap` says of the words, and which help to see.
+fn hinted_line(alloc: Global, words: &[String], called: Called) -> Result<String, AllocError> {
+    let mut line = refused_line(alloc, words, called)?;
     line.push_str(help_hint(called))?;
     Ok(line)
+}
+
+/// What `clap` says of the words.
+fn refused_line(alloc: Global, words: &[String], called: Called) -> Result<String, AllocError> {
+    match command_line(alloc)?.try_get_matches_from(words) {
+        Ok(_) => String::from_str(alloc, ASK_NOTHING),
+        Err(error) => fault_line(alloc, &error, called),
+    }
 }
 
 /// The words as they are printed.
@@ -387,35 +498,54 @@ fn without_quotes(text: &str) -> &str {
 /// without one goes after, the options that are missing, for a word that looks like a file where such a file goes, and for another word
 /// that is no command the commands.
 fn fault_line(alloc: Global, error: &clap::Error, called: Called) -> Result<String, AllocError> {
-    if is_memory(error.kind()) {
+    let kind = error.kind();
+    if is_memory(kind) {
         return Err(AllocError);
     }
     let text = error.to_string(alloc)?;
+    let mut line = String::new(alloc);
+    push_fault(&mut line, kind, text.as_str(), called)?;
+    Ok(line)
+}
+
+/// Adds what is said of a fault of this kind, of which `clap` says this text.
+fn push_fault(
+    line: &mut String,
+    kind: ErrorKind,
+    text: &str,
+    called: Called,
+) -> Result<(), AllocError> {
+    let said = said_first(text);
+    line.push_str(without_digits(said))?;
+    if is_number_wanted(said) {
+        line.push_str(number_hint(said))?;
+    }
+    push_tip(line, text)?;
+    if called == Called::Program {
+        push_matches(line, said, &OWNERS)?;
+    }
+    if is_unknown_command(kind, said) {
+        push_matches(line, said, &LIKE_OTHERS)?;
+        line.push_str(COMMANDS)?;
+    } else if is_file_like(kind, said) {
+        line.push_str(stream_hint(called))?;
+    }
+    if is_missing(kind) {
+        push_options(line, text)?;
+    }
+    Ok(())
+}
+
+/// The first line of the text, without its first word.
+fn said_first(text: &str) -> &str {
     let line = match text.lines().next() {
         Some(line) => line,
         None => "",
     };
-    let said = match line.strip_prefix("error: ") {
+    match line.strip_prefix("error: ") {
         Some(rest) => rest,
         None => line,
-    };
-    let mut line = String::from_str(alloc, without_digits(said))?;
-    if is_number_wanted(said) {
-        line.push_str(number_hint(said))?;
     }
-    push_tip(&mut line, text.as_str())?;
-    if called == Called::Program {
-        push_owner(&mut line, said)?;
-    }
-    if is_unknown_command(error.kind(), said) {
-        push_commands(&mut line, said)?;
-    } else if is_file_like(error.kind(), said) {
-        line.push_str(stream_hint(called))?;
-    }
-    if is_missing(error.kind()) {
-        push_options(&mut line, text.as_str())?;
-    }
-    Ok(line)
 }
 
 fn is_memory(kind: ErrorKind) -> bool {
@@ -470,16 +600,6 @@ const LIKE_OTHERS: [(&str, &str); 8] = [
 /// The commands, for a word that is none of them.
 const COMMANDS: &str = "; the commands are sim, run, format, files, play, check and help";
 
-/// Adds the command that a word of other programs stands for, if it is one, and all commands.
-fn push_commands(line: &mut String, said: &str) -> Result<(), AllocError> {
-    for (word, nearest) in LIKE_OTHERS {
-        if said.contains(word) {
-            line.push_str(nearest)?;
-        }
-    }
-    line.push_str(COMMANDS)
-}
-
 /// The options, each with the command that it goes after.
 const OWNERS: [(&str, &str); 8] = [
     (
@@ -507,11 +627,11 @@ const OWNERS: [(&str, &str); 8] = [
     ("argument '--volume'", "; it goes after format"),
 ];
 
-/// Adds the command that an option goes after, where it was given without one.
-fn push_owner(line: &mut String, said: &str) -> Result<(), AllocError> {
-    for (option, owner) in OWNERS {
-        if said.contains(option) {
-            line.push_str(owner)?;
+/// Adds what goes with each of these words that is said.
+fn push_matches(line: &mut String, said: &str, table: &[(&str, &str)]) -> Result<(), AllocError> {
+    for (word, hint) in table {
+        if said.contains(*word) {
+            line.push_str(hint)?;
         }
     }
     Ok(())
