@@ -1,15 +1,15 @@
 //! What the words of a call ask for.
 
-ghost use Rattle.std.specs.Prelude.{◌≡◌, ◌↔◌, IsTrue, Ok, IfOk, IfSome, codes, map, string_bytes};
+ghost use Rattle.std.specs.Prelude.{◌≡◌, ◌↔◌, IsTrue, Ok, IfOk, IfSome, IfNone, codes, map, string_bytes};
 ghost use Rattle.std.specs.Fmt.{decimal};
 ghost use Rattle.std.specs.List.{Contains};
 ghost use Rattle.r10_words.specs.Found.{found_words};
 ghost use Rattle.r10_words.specs.Options.{GivesOption, GivesOr, HasOnlyOptions};
-ghost use Rattle.r10_words.specs.Words.{AsksSim, AsksImage, AsksImageOf, AsksFiles, AsksCheck, AsksRun, AsksRunImage, AsksSession, AsksOnly, AsksCommand, AsksOther, AsksText, AsksHelpBehind, AsksHelpWord, IsHelp, IsVersion, OptionsOfFormat, OptionsOfPlay, image_commands, plain_commands, word_at};
+ghost use Rattle.r10_words.specs.Words.{AsksSim, AsksImage, AsksImageOf, AsksFiles, AsksCheck, AsksRun, AsksRunImage, AsksSession, AsksOnly, AsksCommand, AsksOther, AsksText, AsksHelpBehind, AsksHelpWord, GivesAll, IsHelp, IsVersion, OptionsOfFormat, OptionsOfPlay, image_commands, plain_commands, word_at};
 ghost use Rattle.r10_words.specs.declared.asked.Asked.TheVariants.{Sim, Image, Files, Check};
 
 use crate::options::{FoundOption, front_options, gives_option, is_left_out, is_one_of};
-use crate::usage::{ASK_NOTHING, Called, called_by, command_line, help_hint, usage_line};
+use crate::usage::{ASK_NOTHING, Called, called_by, help_hint, parsed, usage_line};
 use clap::ArgMatches;
 use clap::error::ErrorKind;
 use std::alloc::{AllocError, Global};
@@ -177,7 +177,7 @@ fn asks_only(words: &[String], command: &str) -> bool
 fn read_other(alloc: Global, words: &[String]) -> Result<Asked, WordsFault>
     ensures { IfOk result (AsksOther (map string_bytes words.now)) }
 {
-    match command_line(alloc)?.try_get_matches_from(words) {
+    match parsed(alloc, words) {
         Ok(matches) => read_matches(alloc, words, &matches),
         Err(error) => read_error(alloc, words, &error),
     }
@@ -228,13 +228,27 @@ fn read_format(alloc: Global, words: &[String], found: &ArgMatches<'_>) -> Resul
     let Some(format) = format_words(alloc, found)? else {
         return Err(wrong(alloc, ASK_NOTHING, Called::Format));
     };
+    match format_fault(alloc, words, &format)? {
+        None => Ok(Asked::Format(format)),
+        Some(line) => Err(wrong(alloc, line, Called::Format)),
+    }
+}
+
+/// What is wrong with the options of `format`, if they do not say this, or something else stands there.
+fn format_fault(
+    alloc: Global,
+    words: &[String],
+    format: &FormatWords,
+) -> Result<Option<&'static str>, AllocError>
+    ensures { IfOk result (λ fault. IfNone fault (AsksCommand (codes "format") (map string_bytes words.now) × GivesAll (map string_bytes words.now) format.now)) }
+{
     let Some(given) = only_options(alloc, words, "format", &FORMAT_OPTIONS)? else {
-        return Err(wrong(alloc, ASK_NOTHING, Called::Format));
+        return Ok(Some(ASK_NOTHING));
     };
-    if gives_all(alloc, given.as_slice(), &format)? {
-        Ok(Asked::Format(format))
+    if gives_all(alloc, given.as_slice(), format)? {
+        Ok(None)
     } else {
-        Err(wrong(alloc, NUMBERS, Called::Format))
+        Ok(Some(NUMBERS))
     }
 }
 

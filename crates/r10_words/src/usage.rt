@@ -2,7 +2,7 @@
 
 use clap::builder::ValueParser;
 use clap::error::ErrorKind;
-use clap::{Arg, ArgAction, Command, value_parser};
+use clap::{Arg, ArgAction, ArgMatches, Command, value_parser};
 use std::alloc::{AllocError, Global};
 
 /// The version of the program.
@@ -309,20 +309,48 @@ fn shown_of(called: Called) -> Shown {
     }
 }
 
+/// What `clap` finds in the words.
+pub(crate) fn parsed<'a>(
+    alloc: Global,
+    words: &'a [String],
+) -> Result<ArgMatches<'a>, clap::Error> {
+    match command_line(alloc) {
+        Ok(line) => line.try_get_matches_from(words),
+        Err(error) => Err(clap::Error::from(error)),
+    }
+}
+
 /// The whole command line.
-pub(crate) fn command_line<'a>(alloc: Global) -> Result<Command<'a>, AllocError> {
+fn command_line<'a>(alloc: Global) -> Result<Command<'a>, AllocError> {
     let commands = commands(alloc)?;
-    let line = plain_line(alloc, shown_of(Called::Program)).version(VERSION);
-    line.subcommands(commands)?.bin_name("r10")
+    match plain_line(alloc, shown_of(Called::Program))
+        .version(VERSION)
+        .subcommands(commands)
+    {
+        Ok(line) => line.bin_name("r10"),
+        Err(error) => Err(error),
+    }
 }
 
 /// The commands, in the order of the help.
 fn commands<'a>(alloc: Global) -> Result<Vec<Command<'a>>, AllocError> {
     let mut commands = Vec::new(alloc);
     for (_, called) in &NAMED {
-        commands.push(full_line(alloc, shown_of(*called))?)?;
+        push_line(alloc, &mut commands, *called)?;
     }
     Ok(commands)
+}
+
+/// Adds a command with its options.
+fn push_line<'a>(
+    alloc: Global,
+    commands: &mut Vec<Command<'a>>,
+    called: Called,
+) -> Result<(), AllocError> {
+    match full_line(alloc, shown_of(called)) {
+        Ok(line) => Ok(commands.push(line)?),
+        Err(error) => Err(error),
+    }
 }
 
 /// A command with its options.
@@ -452,7 +480,7 @@ fn hinted_line(alloc: Global, words: &[String], called: Called) -> Result<String
 
 /// What `clap` says of the words.
 fn refused_line(alloc: Global, words: &[String], called: Called) -> Result<String, AllocError> {
-    match command_line(alloc)?.try_get_matches_from(words) {
+    match parsed(alloc, words) {
         Ok(_) => String::from_str(alloc, ASK_NOTHING),
         Err(error) => fault_line(alloc, &error, called),
     }
