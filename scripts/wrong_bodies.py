@@ -24,6 +24,7 @@ import hashlib
 import os
 import re
 import shutil
+import signal
 import subprocess
 import sys
 import tempfile
@@ -285,6 +286,29 @@ class Results:
         return ''.join(f'{it}\n' for it in sorted(line.text() for line in self.lines.values()))
 
 
+RUNNING: set[int] = set()
+
+
+def session_seconds(session: int) -> float:
+    """The seconds of a processor that the processes of a session took which still run."""
+    spent = 0
+    for pid in filter(str.isdigit, os.listdir('/proc')):
+        with contextlib.suppress(OSError):
+            text = Path('/proc', pid, 'stat').read_text(encoding='utf-8', errors='replace')
+            fields = text[text.rindex(')') + 2:].split()
+            if int(fields[3]) == session:
+                spent += int(fields[11]) + int(fields[12])
+    return spent / os.sysconf('SC_CLK_TCK')
+
+
+def stop(*_) -> None:
+    """Ends this run, and the checks that it began."""
+    for pid in RUNNING:
+        with contextlib.suppress(OSError):
+            os.kill(pid, signal.SIGKILL)
+    os._exit(130)
+
+
 class Lane:
     """A clone of the repository in which changes are tried, with the libraries that are built here."""
 
@@ -315,21 +339,25 @@ class Lane:
         place = self.folder / 'crates' / crate
         words = [it for name in functions for it in ('--only', name)]
         with tempfile.TemporaryFile() as out:
+            # (a session of its own, by which what it starts is found)
             ran = subprocess.Popen([sys.executable, str(TOP / 'scripts' / 'rt_once.py'), 'check', '--jobs', '1', *words], cwd=place,
-                                   stdin=subprocess.DEVNULL, stdout=out, stderr=subprocess.STDOUT, start_new_session=self.yields)
+                                   stdin=subprocess.DEVNULL, stdout=out, stderr=subprocess.STDOUT, start_new_session=True)
+            RUNNING.add(ran.pid)
             if self.yields:
-                # (a session is a scheduling group of its own, and so `nice` alone yields to nothing outside of it)
+                # (it is a scheduling group of its own too, so `nice` alone yields to nothing outside of it)
                 os.setpriority(os.PRIO_PROCESS, ran.pid, 19)
                 with contextlib.suppress(OSError):
                     Path(f'/proc/{ran.pid}/autogroup').write_text('19', encoding='ascii')
-            ends, done, in_time = time.time() + seconds, 0, True
+            done, in_time, turn = 0, True, 0
             while not done:
+                time.sleep(0.1)
+                turn += 1
                 done, status, used = os.wait4(ran.pid, os.WNOHANG)
-                if not done and in_time and time.time() > ends:
+                if not done and in_time and turn % 100 == 0 and session_seconds(ran.pid) > seconds:
                     # (what it started ends with it)
                     in_time = False
                     ran.kill()
-                time.sleep(0.05)
+            RUNNING.discard(ran.pid)
             ran.returncode = os.waitstatus_to_exitcode(status)
             out.seek(0)
             said = out.read().decode(errors='replace')
@@ -552,7 +580,7 @@ def add_options(words) -> None:
     words.add_argument('crates', nargs='*', metavar='CRATE')
     words.add_argument('--lanes', type=int, default=2, help='how many provers run side by side')
     words.add_argument('--work', type=Path, help="where clones are kept: in git's folder, where it is not said")
-    words.add_argument('--seconds', type=int, default=1800, help='the limit of one check')
+    words.add_argument('--seconds', type=int, default=1800, help='the limit of one check, in seconds of a processor')
     words.add_argument('--minutes', type=int, default=0, help='begins no check after so many')
     words.add_argument('--new', action='store_true', help='tries only those without a verdict, and leaves stale ones as they are')
     words.add_argument('--yield', dest='yields', action='store_true', help='provers take only what other processes leave')
@@ -626,6 +654,8 @@ def run(changes: list[Change], how: Options, results: Results) -> list[Verdict]:
                     print(f'{crate}: {it}', flush=True)
             print(f'# {crate}: {time.time() - start:.0f} s', flush=True)
 
+    for it in (signal.SIGINT, signal.SIGTERM):
+        signal.signal(it, stop)
     threads = [threading.Thread(target=work_in, args=(it,)) for it in range(min(how.lanes, max(len(todo), 1)))]
     for it in threads:
         it.start()
