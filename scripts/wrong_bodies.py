@@ -51,6 +51,7 @@ HEAD = re.compile(r'^(?:pub )?(?:unsafe )?(?P<kind>impl|trait)\b(?P<rest>[^{;]*)
 NOT_CODE = re.compile(r'//[^\n]*|"(?:[^"\\]|\\.)*"|\'(?:[^\'\\]|\\.[^\']*)\'')
 # (a proof file that names what the change took away, and what cites that proof, says little of a contract)
 ONLY_NAMES = re.compile(r'has no field|is not in scope|has no `|was not admitted')
+RESTS = re.compile(r'was not admitted|which is not proved')
 
 
 @dataclass(frozen=True)
@@ -522,7 +523,8 @@ class Trial:
         for change in group:
             path = change.function(self.functions).path()
             errors = made.goals.get(path, []) + in_source.get(path, [])
-            if errors:
+            # (what rests on another function that is changed here says nothing of this change)
+            if errors and (len(group) == 1 or not all(RESTS.search(it) for it in errors)):
                 self.found(change, *goal_of(errors))
             else:
                 again.append(change)
