@@ -103,8 +103,8 @@ fn carry_next<M: BlockMedium>(carrier: &mut Carrier, desk: &mut Desk<M>) -> Carr
     carry_hand(desk, channel, &mut carrier.hand)
 }
 
-/// Carries one sample into the recorder's lane, if the lane has room and there is a sample: a loss before it is told, and then it is offered. What is
-/// refused stays in hand.
+/// Carries one sample into the recorder's lane, if the lane has room and there is a sample. The loss before it is counted, and then
+/// it is offered. What is refused stays in hand.
 fn carry_into_lane<M: BlockMedium>(carrier: &mut Carrier, desk: &mut Desk<M>) -> Carry
     ensures { Carries M.disk desk.old carrier.old result desk.new carrier.new }
 {
@@ -121,11 +121,13 @@ fn carry_into_lane<M: BlockMedium>(carrier: &mut Carrier, desk: &mut Desk<M>) ->
     }
 }
 
-/// Carries one sample of an outlet into the recorder's lane, if it has room and there is a sample. Else its number says why not, or 0; 44 where the
-/// outlet is not open.
+/// Carries one sample of an outlet into the recorder's lane, if it has room and there is a sample. Else its number says why not,
+/// or 0; 44 if the outlet is not open.
 pub fn carry_one<M: BlockMedium>(alloc: Global, outlet: &mut OutletEnd, desk: &mut Desk<M>) -> Carry
-    ensures does { outlet.old.opened ≡ true → OutletGoes outlet.old outlet.new (λ from to. Carries M.disk desk.old from result desk.new to) }
-    ensures closed { outlet.old.opened ≡ false → (result ≡ record { number = 44; channel = 0; carried = false }) × (outlet.new ≡ outlet.old) × (desk.new ≡ desk.old) }
+    ensures does { outlet.old.opened ≡ true → OutletGoes outlet.old outlet.new
+        (λ from to. Carries M.disk desk.old from result desk.new to) }
+    ensures closed { outlet.old.opened ≡ false → (result ≡ record { number = 44; channel = 0; carried = false })
+        × (outlet.new ≡ outlet.old) × (desk.new ≡ desk.old) }
 {
     if !outlet.is_open() {
         return Carry {

@@ -1,4 +1,5 @@
-//! What carries the samples of a lane between threads into a recorder's lane, one at a time, and opens such a lane for a channel of a script.
+//! What carries the samples of a lane between threads into a recorder's lane, one at a time. It also opens such a lane
+//! for a channel of a script.
 #![tactic(auto)]
 
 mod carry;

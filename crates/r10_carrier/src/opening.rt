@@ -50,7 +50,7 @@ fn spec_at(channels: &[ChannelSpec], place: usize) -> ChannelSpec
     channels[place]
 }
 
-/// Opens the two ends of a lane for a channel of the script: 0, or 6 where it has no such channel, 30, 40 where it can't be taken, 45.
+/// Opens the two ends of a lane for a channel of the script: 0, or 6 if it has no such channel, 30, 40 if it can't be taken, 45.
 pub fn open_lane(
     alloc: Global,
     script: &[u8],

@@ -28,7 +28,8 @@ fn lost_of(gap: Gap) -> u64
 
 /// Offers a sample's message. No channel takes a time or an event.
 fn offer_sample<M: BlockMedium>(desk: &mut Desk<M>, channel: u16, sample: &Sample) -> u32
-    ensures { DoesEvent M.disk desk.old (events.Offer channel sample.now.count sample.now.message) (λ reply. result ≡ number_of reply) desk.new }
+    ensures { DoesEvent M.disk desk.old (events.Offer channel sample.now.count sample.now.message)
+        (λ reply. result ≡ number_of reply) desk.new }
 {
     let count = sample.count.get();
     match &sample.message {
@@ -60,15 +61,16 @@ fn offer_sample<M: BlockMedium>(desk: &mut Desk<M>, channel: u16, sample: &Sampl
     }
 }
 
-/// Tells what a sample comes to: the loss before it, if there was one, and its offer. It answers 0, or the number of the first refusal. A loss that was
-/// told is no longer the sample's.
+/// Gives the recorder what a sample comes to: the loss before it, if there was one, and its offer. It answers 0, or the number
+/// of the first refusal. A loss that was counted is no longer the sample's.
 pub(crate) fn tell_sample<M: BlockMedium>(
     desk: &mut Desk<M>,
     channel: u16,
     sample: &mut Sample,
 ) -> u32
     ensures told { result ≡ 0 → DoesEach M.disk desk.old (events_of channel sample.old) desk.new }
-    ensures refused { result ≢ 0 → StopsAt M.disk desk.old (events_of channel sample.old) (events_of channel sample.new) result desk.new }
+    ensures refused { result ≢ 0 → StopsAt M.disk desk.old (events_of channel sample.old)
+        (events_of channel sample.new) result desk.new }
 {
     let lost = lost_of(sample.gap);
     if lost != 0 {
