@@ -25,15 +25,19 @@ each_entry = 104
 abbrev pub each_file : ℕ
 each_file = 152
 
--- a loss whose number is told costs a report of 44 bytes, and its part of the index
+-- what a loss whose number is told costs: a report of 44 bytes, and its part of the index
+abbrev pub each_report : ℕ
+each_report = 68
+
+-- what the gap before an entry adds to its cost
 abbrev pub lost_cost : Gap → ℕ
-lost_cost (Lost n) = 68
+lost_cost (Lost n) = each_report
 lost_cost gap = 0
 
 -- what a report adds to the cost of the entry that comes behind it
 abbrev pub owed : Option LossBody → ℕ
 owed None = 0
-owed (Some loss) = 68
+owed (Some loss) = each_report
 
 -- what an entry costs, but for what was lost before it
 abbrev pub plain_cost : Entry → ℕ

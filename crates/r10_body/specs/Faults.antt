@@ -3,6 +3,7 @@ use Rattle.std.specs.Prelude.{◌≡◌, ℕ, ◌<◌, ◌≤◌, ◌⊎◌, Boo
 use Rattle.std.specs.List.{AllByRecursion, concat}
 use Rattle.r10_packet.specs.Framing.{framing_fault, header_at, body_at, has_data_checksum}
 use Rattle.r10_packet.specs.Header.{checksum_bits}
+use Rattle.r10_packet.specs.Limits.{longest_packet}
 use Rattle.r10_packet.specs.Packet.{filled, least_filler}
 use Rattle.r10_packet.specs.declared.fault.PacketFault.TheVariants as packet_faults
 use Rattle.r10_body.specs.Packets.{Packet, FitsPacket, packet_bytes, file_bytes}
@@ -42,7 +43,7 @@ first_packet bytes = take (header_at bytes).packet_len bytes
 
 -- rule 1: this version and these flags, and not too long
 abbrev pub KeepsHeader : List ℕ → Type 0
-KeepsHeader bytes = let h = header_at bytes in (h.version ≡ 8) × (bit_and h.flags 0xEC ≡ 0) × (h.packet_len ≤ 524288)
+KeepsHeader bytes = let h = header_at bytes in (h.version ≡ 8) × (bit_and h.flags 0xEC ≡ 0) × (h.packet_len ≤ longest_packet)
 
 -- rule 2: the least filler, of zeros
 abbrev pub KeepsFiller : List ℕ → Type 0

@@ -3,6 +3,8 @@ use Rattle.std.specs.Prelude.{◌≡◌, ℕ, ◌<◌, Bool, false, true, not, �
 use Rattle.std.specs.List.{AllByRecursion, concat, list_any}
 use Rattle.r10_count.specs.Bytes.{bit_of}
 use Rattle.r10_packet.specs.Framing.{framing_fault, header_at, body_at, has_data_checksum}
+use Rattle.r10_packet.specs.Types.{type_user, type_setup, type_event, type_index, type_time}
+use Rattle.r10_packet.specs.Types.{type_bus, type_discrete, type_message, type_arinc, type_uart}
 use Rattle.r10_packet.specs.declared.header.Header.{Header}
 use Rattle.r10_indexbody.specs.Loss as loss_bodies
 use Rattle.r10_setup.specs.Setup as setup_bodies
@@ -17,17 +19,19 @@ use Rattle.r10_message.specs.Message as message_bodies
 
 -- the data types that are read: setup, event, index, time, MIL-STD-1553, discrete, message, ARINC 429 and UART
 abbrev pub known_types : List ℕ
-known_types = 0x01 ∷ 0x02 ∷ 0x03 ∷ 0x11 ∷ 0x19 ∷ 0x29 ∷ 0x30 ∷ 0x38 ∷ 0x50 ∷ []
+known_types =
+    type_setup ∷ type_event ∷ type_index ∷ type_time ∷ type_bus ∷ type_discrete ∷ type_message ∷ type_arinc ∷ type_uart ∷ []
 
 -- the channel specific word of a body selects a form that isn't read; a body without a whole word selects nothing
 abbrev pub selects_other : ℕ → List ℕ → Bool
 selects_other type body =
-    (type == 0x01 && setup_bodies.is_opaque_setup body) || (type == 0x02 && event_bodies.is_opaque_event body) || (type == 0x03 && index_bodies.is_opaque_index body) || (type == 0x11 && time_bodies.is_opaque_time body)
-    || (type == 0x30 && message_bodies.is_opaque_message body) || (type == 0x50 && uart_bodies.is_opaque_uart body)
+    (type == type_setup && setup_bodies.is_opaque_setup body) || (type == type_event && event_bodies.is_opaque_event body)
+    || (type == type_index && index_bodies.is_opaque_index body) || (type == type_time && time_bodies.is_opaque_time body)
+    || (type == type_message && message_bodies.is_opaque_message body) || (type == type_uart && uart_bodies.is_opaque_uart body)
 
 -- a loss report, of which nothing more is judged
 abbrev pub is_loss_report : ℕ → List ℕ → Bool
-is_loss_report type body = type == 0x00 && loss_bodies.is_loss_body body
+is_loss_report type body = type == type_user && loss_bodies.is_loss_body body
 
 -- a packet with a secondary header or with another intra-packet time than the counter's, of another type, or of a form that isn't read
 abbrev pub is_opaque_packet : Header → List ℕ → Bool
@@ -37,15 +41,15 @@ is_opaque_packet h body =
 
 -- the body is a word and exactly the entries that its type has
 pub record IsForeignBody (type : ℕ) (body : List ℕ) : Type 0 where
-  pub setup : type ≡ 0x01 → setup_bodies.IsForeignSetup body
-  pub event : type ≡ 0x02 → event_bodies.IsForeignEvents body
-  pub index : type ≡ 0x03 → index_bodies.IsForeignIndex body
-  pub time : type ≡ 0x11 → time_bodies.IsForeignTime body
-  pub bus : type ≡ 0x19 → bus_bodies.IsForeignBus body
-  pub discrete : type ≡ 0x29 → discrete_bodies.IsForeignDiscrete body
-  pub message : type ≡ 0x30 → message_bodies.IsForeignMessage body
-  pub arinc : type ≡ 0x38 → arinc_bodies.IsForeignArinc body
-  pub uart : type ≡ 0x50 → uart_bodies.IsForeignUart body
+  pub setup : type ≡ type_setup → setup_bodies.IsForeignSetup body
+  pub event : type ≡ type_event → event_bodies.IsForeignEvents body
+  pub index : type ≡ type_index → index_bodies.IsForeignIndex body
+  pub time : type ≡ type_time → time_bodies.IsForeignTime body
+  pub bus : type ≡ type_bus → bus_bodies.IsForeignBus body
+  pub discrete : type ≡ type_discrete → discrete_bodies.IsForeignDiscrete body
+  pub message : type ≡ type_message → message_bodies.IsForeignMessage body
+  pub arinc : type ≡ type_arinc → arinc_bodies.IsForeignArinc body
+  pub uart : type ≡ type_uart → uart_bodies.IsForeignUart body
 
 -- the packet that stands first in these bytes is opaque
 abbrev pub opaque_at : List ℕ → Bool

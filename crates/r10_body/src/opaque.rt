@@ -7,7 +7,10 @@ ghost use Rattle.r10_body.specs.Foreign.{is_loss_report as loss_reports, known_t
 use r10_event::EventBody;
 use r10_indexbody::LossBody;
 use r10_message::MessageBody;
-use r10_packet::Header;
+use r10_packet::{
+    Header, TYPE_ARINC, TYPE_BUS, TYPE_DISCRETE, TYPE_EVENT, TYPE_INDEX, TYPE_MESSAGE, TYPE_SETUP,
+    TYPE_TIME, TYPE_UART, TYPE_USER,
+};
 use r10_setup::SetupBody;
 use r10_timebody::TimeBody;
 use r10_uart::UartBody;
@@ -28,32 +31,32 @@ pub fn is_opaque(header: &Header, body: &[u8]) -> bool
 fn is_known(data_type: u8) -> bool
     ensures { result ≡ list_any (λ type. type == data_type) known_types }
 {
-    data_type == 0x01
-        || data_type == 0x02
-        || data_type == 0x03
-        || data_type == 0x11
-        || data_type == 0x19
-        || data_type == 0x29
-        || data_type == 0x30
-        || data_type == 0x38
-        || data_type == 0x50
+    data_type == TYPE_SETUP
+        || data_type == TYPE_EVENT
+        || data_type == TYPE_INDEX
+        || data_type == TYPE_TIME
+        || data_type == TYPE_BUS
+        || data_type == TYPE_DISCRETE
+        || data_type == TYPE_MESSAGE
+        || data_type == TYPE_ARINC
+        || data_type == TYPE_UART
 }
 
 /// Whether a packet of this data type with this body is a loss report.
 fn is_loss_report(data_type: u8, body: &[u8]) -> bool
     ensures { result ≡ loss_reports data_type body.now }
 {
-    data_type == 0x00 && LossBody::is_report(body)
+    data_type == TYPE_USER && LossBody::is_report(body)
 }
 
 /// Whether the channel specific word of a body of this type selects a form that isn't read.
 fn selects_other(data_type: u8, body: &[u8]) -> bool
     ensures { result ≡ word_selects data_type body.now }
 {
-    (data_type == 0x01 && SetupBody::is_opaque(body))
-        || (data_type == 0x02 && EventBody::is_opaque(body))
-        || (data_type == 0x03 && r10_indexbody::is_opaque(body))
-        || (data_type == 0x11 && TimeBody::is_opaque(body))
-        || (data_type == 0x30 && MessageBody::is_opaque(body))
-        || (data_type == 0x50 && UartBody::is_opaque(body))
+    (data_type == TYPE_SETUP && SetupBody::is_opaque(body))
+        || (data_type == TYPE_EVENT && EventBody::is_opaque(body))
+        || (data_type == TYPE_INDEX && r10_indexbody::is_opaque(body))
+        || (data_type == TYPE_TIME && TimeBody::is_opaque(body))
+        || (data_type == TYPE_MESSAGE && MessageBody::is_opaque(body))
+        || (data_type == TYPE_UART && UartBody::is_opaque(body))
 }

@@ -1,6 +1,7 @@
 -- Packets and builders that are those of one file, and how they go on.
 use Rattle.std.specs.Prelude.{◌≡◌, ℕ, ◌<◌, List, ◌++◌, length, Option, None, Some}
 use Rattle.std.specs.List.{AllByRecursion}
+use Rattle.r10_packet.specs.Types.{type_time}
 use Rattle.r10_body.specs.Content.{type_of}
 use Rattle.r10_body.specs.Files.{on_channel}
 use Rattle.r10_body.specs.Packets.{Packet, FitsPacket, header_of, packet_body, packet_entries}
@@ -34,7 +35,7 @@ pub record HandsOn (closed : Closed) (packets : List Packet) (builders : List Bu
   pub gap : closed.gap ≡ packet.gap
   -- it is on the channel of a builder, and no packet that the recorder makes itself
   pub on : HasNone packet.channel builders → ⊥
-  pub data_type : 0x11 < type_of packet.content
+  pub data_type : type_time < type_of packet.content
   -- where a number is told of what was lost before it, a report may come next, and then the packet
   pub reports : (n : ℕ) → packet.gap ≡ Lost n → MayFollow packets (numbered packets (report_packet (last_time 0 packets) packet.channel n))
   pub follows : MayFollow (reporting packets packet) (numbered (reporting packets packet) packet)

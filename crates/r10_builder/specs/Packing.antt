@@ -3,6 +3,7 @@ use Rattle.std.specs.Prelude.{◌≡◌, ℕ, ◌+◌, ◌*◌, ◌/◌, ◌<◌
 use Rattle.std.specs.List.{AllByRecursion, sum_by}
 use Rattle.r10_count.specs.Checks.{first_broken}
 use Rattle.r10_packet.specs.Header.{check_bits_of, check_of_bits, checksum_bits}
+use Rattle.r10_packet.specs.Limits.{longest_packet}
 use Rattle.r10_body.specs.Bodies.{discretes_of}
 use Rattle.r10_body.specs.Content.{type_of}
 use Rattle.r10_body.specs.Gaps.{is_gap}
@@ -63,7 +64,7 @@ IsYoung now (first ∷ rest) = now ≤ first.count + tenth
 -- settings within the limits of a recorder
 pub record IsLimited (spec : ChannelSpec) : Type 0 where
   pub check : check_bits_of (check_of_bits spec.check) ≡ spec.check
-  pub bytes : spec.bytes ≤ 524288
+  pub bytes : spec.bytes ≤ longest_packet
   pub some : 0 < spec.number
   pub number : spec.number < 65536
 

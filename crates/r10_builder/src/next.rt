@@ -4,8 +4,10 @@ ghost use Rattle.std.specs.Prelude.{◌≡◌, ◌<◌, ◌≤◌, ◌^◌, ◌+
 ghost use Rattle.r10_count.specs.Civil.{IsCivil};
 ghost use Rattle.r10_count.specs.Count.{IsCount};
 ghost use Rattle.r10_count.specs.declared.civil.Parts.{Parts};
+ghost use Rattle.r10_packet.specs.Types.{type_event, type_time};
 ghost use Rattle.r10_body.specs.Content.{setup};
 ghost use Rattle.r10_body.specs.Files.{PacketsSay, on_channel};
+ghost use Rattle.r10_body.specs.Limits.{longest_text};
 ghost use Rattle.r10_body.specs.Messages.{kind_type};
 ghost use Rattle.r10_body.specs.Packets.{Packet, file_entries};
 ghost use Rattle.r10_body.specs.Rules.{MayFollow, is_index, is_report_packet, last_time};
@@ -32,19 +34,24 @@ pub fn report_may_follow()
 
 /// A time may come next, on a channel of times.
 pub fn time_may_follow()
-    ensures { (packets : List Packet) (channel : ℕ) (count : ℕ) (civil : Parts) → IsGrowing packets → ChannelGoesOn packets channel 0x11 count → channel < 2 ^ 16 → IsCount count → IsCivil civil
+    ensures { (packets : List Packet) (channel : ℕ) (count : ℕ) (civil : Parts)
+        → IsGrowing packets → ChannelGoesOn packets channel type_time count
+        → channel < 2 ^ 16 → IsCount count → IsCivil civil
         → MayFollow packets (numbered packets (time_packet channel count civil)) }
 {}
 
 /// An event may come next, on a channel of events. It tells how many of its number came before it.
 pub fn event_may_follow()
-    ensures { (packets : List Packet) (channel : ℕ) (count : ℕ) (number : ℕ) → IsGrowing packets → ChannelGoesOn packets channel 0x02 count → channel < 2 ^ 16 → IsCount count → number < 2 ^ 12
+    ensures { (packets : List Packet) (channel : ℕ) (count : ℕ) (number : ℕ)
+        → IsGrowing packets → ChannelGoesOn packets channel type_event count
+        → channel < 2 ^ 16 → IsCount count → number < 2 ^ 12
         → MayFollow packets (numbered packets (event_packet channel count number packets)) }
 {}
 
-/// A setup text of at most 524,260 bytes and a time begin a file.
+/// A setup text that isn't too long and a time begin a file.
 pub fn file_begins()
-    ensures { (text : List ℕ) (channel : ℕ) (count : ℕ) (civil : Parts) → length text ≤ 524_260 → 0 < channel → channel < 2 ^ 16 → IsCount count → IsCivil civil
+    ensures { (text : List ℕ) (channel : ℕ) (count : ℕ) (civil : Parts)
+        → length text ≤ longest_text → 0 < channel → channel < 2 ^ 16 → IsCount count → IsCivil civil
         → IsGrowing (setup_packet count text ∷ time_packet channel count civil ∷ []) }
 {}
 

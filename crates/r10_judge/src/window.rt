@@ -12,10 +12,11 @@ use crate::walk::{Taken, Walk};
 use r10_blockout::{ReadFault, read_bytes};
 use r10_body::FileFault;
 use r10_medium::BlockMedium;
+use r10_packet::LONGEST_PACKET;
 use std::alloc::{AllocError, Global};
 
 /// How many bytes are read at once, but where a packet has more: as many as this recorder's longest packet has.
-const WINDOW: usize = 524_288;
+const WINDOW: usize = LONGEST_PACKET as usize;
 
 /// A file that was walked up to its end, or up to the first packet that no recorder wrote.
 #[derive(Drop)]

@@ -3,6 +3,7 @@ use Rattle.std.specs.Prelude.{◌≡◌, ◌==◌, ◌+◌, ◌*◌, ◌<◌, �
 use Rattle.std.specs.List.{All}
 use Rattle.r10_blockout.specs.Output.{HasRoomOnMedium, first_of}
 use Rattle.r10_body.specs.Cost.{file_cost}
+use Rattle.r10_body.specs.Limits.{longest_text}
 use Rattle.r10_body.specs.declared.entry.Entry.{Entry}
 use Rattle.r10_body.specs.declared.spec.ChannelSpec.{ChannelSpec}
 use Rattle.r10_builder.specs.Grows.{HasNone, all_held}
@@ -40,12 +41,12 @@ pub record MayBegin (s : Config) (image : Image) (chain : List ChainBlock) (buil
   pub few : length (listed_files chain) < most_files s
   pub fresh : AreNew s builders
   pub name : is_name called ≡ true
-  pub short : length text ≤ 524_260
+  pub short : length text ≤ longest_text
 
 -- from this block on there is room for a setup text and a time
 pub record MayPutFirst (s : Config) (image : Image) (builders : List BuilderState) (first : ℕ) (text : List ℕ) (count : ℕ) (civil : Parts) : Type 0 where
   pub fresh : AreNew s builders
-  pub short : length text ≤ 524_260
+  pub short : length text ≤ longest_text
   pub room : 512 * first + file_cost text (time_entry_at s.time count civil ∷ []) ≤ 512 * length image
 
 -- the file carries something behind the blocks of a directory, which has a place and memory for an entry more

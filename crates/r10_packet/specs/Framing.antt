@@ -5,6 +5,8 @@ use Rattle.r10_count.specs.Checks.{first_broken}
 use Rattle.r10_count.specs.Bytes.{u16_at, u32_at, u64_at}
 use Rattle.r10_packet.specs.Sums.{sum_of_words16, data_checksum}
 use Rattle.r10_packet.specs.Header.{checksum_bits}
+use Rattle.r10_packet.specs.Limits.{longest_packet}
+use Rattle.r10_packet.specs.Types.{type_setup}
 use Rattle.r10_packet.specs.declared.header.Header.{Header}
 use Rattle.r10_packet.specs.declared.fault.PacketFault.{PacketFault}
 use Rattle.r10_packet.specs.declared.view.DataSum.{DataSum}
@@ -24,10 +26,10 @@ header_at bytes = record {
   counter = u64_at bytes 16 % 281474976710656;
 }
 
--- both lengths are ones that a packet may have; only a setup packet may pass 524,288 bytes
+-- both lengths are ones that a packet may have; only a setup packet may pass the longest
 abbrev pub has_lengths : Header → Bool
 has_lengths h =
-    nat_le 24 h.packet_len && h.packet_len % 4 == 0 && (nat_le h.packet_len 524288 || h.data_type == 1)
+    nat_le 24 h.packet_len && h.packet_len % 4 == 0 && (nat_le h.packet_len longest_packet || h.data_type == type_setup)
     && nat_le h.data_len (h.packet_len - 24)
 
 -- what must hold of a header, in order, and the fault where it doesn't

@@ -6,7 +6,9 @@ ghost use Rattle.r10_packet.specs.Header.{FitsHeader, header_bytes};
 ghost use Rattle.r10_packet.specs.Framing.{header_at, has_lengths as lengths_hold, header_fault};
 
 use crate::fault::PacketFault;
+use crate::limits::LONGEST_PACKET;
 use crate::sums::sum16;
+use crate::types::TYPE_SETUP;
 use r10_count::Count;
 
 /// A packet's primary header, without its sync pattern and its checksum.
@@ -38,7 +40,7 @@ impl Header {
     {
         24 <= self.packet_len
             && self.packet_len % 4 == 0
-            && (self.packet_len <= 524_288 || self.data_type == 1)
+            && (self.packet_len <= LONGEST_PACKET || self.data_type == TYPE_SETUP)
             && self.data_len <= self.packet_len - 24
     }
 }

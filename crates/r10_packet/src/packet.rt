@@ -4,6 +4,7 @@ ghost use Rattle.std.specs.Prelude.{◌≡◌, ◌+◌, ◌/◌, ◌≤◌, ◌+
 ghost use Rattle.std.specs.Str.{bytes_eq};
 ghost use Rattle.r10_packet.specs.Sums.{data_checksum};
 ghost use Rattle.r10_packet.specs.Header.{check_bits_of, checksum_bits};
+ghost use Rattle.r10_packet.specs.Limits.{longest_body};
 ghost use Rattle.r10_packet.specs.Packet.{framed, framed_bytes, IsPacket};
 ghost use Rattle.r10_packet.specs.Framing.{has_lengths, framing_fault, header_at, body_at, data_sum_of, has_data_checksum};
 
@@ -22,7 +23,7 @@ impl Packet {
     /// checksum is the one that the header's flags tell. No secondary header is added: where bit 7 of
     /// the flags tells one, it is the first bytes of `body`, which stand right behind the header.
     pub fn frame(alloc: Global, header: &Header, body: &[u8]) -> Result<Vec<u8>, AllocError>
-        requires short { length body.now + checksum_bits header.now.flags / 8 ≤ 524_264 }
+        requires short { length body.now + checksum_bits header.now.flags / 8 ≤ longest_body }
         ensures bytes { IfOk result (λ v. v.items ≡ framed_bytes header.now body.now) }
         ensures sentence { IfOk result (λ v. IsPacket v.items (framed header.now body.now) body.now) }
         ensures lengths { IsTrue (has_lengths (framed header.now body.now)) }

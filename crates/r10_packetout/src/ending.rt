@@ -2,6 +2,7 @@
 
 ghost use Rattle.std.specs.Prelude.{◌≡◌, ◌+◌, ◌/◌, ◌≤◌, ◌∷◌, ◌++◌, length, take};
 ghost use Rattle.r10_packet.specs.Header.{check_bits_of};
+ghost use Rattle.r10_packet.specs.Limits.{longest_body};
 ghost use Rattle.r10_packet.specs.Packet.{least_filler};
 ghost use Rattle.r10_packet.specs.Sums.{data_checksum};
 
@@ -22,7 +23,7 @@ impl Ending {
 
     /// What stands behind a body.
     pub(crate) fn of(check: Check, body: &[u8]) -> Ending
-        requires { length body.now ≤ 524_264 }
+        requires { length body.now ≤ longest_body }
         ensures { let filler = least_filler (check_bits_of check) body.now in said result ≡ filler ++ data_checksum (check_bits_of check) (body.now ++ filler) }
     {
         let width = check.width();

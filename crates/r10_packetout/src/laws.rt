@@ -9,6 +9,7 @@ ghost use Rattle.r10_medium.specs.Disk.{Image as MediumImage};
 ghost use Rattle.r10_packet.specs.declared.header.Header.{Header};
 ghost use Rattle.r10_body.specs.Cost.{entry_cost, file_cost};
 ghost use Rattle.r10_body.specs.Files.{PacketsSay, on_channel};
+ghost use Rattle.r10_body.specs.Limits.{longest_text};
 ghost use Rattle.r10_body.specs.Packets.{Packet as StrictPacket, file_bytes, file_entries};
 ghost use Rattle.r10_body.specs.Rules.{Rise};
 ghost use Rattle.r10_body.specs.declared.entry.Entry.{Entry};
@@ -71,11 +72,12 @@ pub fn events_are_carried()
 /// two packets, with an index behind them, end within what it costs.
 pub fn files_begin()
     ensures carried { (r : Recording) (text : List ℕ) (count : ℕ) (civil : Parts) → StandApart r → AreChannelSettings 0 (specs_of r.builders) → all_held r.builders ≡ [] → EventsAreCounted r.counts []
-        → length text ≤ 524_260 → IsCount count → IsCivil civil → (out : Writing) (later : MediumImage)
+        → length text ≤ longest_text → IsCount count → IsCivil civil → (out : Writing) (later : MediumImage)
         → Has out later (numbered [] (setup_packet count text) ∷ numbered (numbered [] (setup_packet count text) ∷ []) (time_packet r.time count civil) ∷ [])
         → Records (record r { out = out; clock = count; cost = file_cost text (time_entry_at r.time count civil ∷ []) }) later text (time_entry_at r.time count civil ∷ []) }
     ensures room { (r : Recording) (text : List ℕ) (count : ℕ) (civil : Parts) → StandApart r → AreChannelSettings 0 (specs_of r.builders) → all_held r.builders ≡ [] → EventsAreCounted r.counts []
-        → length text ≤ 524_260 → IsCount count → IsCivil civil → (header : Header) (second : Header) (body : List ℕ) (other : List ℕ)
+        → length text ≤ longest_text → IsCount count → IsCivil civil
+        → (header : Header) (second : Header) (body : List ℕ) (other : List ℕ)
         → Describes header body (setup_packet count text) → Describes second other (time_packet r.time count civil)
         → packet_size header body + packet_size second other + index_size 2 ≤ file_cost text (time_entry_at r.time count civil ∷ []) }
 {}

@@ -1,17 +1,22 @@
 -- The body of a setup packet: the channel specific word, and the setup text as it is.
-use Rattle.std.specs.Prelude.{◌≡◌, ℕ, ◌≤◌, Bool, ◌&&◌, List, ◌++◌, length, nat_le}
+use Rattle.std.specs.Prelude.{◌≡◌, ℕ, ◌-◌, ◌≤◌, Bool, ◌&&◌, List, ◌++◌, length, nat_le}
 use Rattle.r10_count.specs.Bytes.{le_bytes, u32_at, bit_of}
 use Rattle.r10_count.specs.declared.reading.Reading.{Reading}
 use Rattle.r10_count.specs.declared.reading.Reading.TheVariants.{Strict, Lenient, Neither}
+use Rattle.r10_packet.specs.Limits.{longest_body}
 use Rattle.r10_setup.specs.declared.body.SetupBody.{SetupBody}
 
 -- the word: ASCII text, configuration unchanged, this release
 abbrev pub setup_body : List ℕ → List ℕ
 setup_body text = le_bytes 4 0x0C ++ text
 
--- with its header and its word such a text fits a packet of 524,288 bytes
+-- the most bytes that such a text has: with its header and its word it fits the longest packet
+abbrev pub longest_text : ℕ
+longest_text = longest_body - 4
+
+-- a packet has room for such a text
 abbrev pub FitsSetup : List ℕ → Type 0
-FitsSetup text = length text ≤ 524_260
+FitsSetup text = length text ≤ longest_text
 
 -- the writer makes this body of the text
 abbrev pub IsSetup : List ℕ → List ℕ → Type 0

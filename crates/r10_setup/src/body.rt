@@ -5,11 +5,15 @@ ghost use Rattle.r10_count.specs.Append.{Appends};
 ghost use Rattle.r10_count.specs.Reading.{ReadsBody};
 
 use r10_count::{Reading, append_all, split_u32};
+use r10_packet::LONGEST_BODY;
 use std::alloc::{AllocError, Global};
 
 /// The channel specific data word: ASCII text, configuration unchanged, and release 0x0C, which is
 /// this recorder's own choice.
 const WORD: u32 = 0x0000_000C;
+
+/// The most bytes that a setup text of this recorder has: those of a body behind its word.
+pub const LONGEST_TEXT: usize = LONGEST_BODY - 4;
 
 /// The body of a setup packet: the channel specific data word, and the setup text as it is.
 /// Source: IRIG 106-17 chapter 11, computer-generated data packets, format 1.
@@ -22,11 +26,11 @@ pub struct SetupBody<'a> {
 impl<'a> SetupBody<'a> {
     ghost use Rattle.r10_setup.specs.Setup.{FitsSetup, IsSetup, IsForeignSetup, IsText, setup_body, is_opaque_setup};
 
-    /// Whether a packet has room for the text: at most 524,260 bytes.
+    /// Whether a packet has room for the text.
     pub fn check(&self) -> bool
         ensures { IsTrue result ↔ FitsSetup self.now.text.now }
     {
-        self.text.len() <= 524_260
+        self.text.len() <= LONGEST_TEXT
     }
 
     /// How many bytes the body has.

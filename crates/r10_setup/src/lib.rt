@@ -4,4 +4,4 @@
 
 mod body;
 
-pub use body::SetupBody;
+pub use body::{LONGEST_TEXT, SetupBody};

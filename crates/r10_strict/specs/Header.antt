@@ -1,6 +1,8 @@
 -- What a header says to the first rules, and the packet that a header and a content are, by itself.
 use Rattle.std.specs.Prelude.{◌≡◌, ℕ, ◌%◌, ◌≤◌, ◌==◌, ◌||◌, Bool, IsTrue, bit_and, length}
 use Rattle.r10_count.specs.Bytes.{bit_of}
+use Rattle.r10_packet.specs.Limits.{longest_packet}
+use Rattle.r10_packet.specs.Types.{type_event, type_index, type_setup, type_time, type_user}
 use Rattle.r10_packet.specs.declared.header.Header.{Header}
 use Rattle.r10_body.specs.Content.{Content, type_of}
 use Rattle.r10_body.specs.Gaps.{gap_of_flag}
@@ -10,11 +12,11 @@ use Rattle.r10_strict.specs.declared.facts.Facts.{Facts}
 
 -- this version and these flags, and not too long
 abbrev pub IsOwnHeader : Header → Type 0
-IsOwnHeader h = (h.version ≡ 8) × (bit_and h.flags 0xEC ≡ 0) × (h.packet_len ≤ 524288)
+IsOwnHeader h = (h.version ≡ 8) × (bit_and h.flags 0xEC ≡ 0) × (h.packet_len ≤ longest_packet)
 
 -- packets of this type have no data checksum
 abbrev pub goes_unchecked : ℕ → Bool
-goes_unchecked type = type == 0x01 || type == 0x11 || type == 0x02 || type == 0x03 || type == 0x00
+goes_unchecked type = type == type_setup || type == type_time || type == type_event || type == type_index || type == type_user
 
 -- such a packet has none
 abbrev pub IsCheckedRight : Header → Type 0

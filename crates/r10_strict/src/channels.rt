@@ -2,6 +2,8 @@
 
 ghost use Rattle.std.specs.Prelude.{◌≡◌, ◌≤◌, ◌<◌, ◌*◌, ◌++◌, ℕ, List, IfSome, IfNone, length};
 ghost use Rattle.r10_count.specs.Bytes.{le_bytes};
+ghost use Rattle.r10_packet.specs.Limits.{longest_packet};
+ghost use Rattle.r10_packet.specs.Types.{type_arinc, type_bus, type_discrete, type_message, type_uart};
 ghost use Rattle.r10_body.specs.Bodies.{IsBodyOf};
 ghost use Rattle.r10_body.specs.Content.{Content, type_of};
 ghost use Rattle.r10_body.specs.Packets.{packet_bytes};
@@ -21,8 +23,8 @@ use r10_uart::UartEntry;
 
 /// The facts of a packet of UART messages.
 pub(crate) fn read_uart(header: &Header, body: &[u8]) -> Option<Facts>
-    requires short { length body.now ≤ 524_288 }
-    requires told { header.now.data_type ≡ 0x50 }
+    requires short { length body.now ≤ longest_packet }
+    requires told { header.now.data_type ≡ type_uart }
     ensures found { IfSome result (λ f. (content : Content) × IsBodyOf header.now.data_type header.now.counter content body.now × AreFactsOfHeader f header.now content) }
     ensures none { IfNone result ((content : Content) → IsBodyOf header.now.data_type header.now.counter content body.now → ⊥) }
 {
@@ -34,8 +36,8 @@ pub(crate) fn read_uart(header: &Header, body: &[u8]) -> Option<Facts>
 
 /// The facts of a packet of a message channel.
 pub(crate) fn read_messages(header: &Header, body: &[u8]) -> Option<Facts>
-    requires short { length body.now ≤ 524_288 }
-    requires told { header.now.data_type ≡ 0x30 }
+    requires short { length body.now ≤ longest_packet }
+    requires told { header.now.data_type ≡ type_message }
     ensures found { IfSome result (λ f. (content : Content) × IsBodyOf header.now.data_type header.now.counter content body.now × AreFactsOfHeader f header.now content) }
     ensures none { IfNone result ((content : Content) → IsBodyOf header.now.data_type header.now.counter content body.now → ⊥) }
 {
@@ -47,8 +49,8 @@ pub(crate) fn read_messages(header: &Header, body: &[u8]) -> Option<Facts>
 
 /// The facts of a packet of MIL-STD-1553 messages.
 pub(crate) fn read_bus(header: &Header, body: &[u8]) -> Option<Facts>
-    requires short { length body.now ≤ 524_288 }
-    requires told { header.now.data_type ≡ 0x19 }
+    requires short { length body.now ≤ longest_packet }
+    requires told { header.now.data_type ≡ type_bus }
     ensures found { IfSome result (λ f. (content : Content) × IsBodyOf header.now.data_type header.now.counter content body.now × AreFactsOfHeader f header.now content) }
     ensures none { IfNone result ((content : Content) → IsBodyOf header.now.data_type header.now.counter content body.now → ⊥) }
 {
@@ -60,8 +62,8 @@ pub(crate) fn read_bus(header: &Header, body: &[u8]) -> Option<Facts>
 
 /// The facts of a packet of ARINC 429 words.
 pub(crate) fn read_words(header: &Header, body: &[u8]) -> Option<Facts>
-    requires short { length body.now ≤ 524_288 }
-    requires told { header.now.data_type ≡ 0x38 }
+    requires short { length body.now ≤ longest_packet }
+    requires told { header.now.data_type ≡ type_arinc }
     ensures found { IfSome result (λ f. (content : Content) × IsBodyOf header.now.data_type header.now.counter content body.now × AreFactsOfHeader f header.now content) }
     ensures none { IfNone result ((content : Content) → IsBodyOf header.now.data_type header.now.counter content body.now → ⊥) }
 {
@@ -83,8 +85,8 @@ fn told_bits(body: &[u8]) -> u32
 
 /// The facts of a packet of changes of discretes.
 pub(crate) fn read_states(header: &Header, body: &[u8]) -> Option<Facts>
-    requires short { length body.now ≤ 524_288 }
-    requires told { header.now.data_type ≡ 0x29 }
+    requires short { length body.now ≤ longest_packet }
+    requires told { header.now.data_type ≡ type_discrete }
     ensures found { IfSome result (λ f. (content : Content) × IsBodyOf header.now.data_type header.now.counter content body.now × AreFactsOfHeader f header.now content) }
     ensures none { IfNone result ((content : Content) → IsBodyOf header.now.data_type header.now.counter content body.now → ⊥) }
 {

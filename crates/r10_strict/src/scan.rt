@@ -2,6 +2,7 @@
 
 ghost use Rattle.std.specs.Prelude.{◌≡◌, ◌++◌, ◌≤◌, ◌&&◌, ℕ, List, map, max, nat_le, true, IfSome, IfNone, length};
 ghost use Rattle.r10_count.specs.Form.{IsBody};
+ghost use Rattle.r10_packet.specs.Limits.{longest_packet};
 ghost use Rattle.r10_body.specs.declared.entry.Timed.{Timed as TimedValue};
 ghost use Rattle.r10_strict.specs.Glance.{AreEntries, IsGlimpse};
 ghost use Rattle.r10_strict.specs.Tally.{tally_of};
@@ -54,7 +55,7 @@ fn goes_on(rise: bool, greatest: Count, count: Count) -> bool
 /// counter, if there are such. It is a function of its own in the program too, so that what each turn carries stays in registers.
 #[inline(never)]
 fn scan<E: Glance>(setting: u32, counter: u64, bytes: &[u8]) -> Option<Tally>
-    requires { length bytes.now ≤ 524_288 }
+    requires { length bytes.now ≤ longest_packet }
     ensures found { IfSome result (λ t. (entries : List E) × AreEntries E.form setting counter entries bytes.now × (t ≡ tally_of (map E.said entries))) }
     ensures none { IfNone result ((entries : List E) → AreEntries E.form setting counter entries bytes.now → ⊥) }
 {
@@ -96,7 +97,7 @@ fn scan<E: Glance>(setting: u32, counter: u64, bytes: &[u8]) -> Option<Tally>
 /// What the entries of a body come to, if the writer makes the body of some on a channel of this setting, in a packet of
 /// this counter.
 pub(crate) fn scan_body<E: Glance>(setting: u32, counter: u64, body: &[u8]) -> Option<Tally>
-    requires { length body.now ≤ 524_288 }
+    requires { length body.now ≤ longest_packet }
     ensures found { IfSome result (λ t. (entries : List E) × IsBody E.form setting counter entries body.now × (t ≡ tally_of (map E.said entries))) }
     ensures none { IfNone result ((entries : List E) → IsBody E.form setting counter entries body.now → ⊥) }
 {

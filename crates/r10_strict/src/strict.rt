@@ -11,7 +11,10 @@ use crate::body::read_body;
 use crate::facts::Facts;
 use crate::filler::is_least;
 use r10_body::is_opaque;
-use r10_packet::{DataSum, Header, Packet, PacketView, decode_header};
+use r10_packet::{
+    DataSum, Header, LONGEST_PACKET, Packet, PacketView, TYPE_EVENT, TYPE_INDEX, TYPE_SETUP,
+    TYPE_TIME, TYPE_USER, decode_header,
+};
 
 /// What the strict reading of the packet that stands first finds.
 #[derive(Clone, Copy, Debug, PartialEq, Eq)]
@@ -27,18 +30,18 @@ pub enum StrictReading {
 fn is_own(header: &Header) -> bool
     ensures { IsTrue result ↔ IsOwnHeader header.now }
 {
-    header.version == 8 && header.flags & 0xEC == 0 && header.packet_len <= 524_288
+    header.version == 8 && header.flags & 0xEC == 0 && header.packet_len <= LONGEST_PACKET
 }
 
 /// Whether packets of this data type have no data checksum: setup, time, event and index packets, and loss reports.
 fn goes_unchecked(data_type: u8) -> bool
     ensures { result ≡ has_no_checksum data_type }
 {
-    data_type == 0x01
-        || data_type == 0x11
-        || data_type == 0x02
-        || data_type == 0x03
-        || data_type == 0x00
+    data_type == TYPE_SETUP
+        || data_type == TYPE_TIME
+        || data_type == TYPE_EVENT
+        || data_type == TYPE_INDEX
+        || data_type == TYPE_USER
 }
 
 /// Whether there is no data checksum where this recorder writes none.

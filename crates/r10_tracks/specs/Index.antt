@@ -2,6 +2,7 @@
 use Rattle.std.specs.Prelude.{◌≡◌, ◌⊎◌, ℕ, ◌+◌, ◌-◌, ◌*◌, ◌^◌, ◌<◌, ◌≤◌, Option, None, Some, List, [], ◌∷◌, ◌++◌, length, filter, count_by}
 use Rattle.r10_indexbody.specs.Index.{root_body}
 use Rattle.r10_indexbody.specs.declared.entry.RootEntry.{RootEntry}
+use Rattle.r10_body.specs.Limits.{entries_per_node, full_node}
 use Rattle.r10_body.specs.Packets.{Packet, file_bytes}
 use Rattle.r10_body.specs.Rules.{is_data, is_node, is_root, is_closed_file, group_size, last_root, last_time, node_entries, unnamed}
 use Rattle.r10_index.specs.Counted.{CountsEntriesUpTo}
@@ -23,11 +24,11 @@ pub record IsIndexed (t : IndexTracks) (packets : List Packet) : Type 0 where
   pub bytes : t.bytes ≡ length (file_bytes packets)
   pub nodes : t.nodes ≡ count_by is_node packets
   pub group : t.group ≡ group_size packets
-  -- the nodes that no root names yet, each of a hundred entries but the file's last node
+  -- the nodes that no root names yet, each full but the file's last node
   pub loose : unnamed packets ≡ names (last_time 0 packets) t.start t.pending
-  pub full : 0 < t.pending → t.bytes + 20 * (100 * t.nodes - length t.book.entries) ≡ t.start + 2028 * t.pending
-  pub few : 100 * t.nodes < length t.book.entries + 100
-  pub low : t.start + 2028 * t.pending < 2 ^ 64
+  pub full : 0 < t.pending → t.bytes + 20 * (entries_per_node * t.nodes - length t.book.entries) ≡ t.start + full_node * t.pending
+  pub few : entries_per_node * t.nodes < length t.book.entries + entries_per_node
+  pub low : t.start + full_node * t.pending < 2 ^ 64
   pub link : IsLastRoot t.root packets
   -- a root stands at the end
   pub closed : t.closed ≡ is_closed_file packets
@@ -45,7 +46,7 @@ link_at clock counter (Some offset) own = root_at clock offset
 -- the nodes that stand last are a group, and this is the body of their root
 abbrev pub IsRootHere : IndexTracks → ℕ → ℕ → List ℕ → Type 0
 IsRootHere t clock counter body =
-    ((0 < t.pending) × (t.pending < 65535) × ((t.pending ≡ t.group) ⊎ (length t.book.entries ≤ 100 * t.nodes)))
+    ((0 < t.pending) × (t.pending < 65535) × ((t.pending ≡ t.group) ⊎ (length t.book.entries ≤ entries_per_node * t.nodes)))
     × (body ≡ root_body (names clock t.start t.pending ++ link_at clock counter t.root t.bytes ∷ []))
 
 -- all that is kept is the same

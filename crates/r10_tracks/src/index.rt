@@ -1,15 +1,17 @@
 //! What is kept of a file's index, and the rule of index packets.
 
-ghost use Rattle.std.specs.Prelude.{◌≡◌, ◌+◌, ◌-◌, ◌*◌, ◌^◌, ◌<◌, ◌≤◌, ◌↔◌, ◌⊎◌, ◌==◌, ◌∷◌, [], ◌++◌, true, false, cond, List, Some, length, min, take, drop, count_by, IsTrue, MatchOption, OnOk};
+ghost use Rattle.std.specs.Prelude.{◌≡◌, ◌+◌, ◌-◌, ◌*◌, ◌^◌, ◌<◌, ◌≤◌, ◌↔◌, ◌⊎◌, ◌==◌, ◌∷◌, [], ◌++◌, true, false, cond, List, Some, length, min, count_by, IsTrue, MatchOption, OnOk};
 ghost use Rattle.r10_count.specs.Count.{IsCount};
+ghost use Rattle.r10_body.specs.Limits.{entries_per_node, full_node};
 ghost use Rattle.r10_body.specs.Packets.{Packet, FitsPacket, packet_body, packet_entries, file_bytes};
-ghost use Rattle.r10_body.specs.Rules.{KeepsIndex, EachFollows, MayFollow, is_index, last_time, node_entry_of};
+ghost use Rattle.r10_body.specs.Rules.{KeepsIndex, EachFollows, MayFollow, is_index, last_time, node_entry_of, node_part};
 ghost use Rattle.r10_index.specs.Counted.{IsBookOf, CountsEntriesUpTo};
 ghost use Rattle.r10_indexbody.specs.Index.{node_body};
 ghost use Rattle.r10_strict.specs.Facts.{AreFactsOf};
 ghost use Rattle.r10_tracks.specs.Index.{HasPlaceIn, IsIndexed, IsRootHere, IsSameIndex};
 
 use crate::names::{NodesAt, is_node_body, is_root_body};
+use r10_body::ENTRIES_PER_NODE;
 use r10_index::IndexBook;
 use r10_indexbody::NodeEntry;
 use r10_strict::{Facts, PacketKind};
@@ -64,20 +66,23 @@ impl IndexTracks {
 
     /// What the next node names.
     fn next_named(&self) -> &[NodeEntry]
-        ensures named { result.now ≡ take 100 (drop (100 * self.now.nodes) self.now.book.entries) }
-        ensures few { length result.now ≤ 100 }
+        ensures named { result.now ≡ node_part self.now.nodes self.now.book.entries }
+        ensures few { length result.now ≤ entries_per_node }
     {
         let entries = self.book.entries();
-        let start = self.nodes.saturating_mul(100).min(entries.len());
+        let start = self
+            .nodes
+            .saturating_mul(ENTRIES_PER_NODE)
+            .min(entries.len());
         let rest = &entries[start..];
-        &rest[..rest.len().min(100)]
+        &rest[..rest.len().min(ENTRIES_PER_NODE)]
     }
 
     /// Whether nodes name all packets.
     pub(crate) fn names_all(&self) -> bool
-        ensures { IsTrue result ↔ (length self.now.book.entries ≤ 100 * self.now.nodes) }
+        ensures { IsTrue result ↔ (length self.now.book.entries ≤ entries_per_node * self.now.nodes) }
     {
-        self.book.entries().len() <= self.nodes.saturating_mul(100)
+        self.book.entries().len() <= self.nodes.saturating_mul(ENTRIES_PER_NODE)
     }
 
     /// Whether there is no index packet.
@@ -113,14 +118,16 @@ impl IndexTracks {
 
     /// Whether a body is that of the next node.
     fn is_next_node(&self, body: &[u8]) -> bool
-        ensures { IsTrue result ↔ (HasPlaceIn self.now.root self.now.pending self.now.group × (body.now ≡ node_body (take 100 (drop (100 * self.now.nodes) self.now.book.entries)))) }
+        ensures { IsTrue result ↔ (HasPlaceIn self.now.root self.now.pending self.now.group
+            × (body.now ≡ node_body (node_part self.now.nodes self.now.book.entries))) }
     {
         self.has_place() && is_node_body(body, self.next_named())
     }
 
     /// Whether the nodes that stand last are a group that a root may end.
     fn is_group(&self) -> bool
-        ensures { IsTrue result ↔ ((0 < self.now.pending) × (self.now.pending < 65535) × ((self.now.pending ≡ self.now.group) ⊎ (length self.now.book.entries ≤ 100 * self.now.nodes))) }
+        ensures { IsTrue result ↔ ((0 < self.now.pending) × (self.now.pending < 65535)
+            × ((self.now.pending ≡ self.now.group) ⊎ (length self.now.book.entries ≤ entries_per_node * self.now.nodes))) }
     {
         if self.pending == 0 || self.pending >= 65535 {
             return false;
@@ -131,7 +138,8 @@ impl IndexTracks {
     /// Whether a body is that of the root that may come next.
     fn is_next_root(&self, time: u64, facts: &Facts, body: &[u8]) -> bool
         requires { IsCount time }
-        ensures { self.now.start + 2028 * self.now.pending < 2 ^ 64 → (IsTrue result ↔ IsRootHere self.now time facts.now.counter body.now) }
+        ensures { self.now.start + full_node * self.now.pending < 2 ^ 64
+            → (IsTrue result ↔ IsRootHere self.now time facts.now.counter body.now) }
     {
         if !self.is_group() {
             return false;

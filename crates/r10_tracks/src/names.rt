@@ -3,10 +3,12 @@
 ghost use Rattle.std.specs.Prelude.{◌≡◌, ◌+◌, ◌*◌, ◌^◌, ◌<◌, ◌≤◌, ◌↔◌, ◌∷◌, [], ◌++◌, List, ℕ, length, IsTrue, IfSome, IfNone};
 ghost use Rattle.std.specs.List.{flat_map};
 ghost use Rattle.r10_count.specs.Count.{IsCount};
+ghost use Rattle.r10_body.specs.Limits.{entries_per_node, full_node};
 ghost use Rattle.r10_indexbody.specs.Index.{node_entry, root_entry, node_body, root_body};
 ghost use Rattle.r10_index.specs.Written.{names};
 ghost use Rattle.r10_tracks.specs.Names.{root_at};
 
+use r10_body::FULL_NODE;
 use r10_indexbody::NodeEntry;
 
 /// The bytes behind others that stand first.
@@ -51,7 +53,7 @@ fn are_packets(bytes: &[u8], entries: &[NodeEntry]) -> bool
 
 /// Whether a body is that of a node with these entries.
 pub(crate) fn is_node_body(body: &[u8], entries: &[NodeEntry]) -> bool
-    requires { length entries.now ≤ 100 }
+    requires { length entries.now ≤ entries_per_node }
     ensures { IsTrue result ↔ (body.now ≡ node_body entries.now) }
 {
     let word = 0x8000_0000 + entries.len() as u32;
@@ -71,16 +73,21 @@ fn behind_root(bytes: &[u8], counter: u64, offset: u64) -> Option<&[u8]>
     behind(rest, &offset.to_le_bytes())
 }
 
+/// From the offset of a full node to that of the next.
+const STEP: u64 = FULL_NODE as u64;
+
 /// The bytes behind what a root says of so many full nodes, of which the first begins at an offset.
 fn behind_nodes(bytes: &[u8], counter: u64, end: u64, nodes: usize) -> Option<&[u8]>
     requires counter { IsCount counter }
     requires few { nodes < 65535 }
-    ensures found { end + 2028 * nodes < 2 ^ 64 → IfSome result (λ rest. bytes.now ≡ flat_map root_entry (names counter end nodes) ++ rest.now) }
-    ensures none { end + 2028 * nodes < 2 ^ 64 → IfNone result ((rest : List ℕ) → bytes.now ≡ flat_map root_entry (names counter end nodes) ++ rest → ⊥) }
+    ensures found { end + full_node * nodes < 2 ^ 64
+        → IfSome result (λ rest. bytes.now ≡ flat_map root_entry (names counter end nodes) ++ rest.now) }
+    ensures none { end + full_node * nodes < 2 ^ 64
+        → IfNone result ((rest : List ℕ) → bytes.now ≡ flat_map root_entry (names counter end nodes) ++ rest → ⊥) }
 {
     let mut left = bytes;
     for node in 0..nodes {
-        let offset = end.saturating_add(2028 * node as u64);
+        let offset = end.saturating_add(STEP * node as u64);
         left = behind_root(left, counter, offset)?;
     }
     Some(left)
@@ -113,7 +120,8 @@ pub(crate) fn is_root_body(body: &[u8], at: NodesAt, counter: u64, offset: u64) 
     requires nodes { IsCount at.counter }
     requires own { IsCount counter }
     requires few { at.nodes < 65535 }
-    ensures { at.end + 2028 * at.nodes < 2 ^ 64 → (IsTrue result ↔ (body.now ≡ root_body (names at.counter at.end at.nodes ++ root_at counter offset ∷ []))) }
+    ensures { at.end + full_node * at.nodes < 2 ^ 64
+        → (IsTrue result ↔ (body.now ≡ root_body (names at.counter at.end at.nodes ++ root_at counter offset ∷ []))) }
 {
     let word = at.nodes as u32 + 1;
     match behind(body, &word.to_le_bytes()) {
@@ -127,7 +135,8 @@ fn are_roots(bytes: &[u8], at: NodesAt, counter: u64, offset: u64) -> bool
     requires nodes { IsCount at.counter }
     requires own { IsCount counter }
     requires few { at.nodes < 65535 }
-    ensures { at.end + 2028 * at.nodes < 2 ^ 64 → (IsTrue result ↔ (bytes.now ≡ flat_map root_entry (names at.counter at.end at.nodes) ++ root_entry (root_at counter offset))) }
+    ensures { at.end + full_node * at.nodes < 2 ^ 64
+        → (IsTrue result ↔ (bytes.now ≡ flat_map root_entry (names at.counter at.end at.nodes) ++ root_entry (root_at counter offset))) }
 {
     match behind_nodes(bytes, at.counter, at.end, at.nodes) {
         Some(rest) => is_own(rest, counter, offset),
