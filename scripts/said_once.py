@@ -35,8 +35,8 @@ LAW = re.compile(rf"(?m)^pub fn (\w+)[^{{;]*\n(?:    .*\n)*?{BODY}$")
 ALLOWED = {
     "crates/r10_control/proofs/Apart.antt apart_of",
     "crates/r10_control/proofs/Entered.antt are_apart",
-    "crates/r10_strict/proofs/Spelled.antt all_made",
-    "crates/r10_strict/proofs/Spelled.antt flags_made",
+    "crates/r10_packet_rules/proofs/Spelled.antt all_made",
+    "crates/r10_packet_rules/proofs/Spelled.antt flags_made",
 }
 
 # So much may be found, and no more. Who takes some away lowers the number.

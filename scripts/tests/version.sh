@@ -9,7 +9,8 @@ number=$((10000 * major + 100 * minor + patch))
 
 part() { sed -n "s/^#define R10_VERSION_$1 \([0-9]*\)$/\1/p" "$top/ffi/r10.h"; }
 check "VERSION is three numbers" is "$(grep -cE '^[0-9]{1,2}\.[0-9]{1,2}\.[0-9]{1,2}$' "$top/VERSION")" 1
-check "the program's source has it" is "$(sed -n 's/^const VERSION: &str = "\(.*\)";$/\1/p' "$top/crates/r10_words/src/usage.rt")" \
+check "the program's source has it" is \
+    "$(sed -n 's/^const VERSION: &str = "\(.*\)";$/\1/p' "$top/crates/r10_arguments/src/usage.rt")" \
     "$version"
 check "so has the library's" is "$(sed -n 's/^const VERSION: u32 = \(.*\);$/\1/p' "$top/crates/r10_ffi/src/calls.rt")" "$number"
 check "so has the header" is "$(part MAJOR).$(part MINOR).$(part PATCH)" "$version"

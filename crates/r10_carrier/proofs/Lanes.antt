@@ -5,11 +5,11 @@ use Rattle.r10_body.specs.declared.spec.ChannelSpec.{ChannelSpec}
 use Rattle.r10_machine.specs.Config.{Config}
 use Rattle.r10_machine.specs.declared.event.Event.TheVariants as events
 use Rattle.r10_medium.specs.Disk.{Disk}
-use Rattle.r10_desk.specs.Listing.{channel_given, lane_place}
-use Rattle.r10_desk.specs.Opening.{IsSettings}
-use Rattle.r10_desk.specs.Told.{DoesEvent}
-use Rattle.r10_desk.specs.declared.desk.Desk.{Desk as DeskValue}
-use Rattle.r10_desk.specs.declared.listing.ChannelOut.{ChannelOut}
+use Rattle.r10_calls.specs.Listing.{channel_given, lane_place}
+use Rattle.r10_calls.specs.Opening.{IsSettings}
+use Rattle.r10_calls.specs.Told.{DoesEvent}
+use Rattle.r10_calls.specs.declared.desk.Desk.{Desk as DeskValue}
+use Rattle.r10_calls.specs.declared.listing.ChannelOut.{ChannelOut}
 use Rattle.r10_ends.specs.Ends.{AreOpened}
 use Rattle.r10_ends.specs.declared.carrier.Carrier.{Carrier}
 use Rattle.r10_ends.specs.declared.outlet_end.OutletEnd.{OutletEnd}

@@ -5,8 +5,8 @@ use Rattle.r10_body.specs.declared.gap.Gap.TheVariants.{Whole}
 use Rattle.r10_body.specs.declared.refusal.Refusal.TheVariants.{OutOfMemory}
 use Rattle.r10_body.specs.declared.entry.Sample.{Sample}
 use Rattle.r10_carrier.specs.Carrying.{DoesEach, StopsAt, events_of, lost_of}
-use Rattle.r10_desk.specs.Told.{DoesEvent, number_of}
-use Rattle.r10_desk.specs.declared.desk.Desk.{Desk as DeskValue}
+use Rattle.r10_calls.specs.Told.{DoesEvent, number_of}
+use Rattle.r10_calls.specs.declared.desk.Desk.{Desk as DeskValue}
 use Rattle.r10_machine.specs.declared.event.Event.{Event as EventValue}
 use Rattle.r10_machine.specs.declared.event.Event.TheVariants as events
 use Rattle.r10_machine.specs.declared.reply.Reply.TheVariants.{Refused}

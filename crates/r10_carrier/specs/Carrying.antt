@@ -8,10 +8,10 @@ use Rattle.r10_machine.specs.declared.event.Event.{Event as EventValue}
 use Rattle.r10_machine.specs.declared.event.Event.TheVariants as events
 use Rattle.r10_medium.specs.Disk.{Disk}
 use Rattle.r10_port.specs.Ends.{Receiving, TookReceived, next_known}
-use Rattle.r10_desk.specs.Listing.{channel_given, lane_place}
-use Rattle.r10_desk.specs.Told.{DoesEvent, number_of}
-use Rattle.r10_desk.specs.declared.desk.Desk.{Desk as DeskValue}
-use Rattle.r10_desk.specs.declared.listing.ChannelOut.{ChannelOut}
+use Rattle.r10_calls.specs.Listing.{channel_given, lane_place}
+use Rattle.r10_calls.specs.Told.{DoesEvent, number_of}
+use Rattle.r10_calls.specs.declared.desk.Desk.{Desk as DeskValue}
+use Rattle.r10_calls.specs.declared.listing.ChannelOut.{ChannelOut}
 use Rattle.r10_ends.specs.declared.carrier.Carrier.{Carrier}
 use Rattle.r10_carrier.specs.declared.carry.Carry.{Carry}
 

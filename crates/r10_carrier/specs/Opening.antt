@@ -3,7 +3,7 @@ use Rattle.std.specs.Prelude.{◌≡◌, ℕ, ◌==◌, List, None, Option, Some
 use Rattle.std.specs.List.{position}
 use Rattle.r10_body.specs.declared.spec.ChannelSpec.{ChannelSpec}
 use Rattle.r10_machine.specs.Config.{Config}
-use Rattle.r10_desk.specs.Opening.{IsSettings}
+use Rattle.r10_calls.specs.Opening.{IsSettings}
 use Rattle.r10_ends.specs.Ends.{AreOpened}
 use Rattle.r10_ends.specs.declared.outlet_end.OutletEnd.{OutletEnd}
 use Rattle.r10_ends.specs.declared.port_end.PortEnd.{PortEnd}

@@ -7,7 +7,7 @@ use Rattle.r10_body.specs.declared.message.Kind.TheVariants as kinds
 use Rattle.r10_body.specs.declared.message.Message.TheVariants.{Discrete}
 use Rattle.r10_body.specs.declared.spec.ChannelSpec.{ChannelSpec}
 use Rattle.r10_machine.specs.declared.event.Event.TheVariants as events
-use Rattle.r10_desk.specs.declared.listing.ChannelOut.{ChannelOut}
+use Rattle.r10_calls.specs.declared.listing.ChannelOut.{ChannelOut}
 use Rattle.r10_carrier.specs.Carrying.{events_of, in_hand, no_lane, why_not}
 use Rattle.r10_carrier.specs.Opening.{place_of}
 

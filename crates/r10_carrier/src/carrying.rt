@@ -7,7 +7,7 @@ ghost use Rattle.r10_carrier.specs.Carrying.{Carries, CarriesFirst, CarriesNext,
 use crate::carry::Carry;
 use crate::telling::{NO_CHANNEL, tell_sample};
 use r10_body::{ChannelSpec, Sample};
-use r10_desk::{ChannelOut, Desk};
+use r10_calls::{ChannelOut, Desk};
 use r10_ends::{Carrier, OutletEnd};
 use r10_lane::LaneOut;
 use r10_medium::BlockMedium;

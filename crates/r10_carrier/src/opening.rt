@@ -3,14 +3,14 @@
 ghost use Rattle.std.specs.Prelude.{◌≡◌, ◌≢◌, ◌⊎◌, ◌↔◌, ◌<◌, IfErr, IfOk, Some, length, slice_get};
 ghost use Rattle.r10_ends.specs.Ends.{IsOpenOne};
 ghost use Rattle.r10_carrier.specs.Opening.{LacksChannel, OpensLane, place_of};
-ghost use Rattle.r10_desk.specs.Opening.{IsSettings};
+ghost use Rattle.r10_calls.specs.Opening.{IsSettings};
 
 use crate::telling::NO_CHANNEL;
 use r10_body::ChannelSpec;
 use r10_ends::{OutletEnd, PortEnd, open_ends};
-use r10_lines::ScriptFault;
 use r10_machine::Settings;
 use r10_script::{Script, read_script};
+use r10_text::ScriptFault;
 use std::alloc::Global;
 
 /// The number that is answered where the script can't be taken.

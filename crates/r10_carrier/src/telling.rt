@@ -2,11 +2,11 @@
 
 ghost use Rattle.std.specs.Prelude.{◌≡◌, ◌≢◌};
 ghost use Rattle.r10_carrier.specs.Carrying.{DoesEach, StopsAt, events_of, lost_of};
-ghost use Rattle.r10_desk.specs.Told.{DoesEvent, number_of};
+ghost use Rattle.r10_calls.specs.Told.{DoesEvent, number_of};
 ghost use Rattle.r10_machine.specs.declared.event.Event.TheVariants as events;
 
 use r10_body::{Gap, Message, Sample};
-use r10_desk::Desk;
+use r10_calls::Desk;
 use r10_medium::BlockMedium;
 
 /// The number of the refusal for want of memory.

@@ -11,8 +11,8 @@ use Rattle.r10_body.specs.Vectors.{data_packets, a_node_packet, a_report_packet,
 use Rattle.r10_body.specs.declared.fault.FileFault.TheVariants.{Rule}
 use Rattle.r10_body.specs.declared.gap.Gap.TheVariants.{Lost}
 use Rattle.r10_body.proofs.Recording.{setup-first, time-second, uart-third}
-use Rattle.r10_strict.proofs.Ways.{one_count}
-use Rattle.r10_strict.proofs.Written.{packet_foreign, strict_foreign}
+use Rattle.r10_packet_rules.proofs.Ways.{one_count}
+use Rattle.r10_packet_rules.proofs.Written.{packet_foreign, strict_foreign}
 use Rattle.r10_judge.specs.Copies.{copies, node_of_99}
 use Rattle.r10_judge.proofs.Answering.{quiet_at_end}
 use Rattle.r10_judge.proofs.Eighth.{short_node, open_index}

@@ -1,7 +1,7 @@
 //! Files on their own, without a directory.
 
 ghost use Rattle.std.specs.Prelude.{◌≡◌, ℕ, List, true, IfOk};
-ghost use Rattle.r10_strict.specs.Tracks.{TracksForeign};
+ghost use Rattle.r10_packet_rules.specs.Tracks.{TracksForeign};
 ghost use Rattle.r10_judge.specs.Judged.{TracksJudged};
 ghost use Rattle.r10_checker.specs.Verdict.{IsVerdict};
 ghost use Rattle.r10_checker.specs.declared.check.Verdict.TheVariants as verdicts;
@@ -9,7 +9,7 @@ ghost use Rattle.r10_checker.specs.declared.check.Verdict.TheVariants as verdict
 use crate::verdict::walked_verdict;
 use r10_body::FileFault;
 use r10_judge::{Judge, walk_bytes};
-use r10_strict::{Fault, ForeignTrack};
+use r10_packet_rules::{Fault, ForeignTrack};
 use std::alloc::{AllocError, Global};
 
 /// What is said of a file.

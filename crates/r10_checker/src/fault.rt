@@ -5,7 +5,7 @@ ghost use Rattle.r10_body.specs.Faults.{IsAtFault};
 ghost use Rattle.r10_judge.specs.Judged.{SaysClosed};
 
 use r10_judge::{Judgement, judge_bytes};
-use r10_strict::Fault;
+use r10_packet_rules::Fault;
 use std::alloc::{AllocError, Global};
 
 /// Where and how a file is at fault whose directory entry is closed or not: the first packet that is none

@@ -1,12 +1,12 @@
 -- What is done where the words ask for a formatted image, for a text, or for entries.
 use Rattle.std.proofs.Common.{◌≡◌, ℕ, List, Option, codes, Result, Ok, IfOk, IfSome, String, Global, inl, inr, refl, subst}
 use Rattle.std.specs.Io.KnownBytes.{Appends}
-use Rattle.r10_words.specs.Words.{AsksSim, AsksImage, AsksFiles, AsksCheck, AsksCommand, AsksText, AsksOther, GivesAll, GivesSelection}
-use Rattle.r10_words.specs.declared.asked.Asked.{Asked}
-use Rattle.r10_words.specs.declared.asked.Asked.TheVariants as asked
-use Rattle.r10_words.specs.declared.asked.FormatWords.{FormatWords}
-use Rattle.r10_words.specs.declared.asked.PlayWords.{PlayWords}
-use Rattle.r10_words.specs.declared.asked.WordsFault.{WordsFault}
+use Rattle.r10_arguments.specs.Words.{AsksSim, AsksImage, AsksFiles, AsksCheck, AsksCommand, AsksText, AsksOther, GivesAll, GivesSelection}
+use Rattle.r10_arguments.specs.declared.asked.Asked.{Asked}
+use Rattle.r10_arguments.specs.declared.asked.Asked.TheVariants as asked
+use Rattle.r10_arguments.specs.declared.asked.FormatWords.{FormatWords}
+use Rattle.r10_arguments.specs.declared.asked.PlayWords.{PlayWords}
+use Rattle.r10_arguments.specs.declared.asked.WordsFault.{WordsFault}
 use Rattle.r10_images.specs.Image.{image_blocks}
 use Rattle.r10_images.specs.declared.listing.Outcome.{Outcome}
 use Rattle.r10_images.specs.declared.listing.Outcome.TheVariants.{Done}

@@ -3,7 +3,7 @@ use Rattle.std.proofs.Common.{◌≡◌, ℕ, ◌+◌, ◌≤◌, List, [], ◌�
 use Rattle.std.proofs.lemmas.List.{append-nil, length-take}
 use Rattle.std.proofs.Math.Seq.{take-append-add}
 use Rattle.std.specs.Io.KnownBytes.{Appends}
-use Rattle.r10_lines.specs.Replies.{reply_lines}
+use Rattle.r10_text.specs.Replies.{reply_lines}
 use Rattle.r10_machine.specs.declared.reply.Reply.{Reply}
 use Rattle.r10_command.specs.Lines.{WritesLines, all_lines}
 

@@ -1,9 +1,9 @@
 -- What a command does that did not fail.
 use Rattle.std.specs.Prelude.{◌≡◌, ◌⊎◌, ℕ, List, Option, IfSome, codes}
 use Rattle.std.specs.Io.KnownBytes.{Appends}
-use Rattle.r10_words.specs.Words.{AsksSim, AsksImage, AsksFiles, AsksCheck, AsksCommand, AsksText, GivesAll, GivesSelection}
-use Rattle.r10_words.specs.declared.asked.FormatWords.{FormatWords}
-use Rattle.r10_words.specs.declared.asked.PlayWords.{PlayWords}
+use Rattle.r10_arguments.specs.Words.{AsksSim, AsksImage, AsksFiles, AsksCheck, AsksCommand, AsksText, GivesAll, GivesSelection}
+use Rattle.r10_arguments.specs.declared.asked.FormatWords.{FormatWords}
+use Rattle.r10_arguments.specs.declared.asked.PlayWords.{PlayWords}
 use Rattle.r10_images.specs.Image.{image_blocks}
 use Rattle.r10_images.specs.Listing.{ListsFiles}
 use Rattle.r10_images.specs.declared.listing.Outcome.{Outcome}

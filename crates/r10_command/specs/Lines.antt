@@ -1,7 +1,7 @@
 -- What the steps of a script print.
 use Rattle.std.specs.Prelude.{ℕ, ◌+◌, List, [], ◌∷◌, ◌++◌, Option}
 use Rattle.std.specs.Io.KnownBytes.{Appends}
-use Rattle.r10_lines.specs.Replies.{reply_lines}
+use Rattle.r10_text.specs.Replies.{reply_lines}
 use Rattle.r10_machine.specs.Config.{Config}
 use Rattle.r10_machine.specs.Machine.{Machine}
 use Rattle.r10_medium.specs.Disk.{Disk, Image}

@@ -1,6 +1,6 @@
 -- The exit status of a command.
 use Rattle.std.specs.Prelude.{◌≡◌, ◌⊎◌, ℕ}
-use Rattle.r10_lines.specs.declared.fault.ScriptFault.TheVariants as script_faults
+use Rattle.r10_text.specs.declared.fault.ScriptFault.TheVariants as script_faults
 use Rattle.r10_images.specs.declared.listing.Outcome.{Outcome}
 use Rattle.r10_images.specs.declared.listing.Outcome.TheVariants.{Done, Refused}
 use Rattle.r10_command.specs.declared.fault.Fault.{Fault}

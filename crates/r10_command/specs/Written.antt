@@ -3,7 +3,7 @@ use Rattle.std.specs.Prelude.{◌≡◌, ℕ, List, Option, None, string_bytes}
 use Rattle.std.specs.List.{concat}
 use Rattle.std.specs.Io.KnownBytes.{Appends}
 use Rattle.r10_count.specs.Checks.{first_broken}
-use Rattle.r10_words.specs.declared.asked.FormatWords.{FormatWords}
+use Rattle.r10_arguments.specs.declared.asked.FormatWords.{FormatWords}
 use Rattle.r10_images.specs.Formatted.{format_rules, formatted_image}
 
 -- the values are within their limits, and the image of the medium that is formatted so was written

@@ -10,9 +10,9 @@ ghost use Rattle.r10_command.specs.Written.{WritesFormatted};
 use crate::fault::Fault;
 use crate::image::sim_image;
 use crate::play::sim;
+use r10_arguments::{Asked, FormatWords, PlayWords, WordsFault, read_words};
 use r10_images::{Outcome, check_format, list_files, write_formatted};
 use r10_playback::{Selection, check_input, play_input};
-use r10_words::{Asked, FormatWords, PlayWords, WordsFault, read_words};
 use std::alloc::Global;
 use std::io::{BufWriter, Read, Write};
 

@@ -7,7 +7,7 @@ ghost use Rattle.r10_command.specs.declared.fault.Fault.TheVariants.{NotText};
 
 use r10_body::Refusal;
 use r10_images::{Limit, StreamFault};
-use r10_lines::ScriptFault;
+use r10_text::ScriptFault;
 use std::alloc::AllocError;
 use std::io;
 use std::io::ErrorKind;

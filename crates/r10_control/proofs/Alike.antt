@@ -24,8 +24,8 @@ use Rattle.r10_machine.specs.declared.mode.Mode.TheVariants as modes
 use Rattle.r10_machine.specs.declared.event.Event.{Event as EventValue}
 use Rattle.r10_machine.specs.declared.reply.Reply.{Reply as ReplyValue}
 use Rattle.r10_machine.specs.declared.reply.Reply.TheVariants.{Refused}
-use Rattle.r10_means.specs.Kept.{Kept, Work, unmounted, idle, recording, failed}
-use Rattle.r10_means.specs.Means.{KeptStandsFor, LaneIsCounted, LanesAreCounted, NumbersAre}
+use Rattle.r10_refinement.specs.Kept.{Kept, Work, unmounted, idle, recording, failed}
+use Rattle.r10_refinement.specs.Means.{KeptStandsFor, LaneIsCounted, LanesAreCounted, NumbersAre}
 use Rattle.r10_medium.specs.Disk.{Image}
 use Rattle.r10_openfile.specs.Machines.{HasWaiting}
 use Rattle.r10_openfile.specs.Stopping.{ChannelsAreApart, Part, TellsWaiting, TookAll, most_of, samples_on}

@@ -9,8 +9,8 @@ use Rattle.r10_volume.specs.Holding.{HoldsFiles, Open}
 use Rattle.r10_machine.specs.Config.{Config}
 use Rattle.r10_body.specs.declared.entry.Entry.{Entry}
 use Rattle.r10_machine.specs.Machine.{File, with_entries}
-use Rattle.r10_means.specs.Kept.{Kept, Work, unmounted, idle, recording}
-use Rattle.r10_means.specs.Means.{HasFiles}
+use Rattle.r10_refinement.specs.Kept.{Kept, Work, unmounted, idle, recording}
+use Rattle.r10_refinement.specs.Means.{HasFiles}
 use Rattle.r10_medium.specs.Disk.{Image, IsWhole}
 use Rattle.r10_cursor.specs.Staying.{KeepListed}
 use Rattle.r10_control.specs.Leading.{MachinesKeepShown}

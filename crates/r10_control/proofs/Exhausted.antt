@@ -7,7 +7,7 @@ use Rattle.r10_body.specs.declared.entry.Entry.{Entry}
 use Rattle.r10_body.specs.declared.spec.ChannelSpec.{ChannelSpec}
 use Rattle.r10_lane.specs.Spending.{all_counts}
 use Rattle.r10_machine.proofs.Growing.{all_joined}
-use Rattle.r10_means.specs.Kept.{Kept}
+use Rattle.r10_refinement.specs.Kept.{Kept}
 use Rattle.r10_medium.specs.Disk.{Image}
 use Rattle.r10_cursor.specs.declared.books.Books.{Books}
 use Rattle.r10_openfile.specs.Stopping.{AllEnd}

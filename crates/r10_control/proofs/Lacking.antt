@@ -4,9 +4,9 @@ use Rattle.r10_body.specs.declared.refusal.Refusal.TheVariants.{MediumFull}
 use Rattle.r10_machine.specs.Config.{Config}
 use Rattle.r10_machine.specs.Limits.{IsConfig}
 use Rattle.r10_machine.specs.Machine.{Machine}
-use Rattle.r10_means.specs.Kept.{Kept}
-use Rattle.r10_means.specs.Means.{KeptStandsFor}
-use Rattle.r10_means.proofs.Leading.{StepsStaySound, failing}
+use Rattle.r10_refinement.specs.Kept.{Kept}
+use Rattle.r10_refinement.specs.Means.{KeptStandsFor}
+use Rattle.r10_refinement.proofs.Leading.{StepsStaySound, failing}
 use Rattle.r10_medium.specs.Disk.{Image}
 use Rattle.r10_control.specs.Leading.{KeptStepsTaking, none_taken}
 use Rattle.r10_machine.specs.EventChecks.{refusal}

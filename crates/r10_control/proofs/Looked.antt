@@ -18,8 +18,8 @@ use Rattle.r10_machine.specs.declared.event.Event.TheVariants as events
 use Rattle.r10_machine.specs.declared.mode.Mode.{Mode}
 use Rattle.r10_machine.specs.declared.mode.Mode.TheVariants as modes
 use Rattle.r10_machine.specs.declared.reply.Reply.TheVariants as replies
-use Rattle.r10_means.specs.Kept.{Kept, Work, mode_of, unmounted, idle, recording, failed}
-use Rattle.r10_means.specs.Means.{LanesAreCounted, HasFiles, KeptStandsFor, NumbersAre}
+use Rattle.r10_refinement.specs.Kept.{Kept, Work, mode_of, unmounted, idle, recording, failed}
+use Rattle.r10_refinement.specs.Means.{LanesAreCounted, HasFiles, KeptStandsFor, NumbersAre}
 use Rattle.r10_medium.specs.Disk.{Image}
 use Rattle.r10_openfile.specs.Stopping.{AllEnd, TookAll}
 use Rattle.r10_cursor.specs.declared.books.Books.{Books}

@@ -15,8 +15,8 @@ use Rattle.r10_machine.specs.EventChecks.{refusal}
 use Rattle.r10_machine.specs.declared.event.Event.TheVariants.{Commit, Erase, Seal, Start}
 use Rattle.r10_machine.specs.declared.mode.Mode.TheVariants as modes
 use Rattle.r10_machine.specs.declared.reply.Reply.TheVariants as replies
-use Rattle.r10_means.specs.Kept.{Kept, Work, mode_of, idle, recording}
-use Rattle.r10_means.specs.Means.{HasFiles, KeptStandsFor}
+use Rattle.r10_refinement.specs.Kept.{Kept, Work, mode_of, idle, recording}
+use Rattle.r10_refinement.specs.Means.{HasFiles, KeptStandsFor}
 use Rattle.r10_medium.proofs.Stops.{weakened}
 use Rattle.r10_medium.specs.Disk.{Disk, Image}
 use Rattle.r10_medium.specs.Stop.{Leaves, Settled}
@@ -24,9 +24,9 @@ use Rattle.r10_openfile.specs.Keeping.{Becomes, StopKeepsFiles, Keeps}
 use Rattle.r10_openfile.specs.Starting.{begun_file}
 use Rattle.r10_seal.specs.Leftover.{IsOpenOrClosed, IsLeftOpen, SealsLast, StaysOpen, shown_cost}
 use Rattle.r10_seal.specs.Sealing.{sealed}
-use Rattle.r10_means.specs.Left.{Makes}
-use Rattle.r10_means.specs.Left.{IsEither as MachineEither}
-use Rattle.r10_means.specs.Safe.{IsSafe}
+use Rattle.r10_refinement.specs.Left.{Makes}
+use Rattle.r10_refinement.specs.Left.{IsEither as MachineEither}
+use Rattle.r10_refinement.specs.Safe.{IsSafe}
 use Rattle.r10_volume.specs.Holding.{HoldsFiles, Open}
 use Rattle.r10_volume.specs.Listing.{is_last_closed}
 use Rattle.r10_volume.specs.Settling.{IsSettled}

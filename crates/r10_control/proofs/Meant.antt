@@ -22,8 +22,8 @@ use Rattle.r10_machine.specs.Machine.{File, Machine, shown_entries}
 use Rattle.r10_machine.specs.Says.{Lists, MediumSays, SaysEach, SaysFile}
 use Rattle.r10_machine.specs.Sound.{IsOwnFile, IsSoundWork, SoundWork}
 use Rattle.r10_machine.specs.SoundParts.{is_open, own_files}
-use Rattle.r10_means.specs.Kept.{Kept, Work, unmounted, idle, recording, failed, mode_of}
-use Rattle.r10_means.specs.Means.{HasFiles, KeptStandsFor, NumbersAre, OwnFilesAre, OwnFollow}
+use Rattle.r10_refinement.specs.Kept.{Kept, Work, unmounted, idle, recording, failed, mode_of}
+use Rattle.r10_refinement.specs.Means.{HasFiles, KeptStandsFor, NumbersAre, OwnFilesAre, OwnFollow}
 use Rattle.r10_medium.specs.Disk.{Image}
 use Rattle.r10_openfile.specs.Carrying.{IsEnded}
 use Rattle.r10_openfile.specs.Keeping.{ended_in}

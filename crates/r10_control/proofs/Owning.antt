@@ -22,7 +22,7 @@ use Rattle.r10_dirchain.proofs.FileLists.{files-with_shutdown, files-updated, la
 use Rattle.r10_dirchain.proofs.Standing.{Stand, Stand-take, usable_of}
 use Rattle.r10_dirchain.proofs.Unique.{one_directory}
 use Rattle.r10_cursor.specs.Staying.{KeepListed}
-use Rattle.r10_means.specs.Kept.{Kept, Work, unmounted, idle, recording, failed}
+use Rattle.r10_refinement.specs.Kept.{Kept, Work, unmounted, idle, recording, failed}
 use Rattle.r10_medium.specs.Disk.{Image, IsWhole}
 use Rattle.r10_openfile.specs.Carrying.{EndsLast, IsEnded, IsShown}
 use Rattle.r10_openfile.specs.Keeping.{ListsLast, ended_in}

@@ -21,10 +21,10 @@ use Rattle.r10_machine.specs.Limits.{IsConfig}
 use Rattle.r10_machine.specs.Machine.{File, Lane, Machine, change_first, change_last, is_channel, lane_in, lane_of, last_file, with_entries, with_lane, with_last}
 use Rattle.r10_machine.specs.Room.{area as area_of, cost_of}
 use Rattle.r10_machine.specs.declared.mode.Mode.TheVariants as modes
-use Rattle.r10_means.specs.Grown.{AreGrown}
-use Rattle.r10_means.specs.Kept.{Kept, Work, mode_of, recording, failed}
-use Rattle.r10_means.specs.Means.{HasFiles, KeptStepsTo, KeptStandsFor, NumbersAre}
-use Rattle.r10_means.proofs.Leading.{StepsStaySound, failed_before, failed_so}
+use Rattle.r10_refinement.specs.Grown.{AreGrown}
+use Rattle.r10_refinement.specs.Kept.{Kept, Work, mode_of, recording, failed}
+use Rattle.r10_refinement.specs.Means.{HasFiles, KeptStepsTo, KeptStandsFor, NumbersAre}
+use Rattle.r10_refinement.proofs.Leading.{StepsStaySound, failed_before, failed_so}
 use Rattle.r10_medium.specs.Disk.{Image, Rose}
 use Rattle.r10_mux.specs.declared.fault.Full.{Full}
 use Rattle.r10_mux.specs.declared.fault.Full.TheVariants as lacking
@@ -48,7 +48,7 @@ use Rattle.r10_machine.specs.declared.event.Event.{Event as EventValue}
 use Rattle.r10_machine.specs.declared.event.Event.TheVariants.{Pump}
 use Rattle.r10_machine.specs.declared.reply.Reply.{Reply as ReplyValue}
 use Rattle.r10_machine.specs.declared.reply.Reply.TheVariants as replies
-pub use Rattle.r10_means.proofs.Lasting.{last_changes}
+pub use Rattle.r10_refinement.proofs.Lasting.{last_changes}
 
 -- the law of pumps
 abbrev pub PumpsAreLed : Type 0

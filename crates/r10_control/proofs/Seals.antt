@@ -20,9 +20,9 @@ use Rattle.r10_machine.specs.Room.{area, cost_of}
 use Rattle.r10_machine.specs.declared.mode.Mode.{Mode}
 use Rattle.r10_machine.specs.declared.mode.Mode.TheVariants as modes
 use Rattle.r10_machine.proofs.Growing.{append_last}
-use Rattle.r10_means.specs.Kept.{Kept, Work, mode_of, unmounted, idle, recording, failed}
-use Rattle.r10_means.specs.Means.{HasFiles, KeptStepsTo, KeptStandsFor}
-use Rattle.r10_means.proofs.Leading.{StepsStaySound, failed_so, failing, no_fewer, same_refusal, still_means}
+use Rattle.r10_refinement.specs.Kept.{Kept, Work, mode_of, unmounted, idle, recording, failed}
+use Rattle.r10_refinement.specs.Means.{HasFiles, KeptStepsTo, KeptStandsFor}
+use Rattle.r10_refinement.proofs.Leading.{StepsStaySound, failed_so, failing, no_fewer, same_refusal, still_means}
 use Rattle.r10_medium.specs.Disk.{Image, Rose}
 use Rattle.r10_cursor.proofs.Sizes.{last_grows, none_shrinks}
 use Rattle.r10_cursor.specs.Staying.{NoneShrinks}
@@ -42,7 +42,7 @@ use Rattle.r10_machine.specs.declared.event.Event.TheVariants.{Seal}
 use Rattle.r10_machine.specs.declared.reply.Reply.TheVariants as replies
 use Rattle.r10_volume.specs.Listing.{is_last_closed}
 use Rattle.r10_volume.proofs.Listed.{closed_told}
-use Rattle.r10_means.proofs.Lasting.{last_changes}
+use Rattle.r10_refinement.proofs.Lasting.{last_changes}
 
 -- ---- checks
 

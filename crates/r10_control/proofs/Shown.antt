@@ -15,8 +15,8 @@ use Rattle.r10_machine.specs.Machine.{File, Lane, Machine}
 use Rattle.r10_machine.specs.SoundParts.{Climbs, IsSoundLane, LaneClimbs}
 use Rattle.r10_machine.specs.declared.mode.Mode.{Mode}
 use Rattle.r10_machine.specs.declared.mode.Mode.TheVariants as modes
-use Rattle.r10_means.specs.Kept.{Kept}
-use Rattle.r10_means.specs.Means.{KeptStandsFor}
+use Rattle.r10_refinement.specs.Kept.{Kept}
+use Rattle.r10_refinement.specs.Means.{KeptStandsFor}
 use Rattle.r10_medium.specs.Disk.{Image}
 use Rattle.r10_openfile.specs.Machines.{HasWaiting}
 use Rattle.r10_openfile.specs.Stopping.{Part, TellsWaiting, TookAll, samples_on}

@@ -18,8 +18,8 @@ use Rattle.r10_machine.specs.Room.{area, area_from, cost_of, next_block}
 use Rattle.r10_machine.specs.declared.mode.Mode.{Mode}
 use Rattle.r10_machine.specs.declared.mode.Mode.TheVariants as modes
 use Rattle.r10_machine.proofs.Growing.{append_last}
-use Rattle.r10_means.specs.Kept.{Kept, Work, mode_of, unmounted, idle, recording, failed}
-use Rattle.r10_means.specs.Means.{LanesAreCounted, HasFiles, KeptStepsTo, KeptStandsFor, NumbersAre}
+use Rattle.r10_refinement.specs.Kept.{Kept, Work, mode_of, unmounted, idle, recording, failed}
+use Rattle.r10_refinement.specs.Means.{LanesAreCounted, HasFiles, KeptStepsTo, KeptStandsFor, NumbersAre}
 use Rattle.r10_medium.specs.Disk.{Image}
 use Rattle.r10_cursor.specs.declared.books.Books.{Books}
 use Rattle.r10_control.specs.Checks.{files_of}

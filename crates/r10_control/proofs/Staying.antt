@@ -11,13 +11,13 @@ use Rattle.r10_dirchain.specs.Mount.{blocks_in, stands}
 use Rattle.r10_dirchain.specs.declared.chain.ChainBlock.{ChainBlock}
 use Rattle.r10_dirchain.proofs.Standing.{Stand, Stand-take, usable_of}
 use Rattle.r10_volume.specs.Holding.{Open}
-use Rattle.r10_means.specs.Kept.{idle, recording}
+use Rattle.r10_refinement.specs.Kept.{idle, recording}
 use Rattle.r10_medium.specs.Disk.{Image, IsWhole}
 use Rattle.r10_openfile.specs.Keeping.{ListsLast, ended_in}
 use Rattle.r10_cursor.specs.Knowing.{IsUnder}
 use Rattle.r10_cursor.specs.Staying.{KeepListed}
 use Rattle.r10_cursor.specs.declared.books.Books.{Books}
-use Rattle.r10_cursor.specs.declared.kept.Kept.{Kept as CursorKept}
+use Rattle.r10_cursor.specs.declared.judged_file.JudgedFile.{JudgedFile}
 use Rattle.r10_control.specs.Owns.{AreJudged, OwnsBooks}
 use Rattle.r10_machine.proofs.Said.{bytes_stay}
 use Rattle.r10_volume.specs.Front.{KeepsFront}
@@ -63,17 +63,17 @@ last_first blocks n first (e ∷ d ∷ entries) stand last =
 
 -- ---- what is kept of a file
 
-still_at : (n : ℕ) (old new : Image) (entries more : List DirectoryEntry) (k : CursorKept) → KeepListed old new entries → IsSomeAnd (slice_get entries n) (λ e. IsUnder old e k) → IsSomeAnd (slice_get (entries ++ more) n) (λ e. IsUnder new e k)
+still_at : (n : ℕ) (old new : Image) (entries more : List DirectoryEntry) (k : JudgedFile) → KeepListed old new entries → IsSomeAnd (slice_get entries n) (λ e. IsUnder old e k) → IsSomeAnd (slice_get (entries ++ more) n) (λ e. IsUnder new e k)
 still_at n old new [] more k keeps at = absurd at
 still_at zero old new (e ∷ entries) more k keeps at = record { first = at.first; is_kept = rw keeps.0 at.is_kept }
 still_at (suc n) old new (e ∷ entries) more k keeps at = still_at n old new entries more k keeps.1 at
 
-still_judged : (old new : Image) (entries more : List DirectoryEntry) (judged : List CursorKept) → KeepListed old new entries → AreJudged entries old judged → AreJudged (entries ++ more) new judged
+still_judged : (old new : Image) (entries more : List DirectoryEntry) (judged : List JudgedFile) → KeepListed old new entries → AreJudged entries old judged → AreJudged (entries ++ more) new judged
 still_judged old new entries more [] keeps are = tt
 still_judged old new entries more (k ∷ judged) keeps are = (still_at k.file old new entries more k keeps are.0, still_judged old new entries more judged keeps are.1)
 
 -- the files in front of the last one, and others behind them
-pub ended_stay : (reserved first : ℕ) (old new : Image) (chain : List ChainBlock) (more : List DirectoryEntry) (judged : List CursorKept) → IsWhole old → IsUsable reserved old chain → ListsLast first chain → KeepsFront reserved first old new
+pub ended_stay : (reserved first : ℕ) (old new : Image) (chain : List ChainBlock) (more : List DirectoryEntry) (judged : List JudgedFile) → IsWhole old → IsUsable reserved old chain → ListsLast first chain → KeepsFront reserved first old new
     → AreJudged (ended_in chain) old judged → AreJudged (ended_in chain ++ more) new judged
 ended_stay reserved first old new chain more judged whole usable last same are =
     let stand = (usable_of reserved (length old) chain usable.rules).stand in
@@ -117,7 +117,7 @@ listed_keep reserved old new chain whole usable same =
     (omega (arith, behind_sum (length old) (reserved + 1) (1 + reserved) None (listed_files chain) (omega arith) stand))
 
 -- and others behind them
-pub listed_stay : (reserved : ℕ) (old new : Image) (chain : List ChainBlock) (more : List DirectoryEntry) (judged : List CursorKept) → IsWhole old → IsUsable reserved old chain → KeepsFront reserved (block_behind reserved (listed_files chain)) old new
+pub listed_stay : (reserved : ℕ) (old new : Image) (chain : List ChainBlock) (more : List DirectoryEntry) (judged : List JudgedFile) → IsWhole old → IsUsable reserved old chain → KeepsFront reserved (block_behind reserved (listed_files chain)) old new
     → AreJudged (listed_files chain) old judged → AreJudged (listed_files chain ++ more) new judged
 listed_stay reserved old new chain more judged whole usable same are = still_judged old new (listed_files chain) more judged (listed_keep reserved old new chain whole usable same) are
 

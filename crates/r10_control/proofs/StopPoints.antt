@@ -12,8 +12,8 @@ use Rattle.r10_machine.specs.declared.event.Event.{Event as EventValue}
 use Rattle.r10_machine.specs.declared.reply.Reply.{Reply as ReplyValue}
 use Rattle.r10_machine.specs.declared.reply.Reply.TheVariants.{Refused}
 use Rattle.r10_body.specs.declared.refusal.Refusal.{Refusal}
-use Rattle.r10_means.specs.Kept.{Kept, Work, unmounted, idle, recording, failed}
-use Rattle.r10_means.specs.Means.{HasFiles, KeptStandsFor}
+use Rattle.r10_refinement.specs.Kept.{Kept, Work, unmounted, idle, recording, failed}
+use Rattle.r10_refinement.specs.Means.{HasFiles, KeptStandsFor}
 use Rattle.r10_medium.proofs.Stops.{one_image, unchanged, weakened}
 use Rattle.r10_medium.specs.Disk.{Disk, Image, Unchanged}
 use Rattle.r10_medium.specs.Stop.{Leaves, Settled}
@@ -22,11 +22,11 @@ use Rattle.r10_control.proofs.Bytes.{holds_of}
 use Rattle.r10_control.proofs.Recordings.{Last, last_held}
 use Rattle.r10_machine.specs.Says.{MediumSays}
 use Rattle.r10_volume.specs.Settling.{IsSettled, SaysAs}
-use Rattle.r10_means.proofs.Behind.{refused_safely, shown_safely}
-use Rattle.r10_means.proofs.Keeping.{safe_says}
-use Rattle.r10_means.specs.Left.{IsEither, Makes, StaysSafe}
-use Rattle.r10_means.specs.Quiet.{IsNoFailure, may_make}
-use Rattle.r10_means.specs.Safe.{IsSafe, SaysLast}
+use Rattle.r10_refinement.proofs.Behind.{refused_safely, shown_safely}
+use Rattle.r10_refinement.proofs.Keeping.{safe_says}
+use Rattle.r10_refinement.specs.Left.{IsEither, Makes, StaysSafe}
+use Rattle.r10_refinement.specs.Quiet.{IsNoFailure, may_make}
+use Rattle.r10_refinement.specs.Safe.{IsSafe, SaysLast}
 use Rattle.r10_volume.proofs.Turning.{own_bytes}
 
 -- ---- by the files that a call makes

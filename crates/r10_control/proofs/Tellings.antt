@@ -6,9 +6,9 @@ use Rattle.r10_count.specs.Checks.{first_broken}
 use Rattle.r10_machine.specs.Checks.{mounted_checks}
 use Rattle.r10_machine.specs.Limits.{IsConfig}
 use Rattle.r10_machine.specs.Machine.{Machine}
-use Rattle.r10_means.specs.Kept.{Kept, Work, mode_of, unmounted, idle, recording, failed}
-use Rattle.r10_means.specs.Means.{HasFiles, KeptStepsTo, KeptStandsFor}
-use Rattle.r10_means.proofs.Leading.{StepsStaySound}
+use Rattle.r10_refinement.specs.Kept.{Kept, Work, mode_of, unmounted, idle, recording, failed}
+use Rattle.r10_refinement.specs.Means.{HasFiles, KeptStepsTo, KeptStandsFor}
+use Rattle.r10_refinement.proofs.Leading.{StepsStaySound}
 use Rattle.r10_medium.specs.Disk.{Image}
 use Rattle.r10_cursor.proofs.Sizes.{none_shrinks}
 use Rattle.r10_control.specs.Checks.{files_of}

@@ -38,9 +38,9 @@ use Rattle.r10_machine.specs.declared.mode.Stopped.{Stopped as StoppedValue}
 use Rattle.r10_machine.specs.declared.reply.Found.{Found as FoundValue}
 use Rattle.r10_machine.specs.declared.reply.Reply.{Reply as ReplyValue}
 use Rattle.r10_machine.specs.declared.reply.Reply.TheVariants as replies
-use Rattle.r10_means.specs.Kept.{Kept, mode_of}
-use Rattle.r10_means.specs.Left.{AnswersSafely}
-use Rattle.r10_means.specs.Means.{KeptStandsFor}
+use Rattle.r10_refinement.specs.Kept.{Kept, mode_of}
+use Rattle.r10_refinement.specs.Left.{AnswersSafely}
+use Rattle.r10_refinement.specs.Means.{KeptStandsFor}
 use Rattle.r10_medium.specs.Disk.{Disk, Image, IsSynced}
 
 -- ---- by the event

@@ -7,7 +7,7 @@ use Rattle.r10_count.specs.Checks.{first_broken}
 use Rattle.r10_dirblock.specs.declared.entry.Entry.{Entry as DirectoryEntry}
 use Rattle.r10_dirchain.specs.Chain.{listed_files}
 use Rattle.r10_machine.specs.Checks.{Check, begin_checks, cursor_checks, idle_checks, mounted_checks, recording_checks, tick_checks, unmounted_checks}
-use Rattle.r10_means.specs.Kept.{Kept, Work, mode_of, unmounted, idle, recording, failed}
+use Rattle.r10_refinement.specs.Kept.{Kept, Work, mode_of, unmounted, idle, recording, failed}
 use Rattle.r10_control.specs.Owns.{tick_count}
 use Rattle.r10_cursor.specs.Standing.{read_checks}
 use Rattle.r10_cursor.specs.declared.cursor.Cursor.{Cursor as CursorValue}

@@ -19,7 +19,7 @@ use Rattle.r10_builder.specs.Settings.{is_old}
 use Rattle.r10_builder.specs.State.{BuilderState}
 use Rattle.r10_volume.specs.Holding.{Open}
 use Rattle.r10_machine.specs.Machine.{Tick}
-use Rattle.r10_means.specs.Kept.{Kept, Work, unmounted, idle, recording, failed}
+use Rattle.r10_refinement.specs.Kept.{Kept, Work, unmounted, idle, recording, failed}
 use Rattle.r10_medium.specs.Disk.{Disk, Image}
 use Rattle.r10_mux.specs.Writes.{next_event}
 use Rattle.r10_volume.specs.Front.{KeepsFront}

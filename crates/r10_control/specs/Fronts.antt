@@ -14,7 +14,7 @@ use Rattle.r10_machine.specs.Config.{Config}
 use Rattle.r10_machine.specs.Machine.{Tick}
 use Rattle.r10_machine.specs.declared.event.Event.{Event as EventValue}
 use Rattle.r10_machine.specs.declared.event.Event.TheVariants as events
-use Rattle.r10_means.specs.Kept.{Kept, Work, idle, recording}
+use Rattle.r10_refinement.specs.Kept.{Kept, Work, idle, recording}
 use Rattle.r10_medium.specs.Disk.{Disk, Image, Unchanged}
 use Rattle.r10_medium.specs.Stop.{Leaves}
 use Rattle.r10_openfile.specs.AtOnce.{BeginsAtOnce, SparesFront, TurnsAtOnce}

@@ -8,8 +8,8 @@ use Rattle.r10_lane.specs.Lanes.{reached}
 use Rattle.r10_machine.specs.Calls.{accepted, losing, overflowed, without}
 use Rattle.r10_machine.specs.Checks.{channel_checks, offer_checks, offer_refusal}
 use Rattle.r10_machine.specs.Machine.{Lane, Machine, change_first, is_channel}
-use Rattle.r10_means.specs.Kept.{Kept}
-use Rattle.r10_means.specs.Means.{KeptStepsTo, KeptStandsFor}
+use Rattle.r10_refinement.specs.Kept.{Kept}
+use Rattle.r10_refinement.specs.Means.{KeptStepsTo, KeptStandsFor}
 use Rattle.r10_medium.specs.Disk.{Image}
 use Rattle.r10_machine.specs.declared.event.Event.{Event as EventValue}
 use Rattle.r10_machine.specs.declared.reply.Reply.{Reply as ReplyValue}

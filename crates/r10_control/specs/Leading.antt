@@ -3,8 +3,8 @@ use Rattle.std.specs.Prelude.{◌≡◌, ℕ, List, [], ◌∷◌, Result, Match
 use Rattle.r10_body.specs.declared.refusal.Refusal.{Refusal}
 use Rattle.r10_machine.specs.Calls.{without}
 use Rattle.r10_machine.specs.Machine.{Lane, Machine}
-use Rattle.r10_means.specs.Kept.{Kept}
-use Rattle.r10_means.specs.Means.{KeptStepsTo, KeptStandsFor}
+use Rattle.r10_refinement.specs.Kept.{Kept}
+use Rattle.r10_refinement.specs.Means.{KeptStepsTo, KeptStandsFor}
 use Rattle.r10_medium.specs.Disk.{Disk, Image}
 use Rattle.r10_cursor.specs.Staying.{NoneShrinks}
 use Rattle.r10_control.specs.State.{RecorderState}

@@ -13,7 +13,7 @@ use Rattle.r10_machine.specs.Config.{Config}
 use Rattle.r10_machine.specs.Limits.{IsConfig}
 use Rattle.r10_machine.specs.Machine.{Tick}
 use Rattle.r10_machine.specs.SoundParts.{count_or_0}
-use Rattle.r10_means.specs.Kept.{Kept, Work, unmounted, idle, recording, failed}
+use Rattle.r10_refinement.specs.Kept.{Kept, Work, unmounted, idle, recording, failed}
 use Rattle.r10_medium.specs.Disk.{Image}
 use Rattle.r10_openfile.specs.Carrying.{IsShown}
 use Rattle.r10_openfile.specs.Keeping.{MayGoOn}
@@ -21,7 +21,7 @@ use Rattle.r10_openfile.specs.Pumping.{EndsBy, HasBuilder}
 use Rattle.r10_openfile.specs.Stopping.{AllEnd}
 use Rattle.r10_cursor.specs.Knowing.{IsUnder}
 use Rattle.r10_cursor.specs.declared.books.Books.{Books}
-use Rattle.r10_cursor.specs.declared.kept.Kept.{Kept as CursorKept}
+use Rattle.r10_cursor.specs.declared.judged_file.JudgedFile.{JudgedFile}
 use Rattle.r10_volume.specs.Mounting.{IsUsable}
 
 -- the count of the last tick
@@ -64,8 +64,8 @@ ended_files (recording chain o) = take (length (listed_files chain) - 1) (listed
 ended_files failed = listed_files []
 
 -- what is kept of a file that was judged is kept of the file of its number
-abbrev pub AreJudged : List DirectoryEntry → Image → List CursorKept → Type 0
-AreJudged entries image judged = AllByRecursion (λ (k : CursorKept). IsSomeAnd (slice_get entries k.file) (λ e. IsUnder image e k)) judged
+abbrev pub AreJudged : List DirectoryEntry → Image → List JudgedFile → Type 0
+AreJudged entries image judged = AllByRecursion (λ (k : JudgedFile). IsSomeAnd (slice_get entries k.file) (λ e. IsUnder image e k)) judged
 
 -- what is known of files is known of those that are there, while a directory is in use
 abbrev pub OwnsBooks : Work → Image → Books → Type 0

@@ -13,7 +13,7 @@ use Rattle.r10_volume.specs.Holding.{Open}
 use Rattle.r10_index.specs.Book.{Book}
 use Rattle.r10_cursor.specs.Knowing.{SaysClosed}
 use Rattle.r10_machine.specs.Machine.{Machine}
-use Rattle.r10_means.specs.Kept.{Kept, Work, unmounted, idle, recording, failed}
+use Rattle.r10_refinement.specs.Kept.{Kept, Work, unmounted, idle, recording, failed}
 use Rattle.r10_medium.specs.Disk.{Disk, Image, Unchanged}
 use Rattle.r10_cursor.specs.Files.{HasDataPackets, IsShownWith, bytes_in}
 use Rattle.r10_cursor.specs.declared.refusal.ReadRefusal.{ReadRefusal}

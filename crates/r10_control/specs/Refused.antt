@@ -2,7 +2,7 @@
 use Rattle.std.specs.Prelude.{◌≡◌, ℕ, Option, None, Some}
 use Rattle.r10_body.specs.declared.refusal.Refusal.{Refusal}
 use Rattle.r10_body.specs.declared.refusal.Refusal.TheVariants.{BadDirectory, Medium, OutOfMemory}
-use Rattle.r10_means.specs.Kept.{Kept, Work, unmounted, idle, recording, failed}
+use Rattle.r10_refinement.specs.Kept.{Kept, Work, unmounted, idle, recording, failed}
 use Rattle.r10_medium.specs.Disk.{Disk, Rose, Unchanged}
 use Rattle.r10_mux.specs.Writes.{IsSame}
 use Rattle.r10_volume.specs.Mounting.{IsUnusable}

@@ -10,14 +10,14 @@ use Rattle.r10_machine.specs.Says.{MediumSays}
 use Rattle.r10_machine.specs.declared.event.Event.TheVariants.{Stop}
 use Rattle.r10_machine.specs.declared.mode.Stopped.{Stopped as StoppedValue}
 use Rattle.r10_machine.specs.declared.reply.Reply.TheVariants as replies
-use Rattle.r10_means.specs.Kept.{Kept}
-use Rattle.r10_means.specs.Means.{KeptStandsFor}
+use Rattle.r10_refinement.specs.Kept.{Kept}
+use Rattle.r10_refinement.specs.Means.{KeptStandsFor}
 use Rattle.r10_medium.specs.Disk.{Disk, Image}
 use Rattle.r10_medium.specs.Stop.{Leaves}
 use Rattle.r10_openfile.specs.Machines.{HasWaiting}
 use Rattle.r10_openfile.specs.Stopping.{Part, TellsWaiting, TookAll}
-use Rattle.r10_means.specs.Left.{Makes, StaysSafe}
-use Rattle.r10_means.specs.Safe.{IsSafe}
+use Rattle.r10_refinement.specs.Left.{Makes, StaysSafe}
+use Rattle.r10_refinement.specs.Safe.{IsSafe}
 use Rattle.r10_control.specs.Standing.{StandFor, lanes_with, unknown, with_lanes}
 
 -- in the machine's lanes waits what waits in these, as far as they are quiet

@@ -7,7 +7,7 @@ use Rattle.r10_body.specs.declared.refusal.Refusal.{Refusal}
 use Rattle.r10_body.specs.declared.refusal.Refusal.TheVariants.{BadFile, MediumFull}
 use Rattle.r10_dirchain.specs.Chain.{listed_files}
 use Rattle.r10_machine.specs.Config.{Config}
-use Rattle.r10_means.specs.Kept.{Kept, Work, idle}
+use Rattle.r10_refinement.specs.Kept.{Kept, Work, idle}
 use Rattle.r10_medium.specs.Disk.{Disk, Image}
 use Rattle.r10_seal.specs.Judging.{CostsTooMuch}
 use Rattle.r10_seal.specs.Sealing.{SealsFile}

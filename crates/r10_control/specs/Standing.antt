@@ -11,8 +11,8 @@ use Rattle.r10_machine.specs.Config.{Config}
 use Rattle.r10_machine.specs.Machine.{Lane, Machine}
 use Rattle.r10_machine.specs.Room.{area_from}
 use Rattle.r10_machine.specs.SoundParts.{count_or_0}
-use Rattle.r10_means.specs.Kept.{Kept, Work, recording}
-use Rattle.r10_means.specs.Means.{KeptStandsFor}
+use Rattle.r10_refinement.specs.Kept.{Kept, Work, recording}
+use Rattle.r10_refinement.specs.Means.{KeptStandsFor}
 use Rattle.r10_medium.specs.Disk.{Image}
 use Rattle.r10_mux.specs.declared.fault.Full.TheVariants as lacking
 use Rattle.r10_openfile.specs.Pumping.{SampleLacks}

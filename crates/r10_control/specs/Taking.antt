@@ -20,9 +20,9 @@ use Rattle.r10_machine.specs.Config.{Config}
 use Rattle.r10_machine.specs.Machine.{File, Machine, with_entries}
 use Rattle.r10_machine.specs.Room.{area as area_of, area_from}
 use Rattle.r10_machine.specs.declared.mode.Stopped.{Stopped}
-use Rattle.r10_means.specs.Grown.{AreGrown}
-use Rattle.r10_means.specs.Kept.{Kept, Work, recording, failed}
-use Rattle.r10_means.specs.Means.{KeptStandsFor}
+use Rattle.r10_refinement.specs.Grown.{AreGrown}
+use Rattle.r10_refinement.specs.Kept.{Kept, Work, recording, failed}
+use Rattle.r10_refinement.specs.Means.{KeptStandsFor}
 use Rattle.r10_medium.specs.Disk.{Disk, Image, Rose}
 use Rattle.r10_mux.specs.Writes.{IsSameFile}
 use Rattle.r10_mux.specs.declared.fault.Full.{Full}

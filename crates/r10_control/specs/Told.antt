@@ -13,7 +13,7 @@ use Rattle.r10_machine.specs.Machine.{Lane}
 use Rattle.r10_machine.specs.Room.{area_from}
 use Rattle.r10_machine.specs.declared.mode.Mode.{Mode}
 use Rattle.r10_machine.specs.declared.mode.Mode.TheVariants as modes
-use Rattle.r10_means.specs.Kept.{Kept, Work, mode_of, unmounted, idle, recording, failed}
+use Rattle.r10_refinement.specs.Kept.{Kept, Work, mode_of, unmounted, idle, recording, failed}
 use Rattle.r10_control.specs.Checks.{files_of}
 use Rattle.r10_control.specs.Owns.{tick_count}
 use Rattle.r10_machine.specs.Finding.{channel_status}

@@ -3,6 +3,7 @@
 #![tactic(auto)]
 
 mod clock;
+mod listing;
 mod mounting;
 mod numbers;
 mod offering;
@@ -17,7 +18,6 @@ mod standing;
 mod starting;
 mod status;
 mod stopping;
-mod telling;
 mod work;
 mod written_laws;
 

@@ -15,8 +15,8 @@ use r10_body::{ChannelSpec, Message, Refusal};
 use r10_count::Count;
 use r10_lane::{LaneOut, RingLane};
 use r10_machine::check_offer;
-use r10_means::{losses_are_steps, offers_are_steps};
 use r10_medium::BlockMedium;
+use r10_refinement::{losses_are_steps, offers_are_steps};
 
 impl<M: BlockMedium> Recorder<M, RingLane> {
     /// Offers a message to a channel, in any mode. Refused: NoSuchChannel, WrongKind, BadMessage, TooLong, CountRange, CountBack,

@@ -7,8 +7,8 @@ ghost use Rattle.r10_body.specs.declared.refusal.Refusal.TheVariants as refusals
 ghost use Rattle.r10_volume.specs.Holding.{HoldsFiles};
 ghost use Rattle.r10_machine.specs.Machine.{File, Machine};
 ghost use Rattle.r10_machine.specs.Room.{area, area_from, cost_of};
-ghost use Rattle.r10_means.specs.Kept.{mode_of};
-ghost use Rattle.r10_means.specs.Means.{HasFiles};
+ghost use Rattle.r10_refinement.specs.Kept.{mode_of};
+ghost use Rattle.r10_refinement.specs.Means.{HasFiles};
 ghost use Rattle.r10_medium.specs.Disk.{Image};
 ghost use Rattle.r10_control.specs.Checks.{files_of};
 ghost use Rattle.r10_control.specs.Lanes.{AnswersWith};
@@ -27,9 +27,9 @@ use r10_count::{Count, Items};
 use r10_dirchain::Directory;
 use r10_lane::{LaneOut, RingLane};
 use r10_machine::{ChannelStatus, Mode, Settings, Status, a_step_stays_sound};
-use r10_means::tellings_are_steps;
 use r10_medium::BlockMedium;
 use r10_openfile::OpenFile;
+use r10_refinement::reports_are_steps;
 use r10_volume::{count, last_file, next_block};
 use std::alloc::{AllocError, Global};
 
@@ -66,7 +66,7 @@ impl<M: BlockMedium, L: LaneOut> Recorder<M, L> {
     {
         // For the proof: a step keeps a state sound; what is told is the machine's; the channels and blocks are within limits.
         a_step_stays_sound();
-        tellings_are_steps();
+        reports_are_steps();
         let _channels = self.settings.channels();
         let _blocks = self.settings.blocks();
         let mode = mode_in(&self.work);
@@ -93,7 +93,7 @@ impl<M: BlockMedium> Recorder<M, RingLane> {
     {
         // For the proof: a step keeps a state sound; what is told is the machine's; the channels and blocks are within limits.
         a_step_stays_sound();
-        tellings_are_steps();
+        reports_are_steps();
         let _channels = self.settings.channels();
         let _blocks = self.settings.blocks();
         let mode = mode_in(&self.work);

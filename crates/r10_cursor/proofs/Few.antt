@@ -10,8 +10,8 @@ use Rattle.r10_body.specs.declared.entry.Timed.{Timed}
 use Rattle.r10_body.specs.declared.gap.Gap.{Gap}
 use Rattle.r10_body.specs.declared.gap.Gap.TheVariants.{Whole}
 use Rattle.r10_body.specs.Packets.{Packet, packet_bytes, packet_entries, file_bytes, file_entries, with_gaps}
-use Rattle.r10_strict.specs.Tally.{timed_cost}
-use Rattle.r10_strict.proofs.Tallies.{content_cheap}
+use Rattle.r10_packet_rules.specs.Tally.{timed_cost}
+use Rattle.r10_packet_rules.proofs.Tallies.{content_cheap}
 
 timed_length : (channel : ℕ) (gap : Gap) (ms : List Timed) → length (with_gaps channel gap ms) ≡ length ms
 timed_length channel gap [] = refl

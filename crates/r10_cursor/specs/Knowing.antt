@@ -12,17 +12,17 @@ pub use Rattle.r10_judge.specs.Judged.{SaysClosed}
 use Rattle.r10_judge.specs.Judged.{TracksStrictFile, IsTracked}
 use Rattle.r10_cursor.specs.Files.{IsShownWith, bytes_in, finished_file}
 use Rattle.r10_cursor.specs.declared.books.Books.{Books}
-use Rattle.r10_cursor.specs.declared.kept.Kept.{Kept}
+use Rattle.r10_cursor.specs.declared.judged_file.JudgedFile.{JudgedFile}
 use Rattle.r10_cursor.specs.declared.written.Written.{Written}
 use Rattle.r10_cursor.specs.declared.written.Shown.{Shown}
 
 -- it is kept of the packets of a strict file, which the medium shows with the first block and the closing of this directory entry
-pub record IsUnder (image : Image) (e : DirectoryEntry) (k : Kept) : Type 0 where
+pub record IsUnder (image : Image) (e : DirectoryEntry) (k : JudgedFile) : Type 0 where
   pub first : k.first ≡ e.first_block
   pub is_kept : TracksStrictFile (is_closed e) k.tracks (bytes_in image e)
 
 -- and of the entry of the file's number
-abbrev pub IsOf : Image → List ChainBlock → Option Written → Kept → Type 0
+abbrev pub IsOf : Image → List ChainBlock → Option Written → JudgedFile → Type 0
 IsOf image chain written k = IsSomeAnd (finished_file written chain k.file) (λ e. IsUnder image e k)
 
 -- of the file that is written, the medium shows packets, these are what nodes say of them, and the book has them first
@@ -43,8 +43,8 @@ pub record Knows (image : Image) (chain : List ChainBlock) (written : Option Wri
   pub writing : IsWriting image written
 
 -- a file was judged, whose number and directory entry these are, and what is kept of it stands behind the others
-pub record IsAdded (image : Image) (file : ℕ) (e : DirectoryEntry) (old new : List Kept) : Type 0 where
-  pub kept : Kept
+pub record IsAdded (image : Image) (file : ℕ) (e : DirectoryEntry) (old new : List JudgedFile) : Type 0 where
+  pub kept : JudgedFile
   pub behind : new ≡ old ++ kept ∷ []
   pub number : kept.file ≡ file
   pub is_under : IsUnder image e kept
@@ -55,13 +55,13 @@ pub data IsRead (image : Image) (chain : List ChainBlock) (written : Option Writ
   is_strict : (e : DirectoryEntry) → finished_file written chain file ≡ Some e → SaysClosed (bytes_in image e) (is_closed e) → IsRead image chain written file
 
 -- the file is the one that is written, or what is kept at a place is kept of it
-pub data IsLearned (image : Image) (chain : List ChainBlock) (written : Option Written) (file : ℕ) (books : List Kept) (place : ℕ) : Type 0 where
+pub data IsLearned (image : Image) (chain : List ChainBlock) (written : Option Written) (file : ℕ) (books : List JudgedFile) (place : ℕ) : Type 0 where
   by_telling : (w : Written) → written ≡ Some w → w.file ≡ file → IsLearned image chain written file books place
-  by_judging : (e : DirectoryEntry) (k : Kept) → IfSome written (λ w. w.file ≢ file) → finished_file written chain file ≡ Some e → slice_get books place ≡ Some k → IsUnder image e k
+  by_judging : (e : DirectoryEntry) (k : JudgedFile) → IfSome written (λ w. w.file ≢ file) → finished_file written chain file ≡ Some e → slice_get books place ≡ Some k → IsUnder image e k
       → IsLearned image chain written file books place
 
 -- where the packets stand of a file that was judged, and what nodes say of them
-pub record IsBook (k : Kept) (shown : Shown) : Type 0 where
+pub record IsBook (k : JudgedFile) (shown : Shown) : Type 0 where
   pub first : shown.first ≡ k.first
   pub named : shown.named.now ≡ shown.book.now.entries
   pub book : (packets : List Packet) → IsTracked k.tracks packets → IsBookOf shown.book.now (filter is_data packets)

@@ -14,7 +14,7 @@ ghost use Rattle.r10_cursor.specs.Knowing.{HasJudged, IsAdded, IsBook, IsLearned
 ghost use Rattle.r10_cursor.specs.Refusals.{IsUnread, RefusesRead, RefusesToRead};
 ghost use Rattle.r10_cursor.specs.declared.refusal.ReadRefusal.TheVariants as read_refusals;
 
-use crate::kept::Kept;
+use crate::judged_file::JudgedFile;
 use crate::listing::finished_entry;
 use crate::refusal::{ReadRefusal, of_judging};
 use crate::written::{Shown, Written};
@@ -27,7 +27,7 @@ use std::alloc::Global;
 /// What is kept of the files that were judged.
 #[derive(Drop)]
 pub(crate) struct Books {
-    kept: Vec<Kept>,
+    kept: Vec<JudgedFile>,
 }
 
 impl Books {
@@ -97,7 +97,7 @@ impl Books {
 
     /// What is kept at a place.
     fn book(&self, place: usize) -> Option<Shown<'_>>
-        ensures some { (k : Kept) → slice_get self.now.kept.items place ≡ Some k → IsSomeAnd result (IsBook k) }
+        ensures some { (k : JudgedFile) → slice_get self.now.kept.items place ≡ Some k → IsSomeAnd result (IsBook k) }
         ensures none { slice_get self.now.kept.items place ≡ None → result ≡ None }
     {
         match self.kept.get(place) {
@@ -162,7 +162,7 @@ impl Books {
         let place = self.kept.len();
         let tracks = tracks_of(alloc, medium, entry, buffer)?;
         let first = entry.first_block as usize;
-        match self.kept.push(Kept {
+        match self.kept.push(JudgedFile {
             file,
             first,
             tracks,

@@ -8,7 +8,7 @@ ghost use Rattle.r10_cursor.specs.Refusals.{of_read, of_replay};
 use crate::ReplayFault;
 use r10_blockout::ReadFault;
 use r10_body::FileFault;
-use r10_strict::Fault;
+use r10_packet_rules::Fault;
 use thiserror::Error;
 
 /// A file wasn't read.

@@ -1,8 +1,8 @@
 -- A call that may write, behind its look for room.
 use Rattle.std.proofs.Common.{◌≡◌, ℕ, Bool, true, false, refl, sym, inr, ◌∙◌, true≢false}
 use Rattle.r10_body.specs.declared.refusal.Refusal.TheVariants.{OutOfMemory}
-use Rattle.r10_desk.specs.Told.{DoesEvent}
-use Rattle.r10_desk.specs.declared.desk.Desk.{Desk as DeskValue}
+use Rattle.r10_calls.specs.Told.{DoesEvent}
+use Rattle.r10_calls.specs.declared.desk.Desk.{Desk as DeskValue}
 use Rattle.r10_machine.specs.declared.event.Event.{Event as EventValue}
 use Rattle.r10_machine.specs.declared.reply.Reply.{Reply as ReplyValue}
 use Rattle.r10_machine.specs.declared.reply.Reply.TheVariants.{Refused}

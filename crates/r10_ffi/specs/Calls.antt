@@ -3,13 +3,13 @@ use Rattle.std.specs.Prelude.{◌≡◌, ℕ, List, [], map, Option, None, Some,
 use Rattle.r10_medium.specs.Disk.{Image}
 use Rattle.r10_machine.specs.declared.event.Event.TheVariants.{Status}
 use Rattle.r10_machine.specs.declared.reply.Reply.TheVariants.{Done}
-use Rattle.r10_desk.specs.Accounts.{account_given, counted, not_yet}
-use Rattle.r10_desk.specs.Faults.{no_fault}
-use Rattle.r10_desk.specs.Listing.{lane_place}
-use Rattle.r10_desk.specs.Told.{DoesEvent}
-use Rattle.r10_desk.specs.declared.accounts.AccountOut.{AccountOut}
-use Rattle.r10_desk.specs.declared.desk.Desk.{Desk as DeskValue}
-use Rattle.r10_desk.specs.Opening.{FormatsByScript, FormatsOver, OpensRecorder}
+use Rattle.r10_calls.specs.Accounts.{account_given, counted, not_yet}
+use Rattle.r10_calls.specs.Faults.{no_fault}
+use Rattle.r10_calls.specs.Listing.{lane_place}
+use Rattle.r10_calls.specs.Told.{DoesEvent}
+use Rattle.r10_calls.specs.declared.accounts.AccountOut.{AccountOut}
+use Rattle.r10_calls.specs.declared.desk.Desk.{Desk as DeskValue}
+use Rattle.r10_calls.specs.Opening.{FormatsByScript, FormatsOver, OpensRecorder}
 use Rattle.r10_region.specs.Orders.{IsOtherEnd, MakesRoom}
 use Rattle.r10_region.specs.Queue.{queue_room, places_known}
 use Rattle.r10_region.specs.RegionDisk.{region_disk, lent_to, asked}

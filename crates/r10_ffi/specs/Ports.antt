@@ -3,7 +3,7 @@ use Rattle.std.specs.Prelude.{◌≡◌, ℕ, Bool, true, cond}
 use Rattle.r10_medium.specs.Disk.{Disk}
 use Rattle.r10_carrier.specs.Carrying.{Carries}
 use Rattle.r10_carrier.specs.declared.carry.Carry.{Carry}
-use Rattle.r10_desk.specs.Accounts.{counted}
+use Rattle.r10_calls.specs.Accounts.{counted}
 use Rattle.r10_ends.specs.Ends.{OutletGoes}
 use Rattle.r10_ends.specs.declared.outlet_end.OutletEnd.{OutletEnd}
 use Rattle.r10_region.specs.declared.region.Region.{Region}

@@ -4,15 +4,15 @@ ghost use Rattle.std.specs.Prelude.{◌≡◌, ◌≢◌, ◌⊎◌, ◌↔◌, 
 ghost use Rattle.r10_body.specs.declared.entry.Entry.{Entry};
 ghost use Rattle.r10_body.specs.declared.message.Message.TheVariants as messages;
 ghost use Rattle.r10_machine.specs.declared.event.Event.TheVariants as events;
-ghost use Rattle.r10_desk.specs.Checking.{TellsFault, TellsSettings};
-ghost use Rattle.r10_desk.specs.Copies.{copied};
-ghost use Rattle.r10_desk.specs.Entries.{out_bytes, words_of};
-ghost use Rattle.r10_desk.specs.Hand.{TakesInHand, entry_in, is_next_in, next_fields};
-ghost use Rattle.r10_desk.specs.Listing.{file_in, files_in, channel_given, lane_place, name_in, file_place, status_given};
-ghost use Rattle.r10_desk.specs.Opening.{HasOtherBlocks};
-ghost use Rattle.r10_desk.specs.Outs.{cursor_in, left_out, moved_in, queued_in, taken_out};
-ghost use Rattle.r10_desk.specs.Reading.{count_in, found_in, is_count_in, lent, next_out, place_in};
-ghost use Rattle.r10_desk.specs.Told.{DoesEvent, number_of};
+ghost use Rattle.r10_calls.specs.Checking.{TellsFault, TellsSettings};
+ghost use Rattle.r10_calls.specs.Copies.{copied};
+ghost use Rattle.r10_calls.specs.Entries.{out_bytes, words_of};
+ghost use Rattle.r10_calls.specs.Hand.{TakesInHand, entry_in, is_next_in, next_fields};
+ghost use Rattle.r10_calls.specs.Listing.{file_in, files_in, channel_given, lane_place, name_in, file_place, status_given};
+ghost use Rattle.r10_calls.specs.Opening.{HasOtherBlocks};
+ghost use Rattle.r10_calls.specs.Outs.{cursor_in, left_out, moved_in, queued_in, taken_out};
+ghost use Rattle.r10_calls.specs.Reading.{count_in, found_in, is_count_in, lent, next_out, place_in};
+ghost use Rattle.r10_calls.specs.Told.{DoesEvent, number_of};
 ghost use Rattle.r10_region.specs.Orders.{CountsQueue, HandsOrderOut, HandsRunOut, HasTold};
 ghost use Rattle.r10_region.specs.RegionDisk.{region_disk};
 ghost use Rattle.r10_ffi.specs.Calls.{Accounts, Does, DoesWriting, Goes, IsClosed, IsFormattedRegion, IsOpen, IsOpened, Offers};
@@ -21,7 +21,7 @@ ghost use Rattle.r10_ffi.specs.Civil.{parts_of};
 use crate::civil::{Civil, parts_of};
 use crate::held::Held;
 use crate::recorder::Recorder;
-use r10_desk::{
+use r10_calls::{
     AccountOut, ChannelOut, EntryOut, FaultOut, FileOut, ScriptOut, StatusOut, count_accepted,
 };
 use r10_region::{OrderOut, QueueOut, Region, RunOut, Strip};
@@ -61,7 +61,7 @@ pub extern "C" fn r10_check_script(
     ensures memory { result ≡ 30 → (out.new ≡ out.old) × (text.new ≡ text.old) }
     ensures numbers { (result ≡ 0) ⊎ (result ≡ 30) ⊎ (result ≡ 40) }
 {
-    r10_desk::check_script(alloc, script, out, text)
+    r10_calls::check_script(alloc, script, out, text)
 }
 
 /// Writes the directory of a medium without files into its memory, and opens a recorder over it, which is not mounted: 0, or 28, 30, 40, 41, 45.
@@ -85,11 +85,11 @@ pub extern "C" fn r10_format(
     let Ok((mut medium, orders)) = Region::over(alloc, region, room) else {
         return OUT_OF_MEMORY;
     };
-    let number = r10_desk::format(alloc, &mut medium, script);
+    let number = r10_calls::format(alloc, &mut medium, script);
     if number != 0 {
         return number;
     }
-    let (desk, accepted) = match r10_desk::open(alloc, medium, script) {
+    let (desk, accepted) = match r10_calls::open(alloc, medium, script) {
         Ok(opened) => opened,
         Err(number) => return number,
     };
@@ -128,7 +128,7 @@ pub extern "C" fn r10_open(
     let Ok((medium, orders)) = Region::over(alloc, region, room) else {
         return OUT_OF_MEMORY;
     };
-    let (desk, accepted) = match r10_desk::open(alloc, medium, script) {
+    let (desk, accepted) = match r10_calls::open(alloc, medium, script) {
         Ok(opened) => opened,
         Err(number) => return number,
     };

@@ -1,6 +1,6 @@
 //! What a handle leads to.
 
-use r10_desk::{Accepted, Desk};
+use r10_calls::{Accepted, Desk};
 use r10_region::{Orders, Region};
 
 /// A recorder over memory that a caller lends, its readers, what its device has still to do, and how many messages of each channel were accepted.

@@ -11,8 +11,8 @@ ghost use Rattle.r10_ffi.specs.Calls.{IsClosed, IsOpen};
 ghost use Rattle.r10_ffi.specs.Ports.{CarriesInto};
 
 use crate::recorder::Recorder;
+use r10_calls::count_accepted;
 use r10_carrier::{carry_one, open_lane};
-use r10_desk::count_accepted;
 use r10_ends::{OutletEnd, PortEnd, PortOut};
 use std::alloc::Global;
 

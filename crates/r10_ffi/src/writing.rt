@@ -2,8 +2,8 @@
 
 ghost use Rattle.std.specs.Prelude.{◌≡◌};
 ghost use Rattle.r10_machine.specs.declared.event.Event.TheVariants as events;
-ghost use Rattle.r10_desk.specs.Outs.{left_out, moved_in, taken_out};
-ghost use Rattle.r10_desk.specs.Told.{DoesEvent, number_of};
+ghost use Rattle.r10_calls.specs.Outs.{left_out, moved_in, taken_out};
+ghost use Rattle.r10_calls.specs.Told.{DoesEvent, number_of};
 ghost use Rattle.r10_region.specs.RegionDisk.{region_disk};
 ghost use Rattle.r10_ffi.specs.Calls.{WritesHeld};
 

@@ -4,7 +4,7 @@ use r10_blockout::ReadFault;
 use r10_body::FileFault;
 use r10_judge::{Extent, Judgement, judge_file, walk_file};
 use r10_medium::{BlockMedium, Faulty, Memory};
-use r10_strict::Fault;
+use r10_packet_rules::Fault;
 use std::alloc::{AllocError, Global};
 use std::process::Abort;
 use std::test::Fail;

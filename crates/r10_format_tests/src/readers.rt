@@ -7,7 +7,7 @@ use r10_cursor::{Cursor, ReadRefusal, Reader, read_packet};
 use r10_dirblock::{DirBlock, Entries, Entry, encode, pad};
 use r10_dirchain::{Directory, read_chain};
 use r10_medium::{BlockMedium, Memory};
-use r10_strict::Fault;
+use r10_packet_rules::Fault;
 use std::alloc::{AllocError, Global};
 use std::process::Abort;
 use std::test::Fail;

@@ -2,7 +2,7 @@
 
 use r10_count::{Civil, Count, Parts};
 use r10_indexbody::LossBody;
-use r10_strict::{Facts, PacketKind, Spread, StrictReading, read_strict};
+use r10_packet_rules::{Facts, PacketKind, Spread, StrictReading, read_strict};
 use std::test::Fail;
 
 /// Two messages of a UART.

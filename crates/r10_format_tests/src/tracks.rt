@@ -1,8 +1,8 @@
 // What is kept of a file's packets.
 use r10_count::{Civil, Count, Parts};
+use r10_file_rules::Tracks;
 use r10_indexbody::LossBody;
-use r10_strict::{Facts, PacketKind, Spread};
-use r10_tracks::Tracks;
+use r10_packet_rules::{Facts, PacketKind, Spread};
 use std::test::Fail;
 
 /// A setup packet.

@@ -5,7 +5,7 @@ use r10_checker::{Verdict, check_file, check_medium, find_fault};
 use r10_dirblock::{DirBlock, Entries, Entry, encode, pad};
 use r10_judge::Judge;
 use r10_medium::{BlockMedium, Faulty, Memory};
-use r10_strict::Fault;
+use r10_packet_rules::Fault;
 use std::alloc::{AllocError, Global};
 use std::process::Abort;
 use std::test::Fail;

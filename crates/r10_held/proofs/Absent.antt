@@ -11,7 +11,7 @@ use Rattle.r10_count.specs.Checks.{first_broken}
 use Rattle.r10_dirchain.specs.Chain.{listed_files}
 use Rattle.r10_machine.specs.Checks.{cursor_checks, mounted_checks}
 use Rattle.r10_machine.specs.declared.event.Event.TheVariants as events
-use Rattle.r10_means.specs.Kept.{Kept, Work, mode_of, unmounted, idle, recording, failed}
+use Rattle.r10_refinement.specs.Kept.{Kept, Work, mode_of, unmounted, idle, recording, failed}
 use Rattle.r10_medium.specs.Disk.{Disk}
 use Rattle.r10_held.specs.Auditing.{is_absence}
 

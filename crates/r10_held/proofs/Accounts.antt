@@ -11,7 +11,7 @@ use Rattle.r10_body.specs.declared.entry.Sample.{Sample}
 use Rattle.r10_body.specs.declared.spec.ChannelSpec.{ChannelSpec}
 use Rattle.r10_control.specs.Taking.{entry_on, entries_on, Part, TookAll, entries_of, samples_on}
 use Rattle.r10_machine.specs.Machine.{saturated}
-use Rattle.r10_means.specs.Grown.{AreGrown}
+use Rattle.r10_refinement.specs.Grown.{AreGrown}
 use Rattle.r10_held.specs.Account.{ChannelAccount, ChannelAccounts, ChannelBound, ChannelBounds}
 
 -- ---- what was taken, on one channel

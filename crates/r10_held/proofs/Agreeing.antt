@@ -13,7 +13,7 @@ use Rattle.r10_cursor.specs.Standing.{fresh_slot}
 use Rattle.r10_cursor.specs.declared.cursor.Cursor.{Cursor}
 use Rattle.r10_dirchain.specs.Chain.{listed_files}
 use Rattle.r10_cursor.specs.Knowing.{SaysClosed}
-use Rattle.r10_means.specs.Kept.{Work, unmounted, idle, recording, failed}
+use Rattle.r10_refinement.specs.Kept.{Work, unmounted, idle, recording, failed}
 use Rattle.r10_medium.specs.Disk.{Image}
 use Rattle.r10_held.specs.Auditing.{GoOn, at_place}
 use Rattle.r10_held.specs.Transcripts.{Agrees, Follow, IsPart, beginning}

@@ -8,7 +8,7 @@ use Rattle.r10_control.specs.Reading.{ShowsAt}
 use Rattle.r10_cursor.specs.Replays.{AdvancesReading, Reading}
 use Rattle.r10_cursor.specs.declared.cursor.Cursor.{Cursor}
 use Rattle.r10_machine.specs.Replay.{Ordered, wanted}
-use Rattle.r10_means.specs.Kept.{Work}
+use Rattle.r10_refinement.specs.Kept.{Work}
 use Rattle.r10_medium.specs.Disk.{Image}
 use Rattle.r10_held.specs.Auditing.{GoOn, IsNext, at_place}
 use Rattle.r10_held.specs.declared.transcript.Instalment.{Instalment}

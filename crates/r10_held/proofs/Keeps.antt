@@ -21,8 +21,8 @@ use Rattle.r10_machine.specs.declared.event.Event.{Event as EventValue}
 use Rattle.r10_machine.specs.declared.event.Event.TheVariants as events
 use Rattle.r10_machine.specs.declared.mode.Stopped.{Stopped}
 use Rattle.r10_machine.specs.declared.reply.Reply.{Reply as ReplyValue}
-use Rattle.r10_means.specs.Grown.{AreGrown}
-use Rattle.r10_means.specs.Kept.{Kept, Work, unmounted, idle, recording, failed}
+use Rattle.r10_refinement.specs.Grown.{AreGrown}
+use Rattle.r10_refinement.specs.Kept.{Kept, Work, unmounted, idle, recording, failed}
 use Rattle.r10_medium.specs.Disk.{Disk, Image, Unchanged}
 use Rattle.r10_port.specs.Ends.{Receiving, TookReceived}
 use Rattle.r10_held.specs.Account.{Accounted, ChannelAccounts, ChannelBounds, IsAccounted, IsBounded}

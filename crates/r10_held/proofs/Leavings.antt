@@ -18,7 +18,7 @@ use Rattle.r10_dirchain.specs.declared.chain.ChainBlock.{ChainBlock}
 use Rattle.r10_machine.specs.Config.{Config}
 use Rattle.r10_machine.specs.Machine.{Tick}
 use Rattle.r10_machine.specs.declared.event.Event.TheVariants as events
-use Rattle.r10_means.specs.Kept.{Kept, Work, mode_of, unmounted, idle, recording, failed, Open}
+use Rattle.r10_refinement.specs.Kept.{Kept, Work, mode_of, unmounted, idle, recording, failed, Open}
 use Rattle.r10_medium.specs.Disk.{Disk, Image}
 
 -- ---- what is told of the last file

@@ -3,7 +3,7 @@ use Rattle.std.proofs.Common.{◌≡◌, ◌≤◌, Option, None, sym, ◌∙◌
 use Rattle.r10_body.specs.declared.refusal.Refusal.{Refusal}
 use Rattle.r10_body.specs.declared.refusal.Refusal.TheVariants as refusals
 use Rattle.r10_control.specs.Refused.{RefusesCall}
-use Rattle.r10_means.specs.Kept.{Kept}
+use Rattle.r10_refinement.specs.Kept.{Kept}
 use Rattle.r10_medium.specs.Disk.{Disk, Unchanged}
 use Rattle.r10_medium.proofs.Failures.{rose_later}
 use Rattle.r10_medium.proofs.Stops.{unchanged_twice}

@@ -8,7 +8,7 @@ use Rattle.r10_body.specs.declared.spec.ChannelSpec.{ChannelSpec}
 use Rattle.r10_control.specs.Own.{AreOwn}
 use Rattle.r10_control.specs.State.{RecorderState}
 use Rattle.r10_machine.specs.Machine.{saturated}
-use Rattle.r10_means.specs.Kept.{failed}
+use Rattle.r10_refinement.specs.Kept.{failed}
 use Rattle.r10_medium.specs.Disk.{Disk}
 use Rattle.r10_control.specs.Taking.{entries_on}
 

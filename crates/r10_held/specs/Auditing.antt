@@ -8,7 +8,7 @@ use Rattle.r10_control.specs.Reading.{IsReadAt, IsReadFileRefusal}
 use Rattle.r10_count.specs.Checks.{first_broken}
 use Rattle.r10_cursor.specs.declared.cursor.Cursor.{Cursor}
 use Rattle.r10_machine.specs.Checks.{is_working, mounted_checks}
-use Rattle.r10_means.specs.Kept.{Kept, Work, mode_of}
+use Rattle.r10_refinement.specs.Kept.{Kept, Work, mode_of}
 use Rattle.r10_medium.specs.Disk.{Image}
 use Rattle.r10_held.specs.Transcripts.{Agrees, AllAgree, IsPart}
 use Rattle.r10_held.specs.declared.transcript.Instalment.{Instalment}

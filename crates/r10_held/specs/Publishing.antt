@@ -4,7 +4,7 @@ use Rattle.r10_body.specs.declared.refusal.Glance.{Glance}
 use Rattle.r10_body.specs.declared.refusal.Refusal.{Refusal}
 use Rattle.r10_control.specs.Told.{last_shown}
 use Rattle.r10_gauge.specs.Published.{triple, last_triple, commits_of}
-use Rattle.r10_means.specs.Kept.{Work, recording}
+use Rattle.r10_refinement.specs.Kept.{Work, recording}
 use Rattle.r10_held.specs.State.{HeldState}
 
 -- the triple of so many publications, and of a file's number and its shown bytes, or of two zeros where there is no file

@@ -3,7 +3,7 @@ use Rattle.std.specs.Prelude.{◌≡◌, ℕ, ◌≤◌, List, [], ◌∷◌, le
 use Rattle.std.specs.List.{AllByRecursion}
 use Rattle.r10_body.specs.Packets.{Packet, file_entries}
 use Rattle.r10_machine.specs.Replay.{Ordered, wanted}
-use Rattle.r10_means.specs.Kept.{Work}
+use Rattle.r10_refinement.specs.Kept.{Work}
 use Rattle.r10_medium.specs.Disk.{Image}
 use Rattle.r10_control.specs.Reading.{ShowsAt}
 use Rattle.r10_held.specs.declared.transcript.Instalment.{Instalment}

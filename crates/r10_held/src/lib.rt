@@ -8,6 +8,7 @@ mod cabinet;
 mod directory;
 mod gauged;
 mod held;
+mod listing;
 mod parting;
 mod player;
 mod publishing;
@@ -16,7 +17,6 @@ mod recording;
 mod rings;
 mod sight;
 mod taking;
-mod telling;
 mod transcript;
 
 pub use auditing::{audit, audit_all};

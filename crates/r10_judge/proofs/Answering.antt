@@ -21,10 +21,10 @@ use Rattle.r10_body.proofs.Injective.{same_bytes}
 use Rattle.r10_body.proofs.Lengths.{last_with}
 use Rattle.r10_body.proofs.Reporting.{ends_with, report_fits}
 use Rattle.r10_body.proofs.Retold.{IsRetold, retold_checksums, retold_fits}
-use Rattle.r10_strict.proofs.Fronts.{first_joined, stays}
-use Rattle.r10_strict.proofs.Spelled.{framed}
-use Rattle.r10_strict.proofs.Ways.{first_again}
-use Rattle.r10_strict.proofs.Written.{packet_foreign}
+use Rattle.r10_packet_rules.proofs.Fronts.{first_joined, stays}
+use Rattle.r10_packet_rules.proofs.Spelled.{framed}
+use Rattle.r10_packet_rules.proofs.Ways.{first_again}
+use Rattle.r10_packet_rules.proofs.Written.{packet_foreign}
 
 -- ---- what a header says
 

@@ -13,9 +13,9 @@ use Rattle.r10_body.specs.Faults.{HasFault, IsAnswered, IsReportAnswered, ReadsP
 use Rattle.r10_body.specs.Faults as broken_rules
 use Rattle.r10_body.specs.declared.fault.FileFault.{FileFault}
 use Rattle.r10_body.specs.declared.fault.FileFault.TheVariants.{Truncated, DataSum, Body, Rule}
-use Rattle.r10_strict.specs.Tracks.{named}
-use Rattle.r10_strict.proofs.Faults.{framing_is}
-use Rattle.r10_strict.proofs.Fronts.{first_joined, is_foreign}
+use Rattle.r10_packet_rules.specs.Tracks.{named}
+use Rattle.r10_packet_rules.proofs.Faults.{framing_is}
+use Rattle.r10_packet_rules.proofs.Fronts.{first_joined, is_foreign}
 use Rattle.r10_body.proofs.Indexes.{counted, counted_no, not_closed, whole_closed}
 use Rattle.r10_body.proofs.Lengths.{last_with}
 use Rattle.r10_body.proofs.Reporting.{report_is}

@@ -14,11 +14,11 @@ use Rattle.r10_body.specs.Faults.{HasFault, IsAnswered, IsReportAnswered, KeepsH
 use Rattle.r10_body.specs.Faults as broken_rules
 use Rattle.r10_body.specs.declared.fault.FileFault.{FileFault}
 use Rattle.r10_body.specs.declared.fault.FileFault.TheVariants.{Rule}
-use Rattle.r10_strict.proofs.Fronts.{range_front, stays}
-use Rattle.r10_strict.proofs.Ways.{first_again, packet_long}
-use Rattle.r10_strict.proofs.Written.{packet_foreign}
-use Rattle.r10_strict.specs.declared.file.Fault.{Fault}
-use Rattle.r10_tracks.specs.declared.tracks.Tracks.{Tracks}
+use Rattle.r10_packet_rules.proofs.Fronts.{range_front, stays}
+use Rattle.r10_packet_rules.proofs.Ways.{first_again, packet_long}
+use Rattle.r10_packet_rules.proofs.Written.{packet_foreign}
+use Rattle.r10_packet_rules.specs.declared.file.Fault.{Fault}
+use Rattle.r10_file_rules.specs.declared.tracks.Tracks.{Tracks}
 use Rattle.r10_judge.specs.Judged.{KeepRules, KeepsRulesSoFar, BreaksAt, SaysClosed, MayMiss, unanswered_at}
 use Rattle.r10_judge.proofs.Answering.{no_report, quiet_at_end, report_answered_on}
 use Rattle.r10_judge.proofs.Judging.{begins, broken_here, least_here, pending, pending_breaks, pending_bytes, pending_keep, pending_least, pending_place, pending_quiet, whole_first}

@@ -2,8 +2,8 @@
 use Rattle.std.proofs.Common.{ℕ, Bool, List, sym, ◌∙◌, subst}
 use Rattle.r10_body.specs.Packets.{Packet}
 use Rattle.r10_body.proofs.OneMeaning.{one_list}
-use Rattle.r10_tracks.specs.Tracks.{IsTracked}
-use Rattle.r10_tracks.specs.declared.tracks.Tracks.{Tracks}
+use Rattle.r10_file_rules.specs.Tracks.{IsTracked}
+use Rattle.r10_file_rules.specs.declared.tracks.Tracks.{Tracks}
 use Rattle.r10_judge.specs.Judged.{KeepsRulesSoFar, TracksStrictFile, SaysClosed}
 
 -- the packets that were taken are those of the file

@@ -14,20 +14,20 @@ use Rattle.r10_body.specs.Faults.{IsAnswered, IsReportAnswered, ReadsPacket, Bre
 use Rattle.r10_body.specs.Faults as broken_rules
 use Rattle.r10_body.specs.declared.fault.FileFault.TheVariants.{Rule}
 use Rattle.std.specs.Prelude.{count_by}
-use Rattle.r10_strict.specs.declared.file.Fault.{Fault}
-use Rattle.r10_strict.proofs.Ways.{packet_long}
-use Rattle.r10_strict.proofs.Written.{packet_foreign}
+use Rattle.r10_packet_rules.specs.declared.file.Fault.{Fault}
+use Rattle.r10_packet_rules.proofs.Ways.{packet_long}
+use Rattle.r10_packet_rules.proofs.Written.{packet_foreign}
 use Rattle.r10_body.proofs.OneMeaning.{one_list}
 use Rattle.r10_body.proofs.Reporting.{ends_with, is_report, quiet_before, report_is, report_long, reports_it}
 use Rattle.r10_body.proofs.Retold.{IsRetold, retold_start, retold_channels, retold_sequence, retold_counts, retold_index, retold_counters, retold_events}
 use Rattle.r10_body.proofs.Rules.{follows_more, bytes_more}
 use Rattle.r10_body.proofs.Indexes.{counted, counted_no}
-use Rattle.r10_strict.proofs.Spelled.{framed}
-use Rattle.r10_tracks.proofs.Joins.{of_bytes, retold}
-use Rattle.r10_tracks.specs.Broken.{Breaks}
-use Rattle.r10_tracks.specs.Broken as broken_later
-use Rattle.r10_tracks.specs.Tracks.{IsTracked}
-use Rattle.r10_tracks.specs.declared.tracks.Tracks.{Tracks}
+use Rattle.r10_packet_rules.proofs.Spelled.{framed}
+use Rattle.r10_file_rules.proofs.Joins.{of_bytes, retold}
+use Rattle.r10_file_rules.specs.Broken.{Breaks}
+use Rattle.r10_file_rules.specs.Broken as broken_later
+use Rattle.r10_file_rules.specs.Tracks.{IsTracked}
+use Rattle.r10_file_rules.specs.declared.tracks.Tracks.{Tracks}
 use Rattle.r10_judge.specs.Judged.{KeepRules, KeepsRulesSoFar, BreaksAt, StandsAt, BreaksIn, BreaksRuleOfFileFirst, broken_rule, in_open_file, least_of_index, stopped_at, unanswered_at}
 use Rattle.r10_judge.proofs.Answering.{answered_behind, answered_on, no_report, reads_behind, reads_first}
 use Rattle.r10_judge.proofs.Next.{next_packet}

@@ -12,8 +12,8 @@ use Rattle.r10_blockout.proofs.Runs.{shown_as}
 use Rattle.r10_body.specs.Faults.{HasFault, IsReportAnswered}
 use Rattle.r10_body.specs.declared.fault.FileFault.{FileFault}
 use Rattle.r10_body.specs.declared.fault.FileFault.TheVariants.{Truncated}
-use Rattle.r10_strict.proofs.Faults.{fault_stays}
-use Rattle.r10_tracks.specs.declared.tracks.Tracks.{Tracks}
+use Rattle.r10_packet_rules.proofs.Faults.{fault_stays}
+use Rattle.r10_file_rules.specs.declared.tracks.Tracks.{Tracks}
 use Rattle.r10_judge.specs.Files.{file_at}
 use Rattle.r10_judge.specs.Judged.{TellsAnswer}
 use Rattle.r10_judge.specs.Walks.{EndsWithFault, EndsAt}

@@ -11,10 +11,10 @@ use Rattle.r10_body.specs.Faults.{HasFault, IsAnswered, ReadsPacket, BreaksRule,
 use Rattle.r10_body.specs.Faults as broken_rules
 use Rattle.r10_body.specs.declared.fault.FileFault.{FileFault}
 use Rattle.r10_body.specs.declared.fault.FileFault.TheVariants.{Rule}
-use Rattle.r10_strict.proofs.Faults.{one_fault, apart}
-use Rattle.r10_strict.proofs.Fronts.{first_joined}
-use Rattle.r10_strict.proofs.Ways.{packet_long, first_again}
-use Rattle.r10_strict.proofs.Written.{packet_foreign}
+use Rattle.r10_packet_rules.proofs.Faults.{one_fault, apart}
+use Rattle.r10_packet_rules.proofs.Fronts.{first_joined}
+use Rattle.r10_packet_rules.proofs.Ways.{packet_long, first_again}
+use Rattle.r10_packet_rules.proofs.Written.{packet_foreign}
 use Rattle.r10_body.proofs.Indexes.{none_at, not_closed, not_whole, part_of}
 use Rattle.r10_body.proofs.Injective.{one_follower}
 use Rattle.r10_body.proofs.Lists.{same_behind}

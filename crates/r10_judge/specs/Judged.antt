@@ -8,10 +8,10 @@ use Rattle.r10_body.specs.Faults.{BreaksRule, IsReportAnswered, IsWrongHere}
 use Rattle.r10_body.specs.declared.entry.Entry.{Entry}
 use Rattle.r10_body.specs.declared.fault.FileFault.{FileFault}
 use Rattle.r10_body.specs.declared.fault.FileFault.TheVariants.{Rule}
-use Rattle.r10_strict.specs.declared.file.Fault.{Fault}
-use Rattle.r10_tracks.specs.Broken.{Breaks}
-pub use Rattle.r10_tracks.specs.Tracks.{IsTracked}
-use Rattle.r10_tracks.specs.declared.tracks.Tracks.{Tracks}
+use Rattle.r10_packet_rules.specs.declared.file.Fault.{Fault}
+use Rattle.r10_file_rules.specs.Broken.{Breaks}
+pub use Rattle.r10_file_rules.specs.Tracks.{IsTracked}
+use Rattle.r10_file_rules.specs.declared.tracks.Tracks.{Tracks}
 use Rattle.r10_judge.specs.declared.judge.Judge.{Judge}
 
 -- packets that keep the rules of a file whose directory entry is closed or not

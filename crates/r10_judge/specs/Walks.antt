@@ -2,8 +2,8 @@
 use Rattle.std.specs.Prelude.{◌≡◌, ℕ, ◌<◌, Bool, List, ◌++◌, length, drop, Option, Some, None, IfSome}
 use Rattle.r10_body.specs.Faults.{HasFault}
 use Rattle.r10_body.specs.declared.fault.FileFault.{FileFault}
-use Rattle.r10_strict.specs.Tracks.{TracksForeign}
-use Rattle.r10_tracks.specs.declared.tracks.Tracks.{Tracks}
+use Rattle.r10_packet_rules.specs.Tracks.{TracksForeign}
+use Rattle.r10_file_rules.specs.declared.tracks.Tracks.{Tracks}
 use Rattle.r10_judge.specs.Judged.{TellsAnswer, TracksJudged}
 use Rattle.r10_judge.specs.declared.walk.Walk.{Walk}
 use Rattle.r10_judge.specs.declared.window.Walked.{Walked}

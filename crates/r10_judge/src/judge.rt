@@ -9,18 +9,18 @@ ghost use Rattle.r10_body.specs.Packets.{Packet, FitsPacket, packet_body, packet
 ghost use Rattle.r10_body.specs.Rules.{EndsIndex, EndsReports, IsGapTold, KeepsChecksums, last_report};
 ghost use Rattle.r10_body.specs.Rules.{is_index as is_index_packet};
 ghost use Rattle.r10_judge.specs.Judged.{TracksJudged, KeepsRulesSoFar, BreaksRuleOfFileFirst, TracksStrictFile, MayMiss, SaysClosed, TellsAnswer, least_of_index, stopped_at, unanswered_at};
-ghost use Rattle.r10_strict.specs.Facts.{AreFactsOf, kind_of};
-ghost use Rattle.r10_strict.specs.Strict.{FindsPacket};
-ghost use Rattle.r10_strict.specs.Tracks.{IsFirst};
-ghost use Rattle.r10_tracks.specs.Tracks.{IsTracked};
+ghost use Rattle.r10_packet_rules.specs.Facts.{AreFactsOf, kind_of};
+ghost use Rattle.r10_packet_rules.specs.Strict.{FindsPacket};
+ghost use Rattle.r10_packet_rules.specs.Tracks.{IsFirst};
+ghost use Rattle.r10_file_rules.specs.Tracks.{IsTracked};
 
 use r10_body::FileFault;
+use r10_file_rules::Tracks;
 use r10_indexbody::LossBody;
-use r10_strict::{
+use r10_packet_rules::{
     AnyPacket, Facts, Fault, ForeignPacket, PacketKind, StrictReading, read_any, read_checked,
     read_foreign,
 };
-use r10_tracks::Tracks;
 use std::alloc::{AllocError, Global};
 
 /// How far a file is judged.

@@ -10,9 +10,9 @@ ghost use Rattle.r10_judge.specs.Walks.{IsWalked};
 use crate::extent::Extent;
 use crate::window::{Walked, walk_bytes, walk_file};
 use r10_blockout::ReadFault;
+use r10_file_rules::Tracks;
 use r10_medium::BlockMedium;
-use r10_strict::Fault;
-use r10_tracks::Tracks;
+use r10_packet_rules::Fault;
 use std::alloc::{AllocError, Global};
 
 /// What a file is under its directory entry.

@@ -13,6 +13,6 @@ pub use extent::Extent;
 pub use judge::Judge;
 pub use judgement::{Judgement, judge_bytes, judge_file};
 pub use laws::{fault_or_strict, next_packet, one_first_fault};
-pub use r10_tracks::Tracks;
+pub use r10_file_rules::Tracks;
 pub use walk::Walk;
 pub use window::{Walked, walk_bytes, walk_file};

@@ -6,7 +6,7 @@ ghost use Rattle.r10_judge.specs.Walks.{TracksWalked, EndsWithFault};
 
 use crate::Judge;
 use r10_body::FileFault;
-use r10_strict::ForeignTrack;
+use r10_packet_rules::ForeignTrack;
 use std::alloc::{AllocError, Global};
 
 /// How far a file is walked.

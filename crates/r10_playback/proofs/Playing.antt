@@ -12,8 +12,8 @@ use Rattle.r10_judge.specs.Judged.{TracksStrictFile}
 use Rattle.r10_machine.specs.Replay.{wanted, Ordered}
 use Rattle.r10_checker.specs.Place.{bytes_on}
 use Rattle.r10_cursor.specs.Replays.{AdvancesReading, Reading, begun_reading}
-use Rattle.r10_tracks.specs.Tracks.{IsTracked}
-use Rattle.r10_tracks.specs.declared.tracks.Tracks.{Tracks}
+use Rattle.r10_file_rules.specs.Tracks.{IsTracked}
+use Rattle.r10_file_rules.specs.declared.tracks.Tracks.{Tracks}
 use Rattle.r10_playback.specs.Played.{channels_of, HasCounts, IsListedInside, IsInstalment}
 use Rattle.r10_playback.specs.declared.selection.Selection.{Selection}
 use Rattle.r10_playback.proofs.Fronts.{same_entries, shown}

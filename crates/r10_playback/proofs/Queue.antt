@@ -2,7 +2,7 @@
 use Rattle.std.proofs.Common.{◌≡◌, ℕ, List, [], ◌∷◌, ◌++◌, drop, Option, Some, sym, ap, ◌∙◌, append_assoc}
 use Rattle.std.specs.Prelude.{slice_get}
 use Rattle.r10_body.specs.declared.entry.Entry.{Entry}
-use Rattle.r10_lines.specs.Line.{entry_line}
+use Rattle.r10_text.specs.Line.{entry_line}
 use Rattle.r10_playback.specs.Lines.{entry_lines}
 
 some_same : (x e : Entry) → Some x ≡ Some e → x ≡ e

@@ -5,7 +5,7 @@ use Rattle.r10_body.specs.Faults.{IsAtFault}
 use Rattle.r10_checker.specs.Verdict.{IsVerdict}
 use Rattle.r10_checker.specs.declared.check.Verdict.{Verdict}
 use Rattle.r10_checker.specs.declared.check.Verdict.TheVariants.{Strict, Lenient, Faulty}
-use Rattle.r10_strict.specs.declared.file.Fault.{Fault}
+use Rattle.r10_packet_rules.specs.declared.file.Fault.{Fault}
 use Rattle.r10_images.specs.declared.listing.Outcome.{Outcome}
 use Rattle.r10_images.specs.declared.listing.Outcome.TheVariants.{Done, Refused}
 use Rattle.r10_judge.specs.Judged.{SaysClosed}

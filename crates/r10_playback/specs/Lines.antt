@@ -8,7 +8,7 @@ use Rattle.r10_images.specs.Faults.{IsLineFault}
 use Rattle.r10_images.specs.Listing.{refusal_line}
 use Rattle.r10_images.specs.declared.listing.Outcome.{Outcome}
 use Rattle.r10_images.specs.declared.listing.Outcome.TheVariants.{Done, Refused}
-use Rattle.r10_lines.specs.Line.{entry_line}
+use Rattle.r10_text.specs.Line.{entry_line}
 use Rattle.r10_playback.specs.Played.{IsInstalment, IsPlayRefusal}
 use Rattle.r10_playback.specs.declared.play.PlayStop.{PlayStop}
 use Rattle.r10_playback.specs.declared.play.PlayStop.TheVariants as play_stops

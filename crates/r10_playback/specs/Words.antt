@@ -2,10 +2,10 @@
 use Rattle.std.specs.Prelude.{ℕ, List, ◌++◌, Option, Some, None, codes}
 use Rattle.std.specs.Fmt.{decimal}
 use Rattle.r10_body.specs.declared.fault.FileFault.{FileFault}
-use Rattle.r10_lines.specs.Refusals.{fault_text}
+use Rattle.r10_text.specs.Refusals.{fault_text}
 use Rattle.r10_checker.specs.declared.check.Verdict.{Verdict}
 use Rattle.r10_checker.specs.declared.check.Verdict.TheVariants.{Strict, Lenient, Faulty}
-use Rattle.r10_strict.specs.declared.file.Fault.{Fault}
+use Rattle.r10_packet_rules.specs.declared.file.Fault.{Fault}
 
 -- an offset and a fault
 abbrev pub place_text : ℕ → FileFault → List ℕ

@@ -7,7 +7,7 @@ ghost use Rattle.r10_playback.specs.Checked.{found_outcome, Judges};
 use crate::words::found_line;
 use r10_checker::find_fault;
 use r10_images::{Outcome, StreamFault};
-use r10_strict::Fault;
+use r10_packet_rules::Fault;
 use std::alloc::{AllocError, Global};
 use std::io::Write;
 

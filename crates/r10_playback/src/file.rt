@@ -14,9 +14,9 @@ use crate::selection::{PlayFault, PlayRefusal};
 use r10_blockout::ReadFault;
 use r10_checker::{extent_of, is_inside};
 use r10_dirchain::{ChainError, Listed, read_chain};
+use r10_file_rules::Tracks;
 use r10_judge::{Judgement, judge_file};
 use r10_medium::BlockMedium;
-use r10_tracks::Tracks;
 use std::alloc::Global;
 
 /// The file of this number, which lies inside the medium.

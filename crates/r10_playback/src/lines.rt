@@ -3,14 +3,14 @@
 ghost use Rattle.std.specs.Prelude.{◌≡◌, IfErr, OnOk};
 ghost use Rattle.std.specs.Io.KnownBytes.{Appends};
 ghost use Rattle.r10_images.specs.Faults.{IsLineFault};
-ghost use Rattle.r10_lines.specs.Line.{entry_line};
+ghost use Rattle.r10_text.specs.Line.{entry_line};
 ghost use Rattle.r10_playback.specs.Lines.{entry_lines, play_refusal_text};
 
 use crate::selection::PlayRefusal;
 use r10_body::Entry;
 use r10_cursor::Reading;
 use r10_images::{StreamFault, write_refusal};
-use r10_lines::entry_line;
+use r10_text::entry_line;
 use std::alloc::{AllocError, Global};
 use std::io::Write;
 

@@ -4,8 +4,8 @@ ghost use Rattle.std.specs.Prelude.{◌≡◌, IfOk, string_bytes};
 ghost use Rattle.r10_playback.specs.Words.{found_line, verdict_line};
 
 use r10_checker::Verdict;
-use r10_lines::fault_text;
-use r10_strict::Fault;
+use r10_packet_rules::Fault;
+use r10_text::fault_text;
 use std::alloc::{AllocError, Global};
 
 /// The line of a verdict, with its line feed.

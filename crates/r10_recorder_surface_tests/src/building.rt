@@ -1,6 +1,6 @@
 //! The builders of a recorder's channels, and what faults of a file that is written say: `r10_builder`, `r10_openfile`, `r10_mux`, `r10_seal`.
 
-use crate::made::{CHANNEL, settings, uart};
+use crate::inputs::{CHANNEL, settings, uart};
 use r10_body::{Gap, Sample};
 use r10_builder::{Builders, Closed, Reason};
 use r10_count::Count;

@@ -9,11 +9,11 @@ mod building;
 #[cfg(test)]
 mod feeds;
 #[cfg(test)]
+mod inputs;
+#[cfg(test)]
 mod limits;
 #[cfg(test)]
 mod locks;
-#[cfg(test)]
-mod made;
 #[cfg(test)]
 mod players;
 #[cfg(test)]

@@ -1,6 +1,6 @@
 //! What settings are refused for: `r10_control`.
 
-use crate::made::{CHANNEL, settings};
+use crate::inputs::{CHANNEL, settings};
 use r10_body::{ChannelSpec, Kind};
 use r10_control::{Settings, SettingsFault};
 use std::alloc::{AllocError, Global};

@@ -1,6 +1,6 @@
 //! The calls that read what a file shows: `r10_control`.
 
-use crate::made::{Desk, LAST, LATER, SHOWN, WAITING, asked, channels};
+use crate::inputs::{Desk, LAST, LATER, SHOWN, WAITING, asked, channels};
 use r10_body::Refusal;
 use r10_control::Found;
 use r10_cursor::Cursor;

@@ -1,6 +1,6 @@
 //! The calls that record, and what a recorder tells of itself: `r10_control`.
 
-use crate::made::{Ask, Call, Desk, SHOWN, WAITING, asked, otherwise};
+use crate::inputs::{Ask, Call, Desk, SHOWN, WAITING, asked, otherwise};
 use r10_body::Refusal;
 use r10_control::{FileInfo, LaneStatus, Mode, RecorderStatus, Stopped};
 use r10_machine::{ChannelStatus, Status};

@@ -1,6 +1,6 @@
 //! Events that are told to a world, and its replies: `r10_world`.
 
-use crate::made::{CHANNEL, LAST, LATER, LEAP_DAY, channels, medium, settings, text, uart};
+use crate::inputs::{CHANNEL, LAST, LATER, LEAP_DAY, channels, medium, settings, text, uart};
 use r10_body::{Gap, Refusal};
 use r10_count::Items;
 use r10_medium::{BlockMedium, Memory};

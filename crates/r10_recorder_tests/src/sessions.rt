@@ -1,5 +1,5 @@
-use r10_lines::ScriptFault;
 use r10_script::read_session;
+use r10_text::ScriptFault;
 use std::alloc::{AllocError, Global};
 use std::test::Fail;
 

@@ -4,10 +4,10 @@
 mod line;
 mod operation;
 mod orders;
+mod queueing;
 mod region;
 mod spare;
 mod strip;
-mod telling;
 
 pub use line::{Line, Link};
 pub use operation::Operation;

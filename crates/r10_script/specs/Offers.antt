@@ -7,7 +7,7 @@ use Rattle.r10_body.specs.declared.message.Kind.{Kind}
 use Rattle.r10_body.specs.declared.spec.ChannelSpec.{ChannelSpec}
 use Rattle.r10_body.specs.declared.message.Message.{Message}
 use Rattle.r10_body.specs.declared.message.Message.TheVariants as messages
-use Rattle.r10_lines.specs.Line.{words_high_first}
+use Rattle.r10_text.specs.Line.{words_high_first}
 use Rattle.r10_script.specs.Keys.{integer_or_zero_at, text_at, bytes_or_none_at, flag_or_false_at, HasOnly}
 use Rattle.r10_script.specs.Kinds.{kind_word, offer_keys}
 

@@ -5,8 +5,8 @@ use Rattle.r10_body.specs.declared.spec.ChannelSpec.{ChannelSpec}
 use Rattle.r10_count.specs.declared.civil.Parts.{Parts}
 use Rattle.r10_machine.specs.declared.event.Event.{Event}
 use Rattle.r10_machine.specs.declared.event.Event.TheVariants as events
-use Rattle.r10_lines.specs.Civil.{civil_text}
-use Rattle.r10_lines.specs.CivilParts.{HasText}
+use Rattle.r10_text.specs.Civil.{civil_text}
+use Rattle.r10_text.specs.CivilParts.{HasText}
 use Rattle.r10_script.specs.Keys.{integer_at, integers_at, text_at, bytes_at, HasOnly}
 use Rattle.r10_script.specs.Offers.{IsOffered}
 

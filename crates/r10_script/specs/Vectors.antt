@@ -5,7 +5,7 @@ use Rattle.std.specs.Str.{bytes_eq}
 use Rattle.toml.specs.Data.{Members, integer, string, no_members, member}
 use Rattle.r10_body.specs.declared.message.Kind.TheVariants as kinds
 use Rattle.r10_count.specs.declared.civil.Parts.{Parts}
-use Rattle.r10_lines.specs.CivilParts.{HasText}
+use Rattle.r10_text.specs.CivilParts.{HasText}
 use Rattle.r10_machine.specs.declared.event.Event.TheVariants as events
 use Rattle.r10_script.specs.Keys.{bytes_or_none_at, flag_or_false_at, integer_or_zero_at, integers_at, items_at, items_or_none_at, HasOnly}
 use Rattle.r10_script.specs.Kinds.{channel_keys, offer_keys}

@@ -1,6 +1,6 @@
 //! What a script has where something else is wanted, as it is said in a fault.
 
-use r10_lines::Found;
+use r10_text::Found;
 use std::alloc::{AllocError, Global};
 use toml::Value;
 

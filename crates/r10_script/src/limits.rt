@@ -1,8 +1,8 @@
 //! The settings outside their limits, and the tables where a person finds them.
 
 use crate::table::Fields;
-use r10_lines::{Place, ScriptFault, Wrong};
 use r10_machine::SettingsFault;
+use r10_text::{Place, ScriptFault, Wrong};
 use toml::Value;
 
 pub const BLOCKS: &str = "a whole number from `directory` + 2 to 16777216";

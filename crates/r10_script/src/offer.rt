@@ -12,7 +12,7 @@ use crate::settings::kind_of;
 use crate::table::Fields;
 use r10_body::{ChannelSpec, Kind, Message};
 use r10_count::{Bytes, Items};
-use r10_lines::{ScriptFault, Wrong};
+use r10_text::{ScriptFault, Wrong};
 
 /// The message that a step offers to this channel: of the kind that the step names, or else of the channel's.
 pub fn offered_of(

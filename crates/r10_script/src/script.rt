@@ -11,8 +11,8 @@ use crate::settings::settings_of;
 use crate::step::event_of;
 use crate::table::Fields;
 use r10_body::ChannelSpec;
-use r10_lines::{Place, ScriptFault, Spot, Wrong};
 use r10_machine::{Event, Settings};
+use r10_text::{Place, ScriptFault, Spot, Wrong};
 use std::alloc::{AllocError, Global};
 
 /// What a script asks for: a recorder of these settings, and these events in turn.

@@ -16,8 +16,8 @@ use crate::step::event_of;
 use crate::table::Fields;
 use r10_body::{ChannelSpec, Kind, Timed};
 use r10_count::{Count, Items};
-use r10_lines::{Place, ScriptFault};
 use r10_machine::{Event, Settings};
+use r10_text::{Place, ScriptFault};
 use std::alloc::Global;
 
 /// The words of orders and of a session's steps, as a fault says them.

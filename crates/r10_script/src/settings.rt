@@ -11,8 +11,8 @@ use crate::limits::{
 };
 use crate::table::Fields;
 use r10_body::{ChannelSpec, Kind};
-use r10_lines::{Place, ScriptFault};
 use r10_machine::Settings;
+use r10_text::{Place, ScriptFault};
 use std::alloc::Global;
 
 const KINDS: &str = "one of: uart, 1553, arinc, discrete, message";

@@ -11,8 +11,8 @@ use crate::offer::offered_of;
 use crate::table::Fields;
 use r10_body::ChannelSpec;
 use r10_count::{Items, Parts};
-use r10_lines::{ScriptFault, parts_of};
 use r10_machine::Event;
+use r10_text::{ScriptFault, parts_of};
 
 const CIVIL: &str = "a text of the form YYYY-MM-DD hh:mm:ss.cc";
 

@@ -6,11 +6,11 @@ ghost use Rattle.std.specs.List.{All, list_any};
 ghost use Rattle.std.specs.Str.{bytes_eq};
 ghost use Rattle.toml.specs.Data.{get_member, as_table};
 ghost use Rattle.toml.specs.View.{view, table_view};
-ghost use Rattle.r10_lines.specs.Line.{words_high_first};
+ghost use Rattle.r10_text.specs.Line.{words_high_first};
 ghost use Rattle.r10_script.specs.Keys.{integer_at, integer_or_zero_at, integers_at, text_at, bytes_at, bytes_or_none_at, flag_or_false_at, items_at, items_or_none_at, HasOnly};
 
 use crate::found::{cut, found_of, listed};
-use r10_lines::{Place, ScriptFault, Spot, Wrong};
+use r10_text::{Place, ScriptFault, Spot, Wrong};
 use std::alloc::{AllocError, Global};
 use toml::{Table, Value};
 

@@ -16,7 +16,7 @@ use Rattle.r10_judge.specs.Judged.{TracksStrictFile}
 use Rattle.r10_body.proofs.Lengths.{file_covered}
 use Rattle.r10_body.proofs.OneMeaning.{one_list}
 use Rattle.r10_seal.specs.Sealing.{IsUnsealed, cost_of_packets, sealed_bytes}
-use Rattle.r10_tracks.specs.declared.tracks.Tracks.{Tracks}
+use Rattle.r10_file_rules.specs.declared.tracks.Tracks.{Tracks}
 
 -- what is judged strict and open
 pub kept_unsealed : (tracks : Tracks) (bytes : List ℕ) (kept : TracksStrictFile false tracks bytes) → IsUnsealed bytes kept.text kept.packets

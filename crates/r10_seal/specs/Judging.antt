@@ -4,8 +4,8 @@ use Rattle.r10_body.specs.Faults.{IsAtFault}
 use Rattle.r10_body.specs.Packets.{Packet}
 use Rattle.r10_body.specs.declared.fault.FileFault.{FileFault}
 use Rattle.r10_medium.specs.Disk.{Disk, Unchanged}
-use Rattle.r10_tracks.specs.Times.{last_mark}
-use Rattle.r10_tracks.specs.Tracks.{IsTracked}
+use Rattle.r10_file_rules.specs.Times.{last_mark}
+use Rattle.r10_file_rules.specs.Tracks.{IsTracked}
 use Rattle.r10_seal.specs.Sealing.{IsUnsealed, cost_of_packets}
 use Rattle.r10_seal.specs.declared.fault.SealFault.{SealFault}
 use Rattle.r10_seal.specs.declared.fault.SealFault.TheVariants.{BadFile, MediumFull, Medium, OutOfMemory}

@@ -17,8 +17,8 @@ use Rattle.r10_dirchain.specs.declared.chain.ChainBlock.{ChainBlock}
 use Rattle.r10_index.specs.Written.{IsGroup, index_of}
 use Rattle.r10_machine.specs.Machine.{File}
 use Rattle.r10_machine.specs.ControlCalls.{closed_in}
-use Rattle.r10_tracks.specs.Times.{last_mark}
-use Rattle.r10_tracks.specs.declared.times.TimeMark.{TimeMark}
+use Rattle.r10_file_rules.specs.Times.{last_mark}
+use Rattle.r10_file_rules.specs.declared.times.TimeMark.{TimeMark}
 
 -- the bytes are these packets: a strict file without an index, with this setup text
 pub record IsUnsealed (bytes : List ℕ) (text : List ℕ) (packets : List Packet) : Type 0 where

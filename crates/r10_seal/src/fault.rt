@@ -1,6 +1,6 @@
 //! Why a file isn't closed.
 
-use r10_strict::Fault;
+use r10_packet_rules::Fault;
 use thiserror::Error;
 
 /// Why a last file that was left open isn't closed.

@@ -1,7 +1,7 @@
 -- The lines of replies and readers, one after the other.
 use Rattle.std.proofs.Common.{◌≡◌, ℕ, ◌+◌, ◌<◌, List, [], ◌∷◌, ◌++◌, length, take, get_or, append_assoc, ap, sym, ◌∙◌, arith}
 use Rattle.std.proofs.lemmas.List.{append-nil, length-take, take_more}
-use Rattle.r10_lines.specs.Replies.{reply_lines}
+use Rattle.r10_text.specs.Replies.{reply_lines}
 use Rattle.r10_machine.specs.declared.reply.Reply.{Reply}
 use Rattle.r10_session.specs.Text.{reader_line, reader_lines, step_lines}
 use Rattle.r10_session.specs.declared.ended.ReaderEnd.{ReaderEnd}

@@ -4,9 +4,9 @@ use Rattle.std.specs.Fmt.{decimal}
 use Rattle.std.proofs.lemmas.Fmt.{decimal_digit}
 use Rattle.r10_body.specs.declared.refusal.Refusal.{Refusal}
 use Rattle.r10_session.specs.Text.{refused_line}
-use Rattle.r10_lines.specs.Refusals.{refusal_text}
-use Rattle.r10_lines.specs.Replies.{reply_lines}
-use Rattle.r10_lines.specs.Words.{line_of}
+use Rattle.r10_text.specs.Refusals.{refusal_text}
+use Rattle.r10_text.specs.Replies.{reply_lines}
+use Rattle.r10_text.specs.Words.{line_of}
 use Rattle.r10_machine.specs.declared.reply.Reply.TheVariants as replies
 
 pub numbered : (r : Refusal) → reply_lines 0 (replies.Refused r) ≡ codes "0 " ++ refused_line r

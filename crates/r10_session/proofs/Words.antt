@@ -1,6 +1,6 @@
 -- Words that ask for one thing alone.
 use Rattle.std.specs.Prelude.{ℕ, List, [], ◌∷◌}
-use Rattle.r10_words.specs.Words.{AsksRun, AsksRunImage}
+use Rattle.r10_arguments.specs.Words.{AsksRun, AsksRunImage}
 
 pub not_both : (words : List (List ℕ)) → AsksRun words → AsksRunImage words → ⊥
 not_both [] run image = image

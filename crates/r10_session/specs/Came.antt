@@ -7,7 +7,7 @@ use Rattle.r10_body.specs.declared.spec.ChannelSpec.{ChannelSpec}
 use Rattle.r10_control.specs.Own.{AreOwn}
 use Rattle.r10_cursor.specs.declared.cursor.Cursor.{Cursor}
 use Rattle.r10_session.specs.declared.ended.Ended.{Ended}
-use Rattle.r10_means.specs.Kept.{Kept}
+use Rattle.r10_refinement.specs.Kept.{Kept}
 use Rattle.r10_medium.specs.Disk.{Image}
 use Rattle.r10_medium.specs.MemoryDisk.{memory_disk}
 use Rattle.r10_script.specs.declared.session.FeedTable.{FeedTable}

@@ -18,7 +18,7 @@ use Rattle.r10_script.specs.declared.session.SessionScript.{SessionScript}
 use Rattle.r10_session.specs.Came.{CameOf}
 use Rattle.r10_shared.specs.Orders.{order_of}
 use Rattle.r10_shared.specs.declared.order.Order.{Order}
-use Rattle.r10_words.specs.Words.{AsksRun, AsksRunImage}
+use Rattle.r10_arguments.specs.Words.{AsksRun, AsksRunImage}
 
 -- a text spells a session script
 pub record IsSession (text : List ℕ) (script : SessionScript) : Type 0 where

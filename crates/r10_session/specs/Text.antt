@@ -3,9 +3,9 @@ use Rattle.std.specs.Prelude.{ℕ, ◌+◌, Bool, true, false, List, [], ◌∷�
 use Rattle.std.specs.Fmt.{decimal}
 use Rattle.std.specs.List.{flat_map}
 use Rattle.r10_body.specs.declared.refusal.Refusal.{Refusal}
-use Rattle.r10_lines.specs.Refusals.{refusal_text}
-use Rattle.r10_lines.specs.Replies.{reply_lines}
-use Rattle.r10_lines.specs.Words.{line_of, spaced}
+use Rattle.r10_text.specs.Refusals.{refusal_text}
+use Rattle.r10_text.specs.Replies.{reply_lines}
+use Rattle.r10_text.specs.Words.{line_of, spaced}
 use Rattle.r10_machine.specs.declared.reply.Reply.{Reply}
 use Rattle.r10_session.specs.declared.ended.Ended.{Ended}
 use Rattle.r10_session.specs.declared.ended.FeedEnd.{FeedEnd}

@@ -6,8 +6,8 @@ ghost use Rattle.r10_session.specs.Text.{audit_line, feed_line, kept_text, offer
 
 use crate::ended::{Ended, FeedEnd, ReaderEnd};
 use r10_body::Refusal;
-use r10_lines::reply_lines;
 use r10_machine::Reply;
+use r10_text::reply_lines;
 use std::alloc::{AllocError, Global};
 
 /// The line of a refusal: that of a reply without its number.

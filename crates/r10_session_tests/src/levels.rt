@@ -6,7 +6,7 @@ ghost use Rattle.r10_held.specs.LockFact.{outlet_received, outlet_spec};
 ghost use Rattle.r10_held.specs.Naming.{AreNamed, ring_for};
 ghost use Rattle.r10_medium.specs.MemoryDisk.{memory_disk};
 
-use crate::made::{Made, cabinet_of, make};
+use crate::inputs::{Made, cabinet_of, make};
 use crate::run::{mount_and_tick, run_and_end};
 use crate::sources::Listed;
 use crate::window::Window;

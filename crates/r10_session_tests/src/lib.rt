@@ -11,13 +11,13 @@ mod fakes;
 #[cfg(test)]
 mod handing;
 #[cfg(test)]
+mod inputs;
+#[cfg(test)]
 mod levels;
 #[cfg(test)]
 mod lock;
 #[cfg(test)]
 mod losing;
-#[cfg(test)]
-mod made;
 #[cfg(test)]
 mod meeting;
 #[cfg(test)]

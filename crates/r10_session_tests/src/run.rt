@@ -6,8 +6,8 @@ ghost use Rattle.r10_held.specs.LockFact.{outlet_received, outlet_spec};
 ghost use Rattle.r10_held.specs.Naming.{AreNamed, ring_for};
 ghost use Rattle.r10_medium.specs.MemoryDisk.{memory_disk};
 
+use crate::inputs::{Made, cabinet_of};
 use crate::losing::Seen;
-use crate::made::{Made, cabinet_of};
 use r10_body::Refusal;
 use r10_count::{Items, Parts};
 use r10_cursor::Cursor;

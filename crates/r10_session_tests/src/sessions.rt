@@ -1,7 +1,7 @@
 // Sessions of a recorder with the channels 5 and 6.
 
+use crate::inputs::make;
 use crate::losing::{ALL, Barrier, LOST, Losing};
-use crate::made::make;
 use crate::meeting::{Meet, Meeting, Place, Shut};
 use crate::run::{Outcome, end_of, run_one, run_recorded, run_twice, run_two, seen_in};
 use crate::sources::{Listed, Stopping};

@@ -11,7 +11,7 @@ use Rattle.r10_control.specs.State.{RecorderState}
 use Rattle.r10_held.specs.Account.{ChannelAccounts, ChannelBounds, IsAccounted}
 use Rattle.r10_held.specs.LockFact.{LanesAccounted, outlet_received, outlet_spec}
 use Rattle.r10_held.specs.Naming.{AreNamed, ChannelRing, ring_for}
-use Rattle.r10_means.specs.Kept.{Kept, failed}
+use Rattle.r10_refinement.specs.Kept.{Kept, failed}
 use Rattle.r10_medium.specs.Disk.{Disk, Image}
 use Rattle.r10_port.specs.Ends.{Receiving, Ring, sent, unreceived}
 use Rattle.r10_control.specs.Taking.{entries_on}

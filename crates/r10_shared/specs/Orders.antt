@@ -17,7 +17,7 @@ use Rattle.r10_machine.specs.declared.event.Event.TheVariants as events
 use Rattle.r10_machine.specs.declared.mode.Stopped.{Stopped}
 use Rattle.r10_machine.specs.declared.reply.Reply.{Reply}
 use Rattle.r10_machine.specs.declared.reply.Reply.TheVariants as replies
-use Rattle.r10_means.specs.Left.{AnswersSafely}
+use Rattle.r10_refinement.specs.Left.{AnswersSafely}
 use Rattle.r10_medium.specs.Disk.{Disk}
 use Rattle.r10_port.specs.Ends.{TookReceived, reached_by_outlet}
 use Rattle.r10_shared.specs.declared.order.Order.{Order}

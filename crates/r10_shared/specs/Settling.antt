@@ -9,7 +9,7 @@ use Rattle.r10_control.specs.Own.{AreOwn}
 use Rattle.r10_control.specs.Told.{number_on}
 use Rattle.r10_held.specs.Naming.{ChannelRing, ring_for}
 use Rattle.r10_machine.specs.Machine.{saturated}
-use Rattle.r10_means.specs.Kept.{Kept, Work, failed}
+use Rattle.r10_refinement.specs.Kept.{Kept, Work, failed}
 use Rattle.r10_medium.specs.Disk.{Image}
 use Rattle.r10_port.specs.Ends.{Receiving, Sending, sent, unreceived}
 use Rattle.r10_control.specs.Taking.{entries_on}

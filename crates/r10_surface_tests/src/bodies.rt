@@ -1,7 +1,7 @@
 //! The bodies of each kind of packet: `r10_timebody`, `r10_b1553`, `r10_a429`, `r10_uart`, `r10_discrete`, `r10_message`, `r10_event`,
 //! `r10_setup`, `r10_indexbody`.
 
-use crate::made::{count, leap_day};
+use crate::inputs::{count, leap_day};
 use r10_a429::{ArincBody, ArincEntry};
 use r10_b1553::{BusBody, BusEntry};
 use r10_count::{Count, Reading};

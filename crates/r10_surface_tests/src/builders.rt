@@ -1,6 +1,6 @@
 //! How a channel's messages become packets: `r10_builder`.
 
-use crate::made::{CHANNEL, WORD, count};
+use crate::inputs::{CHANNEL, WORD, count};
 use r10_body::{ChannelSpec, Gap, Kind, Sample};
 use r10_builder::{Builder, Closed, Reason};
 use std::alloc::{AllocError, Global};

@@ -8,7 +8,7 @@ use r10_dirchain::{ChainError, FormatError};
 use r10_machine::SettingsFault;
 use r10_medium::MediumFault;
 use r10_packet::PacketFault;
-use r10_strict::Fault;
+use r10_packet_rules::Fault;
 use std::alloc::Global;
 use std::fmt::Display;
 

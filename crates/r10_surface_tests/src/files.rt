@@ -1,6 +1,6 @@
 //! Files on a medium and their index: `r10_blockout`, `r10_index`.
 
-use crate::made::{FIRST, count, named};
+use crate::inputs::{FIRST, count, named};
 use r10_blockout::BlockOut;
 use r10_count::{Count, Items, Reading};
 use r10_index::IndexBook;

@@ -1,10 +1,10 @@
 //! Files in memory under their entries, and inputs that are read whole: `r10_judge`, `r10_images`.
 
-use crate::made::FIRST;
+use crate::inputs::FIRST;
 use r10_body::FileFault;
 use r10_images::read_whole;
 use r10_judge::{Judgement, judge_bytes, walk_bytes};
-use r10_strict::Fault;
+use r10_packet_rules::Fault;
 use std::alloc::{AllocError, Global};
 use std::test::Fail;
 

@@ -13,13 +13,13 @@ mod faults;
 #[cfg(test)]
 mod files;
 #[cfg(test)]
+mod inputs;
+#[cfg(test)]
 mod judging;
 #[cfg(test)]
 mod lanes;
 #[cfg(test)]
 mod machines;
-#[cfg(test)]
-mod made;
 #[cfg(test)]
 mod media;
 #[cfg(test)]

@@ -1,6 +1,6 @@
 //! Counts, civil times and media: `r10_count`, `r10_medium`.
 
-use crate::made::{LEAP_DAY, leap_day};
+use crate::inputs::{LEAP_DAY, leap_day};
 use r10_count::{Civil, Count, Parts, centis_between};
 use r10_medium::{BlockMedium, Choice, Crashing, Faulty, MediumFault, Memory};
 use std::process::Abort;

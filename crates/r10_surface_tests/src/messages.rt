@@ -1,6 +1,6 @@
 //! What a message says: `r10_body`.
 
-use crate::made::{CHANNEL, WORD, count, leap_day, uart};
+use crate::inputs::{CHANNEL, WORD, count, leap_day, uart};
 use r10_body::{
     ChannelSpec, FileFault, Gap, Glance, Kind, Message, Refusal, Timed, cost, decode, encode,
     is_opaque,

@@ -1,6 +1,6 @@
 //! Packets: `r10_packet`.
 
-use crate::made::count;
+use crate::inputs::count;
 use r10_packet::{
     DataSum, Header, Packet, PacketFault, PacketView, decode_header, encode_header, sum8, sum16,
     sum32,

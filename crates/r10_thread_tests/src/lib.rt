@@ -13,8 +13,8 @@ mod beside_a_foreign_file;
 #[cfg(test)]
 mod crossing;
 #[cfg(test)]
-mod lanes;
+mod inputs;
 #[cfg(test)]
-mod made;
+mod lanes;
 #[cfg(test)]
 mod sources;

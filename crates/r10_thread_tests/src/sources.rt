@@ -1,6 +1,6 @@
 // A source that gives what it was made of.
 
-use crate::made::{CHANNEL, count, empty};
+use crate::inputs::{CHANNEL, count, empty};
 use r10_body::Timed;
 use r10_port::lane;
 use r10_source::{ChannelSource, Given, Pumped, Turn, pump_source};

@@ -2,7 +2,7 @@
 
 use r10_body::Refusal;
 use r10_images::StreamFault;
-use r10_lines::ScriptFault;
+use r10_text::ScriptFault;
 use std::alloc::AllocError;
 use std::{fmt, io};
 use thiserror::Error;

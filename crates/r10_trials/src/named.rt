@@ -5,9 +5,9 @@ use crate::each::changed_block;
 use crate::fault::TrialFault;
 use crate::scene::{image_behind, image_left, medium_of, told};
 use crate::tally::push_number;
-use r10_lines::reply_lines;
 use r10_machine::Reply;
 use r10_medium::{Choice, Crashing};
+use r10_text::reply_lines;
 use std::alloc::{AllocError, Global};
 
 /// What a stop may leave, and the lines before what a new recorder does on it.

@@ -22,8 +22,8 @@ use Rattle.r10_machine.specs.declared.reply.Reply.TheVariants as replies
 use Rattle.r10_cursor.specs.declared.cursor.Cursor.{Cursor}
 use Rattle.r10_lane.specs.Lanes.{TookWaiting}
 use Rattle.r10_control.specs.Taking.{Part, TellsWaiting, TookAll, entries_of, samples_on, GoesInto, RefusesReadied, StepsByTaking}
-use Rattle.r10_means.specs.Grown.{AreGrown}
-use Rattle.r10_means.specs.Kept.{Kept, Work, mode_of, unmounted, idle, recording, failed}
+use Rattle.r10_refinement.specs.Grown.{AreGrown}
+use Rattle.r10_refinement.specs.Kept.{Kept, Work, mode_of, unmounted, idle, recording, failed}
 use Rattle.r10_control.specs.Refused.{IsSameKept, IsSameWork, RefusesCall, RefusesOpen}
 use Rattle.r10_control.specs.Own.{AreOwn, OwnGrow, OwnStay}
 use Rattle.r10_control.specs.Reading.{OnlyReads}

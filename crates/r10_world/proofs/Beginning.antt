@@ -10,12 +10,12 @@ use Rattle.r10_medium.specs.Disk.{Disk, Image}
 use Rattle.r10_cursor.specs.declared.cursor.Cursor.{Cursor}
 use Rattle.r10_control.specs.State.{RecorderState}
 use Rattle.r10_world.specs.Telling.{RecorderStandsFor}
-use Rattle.r10_means.specs.Kept.{Kept}
+use Rattle.r10_refinement.specs.Kept.{Kept}
 use Rattle.r10_control.specs.Lanes.{unerased}
 use Rattle.r10_world.specs.Standing.{PartsStandFor}
 use Rattle.r10_machine.specs.Says.{MediumHas, MediumSays}
 use Rattle.r10_medium.specs.Stop.{Settled}
-use Rattle.r10_means.specs.Safe.{IsSafe}
+use Rattle.r10_refinement.specs.Safe.{IsSafe}
 
 -- lanes of which nothing has come are of these channels, and of them nothing was erased
 pub specs_of_fresh : (specs : List ChannelSpec) → map (λ (lane : Lane). lane.spec) (map fresh_lane specs) ≡ specs

@@ -2,7 +2,7 @@
 use Rattle.std.proofs.Common.{◌≡◌, ℕ, inl, false, List, [], ◌∷◌, length, map, replicate, refl}
 use Rattle.std.specs.List.{AllByRecursion}
 use Rattle.r10_body.specs.declared.spec.ChannelSpec.{ChannelSpec}
-use Rattle.r10_means.specs.Means.{OthersAreFound, LanesAreCounted}
+use Rattle.r10_refinement.specs.Means.{OthersAreFound, LanesAreCounted}
 use Rattle.r10_machine.specs.Config.{Config}
 use Rattle.r10_machine.specs.Machine.{File, fresh, fresh_lane}
 use Rattle.r10_machine.specs.SoundParts.{own_files}

@@ -5,7 +5,7 @@ use Rattle.std.proofs.lemmas.List.{take_more, take-append-le}
 use Rattle.r10_machine.specs.Config.{Config}
 use Rattle.r10_machine.specs.Limits.{IsConfig}
 use Rattle.r10_machine.specs.Machine.{Lane, Machine}
-use Rattle.r10_means.specs.Kept.{Kept}
+use Rattle.r10_refinement.specs.Kept.{Kept}
 use Rattle.r10_medium.specs.Disk.{Disk, Image}
 use Rattle.r10_cursor.specs.declared.cursor.Cursor.{Cursor}
 use Rattle.r10_world.specs.Answering.{AnswersEach, IsAnswered}

@@ -21,8 +21,8 @@ use Rattle.r10_cursor.specs.Staying.{NoneShrinks}
 use Rattle.r10_cursor.proofs.Sizes.{none_shrinks}
 use Rattle.r10_cursor.specs.Standing.{SlotsStandFor}
 use Rattle.r10_cursor.specs.Steps.{StepsTo}
-use Rattle.r10_means.specs.Kept.{Kept, Work, unmounted, idle, recording, failed}
-use Rattle.r10_means.specs.Means.{HasFiles, KeptStepsTo}
+use Rattle.r10_refinement.specs.Kept.{Kept, Work, unmounted, idle, recording, failed}
+use Rattle.r10_refinement.specs.Means.{HasFiles, KeptStepsTo}
 use Rattle.r10_world.specs.Joined.{KeptAndSlotsStandFor, SlotsStepTo, KeptAndSlotsStepTo}
 
 -- every step keeps a sound state sound, and steps that leave the cursors leave what they have read

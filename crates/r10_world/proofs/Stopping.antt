@@ -16,15 +16,15 @@ use Rattle.r10_machine.specs.Step.{Step}
 use Rattle.r10_machine.specs.declared.event.Event.{Event as EventValue}
 use Rattle.r10_machine.specs.declared.reply.Reply.{Reply as ReplyValue}
 use Rattle.r10_machine.specs.declared.reply.Reply.TheVariants as replies
-use Rattle.r10_means.specs.Kept.{Kept, failed}
+use Rattle.r10_refinement.specs.Kept.{Kept, failed}
 use Rattle.r10_medium.proofs.Stops.{unchanged}
 use Rattle.r10_medium.specs.Disk.{Disk, Unchanged}
 use Rattle.r10_medium.specs.Stop.{Leaves}
-use Rattle.r10_means.proofs.Behind.{reads_safely, refused_safely, still_safely}
-use Rattle.r10_means.proofs.Keeping.{safe_says}
-use Rattle.r10_means.proofs.Leaving.{leaves_begun, leaves_more, leaves_still}
-use Rattle.r10_means.specs.Left.{AnswersSafely, IsEither, StaysSafe, whichever}
-use Rattle.r10_means.specs.Quiet.{may_make}
+use Rattle.r10_refinement.proofs.Behind.{reads_safely, refused_safely, still_safely}
+use Rattle.r10_refinement.proofs.Keeping.{safe_says}
+use Rattle.r10_refinement.proofs.Leaving.{leaves_begun, leaves_more, leaves_still}
+use Rattle.r10_refinement.specs.Left.{AnswersSafely, IsEither, StaysSafe, whichever}
+use Rattle.r10_refinement.specs.Quiet.{may_make}
 use Rattle.r10_world.proofs.Going.{RunsJoin, drop_one_more, none_behind}
 use Rattle.r10_control.specs.Safely.{StopsSafely, WaitsAlike}
 use Rattle.r10_machine.specs.declared.event.Event.TheVariants.{Stop}

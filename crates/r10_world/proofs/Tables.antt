@@ -15,8 +15,8 @@ use Rattle.r10_machine.specs.Config.{Config}
 use Rattle.r10_machine.specs.declared.mode.Mode.{Mode}
 use Rattle.r10_machine.specs.Limits.{IsConfig}
 use Rattle.r10_machine.specs.Machine.{Cursor as MachineCursor, File, Lane, Machine, cursor_at, cursor_of}
-use Rattle.r10_means.specs.Kept.{Kept, mode_of}
-use Rattle.r10_means.specs.Means.{KeptStepsTo, KeptStandsFor}
+use Rattle.r10_refinement.specs.Kept.{Kept, mode_of}
+use Rattle.r10_refinement.specs.Means.{KeptStepsTo, KeptStandsFor}
 use Rattle.r10_medium.specs.Disk.{Disk, Image}
 use Rattle.r10_cursor.specs.declared.cursor.Cursor.{Cursor}
 use Rattle.r10_control.specs.Checks.{files_of, recorder_refusal}

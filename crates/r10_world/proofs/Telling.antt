@@ -4,8 +4,8 @@ use Rattle.r10_body.specs.declared.refusal.Refusal.{Refusal}
 use Rattle.r10_cursor.specs.Read.{KeepsBytes}
 use Rattle.r10_world.specs.Joined.{KeptAndSlotsStandFor, KeptAndSlotsStepTo}
 use Rattle.r10_machine.specs.Machine.{File, Lane, Machine}
-use Rattle.r10_means.specs.Kept.{Kept}
-use Rattle.r10_means.specs.Means.{KeptStepsTo}
+use Rattle.r10_refinement.specs.Kept.{Kept}
+use Rattle.r10_refinement.specs.Means.{KeptStepsTo}
 use Rattle.r10_medium.specs.Disk.{Disk, Image}
 use Rattle.r10_cursor.specs.Staying.{NoneShrinks}
 use Rattle.r10_cursor.specs.declared.cursor.Cursor.{Cursor}

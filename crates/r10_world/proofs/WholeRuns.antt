@@ -20,11 +20,11 @@ use Rattle.r10_machine.specs.declared.reply.Reply.{Reply as ReplyValue}
 use Rattle.r10_medium.proofs.Stops.{joined, weakened}
 use Rattle.r10_medium.specs.Disk.{Disk, Image, MayLeave}
 use Rattle.r10_medium.specs.Stop.{Leaves, Settled}
-use Rattle.r10_means.proofs.Keeping.{safe_says}
-use Rattle.r10_means.specs.Again.{AreAgain}
-use Rattle.r10_means.specs.Kept.{Work, mode_of, unmounted, idle, recording, failed}
-use Rattle.r10_means.specs.Left.{IsLeft}
-use Rattle.r10_means.specs.Safe.{IsSafeOrFailed}
+use Rattle.r10_refinement.proofs.Keeping.{safe_says}
+use Rattle.r10_refinement.specs.Again.{AreAgain}
+use Rattle.r10_refinement.specs.Kept.{Work, mode_of, unmounted, idle, recording, failed}
+use Rattle.r10_refinement.specs.Left.{IsLeft}
+use Rattle.r10_refinement.specs.Safe.{IsSafeOrFailed}
 use Rattle.r10_world.specs.State.{WorldState}
 use Rattle.r10_volume.specs.Formatted.{IsFormatted}
 use Rattle.r10_world.specs.Stopping.{IsLeftNew, IsSafeIn, RecordsNew, RecordsRun, Recovers, RunsSafely}

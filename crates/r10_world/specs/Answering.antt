@@ -24,8 +24,8 @@ use Rattle.r10_cursor.specs.Standing.{PutsSlot, fresh_slot, read_checks, slot_at
 use Rattle.r10_cursor.specs.declared.cursor.Cursor.{Cursor as CursorValue}
 use Rattle.r10_lane.specs.Lanes.{TookWaiting}
 use Rattle.r10_control.specs.Taking.{Part, TellsWaiting, TookAll, entries_of, most_of, CountsMoved, FirstLacks, GoesInto, IsStopped}
-use Rattle.r10_means.specs.Grown.{AreGrown}
-use Rattle.r10_means.specs.Kept.{Kept, failed, mode_of}
+use Rattle.r10_refinement.specs.Grown.{AreGrown}
+use Rattle.r10_refinement.specs.Kept.{Kept, failed, mode_of}
 use Rattle.r10_control.specs.Checks.{files_of, recorder_refusal}
 use Rattle.r10_control.specs.Fronts.{Spares}
 use Rattle.r10_control.specs.Calls.{SealEffect}

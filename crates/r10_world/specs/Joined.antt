@@ -10,8 +10,8 @@ use Rattle.r10_machine.specs.declared.reply.Reply.{Reply as ReplyValue}
 use Rattle.r10_cursor.specs.declared.cursor.Cursor.{Cursor}
 use Rattle.r10_cursor.specs.Read.{HaveRead}
 use Rattle.r10_cursor.specs.Standing.{SlotsStandFor}
-use Rattle.r10_means.specs.Kept.{Kept, unmounted}
-use Rattle.r10_means.specs.Means.{KeptStandsFor}
+use Rattle.r10_refinement.specs.Kept.{Kept, unmounted}
+use Rattle.r10_refinement.specs.Means.{KeptStandsFor}
 use Rattle.r10_world.specs.State.{WorldState}
 
 -- what a new recorder of these settings keeps

@@ -3,7 +3,7 @@ use Rattle.std.specs.Prelude.{◌≡◌, ℕ, List, Option}
 use Rattle.r10_world.specs.Joined.{KeptAndSlotsStandFor, KeptAndSlotsStepTo}
 use Rattle.r10_machine.specs.Limits.{IsConfig}
 use Rattle.r10_machine.specs.Machine.{Lane, Machine}
-use Rattle.r10_means.specs.Kept.{Kept}
+use Rattle.r10_refinement.specs.Kept.{Kept}
 use Rattle.r10_medium.specs.Disk.{Image}
 use Rattle.r10_cursor.specs.declared.cursor.Cursor.{Cursor}
 use Rattle.r10_control.specs.Lanes.{AreLanes}

@@ -19,12 +19,12 @@ use Rattle.r10_machine.specs.declared.mode.Mode.TheVariants as modes
 use Rattle.r10_machine.specs.Step.{Run}
 use Rattle.r10_machine.specs.declared.event.Event.{Event as EventValue}
 use Rattle.r10_machine.specs.declared.reply.Reply.{Reply as ReplyValue}
-use Rattle.r10_means.specs.Kept.{Kept, failed}
+use Rattle.r10_refinement.specs.Kept.{Kept, failed}
 use Rattle.r10_medium.specs.Disk.{Disk, Image, IsSynced, MayLeave, Rose, Unchanged}
 use Rattle.r10_medium.specs.Stop.{Leaves, Settled}
-use Rattle.r10_means.specs.Again.{AreAgain, FindsAgain}
-use Rattle.r10_means.specs.Left.{IsLeft, StaysSafe}
-use Rattle.r10_means.specs.Safe.{IsSafe, IsSafeOrFailed, SaysLast}
+use Rattle.r10_refinement.specs.Again.{AreAgain, FindsAgain}
+use Rattle.r10_refinement.specs.Left.{IsLeft, StaysSafe}
+use Rattle.r10_refinement.specs.Safe.{IsSafe, IsSafeOrFailed, SaysLast}
 use Rattle.r10_volume.specs.Formatted.{IsFormatted}
 use Rattle.r10_world.specs.Standing.{PartsRunTo}
 use Rattle.r10_world.specs.State.{WorldState}

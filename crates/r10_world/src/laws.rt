@@ -20,8 +20,8 @@ ghost use Rattle.r10_cursor.specs.declared.cursor.Cursor.{Cursor};
 ghost use Rattle.r10_cursor.specs.Staying.{NoneShrinks};
 ghost use Rattle.r10_cursor.specs.Read.{KeepsBytes};
 ghost use Rattle.r10_cursor.specs.Steps.{StepsTo};
-ghost use Rattle.r10_means.specs.Kept.{Kept};
-ghost use Rattle.r10_means.specs.Means.{KeptStepsTo};
+ghost use Rattle.r10_refinement.specs.Kept.{Kept};
+ghost use Rattle.r10_refinement.specs.Means.{KeptStepsTo};
 ghost use Rattle.r10_world.specs.Answering.{AnswersSo, ChangesNothing};
 ghost use Rattle.r10_world.specs.Joined.{KeptAndSlotsStandFor, SlotsStepTo, KeptAndSlotsStepTo, new_kept};
 

@@ -2,7 +2,7 @@
 
 ghost use Rattle.std.specs.Prelude.{◌≡◌, ℕ, List};
 ghost use Rattle.r10_machine.specs.Machine.{Lane, Machine};
-ghost use Rattle.r10_means.specs.Kept.{Kept};
+ghost use Rattle.r10_refinement.specs.Kept.{Kept};
 ghost use Rattle.r10_medium.specs.Disk.{Image};
 ghost use Rattle.r10_control.specs.Fronts.{Spares};
 ghost use Rattle.r10_world.specs.Answering.{AnswersClose, AnswersNext, AnswersSo};
@@ -21,8 +21,8 @@ use r10_cursor::{
 };
 use r10_lane::RingLane;
 use r10_machine::Reply;
-use r10_means::{lacks_of_memory_are_steps, refusals_are_steps};
 use r10_medium::BlockMedium;
+use r10_refinement::{lacks_of_memory_are_steps, refusals_are_steps};
 use slab::Slab;
 use std::alloc::Global;
 

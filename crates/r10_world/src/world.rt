@@ -5,7 +5,7 @@ ghost use Rattle.r10_machine.specs.Machine.{File, fresh, fresh_lane};
 ghost use Rattle.r10_world.specs.Copies.{IsCopy};
 ghost use Rattle.r10_world.specs.Joined.{begun_world};
 ghost use Rattle.r10_medium.specs.Stop.{Settled};
-ghost use Rattle.r10_means.specs.Safe.{IsSafe};
+ghost use Rattle.r10_refinement.specs.Safe.{IsSafe};
 ghost use Rattle.r10_control.specs.Fronts.{Spares};
 ghost use Rattle.r10_world.specs.Answering.{AnswersSo};
 ghost use Rattle.r10_world.specs.Stopping.{Recovers, Survives};

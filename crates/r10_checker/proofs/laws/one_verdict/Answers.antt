@@ -1,4 +1,4 @@
-use Rattle.r10_strict.proofs.Written.{strict_foreign}
+use Rattle.r10_packet_rules.proofs.Written.{strict_foreign}
 use Rattle.r10_checker.proofs.One.{one_verdict}
 use Rattle.r10_checker.proofs.laws.one_verdict.Goals as goal
 

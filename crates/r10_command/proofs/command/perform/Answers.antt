@@ -1,5 +1,5 @@
 use Rattle.std.proofs.Common.{rules, ◌≡◌, Ok}
-use Rattle.r10_words.specs.declared.asked.Asked.TheVariants as asked
+use Rattle.r10_arguments.specs.declared.asked.Asked.TheVariants as asked
 use Rattle.r10_command.proofs.Formats.{formats, plays, texts}
 use Rattle.r10_command.proofs.command.perform.Goals as goal
 

@@ -2,8 +2,8 @@ use Rattle.std.proofs.Common.{◌≡◌, ℕ, sym, ap, ◌∙◌, arith, subst}
 use Rattle.r10_dirchain.specs.Chain.{listed_files}
 use Rattle.r10_machine.specs.Machine.{Machine}
 use Rattle.r10_machine.specs.Room.{area_from}
-use Rattle.r10_means.specs.Kept.{mode_of}
-use Rattle.r10_means.specs.Means.{HasFiles}
+use Rattle.r10_refinement.specs.Kept.{mode_of}
+use Rattle.r10_refinement.specs.Means.{HasFiles}
 use Rattle.r10_medium.specs.Disk.{Image}
 use Rattle.r10_machine.specs.Finding.{free_bytes}
 use Rattle.r10_control.specs.Told.{free_in}

@@ -1,6 +1,6 @@
 use Rattle.std.proofs.Common.{◌≡◌, rules, subst}
 use Rattle.r10_medium.specs.Disk.{Image}
-use Rattle.r10_desk.specs.Opening.{FormatsOver}
+use Rattle.r10_calls.specs.Opening.{FormatsOver}
 use Rattle.r10_region.specs.RegionDisk.{region_disk}
 use Rattle.r10_ffi.proofs.Between.{formatted}
 use Rattle.r10_ffi.proofs.calls.r10_format.Goals as goal

@@ -1,7 +1,7 @@
 use Rattle.std.proofs.Common.{◌≡◌, Bool, true≢false, None, refl, sym, ap, ◌∙◌, subst, arith}
 use Rattle.std.specs.Prelude.{IsTrue}
 use Rattle.r10_control.specs.Refused.{RefusesCall}
-use Rattle.r10_means.specs.Kept.{Kept, Work}
+use Rattle.r10_refinement.specs.Kept.{Kept, Work}
 use Rattle.r10_medium.specs.Disk.{Image}
 use Rattle.r10_medium.proofs.Stops.{unchanged_twice}
 use Rattle.r10_held.specs.Auditing.{IsAbsentOrRead, IsAuditRefusal, IsFirstRefused, audit_refusal}

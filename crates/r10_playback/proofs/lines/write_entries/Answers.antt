@@ -1,6 +1,6 @@
 use Rattle.std.proofs.Common.{◌≡◌, ◌++◌, drop, ap}
 use Rattle.std.proofs.KnownBytes.{Appends-trans}
-use Rattle.r10_lines.specs.Line.{entry_line}
+use Rattle.r10_text.specs.Line.{entry_line}
 use Rattle.r10_playback.specs.Lines.{entry_lines}
 use Rattle.r10_cursor.specs.Replays.{Reading}
 use Rattle.r10_playback.proofs.Queue.{one_given}

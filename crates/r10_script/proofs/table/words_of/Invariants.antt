@@ -1,5 +1,5 @@
 use Rattle.std.proofs.Common.{◌≡◌, ◌++◌, length}
-use Rattle.r10_lines.specs.Line.{words_high_first}
+use Rattle.r10_text.specs.Line.{words_high_first}
 use Rattle.r10_script.proofs.table.words_of.Given as goal
 
 -- the words so far and the bytes that are left are all bytes

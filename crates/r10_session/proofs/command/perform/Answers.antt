@@ -1,5 +1,5 @@
 use Rattle.std.proofs.Common.{rules, map, string_bytes}
-use Rattle.r10_words.specs.Words.{AsksRun}
+use Rattle.r10_arguments.specs.Words.{AsksRun}
 use Rattle.r10_session.proofs.Words.{not_both}
 use Rattle.r10_session.proofs.command.perform.Goals as goal
 

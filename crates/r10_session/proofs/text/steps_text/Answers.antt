@@ -1,6 +1,6 @@
 use Rattle.std.proofs.Common.{◌∙◌, ◌+◌, ◌++◌, take, ap}
 use Rattle.r10_session.specs.Text.{step_lines}
-use Rattle.r10_lines.specs.Replies.{reply_lines}
+use Rattle.r10_text.specs.Replies.{reply_lines}
 use Rattle.r10_session.proofs.Numbered.{reply_at}
 use Rattle.r10_session.proofs.text.steps_text.Goals as goal
 

@@ -4,7 +4,7 @@ use Rattle.r10_control.specs.Checks.{recorder_refusal}
 use Rattle.r10_world.proofs.Answering.{failed_refuses, matched, or_memory, refused_call}
 use Rattle.r10_world.specs.Answering.{AnswersSo}
 use Rattle.r10_control.specs.Refused.{nothing_lacks}
-use Rattle.r10_means.specs.Kept.{Kept}
+use Rattle.r10_refinement.specs.Kept.{Kept}
 use Rattle.r10_world.proofs.Telling.{keeps_same, telling}
 use Rattle.r10_world.proofs.Stopping.{survives_same}
 use Rattle.r10_medium.proofs.Stops.{unchanged}

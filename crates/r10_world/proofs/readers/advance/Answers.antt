@@ -11,7 +11,7 @@ use Rattle.r10_cursor.specs.declared.cursor.Cursor.{Cursor}
 use Rattle.r10_world.proofs.Tables.{advance_refused, advances_on, passes_too, reads, same_slots, set_same, slot_tells}
 use Rattle.r10_world.proofs.Telling.{refused_on}
 use Rattle.r10_body.specs.declared.refusal.Refusal.TheVariants.{Failed}
-use Rattle.r10_means.specs.Kept.{Kept, Work, mode_of}
+use Rattle.r10_refinement.specs.Kept.{Kept, Work, mode_of}
 use Rattle.r10_world.proofs.Stopping.{alone_if, survives_kept, survives_refused, survives_same}
 use Rattle.r10_medium.proofs.Stops.{unchanged}
 use Rattle.r10_world.proofs.readers.advance.Goals as goal

@@ -2,7 +2,7 @@ use Rattle.std.proofs.Common.{subst, sym, ap, refl}
 use Rattle.r10_machine.specs.declared.event.Event.{Event}
 use Rattle.r10_world.specs.Answering.{AnswersSo}
 use Rattle.r10_world.proofs.OnTable.{close_so, next_so}
-use Rattle.r10_means.specs.Quiet.{may_make}
+use Rattle.r10_refinement.specs.Quiet.{may_make}
 use Rattle.r10_world.proofs.Stopping.{survives_same}
 use Rattle.r10_control.specs.Fronts.{Spares}
 use Rattle.r10_medium.proofs.Stops.{unchanged}

@@ -2,7 +2,7 @@ use Rattle.std.proofs.Common.{◌≡◌, List, map, subst}
 use Rattle.std.specs.List.{AllByRecursion}
 use Rattle.r10_count.specs.Count.{IsCount}
 use Rattle.r10_body.specs.declared.spec.ChannelSpec.{ChannelSpec}
-use Rattle.r10_means.specs.Kept.{Kept}
+use Rattle.r10_refinement.specs.Kept.{Kept}
 use Rattle.r10_control.specs.Work.{work_of}
 use Rattle.r10_control.proofs.Exhausted.{owns_spent}
 use Rattle.r10_control.proofs.recorder.Recorder.apart.Goals as goal

@@ -3,8 +3,8 @@ use Rattle.r10_body.specs.declared.refusal.Refusal.TheVariants as refusals
 use Rattle.r10_count.specs.Checks.{first_broken}
 use Rattle.r10_machine.specs.Checks.{idle_checks}
 use Rattle.r10_machine.specs.Machine.{Machine}
-use Rattle.r10_means.specs.Kept.{Kept, mode_of, idle}
-use Rattle.r10_means.specs.Means.{KeptStandsFor}
+use Rattle.r10_refinement.specs.Kept.{Kept, mode_of, idle}
+use Rattle.r10_refinement.specs.Means.{KeptStandsFor}
 use Rattle.r10_control.specs.Leading.{MachinesKeepShown, KeptStepsTaking, none_taken}
 use Rattle.r10_control.specs.State.{RecorderState}
 use Rattle.r10_control.specs.Work.{work_of}
@@ -21,8 +21,8 @@ use Rattle.r10_dirchain.specs.Steps.{with_shutdown}
 use Rattle.r10_medium.proofs.Stops.{unchanged, whole_reads}
 use Rattle.r10_dirchain.specs.Chain.{IsDirectory}
 use Rattle.r10_dirchain.specs.declared.chain.ChainBlock.{ChainBlock}
-use Rattle.r10_means.proofs.Behind.{failed_safely, refused_safely, synced_safely}
-use Rattle.r10_means.specs.Left.{StaysSafe, whichever}
+use Rattle.r10_refinement.proofs.Behind.{failed_safely, refused_safely, synced_safely}
+use Rattle.r10_refinement.specs.Left.{StaysSafe, whichever}
 use Rattle.r10_control.proofs.StopPoints.{idle_leaves, makes_none}
 use Rattle.r10_control.specs.Fronts.{IdleSpares}
 use Rattle.r10_control.proofs.Fronting.{idle_spares, idle_spares_all}

@@ -3,7 +3,7 @@ use Rattle.r10_body.specs.declared.refusal.Refusal.TheVariants as refusals
 use Rattle.r10_count.specs.Checks.{first_broken}
 use Rattle.r10_machine.specs.Checks.{mounted_checks}
 use Rattle.r10_machine.specs.Machine.{Machine}
-use Rattle.r10_means.specs.Means.{KeptStandsFor}
+use Rattle.r10_refinement.specs.Means.{KeptStandsFor}
 use Rattle.r10_control.specs.Leading.{KeptStepsTaking, none_taken}
 use Rattle.r10_control.specs.State.{RecorderState}
 use Rattle.r10_control.proofs.Tellings.{files_done, files_lack, files_refused}
@@ -34,7 +34,7 @@ returns-in-Ok-clause-does g c =
       steps =
           subst (λ (v : RecorderState _ _). (m : Machine) → KeptStandsFor v.kept (disk v.medium).blocks (disk v.medium).failures m
           → KeptStepsTaking none_taken v.kept m events.Files (replies.Files c.in-Ok.infos.items) v.kept (disk v.medium).blocks (disk v.medium).failures) c.self.view_is
-          (λ m means. files_done c.tellings_are_steps.ensures.files _ _ _ m c.in-Ok.infos.items c.self.invariant.limits means
+          (λ m means. files_done c.reports_are_steps.ensures.files _ _ _ m c.in-Ok.infos.items c.self.invariant.limits means
           (ap (λ mode. first_broken (mounted_checks mode)) (sym c.mode_in.ensures) ∙ c.in_default.ensures) c.in-Ok.ensures);
     }
 

@@ -1,6 +1,6 @@
 use Rattle.std.proofs.Common.{◌≡◌, ◌^◌, ◌-◌, ℕ, List, Option, None, length, min, refl, ap, ◌∙◌, subst}
 use Rattle.std.specs.List.{last_or}
-use Rattle.r10_means.specs.Kept.{Kept}
+use Rattle.r10_refinement.specs.Kept.{Kept}
 use Rattle.r10_control.specs.Checks.{files_of}
 use Rattle.r10_control.specs.State.{RecorderState}
 use Rattle.r10_control.specs.Told.{last_shown, shown_as_last}

@@ -9,8 +9,8 @@ use Rattle.r10_body.specs.declared.refusal.Refusal.TheVariants as refusals
 use Rattle.r10_count.specs.Checks.{first_broken}
 use Rattle.r10_machine.specs.Checks.{unmounted_checks}
 use Rattle.r10_machine.specs.Machine.{Machine}
-use Rattle.r10_means.specs.Kept.{Kept, Work, mode_of, idle, failed}
-use Rattle.r10_means.specs.Means.{KeptStandsFor}
+use Rattle.r10_refinement.specs.Kept.{Kept, Work, mode_of, idle, failed}
+use Rattle.r10_refinement.specs.Means.{KeptStandsFor}
 use Rattle.r10_control.specs.Leading.{MachinesKeepShown, KeptStepsTaking, none_taken}
 use Rattle.r10_control.specs.Refused.{RefusesCall, IsMountRefusal}
 use Rattle.r10_control.specs.State.{RecorderState}
@@ -29,8 +29,8 @@ use Rattle.r10_control.proofs.Owning.{mounted_own, stay_by, stay_failed, stay_sa
 use Rattle.r10_dirchain.specs.Steps.{with_shutdown}
 use Rattle.r10_medium.proofs.Stops.{unchanged, whole_reads}
 use Rattle.r10_medium.specs.Disk.{Image}
-use Rattle.r10_means.proofs.Behind.{failed_safely, refused_safely, synced_safely}
-use Rattle.r10_means.specs.Left.{StaysSafe, whichever}
+use Rattle.r10_refinement.proofs.Behind.{failed_safely, refused_safely, synced_safely}
+use Rattle.r10_refinement.specs.Left.{StaysSafe, whichever}
 use Rattle.r10_control.proofs.StopPoints.{makes_none, unmounted_leaves}
 use Rattle.r10_control.specs.Fronts.{MountSpares}
 use Rattle.r10_control.proofs.Fronting.{mount_spares, mount_spares_all}

@@ -5,8 +5,8 @@ use Rattle.r10_machine.specs.Machine.{Machine}
 use Rattle.r10_machine.specs.declared.event.Event.TheVariants as events
 use Rattle.r10_machine.specs.declared.mode.Mode.{Mode}
 use Rattle.r10_machine.specs.declared.reply.Reply.TheVariants as replies
-use Rattle.r10_means.specs.Kept.{Kept, mode_of}
-use Rattle.r10_means.specs.Means.{KeptStandsFor}
+use Rattle.r10_refinement.specs.Kept.{Kept, mode_of}
+use Rattle.r10_refinement.specs.Means.{KeptStandsFor}
 use Rattle.r10_control.specs.Checks.{files_of}
 use Rattle.r10_control.specs.Lanes.{WaitQuietly}
 use Rattle.r10_control.specs.Leading.{KeptStepsTaking, none_taken}
@@ -82,7 +82,7 @@ returns g c =
         steps =
             let now = disk w.medium in
             subst (λ (v : RecorderState _ _). (m : Machine) → KeptStandsFor v.kept (disk v.medium).blocks (disk v.medium).failures m → KeptStepsTaking none_taken v.kept m events.Status (replies.Status (status_of v.kept.config m)) k now.blocks now.failures) c.self.view_is
-            (λ m means. looked c.tellings_are_steps.ensures.status k now.blocks now.failures m c.self.invariant.limits means);
+            (λ m means. looked c.reports_are_steps.ensures.status k now.blocks now.failures m c.self.invariant.limits means);
         refused = search rules;
         looked = search rules;
         kept = search rules;

@@ -1,8 +1,8 @@
 use Rattle.std.proofs.Common.{◌≡◌, ℕ, List, length, sym, ap, ◌∙◌, subst}
 use Rattle.r10_machine.specs.Machine.{Lane, Machine}
 use Rattle.r10_machine.specs.declared.mode.Mode.{Mode}
-use Rattle.r10_means.specs.Kept.{Kept, mode_of}
-use Rattle.r10_means.specs.Means.{KeptStandsFor}
+use Rattle.r10_refinement.specs.Kept.{Kept, mode_of}
+use Rattle.r10_refinement.specs.Means.{KeptStandsFor}
 use Rattle.r10_control.specs.Checks.{files_of}
 use Rattle.r10_control.specs.Lanes.{AreLanes, LeadsWith}
 use Rattle.r10_control.specs.Owns.{tick_count}
@@ -46,5 +46,5 @@ returns-clause-steps g c =
     c.mode_in-mode.ensures c.tick_in.ensures all c.free_in.ensures.value channels in
     subst (λ (v : RecorderState _ _). (m : Machine) → KeptStandsFor v.kept (disk v.medium).blocks (disk v.medium).failures m → AreLanes v.lanes m
     → LeadsWith v.kept m events.Status (replies.Status status) (disk v.medium).blocks (disk v.medium).failures v.lanes) c.self.view_is
-    (λ m means are. status_leads c.tellings_are_steps.ensures.status k (disk w.medium).blocks (disk w.medium).failures m w.lanes.items status c.self.invariant.limits means are (numbered _ _ _ _ _ _ c.self.invariant)
+    (λ m means are. status_leads c.reports_are_steps.ensures.status k (disk w.medium).blocks (disk w.medium).failures m w.lanes.items status c.self.invariant.limits means are (numbered _ _ _ _ _ _ c.self.invariant)
     (λ image x mode files. sym c.free_in.ensures.value ∙ c.free_in.ensures.held image x mode files) is)

@@ -2,7 +2,7 @@ use Rattle.std.proofs.Common.{◌∙◌, length, sym, subst, ap}
 use Rattle.std.specs.Prelude.{Option, is_some}
 use Rattle.r10_indexbody.specs.declared.loss.LossBody.{LossBody}
 use Rattle.r10_body.specs.Faults.{IsAtFault}
-use Rattle.r10_strict.specs.declared.file.Fault.{Fault}
+use Rattle.r10_packet_rules.specs.declared.file.Fault.{Fault}
 use Rattle.r10_judge.specs.Judged.{MayMiss}
 use Rattle.r10_judge.proofs.Ending.{missing_at_fault, nothing_missing, unanswered_at_end}
 use Rattle.r10_judge.proofs.Judging.{no_some}

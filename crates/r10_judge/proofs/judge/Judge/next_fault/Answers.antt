@@ -1,6 +1,6 @@
 use Rattle.std.proofs.Common.{◌∙◌, ◌++◌, length, ap, sym, subst, true≢false}
 use Rattle.r10_body.specs.Faults.{IsAtFault}
-use Rattle.r10_strict.specs.declared.file.Fault.{Fault}
+use Rattle.r10_packet_rules.specs.declared.file.Fault.{Fault}
 use Rattle.r10_judge.proofs.Ending.{fault_at_fault, unanswered_at_fault}
 use Rattle.r10_judge.proofs.judge.Judge.next_fault.Goals as goal
 

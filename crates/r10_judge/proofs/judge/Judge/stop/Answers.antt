@@ -1,6 +1,6 @@
 use Rattle.std.proofs.Common.{ℕ, Some, ap}
 use Rattle.r10_body.specs.declared.fault.FileFault.TheVariants.{Rule}
-use Rattle.r10_strict.specs.declared.file.Fault.{Fault}
+use Rattle.r10_packet_rules.specs.declared.file.Fault.{Fault}
 use Rattle.r10_judge.proofs.judge.Judge.stop.Goals as goal
 
 at_offset : ℕ → ℕ → Fault

@@ -1,5 +1,5 @@
 use Rattle.std.proofs.Common.{Some, ap}
-use Rattle.r10_strict.specs.declared.file.Fault.{Fault}
+use Rattle.r10_packet_rules.specs.declared.file.Fault.{Fault}
 use Rattle.r10_judge.proofs.judge.Judge.stop_at_report.Goals as goal
 
 pub returns-clause-broken : goal.returns-clause-broken

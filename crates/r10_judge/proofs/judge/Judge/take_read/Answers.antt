@@ -1,10 +1,10 @@
 use Rattle.std.proofs.Common.{◌≡◌, ◌∙◌, ◌<◌, ◌^◌, ◌++◌, inl, inr, List, ℕ, length, sym, subst, arith, OnOk, true≢false}
 use Rattle.r10_body.specs.Faults.{IsReportAnswered}
 use Rattle.r10_body.specs.Packets.{packet_bytes}
-use Rattle.r10_strict.proofs.Retelling.{facts_retold}
-use Rattle.r10_strict.proofs.Spelled.{framed}
-use Rattle.r10_strict.specs.Strict.{FindsPacket}
-use Rattle.r10_strict.specs.declared.strict.StrictReading.TheVariants.{Strict, Breaks}
+use Rattle.r10_packet_rules.proofs.Retelling.{facts_retold}
+use Rattle.r10_packet_rules.proofs.Spelled.{framed}
+use Rattle.r10_packet_rules.specs.Strict.{FindsPacket}
+use Rattle.r10_packet_rules.specs.declared.strict.StrictReading.TheVariants.{Strict, Breaks}
 use Rattle.r10_body.specs.Foreign.{IsForeignPacket}
 use Rattle.r10_judge.specs.Judged.{KeepsRulesSoFar, TracksJudged}
 use Rattle.r10_judge.proofs.Answering.{reads_retold, told_packet}

@@ -1,6 +1,6 @@
 use Rattle.std.proofs.Common.{◌≡◌, ◌∙◌, ◌<◌, ◌^◌, ◌++◌, ◌∷◌, [], List, ℕ, length, Some, None, sym, subst, ap}
 use Rattle.r10_body.specs.Packets.{packet_bytes, file_bytes}
-use Rattle.r10_strict.proofs.Written.{packet_foreign}
+use Rattle.r10_packet_rules.proofs.Written.{packet_foreign}
 use Rattle.r10_body.proofs.Rules.{bytes_more}
 use Rattle.r10_judge.specs.Judged.{BreaksRuleOfFileFirst}
 use Rattle.r10_judge.proofs.Judging.{some_stands, none_stands, stops_at, goes_on, reads_own}

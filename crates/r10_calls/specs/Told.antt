@@ -1,0 +1,52 @@
+-- What one event that is told to a recorder and its readers comes to.
+use Rattle.std.specs.Prelude.{◌≡◌, ◌⊎◌, ℕ, ◌<◌, List, [], ◌∷◌, Option, None, Some, length, if◌then◌else◌, nat_lt, slice_get}
+use Rattle.r10_body.specs.Refusals.{refusal_number}
+use Rattle.r10_body.specs.declared.refusal.Refusal.TheVariants as refusals
+use Rattle.r10_body.specs.declared.entry.Entry.{Entry}
+use Rattle.r10_medium.specs.Disk.{Disk}
+use Rattle.r10_machine.specs.declared.event.Event.{Event as EventValue}
+use Rattle.r10_machine.specs.declared.mode.Stopped.{Stopped as StoppedValue}
+use Rattle.r10_machine.specs.declared.reply.Reply.{Reply as ReplyValue}
+use Rattle.r10_machine.specs.declared.reply.Reply.TheVariants.{Done, Moved, Stopped, Files, Status, Cursor, Advanced, Next, Found, CountAt, Refused}
+use Rattle.r10_calls.specs.Faults.{fault_in}
+use Rattle.r10_calls.specs.declared.desk.Desk.{Desk as DeskValue}
+use Rattle.r10_world.specs.Answering.{AnswersEach}
+use Rattle.r10_world.specs.State.{WorldState}
+use Rattle.r10_world.specs.Stopping.{RunsSafely}
+use Rattle.r10_world.specs.Telling.{WorldRuns}
+
+-- From each machine for which the world stands, the event and its reply are a step to one for which it stands then; and where the
+-- machine's files were safe, a stop at any moment of it left the files from before it or those that it makes of them.
+pub record StepsToReply {M : Type 0} (disk : M → Disk) (old : WorldState M) (event : EventValue) (reply : ReplyValue) (new : WorldState M) : Type 0 where
+  pub runs : WorldRuns disk old (event ∷ []) (reply ∷ []) new
+  pub safely : RunsSafely disk old (event ∷ []) (reply ∷ []) new
+  pub answers : AnswersEach disk old (event ∷ []) (reply ∷ []) new
+
+-- Where memory was refused before it was done, nothing changed.
+abbrev pub Told : {M : Type 0} → (M → Disk) → WorldState M → EventValue → ReplyValue → WorldState M → Type 0
+Told disk old event reply new = StepsToReply disk old event reply new ⊎ ((reply ≡ Refused refusals.OutOfMemory) × (new ≡ old))
+
+-- An event was told, and of its reply this is so. What a refusal carries is kept, and the entry in hand stays.
+pub record DoesEvent {M : Type 0} (disk : M → Disk) (old : DeskValue M) (event : EventValue) (tells : ReplyValue → Type 0) (new : DeskValue M) : Type 0 where
+  pub reply : ReplyValue
+  pub told : Told disk old.world event reply new.world
+  pub says : tells reply
+  pub config : new.world.recorder.kept.config ≡ old.world.recorder.kept.config
+  pub fault : new.fault ≡ fault_in reply old.fault
+  pub hand : new.hand ≡ old.hand
+
+-- ---- numbers
+
+-- the number of a reply: that of its refusal, or 0
+abbrev pub number_of : ReplyValue → ℕ
+number_of Done = 0
+number_of (Moved n) = 0
+number_of (Stopped s) = 0
+number_of (Files fs) = 0
+number_of (Status s) = 0
+number_of (Cursor id) = 0
+number_of (Advanced n) = 0
+number_of (Next e) = 0
+number_of (Found f) = 0
+number_of (CountAt c) = 0
+number_of (Refused r) = refusal_number r

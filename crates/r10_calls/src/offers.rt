@@ -1,0 +1,115 @@
+//! Offers of messages, by their kind. Each answers 0, or 6 to 12, or 30.
+
+ghost use Rattle.std.specs.Prelude.{◌≡◌};
+ghost use Rattle.r10_calls.specs.Told.{DoesEvent, number_of};
+ghost use Rattle.r10_machine.specs.declared.event.Event.TheVariants as events;
+ghost use Rattle.r10_body.specs.declared.message.Message.TheVariants as messages;
+
+use crate::desk::{Desk, number_of};
+use crate::entry_out::OUT_OF_MEMORY;
+use r10_body::Message;
+use r10_count::{Bytes, Items};
+use r10_machine::Event;
+use r10_medium::BlockMedium;
+
+impl<M: BlockMedium> Desk<M> {
+    fn offer(&mut self, channel: u16, count: u64, message: Message) -> u32
+        ensures { DoesEvent M.disk self.old (events.Offer channel count message) (λ reply. result ≡ number_of reply) self.new }
+    {
+        let reply = self.tell(Event::Offer {
+            channel,
+            count,
+            message,
+        });
+        number_of(&reply)
+    }
+
+    /// A message of a serial line, at most 65,535 bytes.
+    pub fn offer_uart(
+        &mut self,
+        channel: u16,
+        count: u64,
+        parity: bool,
+        sub: u16,
+        bytes: &[u8],
+    ) -> u32
+        ensures { DoesEvent M.disk self.old (events.Offer channel count (messages.Uart parity sub bytes.now)) (λ reply. result ≡ number_of reply) self.new }
+    {
+        let Ok(bytes) = Bytes::copy_of(self.alloc, bytes) else {
+            return OUT_OF_MEMORY;
+        };
+        self.offer(channel, count, Message::Uart { parity, sub, bytes })
+    }
+
+    /// A message of a MIL-STD-1553 bus, at most 36 words.
+    pub fn offer_1553(
+        &mut self,
+        channel: u16,
+        count: u64,
+        status: u16,
+        gap: u16,
+        words: &[u16],
+    ) -> u32
+        ensures { DoesEvent M.disk self.old (events.Offer channel count (messages.Bus1553 status gap words.now)) (λ reply. result ≡ number_of reply) self.new }
+    {
+        let Ok(words) = Vec::from_slice(self.alloc, words) else {
+            return OUT_OF_MEMORY;
+        };
+        let words = Items::of(words);
+        self.offer(channel, count, Message::Bus1553 { status, gap, words })
+    }
+
+    /// A word of an ARINC 429 bus.
+    pub fn offer_arinc(
+        &mut self,
+        channel: u16,
+        count: u64,
+        bus: u8,
+        format: bool,
+        parity: bool,
+        high: bool,
+        word: u32,
+    ) -> u32
+        ensures { DoesEvent M.disk self.old (events.Offer channel count (messages.Arinc bus format parity high word)) (λ reply. result ≡ number_of reply) self.new }
+    {
+        let message = Message::Arinc {
+            bus,
+            format,
+            parity,
+            high,
+            word,
+        };
+        self.offer(channel, count, message)
+    }
+
+    /// The states of a channel's discretes, a bit for each.
+    pub fn offer_discrete(&mut self, channel: u16, count: u64, states: u32) -> u32
+        ensures { DoesEvent M.disk self.old (events.Offer channel count (messages.Discrete states)) (λ reply. result ≡ number_of reply) self.new }
+    {
+        self.offer(channel, count, Message::Discrete { states })
+    }
+
+    /// A message of a source of any other sort, at most 65,535 bytes.
+    pub fn offer_message(
+        &mut self,
+        channel: u16,
+        count: u64,
+        data_error: bool,
+        format: bool,
+        sub: u16,
+        bytes: &[u8],
+    ) -> u32
+        ensures { DoesEvent M.disk self.old (events.Offer channel count (messages.Message data_error format sub bytes.now)) (λ reply. result ≡ number_of reply) self.new }
+    {
+        let Ok(bytes) = Bytes::copy_of(self.alloc, bytes) else {
+            return OUT_OF_MEMORY;
+        };
+        let message = Message::Message {
+            data_error,
+            format,
+            sub,
+            bytes,
+        };
+        self.offer(channel, count, message)
+    }
+}

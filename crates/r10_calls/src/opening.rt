@@ -1,0 +1,88 @@
+//! A medium is formatted, and a recorder is opened over it, with the settings of a script.
+
+ghost use Rattle.std.specs.Prelude.{◌≡◌, ◌⊎◌, IfErr, IfOk, length, map};
+ghost use Rattle.r10_medium.specs.Disk.{Rose};
+ghost use Rattle.r10_calls.specs.Accounts.{not_yet};
+ghost use Rattle.r10_calls.specs.Faults.{no_fault};
+ghost use Rattle.r10_machine.specs.declared.reply.Reply.TheVariants as replies;
+ghost use Rattle.r10_calls.specs.Opening.{FormatsByScript, FormatsOver, HasOtherBlocks, IsSettings, OpensRecorder};
+
+use crate::accounts::{Accepted, none_accepted};
+use crate::desk::Desk;
+use crate::entry_out::{BLOCKS, MEDIUM, OUT_OF_MEMORY, SCRIPT};
+use crate::fault::FaultOut;
+use r10_machine::{Reply, Settings};
+use r10_medium::BlockMedium;
+use r10_script::{Script, read_script};
+use r10_text::ScriptFault;
+use r10_world::World;
+use std::alloc::Global;
+
+/// The settings of a script of so many blocks, or 30, 40 where it is none, or 41 where it has another number of blocks. Its steps are not done.
+fn settings_of(alloc: Global, script: &[u8], blocks: usize) -> Result<Settings, u32>
+    ensures settings { IfOk result (λ s. IsSettings script.now s × (blocks ≡ s.blocks)) }
+    ensures refused { IfErr result (λ n. (n ≡ 30) ⊎ (n ≡ 40) ⊎ (n ≡ 41)) }
+    ensures other { IfErr result (λ n. n ≡ 41 → HasOtherBlocks script.now blocks) }
+{
+    match read_script(alloc, script) {
+        Ok(Script { settings, .. }) => {
+            if settings.blocks() == blocks {
+                Ok(settings)
+            } else {
+                Err(BLOCKS)
+            }
+        }
+        Err(ScriptFault::OutOfMemory(_)) => Err(OUT_OF_MEMORY),
+        Err(_) => Err(SCRIPT),
+    }
+}
+
+/// Writes the directory of a medium without files, as the settings of this script say: 0, or 28 where the medium failed, 30, 40 where the script
+/// can't be taken, or 41 where the medium has another number of blocks.
+pub fn format<M: BlockMedium>(alloc: Global, medium: &mut M, script: &[u8]) -> u32
+    ensures formats { result ≡ 0 → FormatsByScript script.now (M.disk medium.new) }
+    ensures over { result ≡ 0 → FormatsOver script.now (M.disk medium.old).blocks (M.disk medium.new) }
+    ensures untouched { (result ≡ 30) ⊎ (result ≡ 40) ⊎ (result ≡ 41) → medium.new ≡ medium.old }
+    ensures failed { result ≡ 28 → Rose (M.disk medium.old).failures (M.disk medium.new).failures }
+    ensures other { result ≡ 41 → HasOtherBlocks script.now (length (M.disk medium.old).blocks) }
+    ensures numbers { (result ≡ 0) ⊎ (result ≡ 28) ⊎ (result ≡ 30) ⊎ (result ≡ 40) ⊎ (result ≡ 41) }
+{
+    match settings_of(alloc, script, medium.blocks()) {
+        Ok(settings) => match r10_volume::format(medium, &settings) {
+            Ok(()) => 0,
+            Err(_) => MEDIUM,
+        },
+        Err(number) => number,
+    }
+}
+
+/// A recorder with the settings of this script over the medium, not mounted, and without readers; and of each of its channels, that no message
+/// was accepted. Its number is 30, 40 where the script can't be taken, or 41 where the medium has another number of blocks.
+pub fn open<M: BlockMedium + Drop>(
+    alloc: Global,
+    medium: M,
+    script: &[u8],
+) -> Result<(Desk<M>, Vec<Accepted>), u32>
+    ensures opens { IfOk result (λ r. OpensRecorder M.disk script.now medium r.0.world) }
+    ensures accepted { IfOk result (λ r. r.1.items ≡ map not_yet r.0.world.recorder.kept.config.channels) }
+    ensures empty { IfOk result (λ r. (r.0.fault ≡ no_fault) × (r.0.hand ≡ replies.Done)) }
+    ensures refused { IfErr result (λ n. (n ≡ 30) ⊎ (n ≡ 40) ⊎ (n ≡ 41)) }
+    ensures other { IfErr result (λ n. n ≡ 41 → HasOtherBlocks script.now (length (M.disk medium).blocks)) }
+{
+    let settings = settings_of(alloc, script, medium.blocks())?;
+    let Ok(accepted) = none_accepted(alloc, settings.channels()) else {
+        return Err(OUT_OF_MEMORY);
+    };
+    match World::new(alloc, settings, medium) {
+        Ok(world) => {
+            let desk = Desk {
+                alloc,
+                world,
+                fault: FaultOut::none(),
+                hand: Reply::Done,
+            };
+            Ok((desk, accepted))
+        }
+        Err(_) => Err(OUT_OF_MEMORY),
+    }
+}

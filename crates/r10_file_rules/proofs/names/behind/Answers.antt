@@ -1,0 +1,8 @@
+use Rattle.r10_file_rules.proofs.Fronts.{found_behind, none_behind}
+use Rattle.r10_file_rules.proofs.names.behind.Goals as goal
+
+pub returns-clause-found : goal.returns-clause-found
+returns-clause-found c = found_behind c.args.bytes.now c.args.front.now c.strip_prefix.result c.strip_prefix.ensures.cases
+
+pub returns-clause-none : goal.returns-clause-none
+returns-clause-none c = none_behind c.args.bytes.now c.args.front.now c.strip_prefix.result c.strip_prefix.ensures.cases

@@ -1,8 +1,0 @@
-use Rattle.std.proofs.Common.{◌≡◌, take, string_bytes}
-use Rattle.std.specs.List.{flat_map}
-use Rattle.r10_lines.specs.Replies.{channel_line}
-use Rattle.r10_lines.proofs.reply.channel_lines.Given as goal
-
--- the lines so far are those of the channels so far
-abbrev pub invariant-loop-channel : goal.invariant-loop-channel
-invariant-loop-channel l = string_bytes l.lines ≡ flat_map channel_line (take l.channel-index l.channels)

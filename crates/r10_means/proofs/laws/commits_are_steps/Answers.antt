@@ -1,5 +1,0 @@
-use Rattle.r10_means.proofs.Lasting.{committed}
-use Rattle.r10_means.proofs.laws.commits_are_steps.Goals as goal
-
-pub returns : goal.returns
-returns c = committed c.a_step_stays_sound.ensures

@@ -1,5 +1,0 @@
-use Rattle.r10_means.proofs.Leading.{ticked}
-use Rattle.r10_means.proofs.laws.idle_ticks_are_steps.Goals as goal
-
-pub returns : goal.returns
-returns c = ticked c.a_step_stays_sound.ensures

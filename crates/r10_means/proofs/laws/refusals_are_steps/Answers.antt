@@ -1,5 +1,0 @@
-use Rattle.r10_means.proofs.Leading.{refused}
-use Rattle.r10_means.proofs.laws.refusals_are_steps.Goals as goal
-
-pub returns : goal.returns
-returns c = refused c.a_step_stays_sound.ensures

@@ -1,5 +1,0 @@
-use Rattle.r10_means.proofs.Growing.{tick_recorded}
-use Rattle.r10_means.proofs.laws.ticks_are_steps.Goals as goal
-
-pub returns : goal.returns
-returns c = tick_recorded c.a_step_stays_sound.ensures

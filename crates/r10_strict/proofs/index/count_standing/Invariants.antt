@@ -1,9 +1,0 @@
-use Rattle.std.proofs.Common.{length}
-use Rattle.r10_strict.proofs.IndexEntries.{Stood}
-use Rattle.r10_strict.proofs.index.count_standing.Given as goal
-
-abbrev pub invariant-loop-after : goal.invariant-loop-after
-invariant-loop-after g l = Stood g.E.BodyEntry.form l.bytes l.rest l.count
-
-abbrev pub decreases-loop-after : goal.decreases-loop-after
-decreases-loop-after g l = length l.rest
