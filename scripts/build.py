@@ -17,6 +17,7 @@ from __future__ import annotations
 import argparse
 import contextlib
 import fcntl
+import math
 import os
 import pathlib
 import resource
@@ -43,6 +44,9 @@ BYTES_A_SECOND = 2_000
 
 # How far a proof yields to the one at the head of the longest chain (as `nice` has it).
 LESS = 15
+
+# How much sooner a proof with two to four jobs ends than one with a single job.
+SOONER = 1.5
 
 
 def named() -> dict[str, list[str]]:
@@ -197,6 +201,12 @@ class Build:
             self.longest[name] = self.cost[name] + max(over, default=0)
         return self.longest[name]
 
+    def jobs_of_first(self, name: str, done: set[str]) -> int:
+        """How many jobs the head of the longest chain gets: all processors but those that the crates beside that chain want as long
+        as it takes."""
+        beside = sum(self.cost[it] for it in self.named if it not in done) - self.longest[name]
+        return self.lanes - math.ceil(SOONER * max(beside, 0) / self.longest[name])
+
     def lane(self, number: int) -> pathlib.Path:
         """The folder of a lane."""
         return self.place / ('lane%d' % number)
@@ -344,12 +354,13 @@ class Build:
                 give_up('crates.txt has a circle')
             free = [it for it in range(lanes) if it not in self.running]
             chosen = sorted(ready, key=lambda it: -self.longest[it])[:len(free)]
-            # A proof keeps the jobs that it begins with. More than one take two to three times as much of a processor in all: they
-            # are for processors that would else be idle, and for the longest chain, which all wait for at last.
+            # A proof keeps the jobs that it begins with. More than one take up to two or three times as much of a processor in all: they
+            # are for the longest chain, which all wait for at last, and for processors that would else be idle.
             idle = lanes - len(self.running) - len(chosen)
             longest = max(self.longest[it] for it in self.named if it not in done)
             for name in chosen:
-                more = max(0, min(idle, self.jobs - len(self.running) - len(chosen))) if self.longest[name] == longest else 0
+                wanted = max(idle, self.jobs_of_first(name, done) - 1) if self.longest[name] == longest else 0
+                more = max(0, min(wanted, self.jobs - len(self.running) - len(chosen)))
                 # (a lane that kept work on this crate when it was stopped)
                 number = next((it for it in free if (self.lane(it) / 'crates' / name / 'out' / 'incremental').is_dir()), free[0])
                 free.remove(number)
