@@ -354,8 +354,8 @@ class Build:
                 give_up('crates.txt has a circle')
             free = [it for it in range(lanes) if it not in self.running]
             chosen = sorted(ready, key=lambda it: -self.longest[it])[:len(free)]
-            # A proof keeps the jobs that it begins with. More than one take up to two or three times as much of a processor in all: they
-            # are for the longest chain, which all wait for at last, and for processors that would else be idle.
+            # A proof keeps the jobs that it begins with. More than one take up to two or three times as much of a processor in all:
+            # they are for the longest chain, which all wait for at last, and for processors that would else be idle.
             idle = lanes - len(self.running) - len(chosen)
             longest = max(self.longest[it] for it in self.named if it not in done)
             for name in chosen:
