@@ -25,6 +25,7 @@ import shutil
 import signal
 import subprocess
 import sys
+import threading
 import time
 import types
 from typing import NoReturn
@@ -334,6 +335,8 @@ class Build:
             shutil.copy(folder / 'out' / ('lib%s.a' % name), TOP / 'crates' / name / 'out')
         else:
             hand(folder / 'out' / 'rlib', self.store(name))
+        # What the proof kept for a further one is large, and some file systems take minutes to remove it all.
+        threading.Thread(target=shutil.rmtree, args=(folder / 'out' / 'incremental', True), daemon=True).start()
         done.add(name)
         before, self.spent = self.spent, spent()
         said = (time.time() - self.since, name, time.time() - since, self.spent - before, len(done), len(self.named),
