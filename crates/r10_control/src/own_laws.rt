@@ -9,8 +9,8 @@ ghost use Rattle.r10_refinement.specs.Kept.{Kept, failed};
 ghost use Rattle.r10_refinement.specs.Means.{KeptStandsFor};
 ghost use Rattle.r10_medium.specs.Disk.{Image};
 
-/// Where what is kept and the medium stay, the own files have the entries that they had; and of a recorder that failed
-/// nothing is said.
+/// Where what is kept and the medium stay, the entries of the recorder's own files stay: none joins them (`none`), and so none
+/// of a channel (`same`). Of a recorder that is Failed after the call, nothing is promised (`failed`).
 pub fn own_entries_stay()
     ensures same { (k : Kept) (image : Image) → OwnStay k image k image }
     ensures failed { (k : Kept) (later : Kept) (old : Image) (new : Image) → later.work ≡ failed → OwnStay k old later new }

@@ -121,7 +121,8 @@ impl<M: BlockMedium, L: LaneOut> Recorder<M, L> {
         })
     }
 
-    /// The medium as it stands, and the lanes.
+    /// The medium as it stands, and the lanes with what waits in them. Nothing is written first: a file that is recorded stays
+    /// open on the medium, and what only the recorder held of it is gone.
     pub fn into_parts(self) -> (M, Vec<L>)
         ensures { (result.0 ≡ self.medium) × (result.1.items ≡ self.lanes) }
     {

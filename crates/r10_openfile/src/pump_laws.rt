@@ -29,8 +29,8 @@ pub fn full_pumps_are_refused()
         → IsPumpedInto s f lane most 0 samples rest (Some full) r → Lacks s m (Pump channel most) (refusal_of_full full) }
 {}
 
-/// A pump of as many samples as waited ends as one of more does; of a lane that isn't quiet, as one of
-/// more could.
+/// A pump whose limit was lowered to what waited in its lane ends as a pump with the higher limit does. Where it isn't known what
+/// waited, since the lane isn't quiet, there is a rest with which the pump with the higher limit ends so.
 pub fn pumps_end_alike()
     ensures { (waits : Option (List SampleValue)) (samples rest : List SampleValue) (r : Recording) (channel area most larger n : ℕ) (full : Option FullValue)
         → IfSome waits (λ waiting. waiting ≡ samples ++ rest) → IfSome waits (λ waiting. most ≡ min larger (length waiting)) → most ≤ larger → n ≡ length samples → PumpEnds r channel area most n rest full

@@ -22,7 +22,8 @@ pub struct Feed<N: Rings> {
 }
 
 impl<N: Rings> Feed<N> {
-    /// A feed that waits: the port is the sending end of the ring which `N` names for the channel.
+    /// A feed that waits for its worker: nothing of its source is sent yet, and it has no gauge. The port has to be the sending
+    /// end of the ring which `N` names for the channel.
     pub fn new(channel: u16, source: AnySource, port: Port) -> Feed<N>
         requires { ring_for channel N.rings ≡ Some port.ring }
         ensures line { result.line ≡ record { channel = channel; port = port } }
