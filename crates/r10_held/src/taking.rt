@@ -12,9 +12,9 @@ use r10_medium::BlockMedium;
 use std::sync::Wait;
 
 impl<M: BlockMedium, N: Rings> Held<M, N> {
-    /// Takes in the samples that wait first in a channel's lane, at most so many, up to the first that has no room, and answers
-    /// how many that were. Refused: Failed, NotMounted, NotRecording, NoSuchChannel, MediumFull where the first has no room,
-    /// OutOfMemory, Medium.
+    /// Takes in the samples that wait first in a channel's lane, at most so many, and answers how many that were. It ends before a
+    /// sample that has no room. Refused: Failed, NotMounted, NotRecording, NoSuchChannel, MediumFull where not even the sample
+    /// that waits first has room, OutOfMemory, Medium.
     pub fn pump(&mut self, channel: u16, most: usize) -> Result<usize, Refusal>
         ensures does { PumpsOutlets M.disk channel most self.old.recorder self.new.recorder result }
         ensures gauge { StaysPublished self.old self.new }
