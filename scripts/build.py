@@ -11,6 +11,7 @@ names), since the gate refuses sources that no crate has anywhere else.
 
 LANES is how many crates side by side: as many as there are processors, and as the free memory has room for, where it is not said.
 What is proved is handed over at once, so that a call that was stopped goes on where it was. Of two calls at once the second waits.
+Libraries are made as a gate makes them: proved in one go, with their statements and without their proofs.
 """
 from __future__ import annotations
 
@@ -274,7 +275,9 @@ class Build:
         (folder / 'out').mkdir(exist_ok=True)
         crate = self.crates.of[name]
         words = ['setpriv', '--pdeathsig', 'TERM'] if shutil.which('setpriv') else []
-        words += [sys.executable, str(TOP / 'scripts' / 'rt_once.py'), 'run' if crate.is_program else 'lib', '--jobs', str(jobs)]
+        words += [sys.executable, str(TOP / 'scripts' / 'rt_once.py')]
+        words += ['run'] if crate.is_program else ['lib', '--statements']
+        words += ['--jobs', str(jobs)]
         given = folder / 'stdin'
         with open(given if crate.is_program and given.is_file() else os.devnull, 'rb') as stdin, open(self.log(name), 'wb') as log:
             # (in a session of its own, so that all that it started can be ended)
