@@ -83,7 +83,7 @@ def mutants_of(crate: str) -> list[tuple[Function, list[Change]]]:
     made = []
     for path in sorted((TOP / 'crates' / crate / 'src').rglob('*.rt')):
         file, text = str(path.relative_to(TOP / 'crates' / crate)), path.read_text(encoding='utf-8')
-        for it in wrong_bodies.functions_of(file, text):
+        for it in wrong_bodies.functions_of(file, text, {}):
             own, seen = [], collections.Counter()
             for at, line in lines_of(text, it):
                 for kind, pattern, turn in TURNS:

@@ -47,6 +47,7 @@ WORDS = {REFUSED: 'refused', NAMES: 'names', LIMIT: 'limit', PASSED: 'passed', B
 # (in text that is blanked, so that nothing stands between `extern` and `fn`)
 FUNCTION = re.compile(r'^[ \t]*(?:pub(?:\([a-z ]+\))? )?(?:const )?(?:unsafe )?(?:extern +)?fn (?P<name>\w+)', re.M)
 CLAUSE = re.compile(r'\b(?:(?:requires|ensures)\b\*?(?:\s+\w+)?|(?:ghost|measure|decreases)\b[^{};]*)\s*\Z')
+TYPE = re.compile(r'^(?:pub(?:\([a-z ]+\))? )?(?:struct|enum|trait) (?P<name>\w+)', re.M)
 HEAD = re.compile(r'^(?:pub )?(?:unsafe )?(?P<kind>impl|trait)\b(?P<rest>[^{;]*)\{', re.M)
 NOT_CODE = re.compile(r'//[^\n]*|"(?:[^"\\]|\\.)*"|\'(?:[^\'\\]|\\.[^\']*)\'')
 # (a proof file that names what the change took away, and what cites that proof, says little of a contract)
@@ -63,10 +64,12 @@ class Function:
     start: int
     body: int
     end: int
+    # (the file of the type that it stands in, where that is another one)
+    home: str = ''
 
     def path(self) -> str:
         """The folder of its proof, below proofs/."""
-        module = self.file[len('src/'):-len('.rt')]
+        module = (self.home or self.file)[len('src/'):-len('.rt')]
         parts = [] if module in ('lib', 'main') else module.split('/')
         return '/'.join([*parts, *([self.owner] if self.owner else []), self.name])
 
@@ -124,7 +127,12 @@ def end_of(code: str, at: int) -> int:
     return len(code)
 
 
-def functions_of(file: str, text: str) -> list[Function]:
+def homes_of(texts: dict[str, str]) -> dict[str, str]:
+    """Of each type of a crate the file that declares it. The functions of a type have its module, whatever file they stand in."""
+    return {it['name']: file for file, text in texts.items() if file.endswith('.rt') for it in TYPE.finditer(blanked(text))}
+
+
+def functions_of(file: str, text: str, homes: dict[str, str]) -> list[Function]:
     """The functions of a source file that have a body."""
     code, made = blanked(text), []
     blocks = []
@@ -156,7 +164,7 @@ def functions_of(file: str, text: str) -> list[Function]:
         if body < 0:
             continue
         owner = next((owner for start, end, owner in blocks if start < it.start() < end), '')
-        made.append(Function(file, it['name'], owner, it.start(), body, end_of(code, body)))
+        made.append(Function(file, it['name'], owner, it.start(), body, end_of(code, body), homes.get(owner, '')))
     return made
 
 
@@ -431,7 +439,9 @@ class Trial:
         folder = TOP / 'crates' / crate
         self.texts = {str(it.relative_to(folder)): it.read_text(encoding='utf-8')
                       for it in files_in(crate, 'src', 'specs', 'proofs') if it.suffix in ('.rt', '.antt')}
-        self.functions = [it for file, text in self.texts.items() if file.endswith('.rt') for it in functions_of(file, text)]
+        self.homes = homes_of(self.texts)
+        self.functions = [it for file, text in self.texts.items() if file.endswith('.rt')
+                          for it in functions_of(file, text, self.homes)]
         self.changes = changes
         self.spent: dict[str, float] = {}
 
@@ -496,7 +506,7 @@ class Trial:
         for file, line, said in made.broken:
             text = self.lane.folder.joinpath('crates', self.crate, file).read_text(encoding='utf-8')
             at = sum(len(it) for it in text.splitlines(True)[:line - 1])
-            for it in functions_of(file, text):
+            for it in functions_of(file, text, self.homes):
                 if it.start <= at < it.end:
                     grown.setdefault(it.path(), []).append(said)
         return grown
