@@ -549,6 +549,9 @@ class Trial:
         """Tries one change alone."""
         self.lane.put(self.crate, [change], self.texts)
         status, said = self.check([change], self.touched(change))
+        if ' has no function `' in said:
+            # (its name says more, as of a function of one form of a type: then the whole crate tells)
+            status, said = self.check([change], [])
         made = outcome(status, said)
         errors = [it for all_ in made.goals.values() for it in all_] + [it[2] for it in made.broken] + made.others
         if made.proved:
