@@ -152,4 +152,12 @@ check "the table is written" is "$(grep -c '^| `r10_high` | 7 | | | | 7 ' "$tree
 sed -i 's/+ 1 < five/five/' "$high/src/lib.rt"
 mutants --check
 check "that others would be drawn of another body fails no gate" is "$(grep -c 'is not what' <<<"$said")" 0
+
+named=$(cd "$tree/scripts" && python3 -B -c '
+import wrong_bodies
+texts = {"src/kept.rt": "pub struct Kept<M> {\n}\n",
+         "src/reading.rt": "impl<M> Kept<M> {\n    fn read(&self) -> u8 {\n        0\n    }\n}\n"}
+homes = wrong_bodies.homes_of(texts)
+print(*[it.said() for it in wrong_bodies.functions_of("src/reading.rt", texts["src/reading.rt"], homes)])')
+check "a function has the module of its type in its name, whatever file it stands in" is "$named" "kept::Kept::read"
 exit "$failed"
